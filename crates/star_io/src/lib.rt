@@ -1,0 +1,28 @@
+//! Where bytes come from and where they go, and when a call on the outside failed. All of the
+//! server's input and output goes through `Source` and `Sink`; this crate stands on std alone.
+#![tactic(auto)]
+
+mod failed;
+mod list_sink;
+mod piece_source;
+mod read_end;
+mod run_end;
+mod sink;
+mod source;
+mod std_sink;
+mod std_source;
+mod transfer;
+
+pub use failed::Failed;
+pub use list_sink::ListSink;
+pub use piece_source::PieceSource;
+pub use read_end::{ReadAll, ReadEnd};
+pub use run_end::RunEnd;
+pub use sink::Sink;
+pub use source::Source;
+pub use std_sink::StdSink;
+pub use std_source::StdSource;
+pub use transfer::{read_all, write_all};
+
+#[cfg(test)]
+mod tests;

@@ -1,0 +1,23 @@
+//! Where bytes go. A sink in memory is in `list_sink`, a real one in `std_sink`.
+ghost use Rattle.std.specs.Prelude.{ℕ, ◌<◌, ◌≤◌, List, Option, None, length, IfOk};
+ghost use Rattle.std.specs.Io.KnownBytes.{WriteAppends};
+ghost use Rattle.star_io.specs.Faults.{CountsFault};
+
+use crate::failed::Failed;
+
+/// What takes bytes, in order, until a call fails.
+pub trait Sink {
+    // The bytes accepted so far, where the sink tells them.
+    ghost taken: { Self → Option (List ℕ) } = { λ _. None };
+
+    // How many writes have failed: it never falls, and may stand still at a counter's last value.
+    ghost write_faults: { Self → ℕ };
+
+    /// Takes bytes from the front of `bytes`, at least one, and answers how many.
+    fn write(&mut self, bytes: &[u8]) -> Result<usize, Failed>
+        requires { 0 < length bytes.now }
+        ensures some { IfOk result (λ n. 0 < n) }
+        ensures bound { IfOk result (λ n. n ≤ length bytes.now) }
+        ensures bytes { WriteAppends (taken self.old) (taken self.new) result bytes.now }
+        ensures faults { CountsFault (write_faults self.old) (write_faults self.new) result };
+}

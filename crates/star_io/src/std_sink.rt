@@ -1,0 +1,45 @@
+//! A real sink, over any of std's writers: a file, standard output, a socket.
+ghost use Rattle.std.specs.Prelude.{◌≡◌};
+
+use crate::failed::Failed;
+use crate::sink::Sink;
+use std::io::Write;
+
+/// A sink over a writer. A write that fails, for whatever reason, is a fault, and so is one that
+/// takes nothing.
+///
+/// It never flushes: over a writer with a buffer, what was taken may still stand in the buffer.
+/// The count of faults stands still at the last value of a `u64`.
+#[derive(Drop)]
+pub struct StdSink<W> {
+    writer: W,
+    faults: u64,
+}
+
+impl<W: Write> StdSink<W> {
+    /// A sink into `writer`, to which no write was made yet.
+    pub fn new(writer: W) -> StdSink<W>
+        ensures taken { ⟦<StdSink<W> as Sink>⟧.taken result ≡ W.contents writer }
+        ensures faults { ⟦<StdSink<W> as Sink>⟧.write_faults result ≡ 0 }
+    {
+        StdSink { writer, faults: 0 }
+    }
+}
+
+impl<W: Write> Sink for StdSink<W> {
+    ghost use Rattle.star_io.specs.StdSink.{writer_of, failed_writes};
+
+    ghost taken = { λ s. W.contents (writer_of s) };
+
+    ghost write_faults = { failed_writes };
+
+    fn write(&mut self, bytes: &[u8]) -> Result<usize, Failed> {
+        match self.writer.write(bytes) {
+            Ok(n) if n > 0 => Ok(n),
+            _ => {
+                self.faults = self.faults.saturating_add(1);
+                Err(Failed)
+            }
+        }
+    }
+}

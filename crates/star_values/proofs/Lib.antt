@@ -1,0 +1,4 @@
+-- Lemmas on the definitions of this crate.
+mod IntegerLemmas
+mod SmallTextLemmas
+mod ValueLemmas

@@ -1,0 +1,23 @@
+//! The values of a star schema, their texts, and the reasons for which a statement is refused.
+//! Every crate that speaks of values stands on this one, and this one on std and `itoa` alone.
+#![tactic(auto)]
+
+mod byte_text;
+mod cell;
+mod integer;
+mod no_memory;
+mod refusal;
+mod row;
+mod small_text;
+#[cfg(test)]
+mod tests;
+mod value;
+
+pub use byte_text::ByteText;
+pub use cell::value_text;
+pub use integer::{integer_text_reads_back, read_int};
+pub use no_memory::NoMemory;
+pub use refusal::Refusal;
+pub use row::Row;
+pub use small_text::{MAX_TEXT_BYTES, SmallText, TextFault, small_text_rule_is_tested};
+pub use value::{Kind, Value, values_are_in_order};
