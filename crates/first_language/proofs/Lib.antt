@@ -1,0 +1,5 @@
+-- Lemmas on the definitions of this crate.
+mod FormLemmas
+mod NameLemmas
+mod RecordLemmas
+mod SpellingLemmas

@@ -1,0 +1,13 @@
+-- What a script means: its tables, its history, its queries, and the replies to its statements.
+pub mod Tables
+pub mod History
+pub mod Query
+pub mod Reply
+pub mod Effect
+pub mod DimensionTable
+pub mod FactTable
+pub mod Warehouse
+pub mod Follows
+pub mod Statement
+pub mod Loaded
+pub mod Script

@@ -1,0 +1,166 @@
+//! A script whose replies were written down by hand, and an answer as it is printed.
+use crate::{AnswerRows, Reply, Warehouse, print_reply};
+use script_reader::{Block, Statement};
+use star_values::{ByteText, NoMemory, Row, SmallText, Value};
+use std::alloc::Global;
+use std::test::Fail;
+
+/// What stands behind the line of a statement.
+#[derive(Clone, Copy)]
+enum Behind<'a> {
+    Nothing,
+    Closed(&'a str),
+    Unclosed(&'a str),
+}
+
+use Behind::{Closed, Nothing, Unclosed};
+
+fn bytes_of(alloc: Global, text: &str) -> Result<ByteText, NoMemory> {
+    let mut bytes = ByteText::new(alloc);
+    bytes.extend_from_slice(text.as_bytes())?;
+    Ok(bytes)
+}
+
+fn block_of(alloc: Global, behind: Behind) -> Result<Block, NoMemory> {
+    match behind {
+        Nothing => Ok(Block::Absent),
+        Closed(records) => Ok(Block::Closed(bytes_of(alloc, records)?)),
+        Unclosed(records) => Ok(Block::Unclosed(bytes_of(alloc, records)?)),
+    }
+}
+
+/// The texts of the replies to statements that are executed one after the other.
+fn replies(alloc: Global, script: &[(&str, Behind, &str)]) -> Result<Vec<ByteText>, NoMemory> {
+    let mut replies = Vec::new(alloc);
+    let mut warehouse = Warehouse::new(alloc);
+    for (line, behind, _) in script {
+        let statement = Statement {
+            line: bytes_of(alloc, line)?,
+            block: block_of(alloc, *behind)?,
+        };
+        let (next, reply) = warehouse.execute(&statement)?;
+        warehouse = next;
+        let mut text = ByteText::new(alloc);
+        print_reply(&reply, &mut text)?;
+        replies.push(text)?;
+    }
+    Ok(replies)
+}
+
+const NOT_BUILT: &str = "refused 15 not built\n";
+
+const DUPLICATE: &str = "refused 10 duplicate key\n";
+
+const DANGLING: &str = "refused 11 dangling reference\n";
+
+const STORE: &str = "dimension store (id int key, city text)";
+
+const SALES: &str = "fact sales (store_id int references store, units int)";
+
+const OSLO: &str =
+    "select count(*) from sales, store where sales.store_id = store.id and city = 'Oslo'";
+
+const ROME: &str =
+    "select count(*) from sales, store where sales.store_id = store.id and city = 'Rome'";
+
+const BERN: &str =
+    "select count(*) from sales, store where sales.store_id = store.id and city = 'Bern'";
+
+const OTHER_JOIN: &str =
+    "select count(*) from sales, store where sales.units = store.id and city = 'Oslo'";
+
+#[test]
+fn statements_have_these_replies(rt: HostRuntime) -> Result<(), Fail> {
+    let script = [
+        // Nothing is declared yet, and then the dimension alone.
+        ("load store", Closed("1,Oslo\n"), NOT_BUILT),
+        (OSLO, Nothing, NOT_BUILT),
+        (SALES, Nothing, NOT_BUILT),
+        ("dimension store (id int key, id text)", Nothing, NOT_BUILT),
+        (STORE, Nothing, "table store\n"),
+        (STORE, Nothing, NOT_BUILT),
+        ("dimension city (id int key, name text)", Nothing, NOT_BUILT),
+        ("load store", Closed("1,Oslo\n"), NOT_BUILT),
+        (OSLO, Nothing, NOT_BUILT),
+        (
+            "fact store (store_id int references store, units int)",
+            Nothing,
+            NOT_BUILT,
+        ),
+        (
+            "fact sales (city int references store, units int)",
+            Nothing,
+            NOT_BUILT,
+        ),
+        (
+            "fact sales (store_id int references city, units int)",
+            Nothing,
+            NOT_BUILT,
+        ),
+        // Both tables.
+        (SALES, Nothing, "table sales\n"),
+        (SALES, Nothing, NOT_BUILT),
+        (OSLO, Nothing, "answer 0 rows 1\n0\n"),
+        ("load sales", Closed("1,5\n"), DANGLING),
+        ("load store", Closed("1,Oslo\n1,Rome\n"), DUPLICATE),
+        (
+            "load store",
+            Closed("1,Oslo\n2,Rome\n"),
+            "commit 1 rows 2\n",
+        ),
+        (
+            "load sales",
+            Closed("1,5\n2,1\n1,10\n2,3\n"),
+            "commit 2 rows 4\n",
+        ),
+        (OSLO, Nothing, "answer 2 rows 1\n2\n"),
+        // Refused loads.
+        ("load store", Closed("3,Bern\n3,Oslo\n"), DUPLICATE),
+        ("load store", Closed("3,Oslo\n1,Bern\n"), DUPLICATE),
+        ("load sales", Closed("1,1\n3,1\n"), DANGLING),
+        ("load store", Nothing, NOT_BUILT),
+        ("load store", Unclosed("3,Oslo\n"), NOT_BUILT),
+        ("load stores", Closed("3,Oslo\n"), NOT_BUILT),
+        ("load store", Closed("3,Oslo\nx,Bern\n"), NOT_BUILT),
+        ("load sales", Closed("1,1\n1,x\n"), NOT_BUILT),
+        ("load sales", Closed("3,1\n1,x\n"), NOT_BUILT),
+        (OTHER_JOIN, Nothing, NOT_BUILT),
+        (OSLO, Nothing, "answer 2 rows 1\n2\n"),
+        // They used no number and left the key 3 free.
+        ("load sales", Closed(""), "commit 3 rows 0\n"),
+        ("load store", Closed("3,Oslo\n"), "commit 4 rows 1\n"),
+        ("load sales", Closed("3,7\n"), "commit 5 rows 1\n"),
+        (OSLO, Nothing, "answer 5 rows 1\n3\n"),
+        (ROME, Nothing, "answer 5 rows 1\n2\n"),
+        (BERN, Nothing, "answer 5 rows 1\n0\n"),
+    ];
+    let replies = replies(rt.alloc(), &script)?;
+    assert_eq!(rt; replies.len(), script.len());
+    for (reply, (line, _, want)) in replies.iter().zip(script) {
+        assert_eq!(rt; str::from_utf8(reply.as_bytes())?, want, "at {line}");
+    }
+    Ok(())
+}
+
+#[test]
+fn an_answer_has_a_line_for_each_row(rt: HostRuntime) -> Result<(), Fail> {
+    let mut rows = Vec::new(rt.alloc());
+    for (number, text) in [(-7, "O'Hara"), (12, "Rome")] {
+        let text = SmallText::from_bytes(rt.alloc(), text.as_bytes())?;
+        let mut row = Vec::new(rt.alloc());
+        row.push(Value::Int(number))?;
+        row.push(Value::Str(text))?;
+        rows.push(Row::from(row))?;
+    }
+    let reply = Reply::Answer {
+        snapshot: 3,
+        rows: AnswerRows::from(rows),
+    };
+    let mut out = bytes_of(rt.alloc(), "wait\n")?;
+    print_reply(&reply, &mut out)?;
+    assert_eq!(rt;
+        str::from_utf8(out.as_bytes())?,
+        "wait\nanswer 3 rows 2\n-7,'O''Hara'\n12,'Rome'\n"
+    );
+    Ok(())
+}

@@ -1,0 +1,5 @@
+-- What the contracts of this crate, and of those above it, say of scripts.
+pub mod Coming
+pub mod Cut
+pub mod Laws
+pub mod Script

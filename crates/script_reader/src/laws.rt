@@ -1,0 +1,17 @@
+//! What the definitions of lines and blocks mean, said once more in other words.
+ghost use Rattle.script_reader.specs.Laws.{LinesJoinedAreTheScript, LineEndsAtItsLineFeed, BlockEndsAtTheFirstDotLine};
+
+/// No byte of a script is lost between its lines.
+pub fn lines_joined_are_the_script()
+    ensures { LinesJoinedAreTheScript }
+{}
+
+/// A line ends behind its line feed, and nowhere before it.
+pub fn line_ends_at_its_line_feed()
+    ensures { LineEndsAtItsLineFeed }
+{}
+
+/// A block has the lines in front of the first dot line as they stand, and the script goes on behind it.
+pub fn block_ends_at_the_first_dot_line()
+    ensures { BlockEndsAtTheFirstDotLine }
+{}

@@ -1,0 +1,17 @@
+//! The statements of a script. What a statement means is no question of this crate.
+#![tactic(auto)]
+
+mod closing;
+mod first_statement;
+mod laws;
+mod lines;
+mod opening;
+mod statement;
+#[cfg(test)]
+mod tests;
+
+pub use first_statement::{Taken, take_statement};
+pub use laws::{
+    block_ends_at_the_first_dot_line, line_ends_at_its_line_feed, lines_joined_are_the_script,
+};
+pub use statement::{Block, Statement};

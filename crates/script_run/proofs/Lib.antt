@@ -1,0 +1,4 @@
+-- Lemmas on runs of scripts.
+mod AnswerLemmas
+mod FrontLemmas
+mod RunLemmas

@@ -1,0 +1,18 @@
+use Rattle.std.proofs.Common.{◌∙◌}
+use Rattle.std.proofs.lemmas.Result.{err_from_is_err_and}
+use Rattle.script_run.proofs.AnswerLemmas.{goes_on, halts_within}
+use Rattle.script_run.proofs.answer.answer_script.Goals as goal
+
+pub returns-in_err-write_all-clause-writes : goal.returns-in_err-write_all-clause-writes
+returns-in_err-write_all-clause-writes g c =
+    let first = rw c.in-Some.is at c.in_ok-answered.ensures in
+    let took = rw c.as_bytes.ensures at c.in_err-write_all.ensures.err in
+    let failed = err_from_is_err_and c.from_residual-in_err-write_all.result c.from_residual-in_err-write_all.ensures.1 in
+    rw failed.1 (halts_within _ _ _ _ _ _ _ _ _ c.statements.invariant.way first took)
+
+pub statements-preserved : goal.statements-preserved
+statements-preserved g c =
+    let first = rw c.in-Some.is at c.in_ok-answered.ensures in
+    let took = rw c.as_bytes.ensures at c.in_ok-write_all.ensures.ok in
+    let way = goes_on _ _ _ _ _ _ _ _ _ c.statements.invariant.way first took in
+    record { way = rw (c.split_at.ensures.back) way; unfailed = c.in_ok-write_all.ensures.faults ∙ c.statements.invariant.unfailed }

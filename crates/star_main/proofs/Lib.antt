@@ -1,0 +1,2 @@
+-- The headline from what a run promises.
+mod HeadlineLemmas

@@ -1,0 +1,36 @@
+//! What the program tells of a run that was cut short, on its standard error.
+ghost use Rattle.std.specs.Prelude.{◌≡◌};
+ghost use Rattle.star_main.specs.Fault.{fault_of};
+
+use thiserror::Error;
+
+/// Why there are no replies to a whole script.
+#[derive(Debug, Drop, Error)]
+pub(crate) enum Fault {
+    #[error("usage: cjoin [--mode run]")]
+    Words,
+    #[error("read fault")]
+    Read,
+    #[error("write fault")]
+    Write,
+    #[error("out of memory")]
+    Memory,
+    #[error("script limit")]
+    Limit,
+}
+
+impl Fault {
+    /// The fault of a status, where there is one.
+    pub fn of_status(status: u8) -> Option<Fault>
+        ensures { result ≡ fault_of status }
+    {
+        match status {
+            2 => Some(Fault::Words),
+            3 => Some(Fault::Read),
+            4 => Some(Fault::Write),
+            5 => Some(Fault::Memory),
+            6 => Some(Fault::Limit),
+            _ => None,
+        }
+    }
+}
