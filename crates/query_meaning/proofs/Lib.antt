@@ -1,5 +1,6 @@
 -- Lemmas on the definitions of this crate.
 mod AnswerLemmas
 mod DimensionLemmas
+mod LawLemmas
 mod ScriptLemmas
 mod SettledLemmas

@@ -11,3 +11,4 @@ pub mod Follows
 pub mod Statement
 pub mod Loaded
 pub mod Script
+pub mod Laws

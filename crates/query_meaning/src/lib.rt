@@ -4,6 +4,7 @@
 
 mod dimension_table;
 mod fact_table;
+mod laws;
 mod load;
 mod print;
 mod reply;
@@ -11,6 +12,7 @@ mod reply;
 mod tests;
 mod warehouse;
 
+pub use laws::replies_agree_with_the_tables;
 pub use print::print_reply;
 pub use reply::{AnswerRows, Reply};
 pub use warehouse::Warehouse;
