@@ -1,0 +1,5 @@
+-- What a token is, and which tokens are a line.
+pub mod Token
+pub mod Line
+pub mod Next
+pub mod Spaced

@@ -1,0 +1,175 @@
+//! The token at the front of bytes. Each function gives what it is, and how many bytes it has.
+ghost use Rattle.std.specs.Prelude.{◌≡◌, ◌<◌, ◌≤◌, true, take, length, position, bytes_eq, false, IfSome};
+ghost use Rattle.std.specs.List.{list_any, prefix_len};
+ghost use Rattle.std.specs.Char.{is_ascii_digit};
+ghost use Rattle.star_lexer.specs.Token.{begins_word, is_word_byte, word_at, minus_len, number_len, integer_at, text_len, text_at, signs, sign_of, sign_at, token_at};
+
+use crate::token::Lexeme;
+use star_values::read_int;
+
+/// The signs, in the order of their numbers.
+const SIGNS: [&[u8]; 13] = [
+    b"(", b")", b",", b".", b";", b"*", b"=", b"<>", b"!=", b"<", b"<=", b">", b">=",
+];
+
+/// The token at the front, and how many bytes it has.
+pub fn token_at(bytes: &[u8]) -> Option<(Lexeme, usize)>
+    ensures found { result ≡ token_at bytes.now }
+    ensures within { IfSome result (λ found. (0 < found.1) × (found.1 ≤ length bytes.now)) }
+{
+    word_at(bytes)
+        .or(integer_at(bytes))
+        .or(text_at(bytes).or(sign_at(bytes)))
+}
+
+fn word_at(bytes: &[u8]) -> Option<(Lexeme, usize)>
+    ensures found { result ≡ word_at bytes.now }
+    ensures within { IfSome result (λ found. (0 < found.1) × (found.1 ≤ length bytes.now)) }
+{
+    if starts_word(bytes) {
+        Some((Lexeme::Word, word_len(bytes)))
+    } else {
+        None
+    }
+}
+
+/// The bytes have a first one, and a word begins with it.
+fn starts_word(bytes: &[u8]) -> bool
+    ensures { result ≡ list_any begins_word (take 1 bytes.now) }
+{
+    match bytes {
+        [first, ..] => first.is_ascii_alphabetic() || *first == b'_',
+        [] => false,
+    }
+}
+
+/// The bytes have a first one, and it is one of a word.
+fn goes_on_as_word(bytes: &[u8]) -> bool
+    ensures { result ≡ list_any is_word_byte (take 1 bytes.now) }
+{
+    match bytes {
+        [first, ..] => is_word_byte(*first),
+        [] => false,
+    }
+}
+
+fn is_word_byte(byte: u8) -> bool
+    ensures { result ≡ is_word_byte byte }
+{
+    byte.is_ascii_alphanumeric() || byte == b'_'
+}
+
+fn word_len(bytes: &[u8]) -> usize
+    ensures len { result ≡ prefix_len is_word_byte bytes.now }
+    ensures within { result ≤ length bytes.now }
+{
+    bytes.iter().take_while(|byte| is_word_byte(**byte)).count()
+}
+
+fn integer_at(bytes: &[u8]) -> Option<(Lexeme, usize)>
+    ensures found { result ≡ integer_at bytes.now }
+    ensures within { IfSome result (λ found. (0 < found.1) × (found.1 ≤ length bytes.now)) }
+{
+    let len = number_len(bytes);
+    let (number, rest) = bytes.split_at(len);
+    if goes_on_as_word(rest) {
+        return None;
+    }
+    let value = read_int(number)?;
+    Some((Lexeme::Integer(value), len))
+}
+
+fn number_len(bytes: &[u8]) -> usize
+    ensures len { result ≡ number_len bytes.now }
+    ensures within { result ≤ length bytes.now }
+{
+    let minus = minus_len(bytes);
+    minus + digits_len(bytes.split_at(minus).1)
+}
+
+fn minus_len(bytes: &[u8]) -> usize
+    ensures len { result ≡ minus_len bytes.now }
+    ensures within { result ≤ length bytes.now }
+{
+    if bytes.starts_with(b"-") { 1 } else { 0 }
+}
+
+fn digits_len(bytes: &[u8]) -> usize
+    ensures len { result ≡ prefix_len is_ascii_digit bytes.now }
+    ensures within { result ≤ length bytes.now }
+{
+    bytes
+        .iter()
+        .take_while(|byte| byte.is_ascii_digit())
+        .count()
+}
+
+fn text_at(bytes: &[u8]) -> Option<(Lexeme, usize)>
+    ensures found { result ≡ text_at bytes.now }
+    ensures within { IfSome result (λ found. (0 < found.1) × (found.1 ≤ length bytes.now)) }
+{
+    let rest = bytes.strip_prefix(b"'")?;
+    let len = text_len(rest)?;
+    Some((Lexeme::Text, 1 + len))
+}
+
+/// How many bytes there are up to the quote that ends a text, with it.
+fn text_len(bytes: &[u8]) -> Option<usize>
+    ensures len { result ≡ text_len false bytes.now }
+    ensures within { IfSome result (λ len. len ≤ length bytes.now) }
+{
+    let mut quoted = false;
+    let mut passed = 0;
+    'bytes: for byte in bytes {
+        if quoted && *byte != b'\'' {
+            return Some(passed);
+        }
+        if !quoted && *byte < b' ' {
+            return None;
+        }
+        quoted = !quoted && *byte == b'\'';
+        passed += 1;
+    }
+    if quoted { Some(passed) } else { None }
+}
+
+fn sign_at(bytes: &[u8]) -> Option<(Lexeme, usize)>
+    ensures found { result ≡ sign_at bytes.now }
+    ensures within { IfSome result (λ found. (0 < found.1) × (found.1 ≤ length bytes.now)) }
+{
+    match sign_of(front(bytes, 2)) {
+        Some(sign) => Some(sign),
+        None => sign_of(front(bytes, 1)),
+    }
+}
+
+/// So many bytes, or as many as there are.
+fn front(bytes: &[u8], len: usize) -> &[u8]
+    ensures front { result.now ≡ take len bytes.now }
+    ensures within { length result.now ≤ length bytes.now }
+{
+    bytes.split_at(len.min(bytes.len())).0
+}
+
+fn sign_of(bytes: &[u8]) -> Option<(Lexeme, usize)>
+    ensures found { result ≡ sign_of bytes.now }
+    ensures within { IfSome result (λ found. (0 < found.1) × (found.1 ≤ length bytes.now)) }
+{
+    let number = sign_number(bytes)?;
+    Some((Lexeme::Sign(number as u8), bytes.len()))
+}
+
+fn sign_number(bytes: &[u8]) -> Option<usize>
+    ensures number { result ≡ position (λ sign. bytes_eq sign bytes.now) signs }
+    ensures small { IfSome result (λ number. number < 13) }
+{
+    place_of(bytes, &SIGNS)
+}
+
+/// The place of the bytes in a table.
+fn place_of(bytes: &[u8], table: &[&[u8]]) -> Option<usize>
+    ensures place { result ≡ position (λ entry. bytes_eq entry.now bytes.now) table.now }
+    ensures within { IfSome result (λ place. place < length table.now) }
+{
+    table.iter().position(|entry| *entry == bytes)
+}

@@ -1,0 +1,11 @@
+//! The tokens of a line, with their places. What they mean together is no question of this crate.
+#![tactic(auto)]
+
+mod lexeme;
+mod line;
+#[cfg(test)]
+mod tests;
+mod token;
+
+pub use line::lex;
+pub use token::{Lexeme, Token, Tokens};
