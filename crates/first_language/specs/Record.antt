@@ -1,10 +1,10 @@
 -- The records of a block: two fields with one comma between them, a record on each line.
-use Rattle.std.specs.Prelude.{ℕ, ℤ, Bool, not, ◌&&◌, ◌||◌, ◌==◌, List, [], ◌∷◌, map, Option, Some, None, option_map, if◌then◌else◌}
+use Rattle.std.specs.Prelude.{ℕ, ℤ, Bool, true, not, ◌&&◌, ◌||◌, ◌==◌, List, [], ◌∷◌, map, Option, Some, None, option_map, if◌then◌else◌}
 use Rattle.std.specs.Option.{option_and_then}
 use Rattle.std.specs.List.{list_any, before_first, after_first}
 use Rattle.star_values.specs.SmallText.{is_small_text}
 use Rattle.star_values.specs.Integer.{integer_in}
-use Rattle.script_reader.specs.Script.{lines_of, line_text}
+use Rattle.script_reader.specs.Script.{whole_lines, line_text}
 
 -- a comma
 abbrev pub is_comma : ℕ → Bool
@@ -45,10 +45,10 @@ all_of [] = Some []
 all_of (None ∷ more) = None
 all_of (Some x ∷ more) = option_map (λ xs. x ∷ xs) (all_of more)
 
--- the records of a dimension's block, where each of its lines is one
+-- the records of a dimension's block, where each of its lines is one; a block has come whole
 abbrev pub dimension_records : List ℕ → Option (List (ℤ × List ℕ))
-dimension_records block = all_of (map (λ line. dimension_record (line_text line)) (lines_of block))
+dimension_records block = all_of (map (λ line. dimension_record (line_text line)) (whole_lines true block))
 
 -- the records of a fact table's block, where each of its lines is one
 abbrev pub fact_records : List ℕ → Option (List (ℤ × ℤ))
-fact_records block = all_of (map (λ line. fact_record (line_text line)) (lines_of block))
+fact_records block = all_of (map (λ line. fact_record (line_text line)) (whole_lines true block))

@@ -3,8 +3,9 @@ ghost use Rattle.std.specs.Prelude.{◌≡◌, option_map, IfOk, position};
 ghost use Rattle.std.specs.List.{list_any};
 ghost use Rattle.first_language.specs.Record.{dimension_record, dimension_records, fact_record, fact_records, fields_in, is_comma, is_mark, plain_text_in};
 
-use crate::line::{line_text, split_first_line};
+use crate::line::split_first_line;
 use crate::text::small_text_in;
+use script_reader::line_text;
 use star_values::{NoMemory, SmallText, read_int};
 use std::alloc::Global;
 

@@ -14,4 +14,5 @@ pub use first_statement::{Taken, take_statement};
 pub use laws::{
     block_ends_at_the_first_dot_line, line_ends_at_its_line_feed, lines_joined_are_the_script,
 };
+pub use lines::{first_line_len, line_text};
 pub use statement::{Block, Statement};
