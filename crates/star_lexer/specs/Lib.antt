@@ -3,3 +3,4 @@ pub mod Token
 pub mod Line
 pub mod Next
 pub mod Spaced
+pub mod Scan

@@ -1,5 +1,5 @@
 -- What stands at the front of bytes: the longest token, and how many bytes it has.
-use Rattle.std.specs.Prelude.{ℕ, ◌+◌, Bool, false, not, ◌&&◌, ◌||◌, ◌==◌, nat_eq, nat_lt, List, [], ◌∷◌, length, take, drop, position, codes, Option, Some, None, option_map, bytes_eq, if◌then◌else◌}
+use Rattle.std.specs.Prelude.{ℕ, ◌+◌, Bool, ◌||◌, ◌==◌, nat_eq, nat_lt, List, [], ◌∷◌, length, take, drop, position, codes, Option, Some, None, option_map, bytes_eq, if◌then◌else◌}
 use Rattle.std.specs.Option.{option_or}
 use Rattle.std.specs.List.{list_any, prefix_len, starts_with}
 use Rattle.std.specs.Char.{is_ascii_alphabetic, is_ascii_alphanumeric, is_ascii_digit}
@@ -33,19 +33,18 @@ integer_at bytes =
     if list_any is_word_byte (take 1 (drop (number_len bytes) bytes)) then None
     else option_map (λ value. (Integer value, number_len bytes)) (integer_in (take (number_len bytes) bytes))
 
--- how many bytes there are up to the quote that ends a text, with it, where the byte in front may be that quote or
--- not: of two quotes together none ends it
-abbrev pub text_len : Bool → List ℕ → Option ℕ
-text_len quoted [] = if quoted then Some 0 else None
-text_len quoted (byte ∷ bytes) =
-    if quoted && not (byte == 39) then Some 0
-    else (if not quoted && nat_lt byte 32 then None
-    else option_map (λ len. 1 + len) (text_len (not quoted && byte == 39) bytes))
+-- how many bytes there are up to the quote that ends a text, with it: two quotes together are one of the text
+abbrev pub text_len : List ℕ → Option ℕ
+text_len [] = None
+text_len (byte ∷ []) = if byte == 39 then Some 1 else None
+text_len (byte ∷ next ∷ bytes) =
+    if byte == 39 then (if next == 39 then option_map (λ len. 2 + len) (text_len bytes) else Some 1)
+    else (if nat_lt byte 32 then None else option_map (λ len. 1 + len) (text_len (next ∷ bytes)))
 
 -- a text between quotes
 abbrev pub text_at : List ℕ → Option (Lexeme × ℕ)
 text_at bytes =
-    if starts_with nat_eq bytes (codes "'") then option_map (λ len. (Text, 1 + len)) (text_len false (drop 1 bytes)) else None
+    if starts_with nat_eq bytes (codes "'") then option_map (λ len. (Text, 1 + len)) (text_len (drop 1 bytes)) else None
 
 -- the signs, in the order of their numbers
 abbrev pub signs : List (List ℕ)

@@ -2,6 +2,7 @@
 ghost use Rattle.std.specs.Prelude.{◌≡◌, ◌<◌, ◌≤◌, true, take, length, position, bytes_eq, false, IfSome};
 ghost use Rattle.std.specs.List.{list_any, prefix_len};
 ghost use Rattle.std.specs.Char.{is_ascii_digit};
+ghost use Rattle.star_lexer.specs.Scan.{scan_len};
 ghost use Rattle.star_lexer.specs.Token.{begins_word, is_word_byte, word_at, minus_len, number_len, integer_at, text_len, text_at, signs, sign_of, sign_at, token_at};
 
 use crate::token::Lexeme;
@@ -115,7 +116,15 @@ fn text_at(bytes: &[u8]) -> Option<(Lexeme, usize)>
 
 /// How many bytes there are up to the quote that ends a text, with it.
 fn text_len(bytes: &[u8]) -> Option<usize>
-    ensures len { result ≡ text_len false bytes.now }
+    ensures len { result ≡ text_len bytes.now }
+    ensures within { IfSome result (λ len. len ≤ length bytes.now) }
+{
+    scan_text(bytes)
+}
+
+/// The same, byte by byte: a quote ends the text where no other one follows it.
+fn scan_text(bytes: &[u8]) -> Option<usize>
+    ensures len { result ≡ scan_len false bytes.now }
     ensures within { IfSome result (λ len. len ≤ length bytes.now) }
 {
     let mut quoted = false;
