@@ -1,0 +1,1 @@
+-- No definitions: a list is seen as a list.
