@@ -1,0 +1,5 @@
+use Rattle.star_plan.proofs.AnswerLemmas.{overflow-law, is_beyond-law}
+use Rattle.star_plan.proofs.meaning.answers_overflow_by_whole_sums.Goals as goal
+
+pub returns : goal.returns
+returns c = record { some_sum = overflow-law; range = is_beyond-law }

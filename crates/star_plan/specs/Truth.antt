@@ -1,0 +1,45 @@
+-- When a predicate holds on a row.
+use Rattle.std.specs.Prelude.{ℕ, Bool, false, ◌&&◌, not, List, slice_get}
+use Rattle.std.specs.List.{list_all, list_any}
+use Rattle.std.specs.Option.{option_map_or}
+use Rattle.std.specs.declared.cmp.Ordering.{Ordering}
+use Rattle.std.specs.Ordering.{is_eq, is_lt, is_gt, is_le, is_ge, is_ne}
+use Rattle.star_values.specs.declared.value.Value.{Value}
+use Rattle.star_values.specs.Value.{value_cmp}
+use Rattle.star_plan.specs.declared.predicate.How.{How}
+use Rattle.star_plan.specs.declared.predicate.How.TheVariants.{Eq, Ne, Lt, Le, Gt, Ge}
+use Rattle.star_plan.specs.declared.predicate.Predicate.{Predicate}
+use Rattle.star_plan.specs.declared.predicate.Predicate.TheOpen.{Predicate-F, Compare, Between, OneOf, Both, Either, Negate}
+use Rattle.star_plan.specs.Members.{answer_by}
+
+-- whether an order is what a comparison asks for
+abbrev pub is_asked : How → Ordering → Bool
+is_asked Eq order = is_eq order
+is_asked Ne order = is_ne order
+is_asked Lt order = is_lt order
+is_asked Le order = is_le order
+is_asked Gt order = is_gt order
+is_asked Ge order = is_ge order
+
+-- whether two values compare as asked
+abbrev pub compares : How → Value → Value → Bool
+compares how left right = is_asked how (value_cmp left right)
+
+-- whether the value in a column of a row compares as asked with another
+abbrev pub compares_at : List Value → ℕ → How → Value → Bool
+compares_at row column how value =
+    option_map_or (λ found. compares how found value) (slice_get row column) false
+
+-- a predicate on a row, where it is known which of its members hold
+abbrev pub holds_step : List Value → Predicate-F Bool (List Bool) → Bool
+holds_step row (Compare column how value) = compares_at row column how value
+holds_step row (Between column low high) =
+    compares_at row column Ge low && compares_at row column Le high
+holds_step row (OneOf column values) = list_any (compares_at row column Eq) values
+holds_step row (Both members) = list_all (λ held. held) members
+holds_step row (Either members) = list_any (λ held. held) members
+holds_step row (Negate member) = not member.value
+
+-- whether a predicate holds on a row
+abbrev pub holds_of : Predicate → List Value → Bool
+holds_of predicate row = answer_by (holds_step row) predicate

@@ -1,0 +1,14 @@
+//! A declared table.
+use crate::column_def::ColumnList;
+use star_lists::ListOf;
+use star_values::SmallText;
+
+/// A declared table. The first column of a dimension is its key.
+#[derive(Debug, PartialEq, Eq, Drop)]
+pub struct TableDef {
+    pub name: SmallText,
+    pub columns: ColumnList,
+}
+
+/// Tables, in the order of their declarations.
+pub type TableList = ListOf<TableDef>;
