@@ -1,0 +1,13 @@
+pub mod ReadsLemmas
+pub mod SeparatedLemmas
+pub mod TerminalLemmas
+pub mod GrammarLemmas
+pub mod ConditionLemmas
+pub mod StatementLemmas
+pub mod TreeLemmas
+pub mod ShorterLemmas
+pub mod OneLemmas
+pub mod SentenceLemmas
+pub mod PrintedLemmas
+pub mod ParsedLemmas
+pub mod ShapeLemmas

@@ -1,0 +1,8 @@
+use Rattle.std.proofs.Common.{sym, ◌∙◌}
+use Rattle.star_parser.specs.Condition.{condition_of, Either}
+use Rattle.star_parser.proofs.TreeLemmas.{alone_or-many}
+use Rattle.star_parser.proofs.conditions.any_of.Goals as goal
+
+pub returns-else-len-eq1 : goal.returns-else-len-eq1
+returns-else-len-eq1 c =
+    c.disjunction.ensures ∙ sym (alone_or-many condition_of Either c.args.members.items (λ one. c.if-len-eq1.false (c.len.ensures ∙ c.args.members.ok.0 ∙ one)))
