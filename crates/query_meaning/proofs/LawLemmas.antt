@@ -14,7 +14,8 @@ use Rattle.first_language.specs.declared.command.Command.TheVariants as command
 use Rattle.query_meaning.specs.Tables.{Dimension, Fact, Store}
 use Rattle.query_meaning.specs.History.{Change, DimensionLoaded, FactLoaded, after_change}
 use Rattle.query_meaning.specs.Effect.{Effect, declare_dimension, declare_fact, takes_fact, refused, with_tables}
-use Rattle.query_meaning.specs.Statement.{closed_block, command_effect, count_effect, dimension_rows_in, effect_of, fact_rows_in, is_join_of, load_block, load_effect, loaded, map_ok}
+use Rattle.query_meaning.specs.Statement.{built_effect, closed_block, command_effect, count_effect, dimension_rows_in, effect_of, fact_rows_in, is_join_of, load_block, load_effect, loaded, map_ok}
+use Rattle.query_meaning.specs.Text.{text_refusal}
 use Rattle.query_meaning.specs.Laws.{AgreesWith}
 
 abbrev Agrees : Store → Effect → Type 0
@@ -87,7 +88,12 @@ command_agrees store (command.Load name) block = load_agrees store name block
 command_agrees store (command.Count fact dimension joined_fact reference joined_dimension key text value) block =
     count_agrees store (command.Count fact dimension joined_fact reference joined_dimension key text value)
 
-pub effect_agrees : (store : Store) (statement : Statement) → Agrees store (effect_of store statement)
-effect_agrees store statement =
+built_agrees : (store : Store) (statement : Statement) → Agrees store (built_effect store statement)
+built_agrees store statement =
     map_or_either (Agrees store) (λ found. command_effect store found statement.block) (command_in statement.line) (refused NotBuilt)
     (λ found. command_agrees store found statement.block) refl
+
+pub effect_agrees : (store : Store) (statement : Statement) → Agrees store (effect_of store statement)
+effect_agrees store statement =
+    map_or_either (Agrees store) refused (text_refusal statement) (built_effect store statement)
+    (λ reason. refl) (built_agrees store statement)

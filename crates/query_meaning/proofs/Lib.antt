@@ -4,3 +4,4 @@ mod DimensionLemmas
 mod LawLemmas
 mod ScriptLemmas
 mod SettledLemmas
+mod TextLemmas

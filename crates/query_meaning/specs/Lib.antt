@@ -8,6 +8,7 @@ pub mod DimensionTable
 pub mod FactTable
 pub mod Warehouse
 pub mod Follows
+pub mod Text
 pub mod Statement
 pub mod Loaded
 pub mod Script

@@ -1,4 +1,4 @@
--- The effect of a statement, by the command that its line is.
+-- The effect of a statement: it is refused for its text, or does what the command that its line is does.
 use Rattle.std.specs.Prelude.{ℕ, Bool, false, ◌&&◌, List, [], length, Option, Some, None, Result, Ok, Err, bytes_eq, if◌then◌else◌}
 use Rattle.std.specs.Option.{option_map_or}
 use Rattle.star_values.specs.declared.refusal.Refusal.{Refusal}
@@ -15,6 +15,7 @@ use Rattle.query_meaning.specs.Tables.{Dimension, Fact, Store}
 use Rattle.query_meaning.specs.History.{Change, DimensionDeclared, FactDeclared, DimensionLoaded, FactLoaded}
 use Rattle.query_meaning.specs.Query.{alone}
 use Rattle.query_meaning.specs.Effect.{Effect, refused, column_name, declare_dimension, declare_fact, dimension_rows_of, fact_rows_of, committed, with_tables, count_query}
+use Rattle.query_meaning.specs.Text.{text_refusal}
 use Rattle.query_meaning.specs.declared.reply.Reply.TheVariants as reply
 
 -- the rows of a block for the dimension, or why there are none: each line is a record, and the table takes them
@@ -98,7 +99,11 @@ command_effect store (command.Load name) block = load_effect store name block
 command_effect store (command.Count fact dimension joined_fact reference joined_dimension key text value) block =
     count_effect store (command.Count fact dimension joined_fact reference joined_dimension key text value)
 
+-- the effect of a statement whose text is not refused
+abbrev pub built_effect : Store → Statement → Effect
+built_effect store statement =
+    option_map_or (λ found. command_effect store found statement.block) (command_in statement.line) (refused NotBuilt)
+
 -- the effect of a statement where these are the tables
 abbrev pub effect_of : Store → Statement → Effect
-effect_of store statement =
-    option_map_or (λ found. command_effect store found statement.block) (command_in statement.line) (refused NotBuilt)
+effect_of store statement = option_map_or refused (text_refusal statement) (built_effect store statement)

@@ -10,9 +10,10 @@ mod print;
 mod reply;
 #[cfg(test)]
 mod tests;
+mod text;
 mod warehouse;
 
-pub use laws::replies_agree_with_the_tables;
+pub use laws::{replies_agree_with_the_tables, texts_are_refused_for_the_first_reason};
 pub use print::print_reply;
 pub use reply::{AnswerRows, Reply};
 pub use warehouse::Warehouse;

@@ -118,14 +118,30 @@ fn statements_have_these_replies(rt: HostRuntime) -> Result<(), Fail> {
         ("load store", Closed("3,Bern\n3,Oslo\n"), DUPLICATE),
         ("load store", Closed("3,Oslo\n1,Bern\n"), DUPLICATE),
         ("load sales", Closed("1,1\n3,1\n"), DANGLING),
-        ("load store", Nothing, NOT_BUILT),
-        ("load store", Unclosed("3,Oslo\n"), NOT_BUILT),
+        ("load store", Nothing, "refused 1 syntax at 10\n"),
+        (
+            "load store",
+            Unclosed("3,Oslo\n"),
+            "refused 1 syntax at 10\n",
+        ),
         ("load stores", Closed("3,Oslo\n"), NOT_BUILT),
         ("load store", Closed("3,Oslo\nx,Bern\n"), NOT_BUILT),
         ("load sales", Closed("1,1\n1,x\n"), NOT_BUILT),
         ("load sales", Closed("3,1\n1,x\n"), NOT_BUILT),
         (OTHER_JOIN, Nothing, NOT_BUILT),
         (OSLO, Nothing, "answer 2 rows 1\n2\n"),
+        // Other refused statements, by their line alone.
+        (
+            "select count(*) form sales, store",
+            Nothing,
+            "refused 1 syntax at 16\n",
+        ),
+        (
+            "select count(*) from sales where",
+            Closed("1,Oslo\n"),
+            "refused 1 syntax at 32\n",
+        ),
+        ("wait", Unclosed("1,Oslo\n"), NOT_BUILT),
         // They used no number and left the key 3 free.
         ("load sales", Closed(""), "commit 3 rows 0\n"),
         ("load store", Closed("3,Oslo\n"), "commit 4 rows 1\n"),

@@ -28,7 +28,7 @@ const OSLO: &str =
     "select count(*) from sales, store where sales.store_id = store.id and city = 'Oslo'";
 
 /// The status of a script that comes in pieces of so many bytes, and the bytes written.
-fn run(alloc: Global, script: &str, piece: usize) -> Result<(u8, String), Fail>
+fn run(alloc: Global, script: &[u8], piece: usize) -> Result<(u8, String), Fail>
     requires { 0 < piece }
 {
     let mut source = source(alloc, script, piece, &[])?;
@@ -39,14 +39,13 @@ fn run(alloc: Global, script: &str, piece: usize) -> Result<(u8, String), Fail>
 
 fn source(
     alloc: Global,
-    script: &str,
+    script: &[u8],
     piece: usize,
     fails: &[u64],
 ) -> Result<PieceSource, AllocError>
     requires { 0 < piece }
 {
-    let bytes = script.as_bytes().to_vec(alloc)?;
-    Ok(PieceSource::new(bytes, piece, fails.to_vec(alloc)?))
+    Ok(PieceSource::new(script.to_vec(alloc)?, piece, fails.to_vec(alloc)?))
 }
 
 fn text(alloc: Global, bytes: &[u8]) -> Result<String, Fail> {
@@ -92,7 +91,7 @@ fn scripts_have_their_replies(rt: HostRuntime) -> Result<(), Fail> {
             1,
         ),
         // A block that is not closed, and statements out of their order.
-        (BASE, "load store\n3,Bern\n", "refused 15 not built\n", 1),
+        (BASE, "load store\n3,Bern\n", "refused 1 syntax at 10\n", 1),
         (
             dimension,
             "load store\n1,Oslo\n.\n",
@@ -115,10 +114,116 @@ fn scripts_have_their_replies(rt: HostRuntime) -> Result<(), Fail> {
             ""
         };
         let wanted = format!(in alloc; "{before}{replies}")?;
-        let (ended, written) = run(alloc, script.as_str(), 7)?;
+        let (ended, written) = run(alloc, script.as_bytes(), 7)?;
         assert_eq!(rt; written.as_str(), wanted.as_str(), "at {then}");
         assert_eq!(rt; ended, status, "at {then}");
     }
+    Ok(())
+}
+
+#[test]
+fn what_is_no_statement_is_refused_at_its_place(rt: HostRuntime) -> Result<(), Fail> {
+    let cases: [(&[u8], &str); 16] = [
+        (b"select count(*) form sales", "refused 1 syntax at 16\n"),
+        (
+            b"select count(*) from sales where",
+            "refused 1 syntax at 32\n",
+        ),
+        (
+            b"select count(*) from f where v < 9223372036854775808",
+            "refused 1 syntax at 33\n",
+        ),
+        (b"select count(*) from sa\0les", "refused 1 syntax at 23\n"),
+        (b"\xff", "refused 14 not UTF-8\n"),
+        // A load needs a closed block, and its line is looked at first.
+        (b"load store", "refused 1 syntax at 10\n"),
+        (b"LOAD store header ;\n1,Oslo\n", "refused 1 syntax at 19\n"),
+        (b"load 5\n.\n", "refused 1 syntax at 5\n"),
+        (b"load 5\n1,Oslo\n", "refused 1 syntax at 5\n"),
+        // What is a statement, and is not built yet.
+        (b"load store header\n.\n", "refused 15 not built\n"),
+        (b"load store;\n.\n", "refused 15 not built\n"),
+        (
+            b"delete from sales where not units = 1",
+            "refused 15 not built\n",
+        ),
+        (b"wait", "refused 15 not built\n"),
+        (b"WAIT;", "refused 15 not built\n"),
+        (b"\twait\t;\t", "refused 15 not built\n"),
+        (b"wait;;", "refused 1 syntax at 5\n"),
+    ];
+    for (script, reply) in cases {
+        let (status, written) = run(rt.alloc(), script, 4096)?;
+        assert_eq!(rt; written.as_str(), reply, "at {script:?}");
+        assert_eq!(rt; status, 1, "at {script:?}");
+    }
+    Ok(())
+}
+
+/// A text, so many bytes of one value, and another text.
+fn around(
+    alloc: Global,
+    front: &str,
+    byte: u8,
+    count: usize,
+    end: &str,
+) -> Result<Vec<u8>, AllocError> {
+    let mut bytes = front.as_bytes().to_vec(alloc)?;
+    for _ in 0..count {
+        bytes.push(byte)?;
+    }
+    bytes.extend_from_slice(end.as_bytes())?;
+    Ok(bytes)
+}
+
+#[test]
+fn a_line_over_a_limit_is_refused_for_it(rt: HostRuntime) -> Result<(), Fail> {
+    let alloc = rt.alloc();
+    let limit = "refused 12 limit\n";
+    let built = "refused 15 not built\n";
+    let cases = [
+        ("", b'(', 64, "", "refused 1 syntax at 0\n"),
+        ("", b'(', 65, "", limit),
+        (
+            "select count(*) from sales where ",
+            b'(',
+            64,
+            "units",
+            "refused 1 syntax at 102\n",
+        ),
+        (
+            "select count(*) from sales where ",
+            b'(',
+            65,
+            "units",
+            limit,
+        ),
+        ("wait", b' ', 65_532, "", built),
+        ("wait", b' ', 65_533, "", limit),
+        ("no statement", b' ', 65_533, "", limit),
+    ];
+    for (front, byte, count, end, reply) in cases {
+        let script = around(alloc, front, byte, count, end)?;
+        let (_, written) = run(alloc, &script, 4096)?;
+        assert_eq!(rt; written.as_str(), reply, "at {front}, {count} times");
+    }
+    // The parentheses are closed again, and the line is a statement.
+    let mut script = around(
+        alloc,
+        "select count(*) from sales where ",
+        b'(',
+        64,
+        "units = 1",
+    )?;
+    script.extend_from_slice(&around(alloc, "", b')', 64, "")?)?;
+    assert_eq!(rt; run(alloc, &script, 4096)?.1.as_str(), built);
+    // A line that is not UTF-8 is refused for that, over a limit or not.
+    let mut script = around(alloc, "", b'(', 65, "")?;
+    script.push(0xff)?;
+    assert_eq!(rt;
+        run(alloc, &script, 4096)?.1.as_str(),
+        "refused 14 not UTF-8\n"
+    );
     Ok(())
 }
 
@@ -129,7 +234,7 @@ fn pieces_and_line_ends_change_nothing(rt: HostRuntime) -> Result<(), Fail> {
     for end in ["", "\n", "\r\n"] {
         let script = format!(in alloc; "{BASE}{OSLO}{end}")?;
         for piece in [1, 7, 4096] {
-            let (status, written) = run(alloc, script.as_str(), piece)?;
+            let (status, written) = run(alloc, script.as_bytes(), piece)?;
             assert_eq!(rt; written.as_str(), wanted.as_str());
             assert_eq!(rt; status, 0);
         }
@@ -140,7 +245,7 @@ fn pieces_and_line_ends_change_nothing(rt: HostRuntime) -> Result<(), Fail> {
         script.push_str("\r\n")?;
     }
     script.push_str(OSLO)?;
-    let (status, written) = run(alloc, script.as_str(), 4096)?;
+    let (status, written) = run(alloc, script.as_bytes(), 4096)?;
     assert_eq!(rt; written.as_str(), wanted.as_str());
     assert_eq!(rt; status, 0);
     Ok(())
@@ -156,7 +261,7 @@ fn a_thousand_rows_are_counted(rt: HostRuntime) -> Result<(), Fail> {
     }
     script.push_str(".\n")?;
     script.push_str(OSLO)?;
-    let (status, written) = run(alloc, script.as_str(), 4096)?;
+    let (status, written) = run(alloc, script.as_bytes(), 4096)?;
     let wanted = format!(in alloc; "{BASE_REPLIES}commit 3 rows 1000\nanswer 3 rows 1\n252\n")?;
     assert_eq!(rt; written.as_str(), wanted.as_str());
     assert_eq!(rt; status, 0);
@@ -167,7 +272,7 @@ fn a_thousand_rows_are_counted(rt: HostRuntime) -> Result<(), Fail> {
 fn a_read_fault_leaves_the_statements_before_it(rt: HostRuntime) -> Result<(), Fail> {
     let alloc = rt.alloc();
     // The first dot line ends at byte 121, and the call behind it fails.
-    let mut source = source(alloc, BASE, 121, &[1])?;
+    let mut source = source(alloc, BASE.as_bytes(), 121, &[1])?;
     let mut sink = ListSink::new(alloc, 1 << 16, Vec::new(alloc));
     let status = cjoin(alloc, &[], &mut source, &mut sink);
     let written = text(alloc, sink.bytes())?;
@@ -183,7 +288,7 @@ fn a_read_fault_leaves_the_statements_before_it(rt: HostRuntime) -> Result<(), F
 fn a_write_fault_leaves_a_front_of_the_replies(rt: HostRuntime) -> Result<(), Fail> {
     let alloc = rt.alloc();
     let script = format!(in alloc; "{BASE}{OSLO}")?;
-    let mut source = source(alloc, script.as_str(), 4096, &[])?;
+    let mut source = source(alloc, script.as_bytes(), 4096, &[])?;
     let mut sink = ListSink::new(alloc, 8, [1].to_vec(alloc)?);
     let status = cjoin(alloc, &[], &mut source, &mut sink);
     let written = text(alloc, sink.bytes())?;
@@ -210,7 +315,7 @@ fn words_that_name_no_settings_touch_nothing(rt: HostRuntime) -> Result<(), Fail
         for word in words {
             all.push(String::from_str(alloc, word)?)?;
         }
-        let mut source = source(alloc, BASE, 4096, &[])?;
+        let mut source = source(alloc, BASE.as_bytes(), 4096, &[])?;
         let mut sink = ListSink::new(alloc, 1 << 16, Vec::new(alloc));
         let status = cjoin(alloc, &all, &mut source, &mut sink);
         assert_eq!(rt; status, wanted, "at {words:?}");
