@@ -1,9 +1,9 @@
--- The answer for a predicate comes from the answers for its members.
+-- Where a predicate holds and fits comes from where its members do.
 use Rattle.std.proofs.Common.{◌≡◌, ◌↔◌, ℕ, Bool, true, ◌||◌, ◌&&◌, List, [], ◌∷◌, map, not, refl, ap, ◌∙◌, sym}
 use Rattle.std.specs.Bool.{Decides, IsTrue}
 use Rattle.std.specs.List.{All, Any, list_all, list_any}
 use Rattle.std.proofs.lemmas.Bool.Decides.{Decides-at, Decides-by_and, Decides-not}
-use Rattle.std.proofs.lemmas.List.Folds.{list_all-map, Any-from_list_any, list_any-from_Any}
+use Rattle.std.proofs.lemmas.List.Folds.{Any-from_list_any, list_any-from_Any}
 use Rattle.std.proofs.Common.{Global}
 use Rattle.std.specs.Prelude.{Box}
 use Rattle.star_values.specs.declared.value.Kind.{Kind}
@@ -11,41 +11,65 @@ use Rattle.star_values.specs.declared.value.Value.{Value}
 use Rattle.star_plan.specs.declared.predicate.Predicate.{Predicate}
 use Rattle.star_plan.specs.declared.predicate.Predicate.TheVariants.{Both, Either, Negate, Compare, Between, OneOf, rolls-Compare, rolls-Between, rolls-OneOf, rolls-Both, rolls-Either, rolls-Negate}
 use Rattle.star_plan.specs.declared.predicate.Predicate.TheOpen as layer
-use Rattle.star_plan.specs.declared.predicate.Predicate.TheOpen.{Predicate-F}
 use Rattle.star_plan.specs.declared.predicate.Predicate.TheFolds.{fold-roll-Predicate, fold_out-PredicateList}
 use Rattle.star_plan.specs.declared.predicate.PredicateList.{PredicateList}
-use Rattle.star_plan.specs.Members.{members_of, answer_by}
+use Rattle.star_plan.specs.Members.{members_of}
+use Rattle.star_plan.specs.Test.{Test, test_of, test_step, tests}
+use Rattle.star_plan.specs.Test as plain
 use Rattle.star_plan.specs.declared.predicate.How.{How}
 use Rattle.star_plan.specs.declared.predicate.How.TheVariants.{Eq, Ge, Le}
-use Rattle.star_plan.specs.Truth.{compares_at, holds_of, holds_step}
-use Rattle.star_plan.specs.Fits.{fits, fits_column, fits_step}
+use Rattle.star_plan.specs.Truth.{all_hold, compares_at, holds_of, some_holds, test_holds}
+use Rattle.star_plan.specs.Fits.{all_fit, fits, fits_column, test_fits}
 
-module _ (step : Predicate-F Bool (List Bool) → Bool) where
-  pub answer-Both : (list : PredicateList) → answer_by step (Both list) ≡ step (layer.Both (map (answer_by step) (members_of list)))
-  answer-Both list =
-      ap (answer_by step) (sym (rolls-Both list)) ∙ fold-roll-Predicate Bool (List Bool) step (λ l. l.members.items) (layer.Both list)
-      ∙ ap (λ members. step (layer.Both members)) (fold_out-PredicateList Bool (List Bool) step (λ l. l.members.items) list)
+test_of-Compare : (column : ℕ) (how : How) (value : Value) → test_of (Compare column how value) ≡ plain.Compare column how value
+test_of-Compare column how value =
+    ap test_of (sym (rolls-Compare column how value)) ∙ fold-roll-Predicate Test (List Test) test_step (λ l. l.members.items) (layer.Compare column how value)
 
-  pub answer-Either : (list : PredicateList) → answer_by step (Either list) ≡ step (layer.Either (map (answer_by step) (members_of list)))
-  answer-Either list =
-      ap (answer_by step) (sym (rolls-Either list)) ∙ fold-roll-Predicate Bool (List Bool) step (λ l. l.members.items) (layer.Either list)
-      ∙ ap (λ members. step (layer.Either members)) (fold_out-PredicateList Bool (List Bool) step (λ l. l.members.items) list)
+test_of-Between : (column : ℕ) (low high : Value) → test_of (Between column low high) ≡ plain.Between column low high
+test_of-Between column low high =
+    ap test_of (sym (rolls-Between column low high)) ∙ fold-roll-Predicate Test (List Test) test_step (λ l. l.members.items) (layer.Between column low high)
 
-list_any-map : {X Y : Type 0} (p : Y → Bool) (f : X → Y) (xs : List X) → list_any p (map f xs) ≡ list_any (λ x. p (f x)) xs
-list_any-map p f [] = refl
-list_any-map p f (x ∷ xs) = ap (λ rest. p (f x) || rest) (list_any-map p f xs)
+test_of-OneOf : (column : ℕ) (values : List Value) → test_of (OneOf column values) ≡ plain.OneOf column values
+test_of-OneOf column values =
+    ap test_of (sym (rolls-OneOf column values)) ∙ fold-roll-Predicate Test (List Test) test_step (λ l. l.members.items) (layer.OneOf column values)
 
-pub holds-Both : (list : PredicateList) (row : List Value) → holds_of (Both list) row ≡ list_all (λ member. holds_of member row) (members_of list)
-holds-Both list row = answer-Both (holds_step row) list ∙ list_all-map (λ held. held) (λ member. holds_of member row) (members_of list)
+test_of-Both : (list : PredicateList) → test_of (Both list) ≡ plain.Both (tests (map test_of (members_of list)))
+test_of-Both list =
+    ap test_of (sym (rolls-Both list)) ∙ fold-roll-Predicate Test (List Test) test_step (λ l. l.members.items) (layer.Both list)
+    ∙ ap (λ members. test_step (layer.Both members)) (fold_out-PredicateList Test (List Test) test_step (λ l. l.members.items) list)
 
-pub holds-Either : (list : PredicateList) (row : List Value) → holds_of (Either list) row ≡ list_any (λ member. holds_of member row) (members_of list)
-holds-Either list row = answer-Either (holds_step row) list ∙ list_any-map (λ held. held) (λ member. holds_of member row) (members_of list)
+test_of-Either : (list : PredicateList) → test_of (Either list) ≡ plain.Either (tests (map test_of (members_of list)))
+test_of-Either list =
+    ap test_of (sym (rolls-Either list)) ∙ fold-roll-Predicate Test (List Test) test_step (λ l. l.members.items) (layer.Either list)
+    ∙ ap (λ members. test_step (layer.Either members)) (fold_out-PredicateList Test (List Test) test_step (λ l. l.members.items) list)
+
+test_of-Negate : (member : Box Predicate Global) → test_of (Negate member) ≡ plain.Negate (test_of member.value)
+test_of-Negate member =
+    ap test_of (sym (rolls-Negate member)) ∙ fold-roll-Predicate Test (List Test) test_step (λ l. l.members.items) (layer.Negate member)
+
+all_hold-members : (row : List Value) (members : List Predicate) → all_hold row (tests (map test_of members)) ≡ list_all (λ member. holds_of member row) members
+all_hold-members row [] = refl
+all_hold-members row (member ∷ members) = ap (λ held. holds_of member row && held) (all_hold-members row members)
+
+some_holds-members : (row : List Value) (members : List Predicate) → some_holds row (tests (map test_of members)) ≡ list_any (λ member. holds_of member row) members
+some_holds-members row [] = refl
+some_holds-members row (member ∷ members) = ap (λ held. holds_of member row || held) (some_holds-members row members)
+
+all_fit-members : (kinds : List Kind) (members : List Predicate) → all_fit kinds (tests (map test_of members)) ≡ list_all (λ member. fits member kinds) members
+all_fit-members kinds [] = refl
+all_fit-members kinds (member ∷ members) = ap (λ fit. fits member kinds && fit) (all_fit-members kinds members)
+
+holds-Both : (list : PredicateList) (row : List Value) → holds_of (Both list) row ≡ list_all (λ member. holds_of member row) (members_of list)
+holds-Both list row = ap (test_holds row) (test_of-Both list) ∙ all_hold-members row (members_of list)
+
+holds-Either : (list : PredicateList) (row : List Value) → holds_of (Either list) row ≡ list_any (λ member. holds_of member row) (members_of list)
+holds-Either list row = ap (test_holds row) (test_of-Either list) ∙ some_holds-members row (members_of list)
 
 pub fits-Both : (kinds : List Kind) (list : PredicateList) → fits (Both list) kinds ≡ list_all (λ member. fits member kinds) (members_of list)
-fits-Both kinds list = answer-Both (fits_step kinds) list ∙ list_all-map (λ fit. fit) (λ member. fits member kinds) (members_of list)
+fits-Both kinds list = ap (test_fits kinds) (test_of-Both list) ∙ all_fit-members kinds (members_of list)
 
 pub fits-Either : (kinds : List Kind) (list : PredicateList) → fits (Either list) kinds ≡ list_all (λ member. fits member kinds) (members_of list)
-fits-Either kinds list = answer-Either (fits_step kinds) list ∙ list_all-map (λ fit. fit) (λ member. fits member kinds) (members_of list)
+fits-Either kinds list = ap (test_fits kinds) (test_of-Either list) ∙ all_fit-members kinds (members_of list)
 
 -- the same for a predicate that is such a list, whose members were read from it
 pub fits-is_Both : (predicate : Predicate) (list : PredicateList) (members : List Predicate) (kinds : List Kind) → predicate ≡ Both list → members ≡ members_of list
@@ -65,8 +89,7 @@ pub holds-is_Either : (predicate : Predicate) (list : PredicateList) (members : 
 holds-is_Either predicate list members row e f = ap (λ p. holds_of p row) e ∙ holds-Either list row ∙ sym (ap (list_any (λ member. holds_of member row)) f)
 
 holds-Negate : (member : Box Predicate Global) (row : List Value) → holds_of (Negate member) row ≡ not (holds_of member.value row)
-holds-Negate member row =
-    ap (answer_by (holds_step row)) (sym (rolls-Negate member)) ∙ fold-roll-Predicate Bool (List Bool) (holds_step row) (λ l. l.members.items) (layer.Negate member)
+holds-Negate member row = ap (test_holds row) (test_of-Negate member)
 
 itself : (b : Bool) → Decides b (b ≡ true)
 itself b = (λ h. h, λ h. h)
@@ -90,20 +113,18 @@ pub Negate-law : (member : Box Predicate Global) (row : List Value) → IsTrue (
 Negate-law member row = Decides-at _ _ (holds-Negate member row) (Decides-not _ (itself (holds_of member.value row)))
 
 pub Compare-law : (column : ℕ) (how : How) (value : Value) (row : List Value) → holds_of (Compare column how value) row ≡ compares_at row column how value
-Compare-law column how value row =
-    ap (answer_by (holds_step row)) (sym (rolls-Compare column how value)) ∙ fold-roll-Predicate Bool (List Bool) (holds_step row) (λ l. l.members.items) (layer.Compare column how value)
+Compare-law column how value row = ap (test_holds row) (test_of-Compare column how value)
 
 -- both comparisons hold
 pub Between-law : (column : ℕ) (low high : Value) (row : List Value)
     → holds_of (Between column low high) row ≡ (holds_of (Compare column Ge low) row && holds_of (Compare column Le high) row)
 Between-law column low high row =
-    ap (answer_by (holds_step row)) (sym (rolls-Between column low high)) ∙ fold-roll-Predicate Bool (List Bool) (holds_step row) (λ l. l.members.items) (layer.Between column low high)
+    ap (test_holds row) (test_of-Between column low high)
     ∙ ap (λ held. held && compares_at row column Le high) (sym (Compare-law column Ge low row))
     ∙ ap (λ held. holds_of (Compare column Ge low) row && held) (sym (Compare-law column Le high row))
 
 holds-OneOf : (column : ℕ) (values row : List Value) → holds_of (OneOf column values) row ≡ list_any (compares_at row column Eq) values
-holds-OneOf column values row =
-    ap (answer_by (holds_step row)) (sym (rolls-OneOf column values)) ∙ fold-roll-Predicate Bool (List Bool) (holds_step row) (λ l. l.members.items) (layer.OneOf column values)
+holds-OneOf column values row = ap (test_holds row) (test_of-OneOf column values)
 
 -- tests that agree find the same
 pub any_alike : {X : Type 0} (p q : X → Bool) (xs : List X) → ((x : X) → p x ≡ q x) → list_any p xs ≡ list_any q xs
@@ -117,17 +138,13 @@ OneOf-law column values row =
     (Decides-list_any (λ value. holds_of (Compare column Eq value) row) values)
 
 pub fits-Compare : (kinds : List Kind) (column : ℕ) (how : How) (value : Value) → fits (Compare column how value) kinds ≡ fits_column kinds column value
-fits-Compare kinds column how value =
-    ap (answer_by (fits_step kinds)) (sym (rolls-Compare column how value)) ∙ fold-roll-Predicate Bool (List Bool) (fits_step kinds) (λ l. l.members.items) (layer.Compare column how value)
+fits-Compare kinds column how value = ap (test_fits kinds) (test_of-Compare column how value)
 
 pub fits-Between : (kinds : List Kind) (column : ℕ) (low high : Value) → fits (Between column low high) kinds ≡ (fits_column kinds column low && fits_column kinds column high)
-fits-Between kinds column low high =
-    ap (answer_by (fits_step kinds)) (sym (rolls-Between column low high)) ∙ fold-roll-Predicate Bool (List Bool) (fits_step kinds) (λ l. l.members.items) (layer.Between column low high)
+fits-Between kinds column low high = ap (test_fits kinds) (test_of-Between column low high)
 
 pub fits-OneOf : (kinds : List Kind) (column : ℕ) (values : List Value) → fits (OneOf column values) kinds ≡ list_all (fits_column kinds column) values
-fits-OneOf kinds column values =
-    ap (answer_by (fits_step kinds)) (sym (rolls-OneOf column values)) ∙ fold-roll-Predicate Bool (List Bool) (fits_step kinds) (λ l. l.members.items) (layer.OneOf column values)
+fits-OneOf kinds column values = ap (test_fits kinds) (test_of-OneOf column values)
 
 pub fits-Negate : (kinds : List Kind) (member : Box Predicate Global) → fits (Negate member) kinds ≡ fits member.value kinds
-fits-Negate kinds member =
-    ap (answer_by (fits_step kinds)) (sym (rolls-Negate member)) ∙ fold-roll-Predicate Bool (List Bool) (fits_step kinds) (λ l. l.members.items) (layer.Negate member)
+fits-Negate kinds member = ap (test_fits kinds) (test_of-Negate member)

@@ -5,4 +5,6 @@ pub mod Fits
 pub mod Groups
 pub mod Joined
 pub mod Members
+pub mod Over
+pub mod Test
 pub mod Truth

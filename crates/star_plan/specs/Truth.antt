@@ -1,6 +1,6 @@
 -- When a predicate holds on a row.
-use Rattle.std.specs.Prelude.{ℕ, Bool, false, ◌&&◌, not, List, slice_get}
-use Rattle.std.specs.List.{list_all, list_any}
+use Rattle.std.specs.Prelude.{ℕ, Bool, true, false, ◌&&◌, ◌||◌, not, List, slice_get}
+use Rattle.std.specs.List.{list_any}
 use Rattle.std.specs.Option.{option_map_or}
 use Rattle.std.specs.declared.cmp.Ordering.{Ordering}
 use Rattle.std.specs.Ordering.{is_eq, is_lt, is_gt, is_le, is_ge, is_ne}
@@ -9,8 +9,7 @@ use Rattle.star_values.specs.Value.{value_cmp}
 use Rattle.star_plan.specs.declared.predicate.How.{How}
 use Rattle.star_plan.specs.declared.predicate.How.TheVariants.{Eq, Ne, Lt, Le, Gt, Ge}
 use Rattle.star_plan.specs.declared.predicate.Predicate.{Predicate}
-use Rattle.star_plan.specs.declared.predicate.Predicate.TheOpen.{Predicate-F, Compare, Between, OneOf, Both, Either, Negate}
-use Rattle.star_plan.specs.Members.{answer_by}
+use Rattle.star_plan.specs.Test.{Test, Tests, Compare, Between, OneOf, Both, Either, Negate, none, more, test_of}
 
 -- whether an order is what a comparison asks for
 abbrev pub is_asked : How → Ordering → Bool
@@ -30,16 +29,25 @@ abbrev pub compares_at : List Value → ℕ → How → Value → Bool
 compares_at row column how value =
     option_map_or (λ found. compares how found value) (slice_get row column) false
 
--- a predicate on a row, where it is known which of its members hold
-abbrev pub holds_step : List Value → Predicate-F Bool (List Bool) → Bool
-holds_step row (Compare column how value) = compares_at row column how value
-holds_step row (Between column low high) =
-    compares_at row column Ge low && compares_at row column Le high
-holds_step row (OneOf column values) = list_any (compares_at row column Eq) values
-holds_step row (Both members) = list_all (λ held. held) members
-holds_step row (Either members) = list_any (λ held. held) members
-holds_step row (Negate member) = not member.value
+abbrev mutual
+  -- whether a test holds on a row
+  pub test_holds : List Value → Test → Bool
+  test_holds row (Compare column how value) = compares_at row column how value
+  test_holds row (Between column low high) =
+      compares_at row column Ge low && compares_at row column Le high
+  test_holds row (OneOf column values) = list_any (compares_at row column Eq) values
+  test_holds row (Both ts) = all_hold row ts
+  test_holds row (Either ts) = some_holds row ts
+  test_holds row (Negate t) = not (test_holds row t)
+
+  pub all_hold : List Value → Tests → Bool
+  all_hold row none = true
+  all_hold row (more t ts) = test_holds row t && all_hold row ts
+
+  pub some_holds : List Value → Tests → Bool
+  some_holds row none = false
+  some_holds row (more t ts) = test_holds row t || some_holds row ts
 
 -- whether a predicate holds on a row
 abbrev pub holds_of : Predicate → List Value → Bool
-holds_of predicate row = answer_by (holds_step row) predicate
+holds_of predicate row = test_holds row (test_of predicate)
