@@ -1,0 +1,6 @@
+use Rattle.std.proofs.Common.{◌≡◌, ◌++◌, drop}
+use Rattle.star_binder.proofs.bound.copied.Given as goal
+
+-- the copies so far, and the values that are left, are all
+abbrev pub invariant-values : goal.invariant-values
+invariant-values l = l.copy.items ++ drop l.value-index l.values ≡ l.values

@@ -1,0 +1,10 @@
+use Rattle.std.proofs.Common.{◌≡◌, drop, map}
+use Rattle.std.specs.List.{list_any}
+use Rattle.star_binder.specs.Places.{is_ambiguous}
+use Rattle.star_binder.proofs.known.has_ambiguous_column.Given as goal
+
+-- some column is ambiguous where one of those that are left is
+abbrev pub invariant-columns : goal.invariant-columns
+invariant-columns l =
+    list_any (is_ambiguous l.scope.schema.now l.scope.tables.now) (map (λ c. c.now) (drop l.column-index l.columns))
+    ≡ list_any (is_ambiguous l.scope.schema.now l.scope.tables.now) (map (λ c. c.now) l.columns)

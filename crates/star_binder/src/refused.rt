@@ -1,0 +1,88 @@
+//! The one order of checks: the first that fails gives the reason for which a statement is refused.
+//! Each check alone is in `known`, `select`, `kinds`, `joined` or `grouped`.
+ghost use Rattle.std.specs.Prelude.{◌≡◌, map, IfOk};
+ghost use Rattle.star_parser.specs.Condition.{condition_of};
+ghost use Rattle.star_schema.specs.declared.table.Table.TheVariants as table;
+ghost use Rattle.star_binder.specs.Bound.{query_in, test_on};
+ghost use Rattle.star_binder.specs.Checked.{unless_refused};
+ghost use Rattle.star_binder.specs.Refused.{bound_delete, bound_over, fact_alone};
+
+use crate::grouped::has_item_that_is_not_grouped;
+use crate::joined::{has_mixed_conjunct, lacks_a_join};
+use crate::kinds::{has_another_kind, has_type_mismatch};
+use crate::known::{
+    has_ambiguous_column, has_repeated_table, has_unknown_name, has_unknown_name_in_delete,
+};
+use crate::named::add_conjunct_columns;
+use crate::scope::Scope;
+use crate::select::{Select, columns_named, is_too_large};
+use star_parser::Tree;
+use star_values::{NoMemory, Refusal, SmallText};
+use std::alloc::Global;
+
+/// The first reason that refuses a select, where there is one.
+pub(crate) fn refusal_of(
+    alloc: Global,
+    scope: &Scope,
+    select: &Select,
+) -> Result<Option<Refusal>, NoMemory>
+    ensures { IfOk result (λ refusal.
+        bound_over scope.now.schema.now scope.now.tables.now select.now.names.now
+        select.now.items.now (map condition_of select.now.conjuncts.now) select.now.groups.now
+        ≡ unless_refused refusal (query_in scope.now.schema.now scope.now.tables.now
+        select.now.items.now (map condition_of select.now.conjuncts.now) select.now.groups.now)) }
+{
+    let columns = columns_named(alloc, select)?;
+    if has_repeated_table(scope) {
+        return Ok(Some(Refusal::DuplicateName));
+    }
+    if has_unknown_name(scope, select.names, columns.as_slice()) {
+        return Ok(Some(Refusal::UnknownName));
+    }
+    if is_too_large(select) {
+        return Ok(Some(Refusal::Limit));
+    }
+    if has_ambiguous_column(scope, columns.as_slice()) {
+        return Ok(Some(Refusal::AmbiguousName));
+    }
+    if has_type_mismatch(alloc, scope, select)? {
+        return Ok(Some(Refusal::TypeMismatch));
+    }
+    if lacks_a_join(scope, select.conjuncts) {
+        return Ok(Some(Refusal::MissingJoin));
+    }
+    if has_mixed_conjunct(alloc, scope, select.conjuncts)? {
+        return Ok(Some(Refusal::MixedConjunct));
+    }
+    if has_item_that_is_not_grouped(scope, select.items, select.groups) {
+        return Ok(Some(Refusal::NotGrouped));
+    }
+    Ok(None)
+}
+
+/// The first reason that refuses a delete, where there is one. It is over the fact table alone.
+pub(crate) fn refusal_of_delete(
+    alloc: Global,
+    scope: &Scope,
+    name: &SmallText,
+    conjuncts: &[Tree],
+) -> Result<Option<Refusal>, NoMemory>
+    requires { scope.now.tables.now ≡ fact_alone }
+    ensures { IfOk result (λ refusal.
+        bound_delete scope.now.schema.now name.now (map condition_of conjuncts.now)
+        ≡ unless_refused refusal
+        (test_on scope.now.schema.now fact_alone (map condition_of conjuncts.now) table.Fact)) }
+{
+    let mut columns = Vec::new(alloc);
+    add_conjunct_columns(&mut columns, conjuncts)?;
+    if has_unknown_name_in_delete(scope, name, columns.as_slice()) {
+        return Ok(Some(Refusal::UnknownName));
+    }
+    if has_another_kind(alloc, scope, conjuncts)? {
+        return Ok(Some(Refusal::TypeMismatch));
+    }
+    if has_mixed_conjunct(alloc, scope, conjuncts)? {
+        return Ok(Some(Refusal::MixedConjunct));
+    }
+    Ok(None)
+}
