@@ -6,11 +6,11 @@ use Rattle.std.specs.Cmp.Lexicographic.{pointwise, texts_ties}
 use Rattle.std.proofs.lemmas.Bool.Decides.{Decides-int_eq}
 use Rattle.std.proofs.lemmas.List.Folds.{find-append}
 use Rattle.star_values.specs.declared.value.Value.TheVariants.{Int, Str}
-use Rattle.query_meaning.specs.declared.dimension_table.DimensionRecord.{DimensionRecord}
+use Rattle.query_meaning.specs.declared.dimension_rows.DimensionRecord.{DimensionRecord}
 use Rattle.query_meaning.specs.Tables.{DimensionRow}
 use Rattle.query_meaning.specs.Query.{equals_at}
 use Rattle.query_meaning.specs.Effect.{has_key}
-use Rattle.query_meaning.specs.DimensionTable.{row_of, FindsTexts, is_selected}
+use Rattle.query_meaning.specs.DimensionRows.{row_of, FindsTexts, is_selected}
 
 -- the kept row is of this key
 abbrev is_of : ℤ → DimensionRecord → Bool

@@ -1,21 +1,30 @@
--- Every effect agrees with the tables that it leaves.
-use Rattle.std.proofs.Common.{◌≡◌, ℕ, ◌==◌, Bool, true, false, not, ◌&&◌, List, length, Option, Some, None, Result, Ok, Err, refl}
-use Rattle.std.specs.Prelude.{is_none, slice_get, if◌then◌else◌}
+-- Every effect agrees with the tables that it leaves, and what the effect of a select is.
+use Rattle.std.proofs.Common.{◌≡◌, ℕ, Bool, true, false, not, ◌&&◌, List, Option, Some, None, Result, Ok, Err, refl, ap, ◌∙◌}
+use Rattle.std.specs.Prelude.{is_none, if◌then◌else◌}
 use Rattle.std.specs.Option.{option_map_or}
-use Rattle.std.specs.Str.{bytes_eq}
 use Rattle.star_values.specs.declared.refusal.Refusal.{Refusal}
-use Rattle.star_values.specs.declared.refusal.Refusal.TheVariants.{NotBuilt}
+use Rattle.star_values.specs.declared.refusal.Refusal.TheVariants.{NotBuilt, OutOfOrder, UnknownName}
 use Rattle.star_values.specs.declared.value.Value as cell
 use Rattle.script_reader.specs.declared.statement.Statement.{Statement}
 use Rattle.script_reader.specs.declared.statement.Block.{Block}
-use Rattle.first_language.specs.Command.{command_in}
-use Rattle.first_language.specs.declared.command.Command.{Command}
-use Rattle.first_language.specs.declared.command.Command.TheVariants as command
-use Rattle.query_meaning.specs.Tables.{Dimension, Fact, Store}
-use Rattle.query_meaning.specs.History.{Change, DimensionLoaded, FactLoaded, after_change}
-use Rattle.query_meaning.specs.Effect.{Effect, declare_dimension, declare_fact, takes_fact, refused, with_tables}
-use Rattle.query_meaning.specs.Statement.{built_effect, closed_block, command_effect, count_effect, dimension_rows_in, effect_of, fact_rows_in, is_join_of, load_block, load_effect, loaded, map_ok}
-use Rattle.query_meaning.specs.Text.{text_refusal}
+use Rattle.star_parser.specs.Condition.{Condition}
+use Rattle.star_parser.specs.Statement as written
+use Rattle.star_parser.specs.declared.ast.AstItem.{AstItem}
+use Rattle.star_parser.specs.declared.tree.Column.{Column}
+use Rattle.star_plan.specs.Test.{Query, Test}
+use Rattle.star_plan.specs.declared.table_def.TableDef.{TableDef}
+use Rattle.star_schema.specs.Declaration.{declared_dimension, declared_fact}
+use Rattle.star_schema.specs.Named.{table_named}
+use Rattle.star_schema.specs.declared.table.Table.{Table}
+use Rattle.star_schema.specs.declared.table.Table.TheVariants as table
+use Rattle.star_binder.specs.Named.{where_conjuncts}
+use Rattle.star_binder.specs.Refused.{bound_delete, bound_select}
+use Rattle.query_meaning.specs.Tables.{DimensionRow, Fact, Store, Version, schema_of}
+use Rattle.query_meaning.specs.History.{DimensionDeclared, DimensionLoaded, FactDeclared, FactLoaded, after_change}
+use Rattle.query_meaning.specs.Effect.{Effect, declared, refused}
+use Rattle.query_meaning.specs.Star.{counted_text, is_plain}
+use Rattle.query_meaning.specs.Statement.{change_in, closed_block, count_effect, deleted, dimension_rows_in, effect_by, effect_of, fact_rows_in, first_rows, load_block, load_effect, load_into, loaded, map_ok, meaning_effect, query_effect, selected, versions_in}
+use Rattle.query_meaning.specs.Text.{meaning_of}
 use Rattle.query_meaning.specs.Laws.{AgreesWith}
 
 abbrev Agrees : Store → Effect → Type 0
@@ -30,24 +39,13 @@ map_or_either : {A B : Type 0} (P : B → Type 0) (f : A → B) (o : Option A) (
 map_or_either P f None none some h = h
 map_or_either P f (Some x) none some h = some x
 
-with_tables_agrees : (store : Store) (effect : Dimension → Fact → Effect)
-    → ((dimension : Dimension) (fact : Fact) → Agrees store (effect dimension fact)) → Agrees store (with_tables store effect)
-with_tables_agrees store effect agrees =
-    map_or_either (Agrees store)
-    (λ fact. option_map_or (λ dimension. effect dimension fact) (slice_get store.dimensions 0) (refused NotBuilt)) store.fact (refused NotBuilt)
-    (λ fact. map_or_either (Agrees store) (λ dimension. effect dimension fact) (slice_get store.dimensions 0) (refused NotBuilt)
-    (λ dimension. agrees dimension fact) refl)
-    refl
+dimension_agrees : (store : Store) (result : Result TableDef Refusal) → Agrees store (declared DimensionDeclared result)
+dimension_agrees store (Ok table) = refl
+dimension_agrees store (Err reason) = refl
 
-dimension_by : (store : Store) (name key text : List ℕ) (test : Bool) → length store.dimensions == 0 && is_none store.fact && not (bytes_eq key text) ≡ test
-    → Agrees store (declare_dimension store name key text)
-dimension_by store name key text true h = rw h
-dimension_by store name key text false h = rw h
-
-fact_by : (store : Store) (name reference target measure : List ℕ) (test : Bool) → takes_fact store name reference target measure ≡ test
-    → Agrees store (declare_fact store name reference target measure)
-fact_by store name reference target measure true h = rw h
-fact_by store name reference target measure false h = rw h
+fact_agrees : (store : Store) (result : Result TableDef Refusal) → Agrees store (declared FactDeclared result)
+fact_agrees store (Ok table) = refl
+fact_agrees store (Err reason) = refl
 
 dimension_load_agrees : (store : Store) (rows : Result (List (List cell.Value)) Refusal) → Agrees store (loaded store (map_ok (DimensionLoaded 0) rows))
 dimension_load_agrees store (Ok rows) = (refl, refl)
@@ -57,43 +55,79 @@ fact_load_agrees : (store : Store) (rows : Result (List (List cell.Value)) Refus
 fact_load_agrees store (Ok rows) = (refl, refl)
 fact_load_agrees store (Err reason) = refl
 
-block_agrees : (store : Store) (dimension : Dimension) (fact : Fact) (name block : List ℕ) → Agrees store (load_block store dimension fact name block)
-block_agrees store dimension fact name block =
-    let agrees : Result Change Refusal → Type 0 = λ change. Agrees store (loaded store change) in
-    either agrees (bytes_eq name dimension.table.name)
-    (map_ok (DimensionLoaded 0) (dimension_rows_in dimension block))
-    (if bytes_eq name fact.table.name then map_ok FactLoaded (fact_rows_in dimension fact block) else Err NotBuilt)
-    (dimension_load_agrees store (dimension_rows_in dimension block))
-    (either agrees (bytes_eq name fact.table.name) (map_ok FactLoaded (fact_rows_in dimension fact block)) (Err NotBuilt)
-    (fact_load_agrees store (fact_rows_in dimension fact block)) refl)
+change_agrees : (store : Store) (rows : List DimensionRow) (versions : List Version) (into : Table) (block : List ℕ)
+    → Agrees store (loaded store (change_in rows versions into block))
+change_agrees store rows versions (table.Dimension number) block = dimension_load_agrees store (dimension_rows_in rows block)
+change_agrees store rows versions table.Fact block = fact_load_agrees store (fact_rows_in rows versions block)
 
-load_agrees : (store : Store) (name : List ℕ) (block : Block) → Agrees store (load_effect store name block)
-load_agrees store name block =
-    with_tables_agrees store (λ dimension fact. option_map_or (load_block store dimension fact name) (closed_block block) (refused NotBuilt))
-    (λ dimension fact. map_or_either (Agrees store) (load_block store dimension fact name) (closed_block block) (refused NotBuilt)
-    (block_agrees store dimension fact name) refl)
+block_agrees : (store : Store) (into : Table) (block : List ℕ) → Agrees store (load_block store into block)
+block_agrees store into block = change_agrees store (first_rows store.dimensions) (versions_in store) into block
 
-join_by : (store : Store) (answer : Effect) (test : Bool) → Agrees store answer → Agrees store (if test then answer else refused NotBuilt)
-join_by store answer true h = h
-join_by store answer false h = refl
+into_agrees : (store : Store) (header : Bool) (block : Block) (into : Table) → Agrees store (load_into store header block into)
+into_agrees store header block into =
+    either (Agrees store) (is_plain (schema_of store) && not header)
+    (option_map_or (load_block store into) (closed_block block) (refused NotBuilt)) (refused NotBuilt)
+    (map_or_either (Agrees store) (load_block store into) (closed_block block) (refused NotBuilt) (block_agrees store into) refl)
+    refl
 
-count_agrees : (store : Store) (join : Command) → Agrees store (count_effect store join)
-count_agrees store join =
-    with_tables_agrees store _ (λ dimension fact. join_by store _ (is_join_of dimension fact join) (refl, refl))
+load_agrees : (store : Store) (name : List ℕ) (header : Bool) (block : Block) → Agrees store (load_effect store name header block)
+load_agrees store name header block =
+    either (Agrees store) (is_none store.fact) (refused OutOfOrder)
+    (option_map_or (load_into store header block) (table_named (schema_of store) name) (refused UnknownName))
+    refl
+    (map_or_either (Agrees store) (load_into store header block) (table_named (schema_of store) name) (refused UnknownName)
+    (into_agrees store header block) refl)
 
-command_agrees : (store : Store) (found : Command) (block : Block) → Agrees store (command_effect store found block)
-command_agrees store (command.Dimension name key text) block = dimension_by store name key text _ refl
-command_agrees store (command.Fact name reference target measure) block = fact_by store name reference target measure _ refl
-command_agrees store (command.Load name) block = load_agrees store name block
-command_agrees store (command.Count fact dimension joined_fact reference joined_dimension key text value) block =
-    count_agrees store (command.Count fact dimension joined_fact reference joined_dimension key text value)
+deleted_agrees : (store : Store) (test : Result (Option Test) Refusal) → Agrees store (deleted test)
+deleted_agrees store (Ok test) = refl
+deleted_agrees store (Err reason) = refl
 
-built_agrees : (store : Store) (statement : Statement) → Agrees store (built_effect store statement)
-built_agrees store statement =
-    map_or_either (Agrees store) (λ found. command_effect store found statement.block) (command_in statement.line) (refused NotBuilt)
-    (λ found. command_agrees store found statement.block) refl
+query_agrees : (store : Store) (query : Query) → Agrees store (query_effect store query)
+query_agrees store query =
+    either (Agrees store) (is_plain (schema_of store)) (option_map_or (count_effect store) (counted_text query) (refused NotBuilt)) (refused NotBuilt)
+    (map_or_either (Agrees store) (count_effect store) (counted_text query) (refused NotBuilt) (λ text. (refl, refl)) refl)
+    refl
+
+selected_agrees : (store : Store) (query : Result Query Refusal) → Agrees store (selected store query)
+selected_agrees store (Ok query) = query_agrees store query
+selected_agrees store (Err reason) = refl
+
+meaning_agrees : (store : Store) (block : Block) (meaning : written.Statement) → Agrees store (meaning_effect store block meaning)
+meaning_agrees store block (written.Dimension name columns) = dimension_agrees store (declared_dimension (schema_of store) name columns)
+meaning_agrees store block (written.Fact name columns) = fact_agrees store (declared_fact (schema_of store) name columns)
+meaning_agrees store block (written.Load name header) = load_agrees store name header block
+meaning_agrees store block (written.Delete name condition) =
+    either (Agrees store) (is_none store.fact) (refused OutOfOrder) (deleted (bound_delete (schema_of store) name (where_conjuncts condition)))
+    refl (deleted_agrees store (bound_delete (schema_of store) name (where_conjuncts condition)))
+meaning_agrees store block (written.Select items names condition groups) =
+    either (Agrees store) (is_none store.fact) (refused OutOfOrder) (selected store (bound_select (schema_of store) items names (where_conjuncts condition) groups))
+    refl (selected_agrees store (bound_select (schema_of store) items names (where_conjuncts condition) groups))
+meaning_agrees store block written.Wait = refl
+
+by_agrees : (store : Store) (block : Block) (meaning : Result written.Statement Refusal) → Agrees store (effect_by store block meaning)
+by_agrees store block (Ok meaning) = meaning_agrees store block meaning
+by_agrees store block (Err reason) = refl
 
 pub effect_agrees : (store : Store) (statement : Statement) → Agrees store (effect_of store statement)
-effect_agrees store statement =
-    map_or_either (Agrees store) refused (text_refusal statement) (built_effect store statement)
-    (λ reason. refl) (built_agrees store statement)
+effect_agrees store statement = by_agrees store statement.block (meaning_of statement)
+
+-- the effect of a select, by whether there is a fact table and by what it is bound to
+select_by : (store : Store) (statement : Statement) (items : List AstItem) (names : List (List ℕ)) (condition : Option Condition) (groups : List Column)
+    → meaning_of statement ≡ Ok (written.Select items names condition groups)
+    → effect_of store statement
+    ≡ (if is_none store.fact then refused OutOfOrder else selected store (bound_select (schema_of store) items names (where_conjuncts condition) groups))
+select_by store statement items names condition groups e = ap (effect_by store statement.block) e
+
+pub select_early : (store : Store) (statement : Statement) (items : List AstItem) (names : List (List ℕ)) (condition : Option Condition) (groups : List Column)
+    → meaning_of statement ≡ Ok (written.Select items names condition groups) → store.fact ≡ None → effect_of store statement ≡ refused OutOfOrder
+select_early store statement items names condition groups e none =
+    select_by store statement items names condition groups e
+    ∙ ap (λ (fact : Option Fact). if is_none fact then refused OutOfOrder else selected store (bound_select (schema_of store) items names (where_conjuncts condition) groups)) none
+
+pub select_refused : (store : Store) (fact : Fact) (statement : Statement) (items : List AstItem) (names : List (List ℕ)) (condition : Option Condition) (groups : List Column)
+    → (reason : Refusal) → meaning_of statement ≡ Ok (written.Select items names condition groups) → store.fact ≡ Some fact
+    → bound_select (schema_of store) items names (where_conjuncts condition) groups ≡ Err reason → effect_of store statement ≡ refused reason
+select_refused store fact statement items names condition groups reason e there bound =
+    select_by store statement items names condition groups e
+    ∙ ap (λ (f : Option Fact). if is_none f then refused OutOfOrder else selected store (bound_select (schema_of store) items names (where_conjuncts condition) groups)) there
+    ∙ ap (selected store) bound

@@ -1,7 +1,8 @@
 -- A history: the accepted declarations, loads and deletes in order, and the tables that they make.
 use Rattle.std.specs.Prelude.{ℕ, zero, suc, ◌+◌, List, [], ◌∷◌, ◌++◌, map, fold, option_map, Some}
 use Rattle.star_values.specs.declared.value.Value as cell
-use Rattle.query_meaning.specs.Tables.{TableDef, DimensionRow, Dimension, Version, Fact, Store, empty_store}
+use Rattle.star_plan.specs.declared.table_def.TableDef.{TableDef}
+use Rattle.query_meaning.specs.Tables.{DimensionRow, Dimension, Version, Fact, Store, empty_store}
 
 -- one accepted statement's change
 pub data Change : Type 0 where

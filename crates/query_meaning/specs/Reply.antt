@@ -4,7 +4,7 @@ use Rattle.star_values.specs.Value.{cell_text}
 use Rattle.star_values.specs.Refusal.{number_of, words_of}
 use Rattle.star_values.specs.declared.value.Value as cell
 use Rattle.query_meaning.specs.declared.reply.Reply.{Reply}
-use Rattle.query_meaning.specs.declared.reply.Reply.TheVariants.{Table, Commit, Answer, Refused}
+use Rattle.query_meaning.specs.declared.reply.Reply.TheVariants.{Table, Commit, Answer, Refused, Waited}
 
 -- a row of an answer: its cells with a comma between each two, and a line feed
 abbrev pub row_text : List cell.Value → List ℕ
@@ -18,6 +18,7 @@ text_of (Commit number rows) = codes "commit " ++ decimal number ++ codes " rows
 text_of (Answer snapshot rows) =
     codes "answer " ++ decimal snapshot ++ codes " rows " ++ decimal (length rows) ++ codes "\n" ++ flat_map row_text rows
 text_of (Refused refusal) = codes "refused " ++ decimal (number_of refusal) ++ codes " " ++ words_of refusal ++ codes "\n"
+text_of Waited = codes "waited\n"
 
 -- the text of replies, one after the other
 abbrev pub text_of_all : List Reply → List ℕ

@@ -1,44 +1,61 @@
--- The effect of a statement: it is refused for its text, or does what the command that its line is does.
-use Rattle.std.specs.Prelude.{ℕ, Bool, false, ◌&&◌, List, [], length, Option, Some, None, Result, Ok, Err, bytes_eq, if◌then◌else◌}
+-- The effect of a statement: it is refused for its text, or does what it means.
+use Rattle.std.specs.Prelude.{ℕ, Bool, not, ◌&&◌, List, [], ◌∷◌, length, Option, Some, None, is_none, Result, Ok, Err, if◌then◌else◌}
 use Rattle.std.specs.Option.{option_map_or}
 use Rattle.star_values.specs.declared.refusal.Refusal.{Refusal}
-use Rattle.star_values.specs.declared.refusal.Refusal.TheVariants.{NotBuilt}
+use Rattle.star_values.specs.declared.refusal.Refusal.TheVariants.{NotBuilt, OutOfOrder, UnknownName}
 use Rattle.star_values.specs.declared.value.Value as cell
 use Rattle.script_reader.specs.declared.statement.Statement.{Statement}
 use Rattle.script_reader.specs.declared.statement.Block.{Block}
 use Rattle.script_reader.specs.declared.statement.Block.TheVariants.{Absent, Closed, Unclosed}
-use Rattle.first_language.specs.Command.{command_in}
-use Rattle.first_language.specs.Record.{dimension_records, fact_records}
-use Rattle.first_language.specs.declared.command.Command.{Command}
-use Rattle.first_language.specs.declared.command.Command.TheVariants as command
-use Rattle.query_meaning.specs.Tables.{Dimension, Fact, Store}
+use Rattle.star_parser.specs.Condition.{Condition}
+use Rattle.star_parser.specs.Statement as written
+use Rattle.star_plan.specs.Test.{Query, Test}
+use Rattle.star_schema.specs.Declaration.{declared_dimension, declared_fact}
+use Rattle.star_schema.specs.Named.{table_named}
+use Rattle.star_schema.specs.declared.table.Table.{Table}
+use Rattle.star_schema.specs.declared.table.Table.TheVariants as table
+use Rattle.star_binder.specs.Named.{where_conjuncts}
+use Rattle.star_binder.specs.Refused.{bound_delete, bound_select}
+use Rattle.plain_records.specs.Record.{dimension_records, fact_records}
+use Rattle.query_meaning.specs.Tables.{DimensionRow, Version, Dimension, Store, schema_of}
 use Rattle.query_meaning.specs.History.{Change, DimensionDeclared, FactDeclared, DimensionLoaded, FactLoaded}
 use Rattle.query_meaning.specs.Query.{alone}
-use Rattle.query_meaning.specs.Effect.{Effect, refused, column_name, declare_dimension, declare_fact, dimension_rows_of, fact_rows_of, committed, with_tables, count_query}
-use Rattle.query_meaning.specs.Text.{text_refusal}
+use Rattle.query_meaning.specs.Effect.{Effect, only_replies, refused, declared, dimension_rows_of, fact_rows_of, committed, count_query}
+use Rattle.query_meaning.specs.Star.{counted_text, is_plain}
+use Rattle.query_meaning.specs.Text.{meaning_of}
 use Rattle.query_meaning.specs.declared.reply.Reply.TheVariants as reply
 
--- the rows of a block for the dimension, or why there are none: each line is a record, and the table takes them
-abbrev pub dimension_rows_in : Dimension → List ℕ → Result (List (List cell.Value)) Refusal
-dimension_rows_in dimension block =
-    option_map_or (dimension_rows_of dimension) (dimension_records block) (Err NotBuilt)
+-- the rows of a block for a dimension with these rows, or why there are none: each line is a record, and the table
+-- takes them
+abbrev pub dimension_rows_in : List DimensionRow → List ℕ → Result (List (List cell.Value)) Refusal
+dimension_rows_in rows block =
+    option_map_or (dimension_rows_of rows) (dimension_records block) (Err NotBuilt)
 
 -- the rows of a block for the fact table, or why there are none
-abbrev pub fact_rows_in : Dimension → Fact → List ℕ → Result (List (List cell.Value)) Refusal
-fact_rows_in dimension fact block =
-    option_map_or (fact_rows_of dimension fact) (fact_records block) (Err NotBuilt)
+abbrev pub fact_rows_in : List DimensionRow → List Version → List ℕ → Result (List (List cell.Value)) Refusal
+fact_rows_in rows versions block =
+    option_map_or (fact_rows_of rows versions) (fact_records block) (Err NotBuilt)
 
 -- a function of the value at `Ok`
 abbrev pub map_ok : {A B E : Type 0} → (A → B) → Result A E → Result B E
 map_ok f (Ok x) = Ok (f x)
 map_ok f (Err e) = Err e
 
--- the change of a load of a block into the table of this name, or why there is none
-abbrev pub change_in : Dimension → Fact → List ℕ → List ℕ → Result Change Refusal
-change_in dimension fact name block =
-    if bytes_eq name dimension.table.name then map_ok (DimensionLoaded 0) (dimension_rows_in dimension block)
-    else (if bytes_eq name fact.table.name then map_ok FactLoaded (fact_rows_in dimension fact block)
-    else Err NotBuilt)
+-- the rows of the first dimension
+abbrev pub first_rows : List Dimension → List DimensionRow
+first_rows [] = []
+first_rows (dimension ∷ dimensions) = dimension.rows
+
+-- the versions of the fact table
+abbrev pub versions_in : Store → List Version
+versions_in store = option_map_or (λ fact. fact.versions) store.fact []
+
+-- the change of a load of a block into a table of a dimension with these rows and a fact table with these versions,
+-- or why there is none
+abbrev pub change_in : List DimensionRow → List Version → Table → List ℕ → Result Change Refusal
+change_in rows versions (table.Dimension number) block =
+    map_ok (DimensionLoaded 0) (dimension_rows_in rows block)
+change_in rows versions table.Fact block = map_ok FactLoaded (fact_rows_in rows versions block)
 
 -- how many rows a change loads
 abbrev pub rows_loaded : Change → ℕ
@@ -52,58 +69,76 @@ abbrev pub loaded : Store → Result Change Refusal → Effect
 loaded store (Ok change) = committed store change (rows_loaded change)
 loaded store (Err reason) = refused reason
 
--- a load of a closed block is the next commit, or refused
-abbrev pub load_block : Store → Dimension → Fact → List ℕ → List ℕ → Effect
-load_block store dimension fact name block = loaded store (change_in dimension fact name block)
-
 -- the bytes of a closed block
 abbrev pub closed_block : Block → Option (List ℕ)
 closed_block Absent = None
 closed_block (Closed block) = Some block
 closed_block (Unclosed block) = None
 
--- the counted join names the two tables, the columns of their key join, and the text column
-abbrev pub is_join_of : Dimension → Fact → Command → Bool
-is_join_of d f (command.Count fact dimension joined_fact reference joined_dimension key text value) =
-    bytes_eq fact f.table.name && bytes_eq dimension d.table.name
-    && bytes_eq joined_fact f.table.name && bytes_eq reference (column_name f.table 0)
-    && bytes_eq joined_dimension d.table.name && bytes_eq key (column_name d.table 0)
-    && bytes_eq text (column_name d.table 1)
-is_join_of d f other = false
+-- the effect of a load of a closed block into a table
+abbrev pub load_block : Store → Table → List ℕ → Effect
+load_block store into block =
+    loaded store (change_in (first_rows store.dimensions) (versions_in store) into block)
 
--- the text that a counted join asks for
-abbrev pub value_of : Command → List ℕ
-value_of (command.Count fact dimension joined_fact reference joined_dimension key text value) = value
-value_of other = []
-
--- the effect of a counted join: its answer at the last commit
-abbrev pub count_effect : Store → Command → Effect
-count_effect store join =
-    with_tables store (λ dimension fact.
-    if is_join_of dimension fact join
-    then (record { change = None; reply = reply.Answer store.commits (alone store (count_query (value_of join)) store.commits) })
-    else refused NotBuilt)
+-- the effect of a load into a table: today a load of plain records into plain tables is carried out
+abbrev pub load_into : Store → Bool → Block → Table → Effect
+load_into store header block into =
+    if is_plain (schema_of store) && not header
+    then option_map_or (load_block store into) (closed_block block) (refused NotBuilt)
+    else refused NotBuilt
 
 -- the effect of a load into the table of this name
-abbrev pub load_effect : Store → List ℕ → Block → Effect
-load_effect store name block =
-    with_tables store (λ dimension fact.
-    option_map_or (load_block store dimension fact name) (closed_block block) (refused NotBuilt))
+abbrev pub load_effect : Store → List ℕ → Bool → Block → Effect
+load_effect store name header block =
+    if is_none store.fact then refused OutOfOrder
+    else option_map_or (load_into store header block) (table_named (schema_of store) name) (refused UnknownName)
 
--- the effect of the command that a statement's line is
-abbrev pub command_effect : Store → Command → Block → Effect
-command_effect store (command.Dimension name key text) block = declare_dimension store name key text
-command_effect store (command.Fact name reference target measure) block =
-    declare_fact store name reference target measure
-command_effect store (command.Load name) block = load_effect store name block
-command_effect store (command.Count fact dimension joined_fact reference joined_dimension key text value) block =
-    count_effect store (command.Count fact dimension joined_fact reference joined_dimension key text value)
+-- the effect of a delete with this test, or refused for this reason: no delete is carried out today
+abbrev pub deleted : Result (Option Test) Refusal → Effect
+deleted (Ok test) = refused NotBuilt
+deleted (Err reason) = refused reason
 
--- the effect of a statement whose text is not refused
-abbrev pub built_effect : Store → Statement → Effect
-built_effect store statement =
-    option_map_or (λ found. command_effect store found statement.block) (command_in statement.line) (refused NotBuilt)
+-- the effect of a delete
+abbrev pub delete_effect : Store → List ℕ → List Condition → Effect
+delete_effect store name conjuncts =
+    if is_none store.fact then refused OutOfOrder
+    else deleted (bound_delete (schema_of store) name conjuncts)
+
+-- the reply to a counted join: its answer at the last commit
+abbrev pub count_effect : Store → List ℕ → Effect
+count_effect store text =
+    only_replies (reply.Answer store.commits (alone store (count_query text) store.commits))
+
+-- the effect of a query: today the counted join of plain tables is answered
+abbrev pub query_effect : Store → Query → Effect
+query_effect store query =
+    if is_plain (schema_of store) then option_map_or (count_effect store) (counted_text query) (refused NotBuilt)
+    else refused NotBuilt
+
+-- the effect of a select that is this query, or refused for this reason
+abbrev pub selected : Store → Result Query Refusal → Effect
+selected store (Ok query) = query_effect store query
+selected store (Err reason) = refused reason
+
+-- the effect of a statement of this meaning
+abbrev pub meaning_effect : Store → Block → written.Statement → Effect
+meaning_effect store block (written.Dimension name columns) =
+    declared DimensionDeclared (declared_dimension (schema_of store) name columns)
+meaning_effect store block (written.Fact name columns) =
+    declared FactDeclared (declared_fact (schema_of store) name columns)
+meaning_effect store block (written.Load name header) = load_effect store name header block
+meaning_effect store block (written.Delete name condition) =
+    delete_effect store name (where_conjuncts condition)
+meaning_effect store block (written.Select items names condition groups) =
+    if is_none store.fact then refused OutOfOrder
+    else selected store (bound_select (schema_of store) items names (where_conjuncts condition) groups)
+meaning_effect store block written.Wait = only_replies reply.Waited
+
+-- the effect of what a statement means, or refused for its text
+abbrev pub effect_by : Store → Block → Result written.Statement Refusal → Effect
+effect_by store block (Ok meaning) = meaning_effect store block meaning
+effect_by store block (Err reason) = refused reason
 
 -- the effect of a statement where these are the tables
 abbrev pub effect_of : Store → Statement → Effect
-effect_of store statement = option_map_or refused (text_refusal statement) (built_effect store statement)
+effect_of store statement = effect_by store statement.block (meaning_of statement)

@@ -1,5 +1,6 @@
--- Why the text of a statement is refused, whatever the tables: the first of three tests that it does not pass.
-use Rattle.std.specs.Prelude.{◌≡◌, ◌⊎◌, ℕ, Bool, true, false, not, ◌&&◌, List, length, Option, Some, None, if◌then◌else◌}
+-- What a statement means by its text alone, and why its text is refused: the first of three tests that it does not
+-- pass. No table is looked at.
+use Rattle.std.specs.Prelude.{◌≡◌, ◌⊎◌, ℕ, Bool, true, false, not, ◌&&◌, List, length, Result, Ok, Err, if◌then◌else◌}
 use Rattle.std.specs.Str.{IsUtf8, is_utf8}
 use Rattle.star_values.specs.declared.refusal.Refusal.{Refusal}
 use Rattle.star_values.specs.declared.refusal.Refusal.TheVariants as refusal
@@ -26,18 +27,19 @@ is_closed (Unclosed block) = false
 abbrev pub lacks_block : written.Statement → Block → Bool
 lacks_block meaning block = is_load meaning && not (is_closed block)
 
--- why a line of so many bytes that is UTF-8 is refused, with what stands behind it: it is over a limit, or no
--- statement from a place on
-abbrev pub parsed_refusal : ℕ → Block → Parsed → Option Refusal
-parsed_refusal end block Over = Some refusal.Limit
-parsed_refusal end block (Stopped place) = Some (refusal.Syntax place)
-parsed_refusal end block (Means meaning) = if lacks_block meaning block then Some (refusal.Syntax end) else None
+-- what a line of so many bytes that is UTF-8 means, with what stands behind it, or why it is refused: it is over a
+-- limit, or no statement from a place on
+abbrev pub parsed_meaning : ℕ → Block → Parsed → Result written.Statement Refusal
+parsed_meaning end block Over = Err refusal.Limit
+parsed_meaning end block (Stopped place) = Err (refusal.Syntax place)
+parsed_meaning end block (Means meaning) =
+    if lacks_block meaning block then Err (refusal.Syntax end) else Ok meaning
 
--- why the text of a statement is refused
-unfoldable pub text_refusal : Statement → Option Refusal
-text_refusal statement =
-    if is_utf8 statement.line then parsed_refusal (length statement.line) statement.block (parsed_of statement.line)
-    else Some refusal.NotUtf8
+-- what a statement means, or why its text is refused
+unfoldable pub meaning_of : Statement → Result written.Statement Refusal
+meaning_of statement =
+    if is_utf8 statement.line then parsed_meaning (length statement.line) statement.block (parsed_of statement.line)
+    else Err refusal.NotUtf8
 
 -- The same in the words of the limits and the grammar.
 
@@ -45,10 +47,9 @@ text_refusal statement =
 abbrev pub IsWithin : List ℕ → Type 0
 IsWithin line = IsUtf8 line × ¬ (IsOverLimit line)
 
--- the line is a statement, and does not lack a block
-abbrev pub IsWhole : Statement → Type 0
-IsWhole statement =
-    (meaning : written.Statement) × IsSentence statement.line meaning × (lacks_block meaning statement.block ≡ false)
+-- the line is the statement of this meaning, and does not lack a block
+abbrev pub IsWhole : Statement → written.Statement → Type 0
+IsWhole statement meaning = IsSentence statement.line meaning × (lacks_block meaning statement.block ≡ false)
 
 -- the line ends in this place, and is a load without a closed block
 abbrev pub EndsTooSoon : Statement → ℕ → Type 0

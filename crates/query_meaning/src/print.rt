@@ -1,7 +1,7 @@
 //! The text of replies.
 ghost use Rattle.std.specs.Prelude.{◌≡◌, ◌++◌, IfOk, OnOk, OnErr};
 ghost use Rattle.query_meaning.specs.Reply.{text_of, row_text};
-ghost use Rattle.query_meaning.specs.declared.reply.Reply.TheVariants.{Table, Commit, Answer, Refused};
+ghost use Rattle.query_meaning.specs.declared.reply.Reply.TheVariants.{Table, Commit, Answer, Refused, Waited};
 
 use crate::reply::{AnswerRows, Reply};
 use star_values::{ByteText, NoMemory, Refusal, Row, SmallText, value_text};
@@ -24,6 +24,7 @@ fn reply_text(alloc: Global, reply: &Reply) -> Result<ByteText, NoMemory>
         Reply::Commit { number, rows } => commit_text(alloc, *number, *rows),
         Reply::Answer { snapshot, rows } => answer_text(alloc, *snapshot, rows),
         Reply::Refused(refusal) => refused_text(alloc, *refusal),
+        Reply::Waited => waited_text(alloc),
     }
 }
 
@@ -50,6 +51,14 @@ fn refused_text(alloc: Global, refusal: Refusal) -> Result<ByteText, NoMemory>
     let number = refusal.number();
     let line = format!(in alloc; "refused {number} {refusal}\n")?;
     Ok(ByteText::from(line.into_bytes()))
+}
+
+fn waited_text(alloc: Global) -> Result<ByteText, NoMemory>
+    ensures { IfOk result (λ text. text ≡ text_of Waited) }
+{
+    let mut text = ByteText::new(alloc);
+    text.extend_from_slice(b"waited\n")?;
+    Ok(text)
 }
 
 fn answer_text(alloc: Global, snapshot: u64, rows: &AnswerRows) -> Result<ByteText, NoMemory>

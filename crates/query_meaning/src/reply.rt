@@ -46,4 +46,6 @@ pub enum Reply {
     Answer { snapshot: u64, rows: AnswerRows },
     /// A refused statement. It changed nothing.
     Refused(Refusal),
+    /// A `wait`, which every earlier reply stands before.
+    Waited,
 }

@@ -1,4 +1,4 @@
-//! A script whose replies were written down by hand, and an answer as it is printed.
+//! Scripts whose replies were written down by hand, and an answer as it is printed.
 use crate::{AnswerRows, Reply, Warehouse, print_reply};
 use script_reader::{Block, Statement};
 use star_values::{ByteText, NoMemory, Row, SmallText, Value};
@@ -29,11 +29,17 @@ fn block_of(alloc: Global, behind: Behind) -> Result<Block, NoMemory> {
     }
 }
 
-/// The texts of the replies to statements that are executed one after the other.
-fn replies(alloc: Global, script: &[(&str, Behind, &str)]) -> Result<Vec<ByteText>, NoMemory> {
-    let mut replies = Vec::new(alloc);
+/// A line of a script, what stands behind it, and the text of its reply.
+type Told<'a> = (&'a str, Behind<'a>, &'a str);
+
+/// The line of the first statement whose reply is another, where they are executed one after the
+/// other.
+fn line_told_otherwise<'a>(
+    alloc: Global,
+    script: &[Told<'a>],
+) -> Result<Option<&'a str>, NoMemory> {
     let mut warehouse = Warehouse::new(alloc);
-    for (line, behind, _) in script {
+    for (line, behind, told) in script {
         let statement = Statement {
             line: bytes_of(alloc, line)?,
             block: block_of(alloc, *behind)?,
@@ -42,16 +48,28 @@ fn replies(alloc: Global, script: &[(&str, Behind, &str)]) -> Result<Vec<ByteTex
         warehouse = next;
         let mut text = ByteText::new(alloc);
         print_reply(&reply, &mut text)?;
-        replies.push(text)?;
+        if text.as_bytes() != told.as_bytes() {
+            return Ok(Some(line));
+        }
     }
-    Ok(replies)
+    Ok(None)
 }
 
-const NOT_BUILT: &str = "refused 15 not built\n";
+const UNKNOWN: &str = "refused 2 unknown name\n";
+
+const TWICE: &str = "refused 4 duplicate name\n";
+
+const NO_JOIN: &str = "refused 6 missing join\n";
+
+const MIXED: &str = "refused 7 mixed conjunct\n";
 
 const DUPLICATE: &str = "refused 10 duplicate key\n";
 
 const DANGLING: &str = "refused 11 dangling reference\n";
+
+const EARLY: &str = "refused 13 out of order\n";
+
+const NOT_BUILT: &str = "refused 15 not built\n";
 
 const STORE: &str = "dimension store (id int key, city text)";
 
@@ -69,37 +87,34 @@ const BERN: &str =
 const OTHER_JOIN: &str =
     "select count(*) from sales, store where sales.units = store.id and city = 'Oslo'";
 
+const TWO_TABLES: &str =
+    "select count(*) from sales, store where store_id = id and (city = 'Oslo' or units = 1)";
+
 #[test]
 fn statements_have_these_replies(rt: HostRuntime) -> Result<(), Fail> {
     let script = [
-        // Nothing is declared yet, and then the dimension alone.
-        ("load store", Closed("1,Oslo\n"), NOT_BUILT),
-        (OSLO, Nothing, NOT_BUILT),
-        (SALES, Nothing, NOT_BUILT),
-        ("dimension store (id int key, id text)", Nothing, NOT_BUILT),
+        // Before the fact table.
+        ("load store", Closed("1,Oslo\n"), EARLY),
+        (OSLO, Nothing, EARLY),
+        ("delete from sales", Nothing, EARLY),
+        ("dimension store (id int key, id text)", Nothing, TWICE),
         (STORE, Nothing, "table store\n"),
-        (STORE, Nothing, NOT_BUILT),
-        ("dimension city (id int key, name text)", Nothing, NOT_BUILT),
-        ("load store", Closed("1,Oslo\n"), NOT_BUILT),
-        (OSLO, Nothing, NOT_BUILT),
+        (STORE, Nothing, TWICE),
+        ("load store", Closed("1,Oslo\n"), EARLY),
         (
             "fact store (store_id int references store, units int)",
             Nothing,
-            NOT_BUILT,
-        ),
-        (
-            "fact sales (city int references store, units int)",
-            Nothing,
-            NOT_BUILT,
+            TWICE,
         ),
         (
             "fact sales (store_id int references city, units int)",
             Nothing,
-            NOT_BUILT,
+            UNKNOWN,
         ),
         // Both tables.
         (SALES, Nothing, "table sales\n"),
-        (SALES, Nothing, NOT_BUILT),
+        (SALES, Nothing, EARLY),
+        ("dimension city (id int key, name text)", Nothing, EARLY),
         (OSLO, Nothing, "answer 0 rows 1\n0\n"),
         ("load sales", Closed("1,5\n"), DANGLING),
         ("load store", Closed("1,Oslo\n1,Rome\n"), DUPLICATE),
@@ -124,13 +139,65 @@ fn statements_have_these_replies(rt: HostRuntime) -> Result<(), Fail> {
             Unclosed("3,Oslo\n"),
             "refused 1 syntax at 10\n",
         ),
-        ("load stores", Closed("3,Oslo\n"), NOT_BUILT),
+        ("load stores", Closed("3,Oslo\n"), UNKNOWN),
+        ("load store header", Closed("id,city\n3,Oslo\n"), NOT_BUILT),
         ("load store", Closed("3,Oslo\nx,Bern\n"), NOT_BUILT),
         ("load sales", Closed("1,1\n1,x\n"), NOT_BUILT),
         ("load sales", Closed("3,1\n1,x\n"), NOT_BUILT),
-        (OTHER_JOIN, Nothing, NOT_BUILT),
-        (OSLO, Nothing, "answer 2 rows 1\n2\n"),
-        // Other refused statements, by their line alone.
+        // They used no number and left the key 3 free.
+        ("load sales", Closed(""), "commit 3 rows 0\n"),
+        ("load store", Closed("3,Oslo\n"), "commit 4 rows 1\n"),
+        ("load sales", Closed("3,7\n"), "commit 5 rows 1\n"),
+        (OSLO, Nothing, "answer 5 rows 1\n3\n"),
+        (ROME, Nothing, "answer 5 rows 1\n2\n"),
+        (BERN, Nothing, "answer 5 rows 1\n0\n"),
+        ("wait;", Nothing, "waited\n"),
+    ];
+    assert_eq!(rt; line_told_otherwise(rt.alloc(), &script)?, None);
+    Ok(())
+}
+
+#[test]
+fn selects_and_deletes_are_bound(rt: HostRuntime) -> Result<(), Fail> {
+    let none = "answer 0 rows 1\n0\n";
+    let script = [
+        (STORE, Nothing, "table store\n"),
+        (SALES, Nothing, "table sales\n"),
+        // The counted join, written otherwise.
+        (
+            "select count(*) from store, sales where store_id = id and city = 'Oslo';",
+            Nothing,
+            none,
+        ),
+        (
+            "select count(*) from sales, store where city = 'Oslo' and store.id = sales.store_id",
+            Nothing,
+            none,
+        ),
+        (
+            "SELECT  COUNT ( * )  FROM sales,store WHERE store_id=id AND city='Oslo' ;",
+            Nothing,
+            none,
+        ),
+        // Other selects.
+        ("select sum(units) from sales", Nothing, NOT_BUILT),
+        (TWO_TABLES, Nothing, MIXED),
+        (OTHER_JOIN, Nothing, NO_JOIN),
+        ("select count(*) from sales, store", Nothing, NO_JOIN),
+        (
+            "select count(*) from sales, store where city = 'Oslo' or units = 1",
+            Nothing,
+            NO_JOIN,
+        ),
+        (
+            "select count(*) from sales, store where store_id = id and town = 'Oslo'",
+            Nothing,
+            UNKNOWN,
+        ),
+        // Deletes.
+        ("delete from store", Nothing, UNKNOWN),
+        ("delete from sales where units = 7", Nothing, NOT_BUILT),
+        // Statements that are refused for their text, whatever stands behind them.
         (
             "select count(*) form sales, store",
             Nothing,
@@ -141,20 +208,42 @@ fn statements_have_these_replies(rt: HostRuntime) -> Result<(), Fail> {
             Closed("1,Oslo\n"),
             "refused 1 syntax at 32\n",
         ),
-        ("wait", Unclosed("1,Oslo\n"), NOT_BUILT),
-        // They used no number and left the key 3 free.
-        ("load sales", Closed(""), "commit 3 rows 0\n"),
-        ("load store", Closed("3,Oslo\n"), "commit 4 rows 1\n"),
-        ("load sales", Closed("3,7\n"), "commit 5 rows 1\n"),
-        (OSLO, Nothing, "answer 5 rows 1\n3\n"),
-        (ROME, Nothing, "answer 5 rows 1\n2\n"),
-        (BERN, Nothing, "answer 5 rows 1\n0\n"),
+        ("wait", Unclosed("1,Oslo\n"), "waited\n"),
     ];
-    let replies = replies(rt.alloc(), &script)?;
-    assert_eq!(rt; replies.len(), script.len());
-    for (reply, (line, _, want)) in replies.iter().zip(script) {
-        assert_eq!(rt; str::from_utf8(reply.as_bytes())?, want, "at {line}");
-    }
+    assert_eq!(rt; line_told_otherwise(rt.alloc(), &script)?, None);
+    Ok(())
+}
+
+#[test]
+fn other_tables_than_plain_ones_are_declared_alone(rt: HostRuntime) -> Result<(), Fail> {
+    let two_dimensions = [
+        (STORE, Nothing, "table store\n"),
+        (
+            "dimension product (code int key, name text)",
+            Nothing,
+            "table product\n",
+        ),
+        (
+            "fact sales (store_id int references store, units int references product)",
+            Nothing,
+            "table sales\n",
+        ),
+        ("load store", Closed("1,Oslo\n"), NOT_BUILT),
+        ("load sales", Closed(""), NOT_BUILT),
+        (OSLO, Nothing, NOT_BUILT),
+    ];
+    assert_eq!(rt; line_told_otherwise(rt.alloc(), &two_dimensions)?, None);
+    let text_of_a_sale = [
+        (STORE, Nothing, "table store\n"),
+        (
+            "fact sales (store_id int references store, note text)",
+            Nothing,
+            "table sales\n",
+        ),
+        ("load store", Closed("1,Oslo\n"), NOT_BUILT),
+        (OSLO, Nothing, NOT_BUILT),
+    ];
+    assert_eq!(rt; line_told_otherwise(rt.alloc(), &text_of_a_sale)?, None);
     Ok(())
 }
 

@@ -1,8 +1,9 @@
-//! Why the text of a statement is refused, before any table is looked at.
+//! What a statement means by its text alone, before any table is looked at.
 ghost use Rattle.std.specs.Prelude.{◌≡◌, length, IfOk};
 ghost use Rattle.star_parser.specs.Parsed.{parsed_of};
 ghost use Rattle.star_parser.specs.Statement.{statement_of};
-ghost use Rattle.query_meaning.specs.Text.{lacks_block, parsed_refusal, text_refusal};
+ghost use Rattle.query_meaning.specs.Statement.{map_ok};
+ghost use Rattle.query_meaning.specs.Text.{lacks_block, meaning_of, parsed_meaning};
 
 use script_reader::{Block, Statement};
 use star_parser::{Ast, ParseFault, parse};
@@ -10,27 +11,30 @@ use star_values::{NoMemory, Refusal};
 use std::alloc::Global;
 use std::str;
 
-/// The reason for which the text of a statement is refused, where there is one.
-pub(crate) fn refusal_of(alloc: Global, statement: &Statement) -> Result<Option<Refusal>, NoMemory>
-    ensures { IfOk result (λ refusal. refusal ≡ text_refusal statement.now) }
+/// What a statement means, or the reason for which its text is refused.
+pub(crate) type Meaning = Result<Ast, Refusal>;
+
+/// Reads the text of a statement.
+pub(crate) fn read_text(alloc: Global, statement: &Statement) -> Result<Meaning, NoMemory>
+    ensures { IfOk result (λ meaning. map_ok statement_of meaning ≡ meaning_of statement.now) }
 {
     match str::from_utf8(statement.line.as_bytes()) {
-        Ok(line) => parsed_refusal(alloc, line, &statement.block),
-        Err(_) => Ok(Some(Refusal::NotUtf8)),
+        Ok(line) => read_line(alloc, line, &statement.block),
+        Err(_) => Ok(Err(Refusal::NotUtf8)),
     }
 }
 
-/// The reason for a line that is UTF-8, with what stands behind it.
-fn parsed_refusal(alloc: Global, line: &str, block: &Block) -> Result<Option<Refusal>, NoMemory>
-    ensures { IfOk result (λ refusal. refusal
-        ≡ parsed_refusal (length line.now) block.now (parsed_of line.now)) }
+/// Reads a line that is UTF-8, with what stands behind it.
+fn read_line(alloc: Global, line: &str, block: &Block) -> Result<Meaning, NoMemory>
+    ensures { IfOk result (λ meaning. map_ok statement_of meaning
+        ≡ parsed_meaning (length line.now) block.now (parsed_of line.now)) }
 {
     match parse(alloc, line) {
         // A line that was parsed is within its limits, so its length fits.
-        Ok(ast) if lacks_block(&ast, block) => Ok(Some(Refusal::Syntax(line.len() as u32))),
-        Ok(_) => Ok(None),
-        Err(ParseFault::Limit) => Ok(Some(Refusal::Limit)),
-        Err(ParseFault::Syntax(place)) => Ok(Some(Refusal::Syntax(place))),
+        Ok(ast) if lacks_block(&ast, block) => Ok(Err(Refusal::Syntax(line.len() as u32))),
+        Ok(ast) => Ok(Ok(ast)),
+        Err(ParseFault::Limit) => Ok(Err(Refusal::Limit)),
+        Err(ParseFault::Syntax(place)) => Ok(Err(Refusal::Syntax(place))),
         Err(ParseFault::Memory) => Err(NoMemory),
     }
 }

@@ -2,6 +2,8 @@
 #![tactic(auto)]
 
 mod fault;
+#[cfg(test)]
+mod schema_tests;
 mod settings;
 #[cfg(test)]
 mod tests;

@@ -7,7 +7,7 @@ use std::alloc::{AllocError, Global};
 use std::test::Fail;
 
 /// Two stores, four sales, and what they reply.
-const BASE: &str = "dimension store (id int key, city text)
+pub(crate) const BASE: &str = "dimension store (id int key, city text)
 fact sales (store_id int references store, units int)
 load store
 1,Oslo
@@ -21,14 +21,15 @@ load sales
 .
 ";
 
-const BASE_REPLIES: &str = "table store\ntable sales\ncommit 1 rows 2\ncommit 2 rows 4\n";
+pub(crate) const BASE_REPLIES: &str =
+    "table store\ntable sales\ncommit 1 rows 2\ncommit 2 rows 4\n";
 
 /// How many sales Oslo has.
 const OSLO: &str =
     "select count(*) from sales, store where sales.store_id = store.id and city = 'Oslo'";
 
 /// The status of a script that comes in pieces of so many bytes, and the bytes written.
-fn run(alloc: Global, script: &[u8], piece: usize) -> Result<(u8, String), Fail>
+pub(crate) fn run(alloc: Global, script: &[u8], piece: usize) -> Result<(u8, String), Fail>
     requires { 0 < piece }
 {
     let mut source = source(alloc, script, piece, &[])?;
@@ -81,13 +82,13 @@ fn scripts_have_their_replies(rt: HostRuntime) -> Result<(), Fail> {
         (
             BASE,
             "load store\n1,Bern\n.\nload sales\n9,1\n.\nwait\nload store\n3,Bern\n.\n",
-            "refused 10 duplicate key\nrefused 11 dangling reference\nrefused 15 not built\ncommit 3 rows 1\n",
+            "refused 10 duplicate key\nrefused 11 dangling reference\nwaited\ncommit 3 rows 1\n",
             1,
         ),
         (
             BASE,
             "load store\n3,Bern\n3,Bonn\n.\nload store\n3\n.\nload item\n.\n",
-            "refused 10 duplicate key\nrefused 15 not built\nrefused 15 not built\n",
+            "refused 10 duplicate key\nrefused 15 not built\nrefused 2 unknown name\n",
             1,
         ),
         // A block that is not closed, and statements out of their order.
@@ -95,14 +96,14 @@ fn scripts_have_their_replies(rt: HostRuntime) -> Result<(), Fail> {
         (
             dimension,
             "load store\n1,Oslo\n.\n",
-            "table store\nrefused 15 not built\n",
+            "table store\nrefused 13 out of order\n",
             1,
         ),
-        (dimension, OSLO, "table store\nrefused 15 not built\n", 1),
+        (dimension, OSLO, "table store\nrefused 13 out of order\n", 1),
         (
             dimension,
             dimension,
-            "table store\nrefused 15 not built\n",
+            "table store\nrefused 4 duplicate name\n",
             1,
         ),
     ];
@@ -123,39 +124,50 @@ fn scripts_have_their_replies(rt: HostRuntime) -> Result<(), Fail> {
 
 #[test]
 fn what_is_no_statement_is_refused_at_its_place(rt: HostRuntime) -> Result<(), Fail> {
-    let cases: [(&[u8], &str); 16] = [
-        (b"select count(*) form sales", "refused 1 syntax at 16\n"),
+    let cases: [(&[u8], &str, u8); 16] = [
+        (b"select count(*) form sales", "refused 1 syntax at 16\n", 1),
         (
             b"select count(*) from sales where",
             "refused 1 syntax at 32\n",
+            1,
         ),
         (
             b"select count(*) from f where v < 9223372036854775808",
             "refused 1 syntax at 33\n",
+            1,
         ),
-        (b"select count(*) from sa\0les", "refused 1 syntax at 23\n"),
-        (b"\xff", "refused 14 not UTF-8\n"),
+        (
+            b"select count(*) from sa\0les",
+            "refused 1 syntax at 23\n",
+            1,
+        ),
+        (b"\xff", "refused 14 not UTF-8\n", 1),
         // A load needs a closed block, and its line is looked at first.
-        (b"load store", "refused 1 syntax at 10\n"),
-        (b"LOAD store header ;\n1,Oslo\n", "refused 1 syntax at 19\n"),
-        (b"load 5\n.\n", "refused 1 syntax at 5\n"),
-        (b"load 5\n1,Oslo\n", "refused 1 syntax at 5\n"),
-        // What is a statement, and is not built yet.
-        (b"load store header\n.\n", "refused 15 not built\n"),
-        (b"load store;\n.\n", "refused 15 not built\n"),
+        (b"load store", "refused 1 syntax at 10\n", 1),
+        (
+            b"LOAD store header ;\n1,Oslo\n",
+            "refused 1 syntax at 19\n",
+            1,
+        ),
+        (b"load 5\n.\n", "refused 1 syntax at 5\n", 1),
+        (b"load 5\n1,Oslo\n", "refused 1 syntax at 5\n", 1),
+        (b"wait;;", "refused 1 syntax at 5\n", 1),
+        // What is a statement, before any table was declared.
+        (b"load store header\n.\n", "refused 13 out of order\n", 1),
+        (b"load store;\n.\n", "refused 13 out of order\n", 1),
         (
             b"delete from sales where not units = 1",
-            "refused 15 not built\n",
+            "refused 13 out of order\n",
+            1,
         ),
-        (b"wait", "refused 15 not built\n"),
-        (b"WAIT;", "refused 15 not built\n"),
-        (b"\twait\t;\t", "refused 15 not built\n"),
-        (b"wait;;", "refused 1 syntax at 5\n"),
+        (b"wait", "waited\n", 0),
+        (b"WAIT;", "waited\n", 0),
+        (b"\twait\t;\t", "waited\n", 0),
     ];
-    for (script, reply) in cases {
+    for (script, reply, wanted) in cases {
         let (status, written) = run(rt.alloc(), script, 4096)?;
         assert_eq!(rt; written.as_str(), reply, "at {script:?}");
-        assert_eq!(rt; status, 1, "at {script:?}");
+        assert_eq!(rt; status, wanted, "at {script:?}");
     }
     Ok(())
 }
@@ -180,7 +192,6 @@ fn around(
 fn a_line_over_a_limit_is_refused_for_it(rt: HostRuntime) -> Result<(), Fail> {
     let alloc = rt.alloc();
     let limit = "refused 12 limit\n";
-    let built = "refused 15 not built\n";
     let cases = [
         ("", b'(', 64, "", "refused 1 syntax at 0\n"),
         ("", b'(', 65, "", limit),
@@ -198,7 +209,7 @@ fn a_line_over_a_limit_is_refused_for_it(rt: HostRuntime) -> Result<(), Fail> {
             "units",
             limit,
         ),
-        ("wait", b' ', 65_532, "", built),
+        ("wait", b' ', 65_532, "", "waited\n"),
         ("wait", b' ', 65_533, "", limit),
         ("no statement", b' ', 65_533, "", limit),
     ];
@@ -216,7 +227,10 @@ fn a_line_over_a_limit_is_refused_for_it(rt: HostRuntime) -> Result<(), Fail> {
         "units = 1",
     )?;
     script.extend_from_slice(&around(alloc, "", b')', 64, "")?)?;
-    assert_eq!(rt; run(alloc, &script, 4096)?.1.as_str(), built);
+    assert_eq!(rt;
+        run(alloc, &script, 4096)?.1.as_str(),
+        "refused 13 out of order\n"
+    );
     // A line that is not UTF-8 is refused for that, over a limit or not.
     let mut script = around(alloc, "", b'(', 65, "")?;
     script.push(0xff)?;

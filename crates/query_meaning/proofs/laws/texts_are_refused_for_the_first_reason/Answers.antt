@@ -1,4 +1,4 @@
-use Rattle.query_meaning.proofs.TextLemmas.{refused_not_utf8, refused_limit, refused_syntax, not_refused}
+use Rattle.query_meaning.proofs.TextLemmas.{refused_not_utf8, refused_limit, refused_syntax, means}
 use Rattle.query_meaning.proofs.laws.texts_are_refused_for_the_first_reason.Goals as goal
 
 pub returns-clause-utf8 : goal.returns-clause-utf8
@@ -17,4 +17,4 @@ returns-clause-syntax c = λ statement.
 pub returns-clause-passed : goal.returns-clause-passed
 returns-clause-passed c = λ statement.
     let says = c.lines_are_what_the_grammar_says.ensures in
-    not_refused statement (record { over = says.over statement.line; means = says.means statement.line; stopped = says.stopped statement.line })
+    means statement (record { over = says.over statement.line; means = says.means statement.line; stopped = says.stopped statement.line })

@@ -1,5 +1,0 @@
--- Lemmas on the definitions of this crate.
-mod FormLemmas
-mod NameLemmas
-mod RecordLemmas
-mod SpellingLemmas
