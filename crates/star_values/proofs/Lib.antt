@@ -1,4 +1,3 @@
 -- Lemmas on the definitions of this crate.
 mod IntegerLemmas
 mod SmallTextLemmas
-mod ValueLemmas

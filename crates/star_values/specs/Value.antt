@@ -1,4 +1,4 @@
--- The kind of a value, the order of values, and how a value stands in a cell of an answer.
+-- The kind of a value, the order of values and of rows, and the text of a value.
 use Rattle.std.specs.Prelude.{ℕ, List, [], ◌∷◌, ◌++◌, ◌==◌, if◌then◌else◌, flat_map}
 use Rattle.std.specs.Fmt.{signed_decimal}
 use Rattle.std.specs.Ordering.{nat_cmp, int_cmp}
@@ -22,6 +22,10 @@ value_cmp (Int m) (Str t) = Less
 value_cmp (Str s) (Int n) = Greater
 value_cmp (Str s) (Str t) = slice_cmp nat_cmp s t
 
+-- rows by their values: the first values that differ decide, and else a front comes first
+abbrev pub row_cmp : List Value → List Value → Ordering
+row_cmp = slice_cmp value_cmp
+
 -- a byte as it stands between single quotes: a quote is doubled
 abbrev pub quoted_byte : ℕ → List ℕ
 quoted_byte byte = if byte == 39 then (39 ∷ 39 ∷ []) else (byte ∷ [])
@@ -30,7 +34,7 @@ quoted_byte byte = if byte == 39 then (39 ∷ 39 ∷ []) else (byte ∷ [])
 abbrev pub quoted : List ℕ → List ℕ
 quoted text = 39 ∷ flat_map quoted_byte text ++ 39 ∷ []
 
--- how a value stands in a cell: an integer in decimal, a text in single quotes
-abbrev pub cell_text : Value → List ℕ
-cell_text (Int n) = signed_decimal n
-cell_text (Str text) = quoted text
+-- the text of a value: an integer in decimal, a text in single quotes
+abbrev pub value_text : Value → List ℕ
+value_text (Int n) = signed_decimal n
+value_text (Str text) = quoted text

@@ -1,6 +1,7 @@
-//! How a value stands in a cell of an answer.
+//! A cell of an answer, and how it and its value are written.
 ghost use Rattle.std.specs.Prelude.{◌≡◌, ◌++◌, IfOk, OnOk, OnErr};
-ghost use Rattle.star_values.specs.Value.{cell_text, quoted};
+ghost use Rattle.star_values.specs.Cell.{cell_text};
+ghost use Rattle.star_values.specs.Value.{value_text, quoted};
 
 use crate::byte_text::ByteText;
 use crate::no_memory::NoMemory;
@@ -8,17 +9,36 @@ use crate::value::Value;
 use itoa::Buffer;
 use std::alloc::{AllocError, Global};
 
+/// A cell of an answer.
+#[derive(Debug, PartialEq, Eq, Drop)]
+pub enum Cell {
+    /// There was no row to take a value from.
+    Null,
+    Full(Value),
+}
+
+/// Appends a cell as it stands in an answer: `null`, or the text of its value.
+pub fn cell_text(cell: &Cell, out: &mut ByteText) -> Result<(), NoMemory>
+    ensures ok { OnOk result (out.new ≡ out.old ++ cell_text cell.now) }
+    ensures err { OnErr result (out.new ≡ out.old) }
+{
+    match cell {
+        Cell::Null => out.extend_from_slice(b"null"),
+        Cell::Full(value) => value_text(value, out),
+    }
+}
+
 /// Appends a value as it stands in a cell: an integer in decimal, without leading zeros and never
 /// `-0`, and a text in single quotes, with each quote in it doubled, as in SQL.
 pub fn value_text(value: &Value, out: &mut ByteText) -> Result<(), NoMemory>
-    ensures ok { OnOk result (out.new ≡ out.old ++ cell_text value.now) }
+    ensures ok { OnOk result (out.new ≡ out.old ++ value_text value.now) }
     ensures err { OnErr result (out.new ≡ out.old) }
 {
     match value {
         Value::Int(n) => out.extend_from_slice(Buffer::new().format(*n).as_bytes()),
         Value::Str(text) => {
-            let cell = quote(out.allocator(), text.as_bytes())?;
-            out.extend_from_slice(cell.as_slice())
+            let quoted = quote(out.allocator(), text.as_bytes())?;
+            out.extend_from_slice(quoted.as_slice())
         }
     }
 }

@@ -4,7 +4,9 @@
 
 mod byte_text;
 mod cell;
+mod crossing;
 mod integer;
+mod literal_list;
 mod no_memory;
 mod refusal;
 mod row;
@@ -14,10 +16,12 @@ mod tests;
 mod value;
 
 pub use byte_text::ByteText;
-pub use cell::value_text;
+pub use cell::{Cell, cell_text, value_text};
+pub use crossing::values_cross_threads;
 pub use integer::{integer_text_reads_back, read_int};
+pub use literal_list::LiteralList;
 pub use no_memory::NoMemory;
 pub use refusal::Refusal;
-pub use row::Row;
+pub use row::{Row, rows_are_in_order};
 pub use small_text::{MAX_TEXT_BYTES, SmallText, TextFault, small_text_rule_is_tested};
-pub use value::{Kind, Value, values_are_in_order};
+pub use value::{Kind, Value, equal_values_are_the_same, values_are_in_order};

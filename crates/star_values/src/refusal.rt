@@ -23,7 +23,7 @@ pub enum Refusal {
     Limit,
     OutOfOrder,
     NotUtf8,
-    /// A statement that the program does not read yet.
+    /// A statement that is not carried out yet.
     NotBuilt,
 }
 

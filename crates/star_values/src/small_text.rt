@@ -1,5 +1,5 @@
 //! A text that a table may hold. A text of any bytes is in `byte_text`.
-ghost use Rattle.std.specs.Prelude.{◌≡◌, ◌↔◌, ℕ, List, length, nat_eq, IsTrue, IfOk, OnOk, IsErrOf, Some, refl};
+ghost use Rattle.std.specs.Prelude.{◌≡◌, ◌↔◌, ℕ, List, length, nat_eq, IsTrue, IfOk, OnOk, OnErr, IsErrOf, Some, refl};
 ghost use Rattle.std.specs.Ordering.{nat_cmp};
 ghost use Rattle.std.specs.Hash as fed;
 ghost use Rattle.std.specs.Cmp.{partial_equiv_from_equiv};
@@ -109,6 +109,26 @@ impl SmallText {
             bytes: Vec::from_slice(*self.bytes.allocator(), self.bytes.as_slice())?,
         })
     }
+
+    /// Writes another text over this one. It takes memory only where the room is too small.
+    pub fn assign(&mut self, other: &SmallText) -> Result<(), NoMemory>
+        ensures ok { OnOk result (self.new ≡ other.now) }
+        ensures err { OnErr result (self.new ≡ self.old) }
+    {
+        overwrite(&mut self.bytes, other.bytes.as_slice())?;
+        Ok(())
+    }
+}
+
+/// Writes bytes over those that stand here, and takes memory only where the room is too small.
+fn overwrite(target: &mut Vec<u8>, bytes: &[u8]) -> Result<(), AllocError>
+    ensures ok { OnOk result (target.new.items ≡ bytes.now) }
+    ensures err { OnErr result (target.new.items ≡ target.old.items) }
+{
+    // Room is made before the old bytes go, so that want of memory leaves them as they were.
+    target.reserve(bytes.len().saturating_sub(target.len()))?;
+    target.clear();
+    target.extend_from_slice(bytes)
 }
 
 /// Whether bytes may stand in a table as a text.

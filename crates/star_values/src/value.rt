@@ -1,5 +1,5 @@
 //! A value of a table, its kind, and the order of values.
-ghost use Rattle.std.specs.Prelude.{◌≡◌, ◌↔◌, IfOk};
+ghost use Rattle.std.specs.Prelude.{◌≡◌, ◌↔◌, IfOk, OnOk, OnErr, IsTrue};
 ghost use Rattle.std.specs.Cmp.{IsTotalOrder};
 ghost use Rattle.std.specs.declared.cmp.Ordering.TheVariants.{Equal};
 ghost use Rattle.star_values.specs.declared.value.Value.{Value};
@@ -51,10 +51,36 @@ impl Value {
             Value::Str(text) => Ok(Value::Str(text.copy()?)),
         }
     }
+
+    /// Writes another value over this one. It takes memory only for a text, and only where this
+    /// value is no text with room for it.
+    pub fn assign(&mut self, other: &Value) -> Result<(), NoMemory>
+        ensures ok { OnOk result (self.new ≡ other.now) }
+        ensures err { OnErr result (self.new ≡ self.old) }
+    {
+        match other {
+            Value::Int(n) => {
+                *self = Value::Int(*n);
+                Ok(())
+            }
+            Value::Str(source) => match self {
+                Value::Str(target) => target.assign(source),
+                Value::Int(_) => {
+                    *self = Value::Str(source.copy()?);
+                    Ok(())
+                }
+            },
+        }
+    }
 }
 
 /// The order of values is total, and two values are equal in it exactly where they are the same.
 pub fn values_are_in_order()
     ensures total { IsTotalOrder value_cmp }
     ensures same { (x y : Value) → (value_cmp x y ≡ Equal) ↔ (x ≡ y) }
+{}
+
+/// Two values are equal by `==` exactly where they are the same.
+pub fn equal_values_are_the_same()
+    ensures { (x y : Value) → IsTrue (⟦<Value as PartialEq>⟧.eq x y) ↔ (x ≡ y) }
 {}

@@ -1,4 +1,4 @@
-use Rattle.star_values.proofs.ValueLemmas.{value_cmp-total, value_cmp-equal}
+use Rattle.star_values.specs.OrderLaws.{value_cmp-total, value_cmp-equal}
 use Rattle.star_values.proofs.value.values_are_in_order.Goals as goal
 
 pub returns-clause-total : goal.returns-clause-total
