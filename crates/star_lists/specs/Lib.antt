@@ -1,1 +1,3 @@
--- No definitions: a list is seen as a list.
+-- How a list that has room is seen, and what a list ends as that was lent to be written.
+pub mod Lends
+pub mod Roomy

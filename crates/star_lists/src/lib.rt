@@ -1,8 +1,12 @@
-//! A list that contracts see as a list. What its members are is for the crates above.
+//! Lists that contracts see as lists. What their members are is for the crates above.
 #![tactic(auto)]
 
+mod crossing;
 mod list_of;
+mod list_with_room;
 #[cfg(test)]
 mod tests;
 
+pub use crossing::{lists_may_be_sent, lists_may_be_shared};
 pub use list_of::ListOf;
+pub use list_with_room::ListWithRoom;
