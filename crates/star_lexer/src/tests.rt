@@ -1,4 +1,4 @@
-//! Lines with their tokens.
+//! Lines with their tokens. More places that begin no token are shown by the scripts of `star_cases`.
 use crate::{Lexeme, Token, Tokens, lex};
 use std::alloc::Global;
 use std::test::Fail;
@@ -44,9 +44,9 @@ fn tokens_of(alloc: Global, line: &str) -> Result<Tokens, Fail> {
 
 #[test]
 fn lines_have_these_tokens(rt: HostRuntime) -> Result<(), Fail> {
-    let cases: [(&str, &[Token]); 9] = [
-        ("", &[]),
-        (" \t ", &[]),
+    let cases: [(&str, &[Token], Option<u32>); 12] = [
+        ("", &[], None),
+        (" \t ", &[], None),
         (
             "select Count(*)",
             &[
@@ -56,6 +56,7 @@ fn lines_have_these_tokens(rt: HostRuntime) -> Result<(), Fail> {
                 sign(5, 13, 13),
                 sign(1, 14, 14),
             ],
+            None,
         ),
         (
             "a<>b<=_c1",
@@ -66,6 +67,7 @@ fn lines_have_these_tokens(rt: HostRuntime) -> Result<(), Fail> {
                 sign(10, 4, 5),
                 word(6, 8),
             ],
+            None,
         ),
         (
             ",.;=!=<\t<=>>= = ",
@@ -81,49 +83,33 @@ fn lines_have_these_tokens(rt: HostRuntime) -> Result<(), Fail> {
                 sign(12, 11, 12),
                 sign(6, 14, 14),
             ],
+            None,
         ),
         (
             "-12,007",
             &[integer(-12, 0, 2), sign(2, 3, 3), integer(7, 4, 6)],
+            None,
         ),
         (
             "9223372036854775807 -9223372036854775808",
             &[integer(i64::MAX, 0, 18), integer(i64::MIN, 20, 39)],
+            None,
         ),
         (
             "'it''s' '' '\u{e9}'",
             &[text(0, 6), text(8, 9), text(11, 14)],
+            None,
         ),
-        ("''''", &[text(0, 3)]),
-    ];
-    for (line, wanted) in cases {
-        let tokens = tokens_of(rt.alloc(), line)?;
-        assert_eq!(rt; tokens.as_slice(), wanted, "at {line}");
-        assert_eq!(rt; tokens.bad(), None, "at {line}");
-    }
-    Ok(())
-}
-
-#[test]
-fn these_places_begin_no_token(rt: HostRuntime) -> Result<(), Fail> {
-    let cases: [(&str, &[Token], u32); 12] = [
-        ("v < 9223372036854775808", &[word(0, 0), sign(9, 2, 2)], 4),
-        ("-9223372036854775809", &[], 0),
-        ("12a", &[], 0),
-        ("7 1_", &[integer(7, 0, 0)], 2),
-        ("-", &[], 0),
-        ("a - 1", &[word(0, 0)], 2),
-        ("a ! b", &[word(0, 0)], 2),
-        ("'open", &[], 0),
-        ("'it''", &[], 0),
-        ("a 'b\nc'", &[word(0, 0)], 2),
-        ("from sa\0les", &[word(0, 3), word(5, 6)], 7),
-        ("\u{e9}", &[], 0),
+        ("''''", &[text(0, 3)], None),
+        // Places that begin no token.
+        ("12a", &[], Some(0)),
+        ("7 1_", &[integer(7, 0, 0)], Some(2)),
+        ("a 'b\nc'", &[word(0, 0)], Some(2)),
     ];
     for (line, wanted, bad) in cases {
         let tokens = tokens_of(rt.alloc(), line)?;
         assert_eq!(rt; tokens.as_slice(), wanted, "at {line}");
-        assert_eq!(rt; tokens.bad(), Some(bad), "at {line}");
+        assert_eq!(rt; tokens.bad(), bad, "at {line}");
     }
     Ok(())
 }
