@@ -5,7 +5,7 @@ use Rattle.std.specs.Char.{is_ascii_lowercase, is_ascii_digit}
 use Rattle.std.specs.List.{list_all, list_any}
 use Rattle.star_values.specs.declared.value.Value.TheVariants as value
 use Rattle.star_values.specs.SmallText.{IsSmallText}
-use Rattle.star_values.specs.Value.{cell_text}
+use Rattle.star_values.specs.Value.{value_text}
 use Rattle.star_symbols.specs.declared.symbol.Symbol.{Symbol}
 use Rattle.star_symbols.specs.declared.symbol.Symbol.TheVariants as symbol
 use Rattle.star_symbols.specs.Keyword.{keyword_text, keyword_of}
@@ -15,7 +15,7 @@ use Rattle.star_symbols.specs.Sign.{sign_text}
 abbrev pub symbol_text : Symbol → List ℕ
 symbol_text (symbol.Keyword k) = keyword_text k
 symbol_text (symbol.Name name) = name
-symbol_text (symbol.Literal value) = cell_text value
+symbol_text (symbol.Literal value) = value_text value
 symbol_text (symbol.Sign s) = sign_text s
 
 -- how symbols are written: in order, with one space between

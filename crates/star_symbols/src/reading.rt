@@ -1,5 +1,5 @@
 //! From a line to its symbols. The limits on many symbols together are in `limits`.
-ghost use Rattle.std.specs.Prelude.{◌≡◌, ◌+◌, ◌<◌, ◌≤◌, false, All, Any, IfOk, OnOk, IsErrOf, length, map};
+ghost use Rattle.std.specs.Prelude.{◌≡◌, ◌↔◌, ◌+◌, ◌<◌, ◌≤◌, false, All, Any, IfOk, OnOk, IsErrOf, length, map};
 ghost use Rattle.std.specs.Char.{to_ascii_lowercase};
 ghost use Rattle.star_symbols.specs.Limits.{IsTooLong, IsOverLimit};
 ghost use Rattle.star_symbols.specs.Read.{IsReadIn, IsWord, IsPlain, content_from};
@@ -122,7 +122,7 @@ fn small_name(alloc: Global, name: &[u8]) -> Result<SmallText, LineFault>
     requires { IsPlain name.now }
     ensures text { IfOk result (λ text. text ≡ name.now) }
     ensures short { OnOk result (length name.now ≤ 63) }
-    ensures long { IsErrOf result LineFault.Limit → 63 < length name.now }
+    ensures long { IsErrOf result LineFault.Limit ↔ 63 < length name.now }
 {
     if MAX_NAME_BYTES < name.len() {
         return Err(LineFault::Limit);
@@ -134,7 +134,7 @@ fn small_text(alloc: Global, text: &[u8]) -> Result<SmallText, LineFault>
     requires { IsPlain text.now }
     ensures text { IfOk result (λ small. small ≡ text.now) }
     ensures short { OnOk result (length text.now ≤ 255) }
-    ensures long { IsErrOf result LineFault.Limit → 255 < length text.now }
+    ensures long { IsErrOf result LineFault.Limit ↔ 255 < length text.now }
 {
     match SmallText::from_bytes(alloc, text) {
         Ok(small) => Ok(small),

@@ -1,10 +1,8 @@
-//! Lines with their symbols, and lines at and over each limit.
+//! Lines with their symbols. Lines at and over the limits are shown by the scripts of `star_cases`.
 use crate::{
-    Keyword, LineFault, Sign, Symbol, Symbols, read_symbols, write_symbols,
-    written_symbols_read_back,
+    Keyword, LineFault, Sign, Symbol, read_symbols, write_symbols, written_symbols_read_back,
 };
 use star_values::{SmallText, Value};
-use std::alloc::Global;
 use std::test::Fail;
 
 #[test]
@@ -52,63 +50,15 @@ fn symbols_have_places(rt: HostRuntime) -> Result<(), Fail> {
     Ok(())
 }
 
-/// Reads a line of a front, so many equal parts and a back.
-fn read_repeated(
-    alloc: Global,
-    front: &str,
-    part: &str,
-    count: u32,
-    back: &str,
-) -> Result<Result<Symbols, LineFault>, Fail> {
-    let mut line = String::from_str(alloc, front)?;
-    for _ in 0..count {
-        line.push_str(part)?;
-    }
-    line.push_str(back)?;
-    Ok(read_symbols(alloc, line.as_str()))
-}
-
 #[test]
-fn lines_are_within_the_limits_up_to_these_counts(rt: HostRuntime) -> Result<(), Fail> {
-    let cases: [(&str, &str, u32, &str); 12] = [
-        ("", "N", 63, ""),
-        ("'", "x", 255, "'"),
-        ("'", "''", 255, "'"),
-        ("", "(", 64, ""),
-        (")", "(", 65, ""),
-        ("() ()", "(", 64, "?"),
-        ("", "not ", 64, ""),
-        ("in(", "1,", 256, ""),
-        ("in (", "'a' ", 256, ""),
-        ("in (", ",1", 256, ") , 1"),
-        ("in (", "1,", 256, ") or x in ( 1 , 2 )"),
-        ("", " ", 65_536, ""),
-    ];
-    for (front, part, count, back) in cases {
-        let within = read_repeated(rt.alloc(), front, part, count, back)?;
-        assert!(rt; within.is_ok(), "at {count} of {part}");
-        let over = read_repeated(rt.alloc(), front, part, count + 1, back)?;
-        match over {
-            Ok(_) => return Err(Fail::from("a line over a limit is read")),
-            Err(fault) => assert_eq!(rt; fault, LineFault::Limit, "at {part}"),
-        }
-    }
-    Ok(())
-}
-
-#[test]
-fn these_counts_are_under_no_limit(rt: HostRuntime) -> Result<(), Fail> {
-    let cases: [(&str, &str, u32, &str); 6] = [
-        ("", "()", 100, ""),
-        ("? ", "(", 100, ""),
-        ("? ", "not ", 100, ""),
-        ("? '", "x", 300, "'"),
-        ("in x (", "1,", 300, ")"),
-        ("in (", "1,x,", 300, ")"),
-    ];
-    for (front, part, count, back) in cases {
-        let read = read_repeated(rt.alloc(), front, part, count, back)?;
-        assert!(rt; read.is_ok(), "at {count} of {part}");
+fn a_line_of_blanks_has_a_limit(rt: HostRuntime) -> Result<(), Fail> {
+    let blanks = vec![in rt.alloc(); b' '; 65_537]?;
+    let over = str::from_utf8(&blanks)?;
+    let within = str::from_utf8(&blanks[1..])?;
+    assert!(rt; read_symbols(rt.alloc(), within).is_ok());
+    match read_symbols(rt.alloc(), over) {
+        Ok(_) => assert!(rt; false, "a line over a limit is read"),
+        Err(fault) => assert_eq!(rt; fault, LineFault::Limit),
     }
     Ok(())
 }
