@@ -8,7 +8,7 @@ ghost use Rattle.star_parser.specs.Reading.{compared_at, equal_to_at, between_at
 use crate::parser::{Parser, Stop};
 use crate::tree::{Column, Relation, Tree, TreeList};
 use star_symbols::{Keyword, Sign};
-use star_values::{NoMemory, Row};
+use star_values::{LiteralList, NoMemory};
 
 impl Parser<'_> {
     /// A condition. As many `not` and parentheses can stand around each other as there are symbols.
@@ -149,7 +149,7 @@ impl Parser<'_> {
         self.sign(Sign::Close)?;
         Ok(Tree::OneOf {
             column,
-            values: Row::from(values),
+            values: LiteralList::from(values),
         })
     }
 

@@ -1,6 +1,6 @@
 //! The condition of a WHERE as a tree.
 
-use star_values::{Row, SmallText, Value};
+use star_values::{LiteralList, SmallText, Value};
 
 /// A column by its name, with or without the name of its table.
 #[derive(Debug, PartialEq, Eq, Drop)]
@@ -54,6 +54,6 @@ pub enum Tree {
     },
     OneOf {
         column: Column,
-        values: Row,
+        values: LiteralList,
     },
 }
