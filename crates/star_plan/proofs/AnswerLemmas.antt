@@ -2,7 +2,8 @@
 use Rattle.std.proofs.Common.{◌≡◌, ◌↔◌, ℕ, zero, suc, ◌<◌, Bool, true, false, cond, ◌==◌, List, [], ◌∷◌, length, map, get_or, Some, refl, ap, sym, ◌∙◌, subst, arith, ℤ, pos, negsuc, ◌+ℤ◌, FitsSigned, w64}
 use Rattle.std.specs.Prelude.{IsTrue}
 use Rattle.std.specs.Bool.{Decides}
-use Rattle.std.specs.List.{All, AllPairs, Any, Contains, filter, list_any, zip}
+use Rattle.std.specs.List.{All, AllPairs, Any, Contains, filter, list_all, list_any, range_with_len, zip}
+use Rattle.std.proofs.lemmas.List.FromFn.{get_or-range_with_len, length-range_with_len}
 use Rattle.std.specs.List.Sorted.{IsPermutation}
 use Rattle.std.specs.BTreeSet.{insert_key}
 use Rattle.std.specs.Cmp.{IsTotalOrder}
@@ -18,13 +19,14 @@ use Rattle.std.proofs.lemmas.List.Sorted.{IsPermutation-map, length_permutation}
 use Rattle.star_values.specs.declared.value.Value.{Value}
 use Rattle.star_values.specs.Value.{value_cmp}
 use Rattle.star_plan.specs.declared.answer.Answer.TheVariants.{Rows, Overflow}
-use Rattle.star_plan.specs.declared.cell.Cell.TheVariants.{Null, Full}
+use Rattle.star_values.specs.declared.cell.Cell.TheVariants.{Null, Full}
 use Rattle.star_plan.specs.declared.item.Item.{Item}
 use Rattle.star_plan.specs.declared.item.Item.TheVariants.{Plain, CountAll, Count, Sum, Min, Max}
 use Rattle.star_plan.specs.declared.place.Place.{Place}
 use Rattle.star_plan.specs.declared.place.Place.TheVariants.{Fact, Dimension}
-use Rattle.star_plan.specs.declared.star_query.StarQuery.{StarQuery}
-use Rattle.star_plan.specs.Joined.{Joined, is_kept, kept_of, passes, takes, value_at}
+use Rattle.star_plan.specs.Joined.{Joined, is_kept, kept_of, takes_at, value_at}
+use Rattle.star_plan.specs.Test.{Query}
+use Rattle.star_plan.specs.Truth.{passes}
 use Rattle.star_plan.specs.Groups.{groups_of, key_cmp, key_of, keys_of, rows_of}
 use Rattle.star_plan.specs.Answer.{answer_of, cell_of, cells_of, integer_of, is_beyond, item_cell, item_overflows, key_value, number_cell, overflows, same_place, sum_at, sum_cell}
 use Rattle.star_plan.proofs.FirstLemmas.{first-IsPermutation}
@@ -121,14 +123,14 @@ module _ (total : IsTotalOrder value_cmp) (same : (x y : Value) → (value_cmp x
   groups-IsPermutation [] xs ys h = refl
   groups-IsPermutation (place ∷ places) xs ys h = keys-IsPermutation (place ∷ places) xs ys h
 
-  overflows-IsPermutation : (query : StarQuery) (xs ys : List Joined) → IsPermutation xs ys → overflows query xs ≡ overflows query ys
+  overflows-IsPermutation : (query : Query) (xs ys : List Joined) → IsPermutation xs ys → overflows query xs ≡ overflows query ys
   overflows-IsPermutation query xs ys h =
       ap (list_any (λ key. list_any (item_overflows (rows_of query.groups key xs)) query.items)) (groups-IsPermutation query.groups xs ys h)
       ∙ any_alike _ _ (groups_of query.groups ys)
       (λ key. any_alike (item_overflows (rows_of query.groups key xs)) (item_overflows (rows_of query.groups key ys)) query.items
       (λ item. overflow-IsPermutation _ _ item (rows-IsPermutation query.groups key xs ys h)))
 
-  cells-IsPermutation : (query : StarQuery) (xs ys : List Joined) → IsPermutation xs ys
+  cells-IsPermutation : (query : Query) (xs ys : List Joined) → IsPermutation xs ys
       → map (cells_of query xs) (groups_of query.groups xs) ≡ map (cells_of query ys) (groups_of query.groups ys)
   cells-IsPermutation query xs ys h =
       ap (map (cells_of query xs)) (groups-IsPermutation query.groups xs ys h)
@@ -137,7 +139,8 @@ module _ (total : IsTotalOrder value_cmp) (same : (x y : Value) → (value_cmp x
       (λ item. item_cell-IsPermutation query.groups key _ _ item (rows-IsPermutation query.groups key xs ys h)))
 
   -- the answer is the same in any order of the rows
-  pub answer-IsPermutation : (query : StarQuery) (xs ys : List Joined) → IsPermutation xs ys → answer_of query xs ≡ answer_of query ys
+  pub answer-IsPermutation : (query : Query) (xs ys : List Joined) → IsPermutation xs ys → answer_of query xs ≡ answer_of query ys
+  unfolding answer_of
   answer-IsPermutation query xs ys h =
       ap (λ over. cond over Overflow (Rows (map (cells_of query xs) (groups_of query.groups xs)))) (overflows-IsPermutation query xs ys h)
       ∙ ap (λ rows. cond (overflows query ys) Overflow (Rows rows)) (cells-IsPermutation query xs ys h)
@@ -210,14 +213,15 @@ module _ (total : IsTotalOrder value_cmp) (same : (x y : Value) → (value_cmp x
 any_weaker : {X : Type 0} (P Q : X → Type 0) → ((x : X) → P x → Q x) → (xs : List X) → Any P xs → Any Q xs
 any_weaker P Q f xs h = (h.0, h.1, h.2, h.3, f h.1 h.4)
 
-overflow_is_answered : (query : StarQuery) (rows : List Joined) (over : Bool) → overflows query rows ≡ over → (answer_of query rows ≡ Overflow) ↔ (overflows query rows ≡ true)
+overflow_is_answered : (query : Query) (rows : List Joined) (over : Bool) → overflows query rows ≡ over → (answer_of query rows ≡ Overflow) ↔ (overflows query rows ≡ true)
+unfolding answer_of
 overflow_is_answered query rows true e = (λ _. e, λ _. ap (λ over. cond over Overflow (Rows (map (cells_of query rows) (groups_of query.groups rows)))) e)
 overflow_is_answered query rows false e =
     let answered = ap (λ over. cond over Overflow (Rows (map (cells_of query rows) (groups_of query.groups rows)))) e in
     (λ h. let wrong = sym answered ∙ h in (cc), λ h. let wrong = sym e ∙ h in (cc))
 
 -- the answer is an overflow where some item of some group overflows
-pub overflow-law : (query : StarQuery) (rows : List Joined)
+pub overflow-law : (query : Query) (rows : List Joined)
     → (answer_of query rows ≡ Overflow) ↔ Any (λ key. Any (λ item. IsTrue (item_overflows (rows_of query.groups key rows) item)) query.items) (groups_of query.groups rows)
 overflow-law query rows =
     let test : List Value → Item → Bool = λ key item. item_overflows (rows_of query.groups key rows) item in
@@ -242,12 +246,30 @@ is_beyond-law (negsuc n) =
     beyond_by (negsuc n) (is_beyond (negsuc n)) refl
     (λ h fits. let low = fits.sfits in absurd (grind (arith, nat_tests))) (λ h. record { sfits = grind (arith, nat_tests) })
 
+-- what holds of all numbers below a count
+All-numbers : (P : ℕ → Type 0) (count : ℕ) → All P (range_with_len 0 count) ↔ ((number : ℕ) → number < count → P number)
+All-numbers P count =
+    let len = length-range_with_len 0 count in (
+      λ h number low.
+          let at : get_or (range_with_len 0 count) number 0 ≡ number = get_or-range_with_len 0 count number 0 low ∙ omega arith in
+          subst P at (h number 0 (omega arith)),
+      λ h k d low.
+          let below : k < count = omega arith in
+          let at : k ≡ get_or (range_with_len 0 count) k d = sym (get_or-range_with_len 0 count k d below ∙ omega arith) in
+          subst P at (h k below),
+    )
+
 -- a query keeps a row where each condition holds on the row of its table
-pub is_kept-law : (query : StarQuery) (row : Joined)
-    → IsTrue (is_kept query row) ↔ (IsTrue (passes query.fact row.fact) × All (λ pair. IsTrue (takes pair.0 pair.1)) (zip query.choices row.dimensions))
+pub is_kept-law : (query : Query) (row : Joined)
+    → IsTrue (is_kept query row) ↔ (IsTrue (passes query.fact row.fact) × ((dimension : ℕ) → dimension < length query.choices → IsTrue (takes_at query row dimension)))
 is_kept-law query row =
-    Decides-and _ _ (λ h. h, λ h. h) (Decides-list_all (λ pair. takes pair.0 pair.1) (zip query.choices row.dimensions))
+    let numbers = All-numbers (λ dimension. IsTrue (takes_at query row dimension)) (length query.choices) in
+    let takes_all = Decides-list_all (takes_at query row) (range_with_len 0 (length query.choices)) in
+    let takes_fact : Decides (passes query.fact row.fact) (IsTrue (passes query.fact row.fact)) = (λ h. h, λ h. h) in
+    let both = Decides-and _ _ takes_fact takes_all in
+    (λ h. let parts = both.0 h in (parts.0, numbers.0 parts.1), λ h. both.1 (h.0, numbers.1 h.1))
 
 -- the kept rows come in the order of the rows
-pub kept-IsPermutation : (query : StarQuery) (rows others : List Joined) → IsPermutation rows others → IsPermutation (kept_of query rows) (kept_of query others)
+pub kept-IsPermutation : (query : Query) (rows others : List Joined) → IsPermutation rows others → IsPermutation (kept_of query rows) (kept_of query others)
+unfolding kept_of
 kept-IsPermutation query rows others h = filter-IsPermutation (is_kept query) rows others h

@@ -1,8 +1,8 @@
 -- Lemmas on the definitions of this crate.
 mod FitsLemmas
+mod FoldingLemmas
 mod TruthLemmas
 mod KeysLemmas
 mod PermutationLemmas
-mod ExampleLemmas
 mod FirstLemmas
 mod AnswerLemmas

@@ -1,15 +1,13 @@
 -- Small tables and queries, whose answers are known.
 use Rattle.std.specs.Prelude.{ℕ, ℤ, pos, negsuc, List, [], ◌∷◌, map, None, Some, codes}
 use Rattle.star_values.specs.declared.value.Value.TheVariants.{Int, Str}
-use Rattle.star_plan.specs.declared.choice.Choice.TheVariants.{AllRows, Chosen}
 use Rattle.star_plan.specs.declared.item.Item.{Item}
 use Rattle.star_plan.specs.declared.item.Item.TheVariants.{Sum}
 use Rattle.star_plan.specs.declared.place.Place.{Place}
 use Rattle.star_plan.specs.declared.place.Place.TheVariants.{Fact, Dimension}
 use Rattle.star_plan.specs.declared.predicate.How.TheVariants.{Eq, Gt}
-use Rattle.star_plan.specs.declared.predicate.Predicate.TheVariants.{Compare}
-use Rattle.star_plan.specs.declared.star_query.StarQuery.{StarQuery}
 use Rattle.star_plan.specs.Joined.{Joined}
+use Rattle.star_plan.specs.Test.{Query, AllRows, Chosen, Compare}
 
 -- a sale of some units in a store of a city, joined with its store
 abbrev pub sale : ℕ → List ℕ → ℕ → Joined
@@ -37,11 +35,11 @@ abbrev pub city : Place
 city = Dimension 0 1
 
 -- what is asked of each group of the joined sales, without a condition
-abbrev pub asked : List Place → List Item → StarQuery
+abbrev pub asked : List Place → List Item → Query
 asked places items = record { fact = None; choices = AllRows ∷ []; groups = places; items = items }
 
 -- the sales of more than 3 units in Oslo
-abbrev pub more_than_three_in_oslo : StarQuery
+abbrev pub more_than_three_in_oslo : Query
 more_than_three_in_oslo = record {
   fact = Some (Compare 1 Gt (Int (pos 3)));
   choices = Chosen (Compare 1 Eq (Str (codes "Oslo"))) ∷ [];
@@ -50,7 +48,7 @@ more_than_three_in_oslo = record {
 }
 
 -- the sum of the integers, without GROUP BY
-abbrev pub sum_of_all : StarQuery
+abbrev pub sum_of_all : Query
 sum_of_all = asked [] (Sum (Fact 0) ∷ [])
 
 -- -1

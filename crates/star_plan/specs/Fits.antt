@@ -1,15 +1,16 @@
--- Which tests and predicates may stand over the rows of a table.
+-- Which tests may stand over the rows of a table, and which rows fit it.
 use Rattle.std.specs.Prelude.{ℕ, Bool, true, false, ◌&&◌, List, slice_get, Option, Some, None}
 use Rattle.std.specs.List.{list_all}
 use Rattle.std.specs.Option.{option_map_or}
+use Rattle.std.specs.Cmp.Lexicographic.{pointwise}
 use Rattle.star_values.specs.declared.value.Kind.{Kind}
 use Rattle.star_values.specs.declared.value.Kind.TheVariants.{Int, Text}
 use Rattle.star_values.specs.declared.value.Value.{Value}
 use Rattle.star_values.specs.Value.{kind_of}
-use Rattle.star_plan.specs.declared.choice.Choice.{Choice}
-use Rattle.star_plan.specs.declared.choice.Choice.TheVariants as choice
-use Rattle.star_plan.specs.declared.predicate.Predicate.{Predicate}
-use Rattle.star_plan.specs.Test.{Test, Tests, Compare, Between, OneOf, Both, Either, Negate, none, more, test_of, Selection, Unnamed, AllRows, Chosen}
+use Rattle.star_plan.specs.declared.table_def.TableDef.{TableDef}
+use Rattle.star_plan.specs.Columns.{kinds_of}
+use Rattle.star_plan.specs.Row.{kinds_in}
+use Rattle.star_plan.specs.Test.{Test, Tests, Compare, Between, OneOf, Both, Either, Negate, none, more, Selection, Unnamed, AllRows, Chosen}
 
 -- whether two kinds are the same
 abbrev pub same_kind : Kind → Kind → Bool
@@ -49,17 +50,6 @@ selection_fits kinds Unnamed = true
 selection_fits kinds AllRows = true
 selection_fits kinds (Chosen t) = test_fits kinds t
 
--- whether a predicate fits
-abbrev pub fits : Predicate → List Kind → Bool
-fits predicate kinds = test_fits kinds (test_of predicate)
-
--- the same of a condition that there may not be
-abbrev pub condition_fits : Option Predicate → List Kind → Bool
-condition_fits None kinds = true
-condition_fits (Some predicate) kinds = fits predicate kinds
-
--- the same of the condition of a choice
-abbrev pub choice_fits : Choice → List Kind → Bool
-choice_fits choice.Unnamed kinds = true
-choice_fits choice.AllRows kinds = true
-choice_fits (choice.Chosen predicate) kinds = fits predicate kinds
+-- whether a row fits a table: it has as many values as the table has columns, each of its column's kind
+abbrev pub fits_table : TableDef → List Value → Bool
+fits_table table row = pointwise same_kind (kinds_of table.columns) (kinds_in row)

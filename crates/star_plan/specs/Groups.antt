@@ -2,10 +2,9 @@
 use Rattle.std.specs.Prelude.{List, [], ◌∷◌, filter, fold, map}
 use Rattle.std.specs.Ordering.{is_eq}
 use Rattle.std.specs.declared.cmp.Ordering.{Ordering}
-use Rattle.std.specs.Cmp.Lexicographic.{slice_cmp}
 use Rattle.std.specs.BTreeSet.{insert_key}
 use Rattle.star_values.specs.declared.value.Value.{Value}
-use Rattle.star_values.specs.Value.{value_cmp}
+use Rattle.star_values.specs.Value.{row_cmp}
 use Rattle.star_plan.specs.declared.place.Place.{Place}
 use Rattle.star_plan.specs.Joined.{Joined, value_at}
 
@@ -13,9 +12,9 @@ use Rattle.star_plan.specs.Joined.{Joined, value_at}
 abbrev pub key_of : List Place → Joined → List Value
 key_of places row = map (λ place. value_at place row) places
 
--- keys are ordered by the first of their values that differ
+-- keys are ordered as rows are: by the first of their values that differ
 abbrev pub key_cmp : List Value → List Value → Ordering
-key_cmp = slice_cmp value_cmp
+key_cmp = row_cmp
 
 -- the distinct keys of rows, ascending: each goes to its place in the order, if it is not there
 abbrev pub keys_of : List Place → List Joined → List (List Value)

@@ -1,35 +1,15 @@
 -- What a query over the tables of a schema keeps to.
-use Rattle.std.specs.Prelude.{◌≡◌, ℕ, Bool, true, false, List, [], ◌++◌, length, map, filter_map, slice_get, Option, Some, None, IsSome, Any, Contains}
+use Rattle.std.specs.Prelude.{◌≡◌, ℕ, ◌<◌, Bool, true, false, List, ◌++◌, length, filter_map, slice_get, Option, Some, None, IsSome, Any, Contains}
 use Rattle.std.specs.Option.{option_map_or}
-use Rattle.star_values.specs.declared.value.Kind.{Kind}
 use Rattle.star_values.specs.declared.value.Kind.TheVariants as kind
-use Rattle.star_plan.specs.declared.column_def.ColumnDef.{ColumnDef}
 use Rattle.star_plan.specs.declared.item.Item.{Item}
 use Rattle.star_plan.specs.declared.item.Item.TheVariants.{Plain, CountAll, Count, Sum, Min, Max}
 use Rattle.star_plan.specs.declared.place.Place.{Place}
 use Rattle.star_plan.specs.declared.place.Place.TheVariants.{Fact, Dimension}
 use Rattle.star_plan.specs.declared.schema.Schema.{Schema}
+use Rattle.star_plan.specs.Columns.{dimension_columns, fact_columns, kind_at, kinds_of}
 use Rattle.star_plan.specs.Test.{Query, Selection, Unnamed, AllRows, Chosen}
 use Rattle.star_plan.specs.Fits.{selection_fits, some_test_fits}
-
--- the columns of the fact table, and none before it was declared
-abbrev pub fact_columns : Schema → List ColumnDef
-fact_columns schema = option_map_or (λ table. table.columns) schema.fact []
-
--- the columns of a dimension, and none where there is no dimension of this number
-abbrev pub dimension_columns : Schema → ℕ → List ColumnDef
-dimension_columns schema dimension =
-    option_map_or (λ table. table.columns) (slice_get schema.dimensions dimension) []
-
--- the kinds of columns
-abbrev pub kinds_of : List ColumnDef → List Kind
-kinds_of columns = map (λ column. column.kind) columns
-
--- the kind of the values at a place, where it is the place of a column
-abbrev pub kind_at : Schema → Place → Option Kind
-kind_at schema (Fact column) = slice_get (kinds_of (fact_columns schema)) column
-kind_at schema (Dimension dimension column) =
-    slice_get (kinds_of (dimension_columns schema dimension)) column
 
 -- the place that an item names
 abbrev pub place_of_item : Item → Option Place
@@ -54,11 +34,12 @@ is_named (Chosen t) = true
 abbrev pub Names : Query → ℕ → Type 0
 Names query dimension = option_map_or is_named (slice_get query.choices dimension) false ≡ true
 
--- each test fits the columns of its table; there is a choice for each dimension; each place of the
--- groups and items is that of a column; sums are over integers; plain items stand in the groups;
+-- each test fits the columns of its table; there is a choice for each dimension, and some item; each
+-- place of the groups and items is that of a column; sums are over integers; plain items stand in the groups;
 -- the dimensions of the groups and items are named; and those that are named are referenced
 pub record IsOver (schema : Schema) (query : Query) : Type 0 where
   pub fact : some_test_fits (kinds_of (fact_columns schema)) query.fact ≡ true
+  pub some_item : 0 < length query.items
   pub choices : length query.choices ≡ length schema.dimensions
   pub chosen : (dimension : ℕ) → option_map_or
       (selection_fits (kinds_of (dimension_columns schema dimension)))

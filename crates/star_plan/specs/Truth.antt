@@ -1,5 +1,5 @@
--- When a predicate holds on a row.
-use Rattle.std.specs.Prelude.{ℕ, Bool, true, false, ◌&&◌, ◌||◌, not, List, slice_get}
+-- When a test holds on a row.
+use Rattle.std.specs.Prelude.{ℕ, Bool, true, false, ◌&&◌, ◌||◌, not, List, Option}
 use Rattle.std.specs.List.{list_any}
 use Rattle.std.specs.Option.{option_map_or}
 use Rattle.std.specs.declared.cmp.Ordering.{Ordering}
@@ -8,8 +8,8 @@ use Rattle.star_values.specs.declared.value.Value.{Value}
 use Rattle.star_values.specs.Value.{value_cmp}
 use Rattle.star_plan.specs.declared.predicate.How.{How}
 use Rattle.star_plan.specs.declared.predicate.How.TheVariants.{Eq, Ne, Lt, Le, Gt, Ge}
-use Rattle.star_plan.specs.declared.predicate.Predicate.{Predicate}
-use Rattle.star_plan.specs.Test.{Test, Tests, Compare, Between, OneOf, Both, Either, Negate, none, more, test_of}
+use Rattle.star_plan.specs.Row.{value_in}
+use Rattle.star_plan.specs.Test.{Test, Tests, Compare, Between, OneOf, Both, Either, Negate, none, more}
 
 -- whether an order is what a comparison asks for
 abbrev pub is_asked : How → Ordering → Bool
@@ -26,8 +26,7 @@ compares how left right = is_asked how (value_cmp left right)
 
 -- whether the value in a column of a row compares as asked with another
 abbrev pub compares_at : List Value → ℕ → How → Value → Bool
-compares_at row column how value =
-    option_map_or (λ found. compares how found value) (slice_get row column) false
+compares_at row column how value = compares how (value_in row column) value
 
 abbrev mutual
   -- whether a test holds on a row
@@ -48,6 +47,6 @@ abbrev mutual
   some_holds row none = false
   some_holds row (more t ts) = test_holds row t || some_holds row ts
 
--- whether a predicate holds on a row
-abbrev pub holds_of : Predicate → List Value → Bool
-holds_of predicate row = test_holds row (test_of predicate)
+-- whether a test that there may not be holds on a row
+abbrev pub passes : Option Test → List Value → Bool
+passes test row = option_map_or (test_holds row) test true

@@ -1,14 +1,6 @@
-//! A cell of an answer.
+//! A row of an answer. A cell of it is in `star_values`.
 use star_lists::ListOf;
-use star_values::Value;
-
-/// A cell of an answer.
-#[derive(Debug, PartialEq, Eq, Drop)]
-pub enum Cell {
-    /// There was no row to take a value from.
-    Null,
-    Full(Value),
-}
+use star_values::Cell;
 
 /// A row of an answer: its cells in the order of the select list.
 pub type CellList = ListOf<Cell>;

@@ -1,8 +1,9 @@
 //! Which rows of a dimension a query takes.
-ghost use Rattle.std.specs.Prelude.{◌≡◌, IsTrue, map};
-ghost use Rattle.star_values.specs.Value.{kind_of};
-ghost use Rattle.star_plan.specs.Fits.{choice_fits};
+ghost use Rattle.std.specs.Prelude.{◌≡◌, IsTrue};
+ghost use Rattle.star_plan.specs.Fits.{selection_fits};
 ghost use Rattle.star_plan.specs.Joined.{takes as takes_row};
+ghost use Rattle.star_plan.specs.Row.{kinds_in};
+ghost use Rattle.star_plan.specs.Test.{selection_of};
 
 use crate::predicate::Predicate;
 use crate::truth::holds;
@@ -23,8 +24,8 @@ pub enum Choice {
 impl Choice {
     /// Whether the query takes a row of the dimension.
     pub fn takes(&self, row: &Row) -> bool
-        requires { IsTrue (choice_fits self.now (map kind_of row.now)) }
-        ensures { result ≡ takes_row self.now row.now }
+        requires { IsTrue (selection_fits (kinds_in row.now) (selection_of self.now)) }
+        ensures { result ≡ takes_row (selection_of self.now) row.now }
     {
         match self {
             Choice::Unnamed | Choice::AllRows => true,

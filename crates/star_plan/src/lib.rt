@@ -6,28 +6,33 @@ mod answer;
 mod cell;
 mod choice;
 mod column_def;
+mod crossing;
 mod examples;
 mod fitting;
+mod folding;
 mod item;
 mod meaning;
 mod place;
 mod predicate;
 mod schema;
 mod star_query;
+mod table;
 mod table_def;
 #[cfg(test)]
 mod tests;
 mod truth;
 
 pub use answer::{Answer, AnswerRows};
-pub use cell::{Cell, CellList};
+pub use cell::CellList;
 pub use choice::{Choice, ChoiceList};
 pub use column_def::{ColumnDef, ColumnList};
+pub use crossing::queries_cross_threads;
 pub use examples::{
     least_and_greatest_are_found, no_sales_have_no_sum, only_the_whole_sum_overflows,
     sales_are_kept_by_both_conditions, sales_are_summed_by_city,
 };
-pub use fitting::{fits, predicates_fit_by_their_parts};
+pub use fitting::{fits, rows_fit_by_their_kinds, tests_fit_by_their_parts};
+pub use folding::{cells_take_one_row_more, groups_take_one_row_more};
 pub use item::{Item, ItemList};
 pub use meaning::{
     answers_ignore_the_order_of_rows, answers_overflow_by_whole_sums,
@@ -35,8 +40,10 @@ pub use meaning::{
     least_and_greatest_bound_the_values, plain_cells_are_the_values_of_the_rows,
 };
 pub use place::{Place, PlaceList};
-pub use predicate::{How, Predicate, PredicateList};
+pub use predicate::{How, Predicate, PredicateList, predicates_are_tests_by_their_parts};
 pub use schema::Schema;
 pub use star_query::StarQuery;
+pub use star_values::Cell;
+pub use table::Table;
 pub use table_def::{TableDef, TableList};
-pub use truth::{equal_values_are_the_same, holds, predicates_hold_by_their_parts};
+pub use truth::{equal_values_are_the_same, holds, tests_hold_by_their_parts};

@@ -1,30 +1,32 @@
 //! What the definitions of an answer say, as laws. The definitions are in `specs/`.
-ghost use Rattle.std.specs.Prelude.{◌≡◌, ◌↔◌, ℤ, IsTrue, IsSome, IfSome, All, AllPairs, Any, Contains, List, [], ◌∷◌, map, FitsSigned};
+ghost use Rattle.std.specs.Prelude.{◌≡◌, ◌↔◌, ℕ, ℤ, ◌<◌, IsTrue, IsSome, IfSome, All, AllPairs, Any, Contains, List, [], ◌∷◌, filter, length, map, FitsSigned, if◌then◌else◌};
 ghost use Rattle.std.specs.Int.{w64};
-ghost use Rattle.std.specs.List.{zip};
 ghost use Rattle.std.specs.List.Sorted.{IsPermutation};
 ghost use Rattle.std.specs.Ordering.{is_le};
 ghost use Rattle.std.specs.declared.cmp.Ordering.TheVariants.{Less};
 ghost use Rattle.star_values.specs.declared.value.Value.{Value};
 ghost use Rattle.star_values.specs.Value.{value_cmp};
-ghost use Rattle.star_plan.specs.declared.answer.Answer.TheVariants.{Overflow};
-ghost use Rattle.star_plan.specs.declared.cell.Cell.TheVariants.{Full};
+ghost use Rattle.star_plan.specs.declared.answer.Answer.TheVariants.{Rows, Overflow};
+ghost use Rattle.star_values.specs.declared.cell.Cell.TheVariants.{Full};
 ghost use Rattle.star_plan.specs.declared.item.Item.TheVariants.{Plain};
 ghost use Rattle.star_plan.specs.declared.place.Place.{Place};
-ghost use Rattle.star_plan.specs.declared.star_query.StarQuery.{StarQuery};
-ghost use Rattle.star_plan.specs.Joined.{Joined, is_kept, kept_of, passes, takes, value_at};
+ghost use Rattle.star_plan.specs.Joined.{Joined, is_kept, kept_of, takes_at, value_at};
 ghost use Rattle.star_plan.specs.Groups.{groups_of, key_cmp, key_of, rows_of};
-ghost use Rattle.star_plan.specs.Answer.{answer_of, greatest_at, is_beyond, item_cell, item_overflows, least_at};
+ghost use Rattle.star_plan.specs.Answer.{answer_of, cells_of, greatest_at, is_beyond, item_cell, item_overflows, least_at, overflows};
+ghost use Rattle.star_plan.specs.Test.{Query};
+ghost use Rattle.star_plan.specs.Truth.{passes};
 
 use star_values::values_are_in_order;
 
-/// A query keeps a joined row exactly where its condition on the fact table, if there is one, holds
-/// on the fact row, and each choice takes the row of its dimension.
+/// A query keeps a joined row exactly where its test on the fact table, if there is one, holds on the
+/// fact row, and it takes the row of each of its dimensions. It keeps the rows in their order.
 pub fn kept_rows_meet_each_condition()
-    ensures { (query : StarQuery) (row : Joined) →
+    ensures meets { (query : Query) (row : Joined) →
         IsTrue (is_kept query row)
-        ↔ (IsTrue (passes query.fact row.fact)
-        × All (λ pair. IsTrue (takes pair.0 pair.1)) (zip query.choices row.dimensions)) }
+        ↔ (IsTrue (passes query.fact row.fact) × ((dimension : ℕ) →
+        dimension < length query.choices → IsTrue (takes_at query row dimension))) }
+    ensures kept { (query : Query) (rows : List Joined) →
+        kept_of query rows ≡ filter (is_kept query) rows }
 {}
 
 /// The groups stand in ascending order, each once. With GROUP BY they are the keys of the rows, and
@@ -67,20 +69,23 @@ pub fn least_and_greatest_bound_the_values()
 }
 
 /// The answer is an overflow exactly where the whole sum of some item in some group is no integer
-/// of 64 bits with sign.
+/// of 64 bits with sign. Else it is a row of cells for each group, in the order of the groups.
 pub fn answers_overflow_by_whole_sums()
-    ensures some_sum { (query : StarQuery) (rows : List Joined) →
+    ensures some_sum { (query : Query) (rows : List Joined) →
         (answer_of query rows ≡ Overflow)
         ↔ Any (λ key. Any (λ item. IsTrue (item_overflows (rows_of query.groups key rows) item))
         query.items) (groups_of query.groups rows) }
     ensures range { (sum : ℤ) → IsTrue (is_beyond sum) ↔ ¬ (FitsSigned w64 sum) }
+    ensures cells { (query : Query) (rows : List Joined) →
+        answer_of query rows ≡ (if overflows query rows then Overflow
+        else Rows (map (cells_of query rows) (groups_of query.groups rows))) }
 {}
 
 /// Rows in another order have the same answer, also those that a query keeps of them.
 pub fn answers_ignore_the_order_of_rows()
-    ensures answer { (query : StarQuery) (rows others : List Joined) →
+    ensures answer { (query : Query) (rows others : List Joined) →
         IsPermutation rows others → answer_of query rows ≡ answer_of query others }
-    ensures kept { (query : StarQuery) (rows others : List Joined) →
+    ensures kept { (query : Query) (rows others : List Joined) →
         IsPermutation rows others → IsPermutation (kept_of query rows) (kept_of query others) }
 {
     values_are_in_order();

@@ -1,6 +1,6 @@
 //! Each kind of predicate at its borders, and lists made from a `Vec`, compared and given back.
 use super::*;
-use star_values::{Row, SmallText, Value};
+use star_values::{LiteralList, Row, SmallText, Value};
 use std::alloc::{AllocError, Global};
 use std::test::Fail;
 
@@ -43,7 +43,7 @@ fn amount_among(alloc: Global, numbers: &[i64]) -> Result<Predicate, AllocError>
     }
     Ok(Predicate::OneOf {
         column: AMOUNT,
-        values: Row::from(values),
+        values: LiteralList::from(values),
     })
 }
 

@@ -1,20 +1,17 @@
 //! When a predicate holds on a row.
-ghost use Rattle.std.specs.Prelude.{◌≡◌, ◌↔◌, ◌&&◌, ℕ, Box, IsTrue, All, Any, List, Some, map, slice_get};
-ghost use Rattle.std.specs.Global.{Global};
+ghost use Rattle.std.specs.Prelude.{◌≡◌, ◌↔◌, ℕ, IsTrue, All, Any, List};
 ghost use Rattle.std.specs.List.{list_all, list_any};
 ghost use Rattle.star_values.specs.declared.value.Value.{Value};
-ghost use Rattle.star_values.specs.Value.{kind_of};
 ghost use Rattle.star_plan.specs.declared.predicate.How.{How};
 ghost use Rattle.star_plan.specs.declared.predicate.How.TheVariants.{Eq, Le, Ge};
-ghost use Rattle.star_plan.specs.declared.predicate.Predicate.{Predicate};
-ghost use Rattle.star_plan.specs.declared.predicate.Predicate.TheVariants as test;
-ghost use Rattle.star_plan.specs.declared.predicate.PredicateList.{PredicateList};
-ghost use Rattle.star_plan.specs.Fits.{fits, fits_column};
-ghost use Rattle.star_plan.specs.Members.{members_of};
-ghost use Rattle.star_plan.specs.Truth.{holds_of, compares, compares_at};
+ghost use Rattle.star_plan.specs.Fits.{fits_column, test_fits};
+ghost use Rattle.star_plan.specs.Row.{kinds_in, value_in};
+ghost use Rattle.star_plan.specs.Test as plain;
+ghost use Rattle.star_plan.specs.Test.{Test, test_of, tests};
+ghost use Rattle.star_plan.specs.Truth.{compares, compares_at, test_holds};
 
 use crate::predicate::{How, Predicate};
-use star_values::{Row, Value, values_are_in_order};
+use star_values::{LiteralList, Row, Value, values_are_in_order};
 
 fn compare(left: &Value, how: How, right: &Value) -> bool
     ensures { result ≡ compares how left.now right.now }
@@ -32,14 +29,14 @@ fn compare(left: &Value, how: How, right: &Value) -> bool
 
 #[tactic(auto, using(crate::proofs::FitsLemmas::column_below))]
 fn compare_at(row: &Row, column: u8, how: How, value: &Value) -> bool
-    requires { IsTrue (fits_column (map kind_of row.now) column value.now) }
+    requires { IsTrue (fits_column (kinds_in row.now) column value.now) }
     ensures { result ≡ compares_at row.now column how value.now }
 {
     compare(&row.as_slice()[column as usize], how, value)
 }
 
-fn equals_one(row: &Row, column: u8, values: &Row) -> bool
-    requires { IsTrue (list_all (fits_column (map kind_of row.now) column) values.now) }
+fn equals_one(row: &Row, column: u8, values: &LiteralList) -> bool
+    requires { IsTrue (list_all (fits_column (kinds_in row.now) column) values.now) }
     ensures { result ≡ list_any (compares_at row.now column Eq) values.now }
 {
     for value in values.as_slice() {
@@ -53,8 +50,8 @@ fn equals_one(row: &Row, column: u8, values: &Row) -> bool
 /// Whether a predicate holds on a row.
 #[cycle(truth)]
 pub fn holds(predicate: &Predicate, row: &Row) -> bool
-    requires { IsTrue (fits predicate.now (map kind_of row.now)) }
-    ensures { result ≡ holds_of predicate.now row.now }
+    requires { IsTrue (test_fits (kinds_in row.now) (test_of predicate.now)) }
+    ensures { result ≡ test_holds row.now (test_of predicate.now) }
 {
     match predicate {
         Predicate::Compare { column, how, value } => compare_at(row, *column, *how, value),
@@ -70,8 +67,9 @@ pub fn holds(predicate: &Predicate, row: &Row) -> bool
 
 #[cycle(truth)]
 fn all_hold(members: &[Predicate], row: &Row) -> bool
-    requires { IsTrue (list_all (λ member. fits member (map kind_of row.now)) members.now) }
-    ensures { result ≡ list_all (λ member. holds_of member row.now) members.now }
+    requires { IsTrue (list_all (λ member. test_fits (kinds_in row.now) (test_of member))
+        members.now) }
+    ensures { result ≡ list_all (λ member. test_holds row.now (test_of member)) members.now }
 {
     for member in members {
         if !holds(member, row) {
@@ -83,8 +81,9 @@ fn all_hold(members: &[Predicate], row: &Row) -> bool
 
 #[cycle(truth)]
 fn some_holds(members: &[Predicate], row: &Row) -> bool
-    requires { IsTrue (list_all (λ member. fits member (map kind_of row.now)) members.now) }
-    ensures { result ≡ list_any (λ member. holds_of member row.now) members.now }
+    requires { IsTrue (list_all (λ member. test_fits (kinds_in row.now) (test_of member))
+        members.now) }
+    ensures { result ≡ list_any (λ member. test_holds row.now (test_of member)) members.now }
 {
     for member in members {
         if holds(member, row) {
@@ -94,26 +93,28 @@ fn some_holds(members: &[Predicate], row: &Row) -> bool
     false
 }
 
-/// What a predicate says, by its parts. A comparison is by the order of values; `Between` has both
-/// of its bounds; `Both` without members holds, and `Either` without members does not.
-pub fn predicates_hold_by_their_parts()
-    ensures compare { (column : ℕ) (how : How) (value : Value) (row : List Value) →
-        holds_of (test.Compare column how value) row ≡ compares_at row column how value }
-    ensures between { (column : ℕ) (low high : Value) (row : List Value) →
-        holds_of (test.Between column low high) row
-        ≡ (holds_of (test.Compare column Ge low) row
-        && holds_of (test.Compare column Le high) row) }
-    ensures one_of { (column : ℕ) (values row : List Value) →
-        IsTrue (holds_of (test.OneOf column values) row)
-        ↔ Any (λ value. IsTrue (holds_of (test.Compare column Eq value) row)) values }
-    ensures both { (list : PredicateList) (row : List Value) →
-        IsTrue (holds_of (test.Both list) row)
-        ↔ All (λ member. IsTrue (holds_of member row)) (members_of list) }
-    ensures either { (list : PredicateList) (row : List Value) →
-        IsTrue (holds_of (test.Either list) row)
-        ↔ Any (λ member. IsTrue (holds_of member row)) (members_of list) }
-    ensures negate { (member : Box Predicate Global) (row : List Value) →
-        IsTrue (holds_of (test.Negate member) row) ↔ ¬ (IsTrue (holds_of member.value row)) }
+/// What a test says, by its parts. A comparison is by the order of values, with the value in the
+/// column; `Between` has both of its bounds; `Both` without members holds, and `Either` without
+/// members does not.
+pub fn tests_hold_by_their_parts()
+    ensures compare { (row : List Value) (column : ℕ) (how : How) (value : Value) →
+        test_holds row (plain.Compare column how value)
+        ≡ compares how (value_in row column) value }
+    ensures between { (row : List Value) (column : ℕ) (low high : Value) →
+        IsTrue (test_holds row (plain.Between column low high))
+        ↔ (IsTrue (test_holds row (plain.Compare column Ge low))
+        × IsTrue (test_holds row (plain.Compare column Le high))) }
+    ensures one_of { (row : List Value) (column : ℕ) (values : List Value) →
+        IsTrue (test_holds row (plain.OneOf column values))
+        ↔ Any (λ value. IsTrue (test_holds row (plain.Compare column Eq value))) values }
+    ensures both { (row : List Value) (members : List Test) →
+        IsTrue (test_holds row (plain.Both (tests members)))
+        ↔ All (λ member. IsTrue (test_holds row member)) members }
+    ensures either { (row : List Value) (members : List Test) →
+        IsTrue (test_holds row (plain.Either (tests members)))
+        ↔ Any (λ member. IsTrue (test_holds row member)) members }
+    ensures negate { (row : List Value) (member : Test) →
+        IsTrue (test_holds row (plain.Negate member)) ↔ ¬ (IsTrue (test_holds row member)) }
 {}
 
 /// A value compares as equal exactly with itself.
