@@ -1,169 +1,179 @@
-//! Declarations of tables: the checks that refuse one, in their order, and the table that it makes.
-ghost use Rattle.std.specs.Prelude.{◌≡◌, bytes_eq, IfOk};
+//! Declarations of tables: the checks that refuse one, in their order, and the table that it adds.
+ghost use Rattle.std.specs.Prelude.{◌≡◌, ◌<◌, ◌≤◌, count_by, length};
 ghost use Rattle.std.specs.List.{list_any};
-ghost use Rattle.star_schema.specs.Declaration.{declared_dimension, declared_fact, defined_column, dimension_table, fact_table, has_key_of, references_another_kind, references_nothing, references_twice, takes_a_name_twice, target_of};
-ghost use Rattle.star_schema.specs.Fault.{Declares};
-ghost use Rattle.star_schema.specs.Limits.{IsWithinLimits, column_limit, dimension_limit, with_dimension, with_fact};
-ghost use Rattle.star_schema.specs.Repeats.{repeats};
+ghost use Rattle.star_schema.specs.Declaration.{declared_dimension, declared_fact, has_key_of, is_referenced_twice, references, references_another_kind, references_nothing, references_twice, takes_a_name_twice};
+ghost use Rattle.star_schema.specs.Fault.{Declares, DeclaresFact, Refuses};
+ghost use Rattle.star_schema.specs.Limits.{IsWithinLimits};
+ghost use Rattle.star_schema.specs.Schemas.{IsDeclared, ReferencesNothing};
 
 use crate::fault::DeclareFault;
-use crate::find::{columns_of, find_dimension, find_table};
-use crate::repeat::has_repeat;
-use crate::table::Table;
+use crate::find::{columns_of, find_table};
+use crate::names::has_repeated_name;
 use crate::{MAX_COLUMNS, MAX_DIMENSIONS};
-use star_parser::AstColumn;
-use star_plan::{ColumnDef, ColumnList, Schema, TableDef};
-use star_values::{Kind, NoMemory, Refusal, SmallText};
-use std::alloc::Global;
+use star_plan::{ColumnDef, Schema, Table, TableDef};
+use star_values::{Kind, Refusal};
 
-/// The dimension that `dimension NAME (COLUMNS)` declares. Its first column is its key.
+/// Adds a dimension behind those that were declared. Its first column is its key.
 ///
 /// It is refused after the fact table was declared, for a name that is taken or stands twice, and as a
-/// ninth dimension or with more than 16 columns: for the first of these reasons.
-pub fn declare_dimension(
-    alloc: Global,
-    schema: &Schema,
-    name: &SmallText,
-    columns: &[AstColumn],
-) -> Result<TableDef, DeclareFault>
-    requires { IsWithinLimits schema.now }
-    ensures declares { Declares result (declared_dimension schema.now name.now columns.now) }
-    ensures limits { IfOk result (λ table. IsWithinLimits (with_dimension schema.now table)) }
+/// ninth dimension or with more than 16 columns: for the first of these reasons. Memory is wanted
+/// only for what nothing refuses.
+pub fn declare_dimension(schema: &mut Schema, table: TableDef) -> Result<(), DeclareFault>
+    requires declared { IsDeclared schema.old }
+    requires columns { 0 < length table.columns }
+    requires plain { ReferencesNothing table }
+    ensures declares { Declares (declared_dimension schema.old table) schema.old schema.new result }
+    ensures declared { IsDeclared schema.new }
 {
-    if schema.fact.is_some() {
-        return Err(DeclareFault::Refused(Refusal::OutOfOrder));
+    let mut table = table;
+    if let Some(reason) = refusal_of_dimension(schema, &mut table) {
+        return Err(DeclareFault::Refused(reason));
     }
-    if takes_a_name_twice(schema, name, columns) {
-        return Err(DeclareFault::Refused(Refusal::DuplicateName));
-    }
-    if schema.dimensions.as_slice().len() >= MAX_DIMENSIONS || columns.len() > MAX_COLUMNS {
-        return Err(DeclareFault::Refused(Refusal::Limit));
-    }
-    Ok(dimension_table(alloc, name, columns)?)
+    schema.dimensions.push(table)?;
+    Ok(())
 }
 
-/// The fact table that `fact NAME (COLUMNS)` declares.
+/// Adds the fact table.
 ///
 /// It is refused after the fact table was declared, for a name that is taken or stands twice or two
 /// references to one dimension, for a reference to what is no dimension, with more than 16 columns,
-/// and for a reference to a key of another kind: for the first of these reasons.
-pub fn declare_fact(
-    alloc: Global,
-    schema: &Schema,
-    name: &SmallText,
-    columns: &[AstColumn],
-) -> Result<TableDef, DeclareFault>
+/// and for a reference to a key of another kind: for the first of these reasons. It takes no memory.
+pub fn declare_fact(schema: &mut Schema, table: TableDef) -> Result<(), Refusal>
+    requires declared { IsDeclared schema.old }
+    requires columns { 0 < length table.columns }
+    ensures declares { DeclaresFact (declared_fact schema.old table) schema.old schema.new result }
+    ensures declared { IsDeclared schema.new }
+{
+    let mut table = table;
+    if let Some(reason) = refusal_of_fact(schema, &mut table) {
+        return Err(reason);
+    }
+    schema.fact = Some(table);
+    Ok(())
+}
+
+/// The first reason that refuses a dimension. A table that is refused may lose the order of its columns.
+fn refusal_of_dimension(schema: &Schema, table: &mut TableDef) -> Option<Refusal>
     requires { IsWithinLimits schema.now }
-    ensures declares { Declares result (declared_fact schema.now name.now columns.now) }
-    ensures limits { IfOk result (λ table. IsWithinLimits (with_fact schema.now table)) }
+    ensures { Refuses (declared_dimension schema.now table.old) table.new result }
 {
     if schema.fact.is_some() {
-        return Err(DeclareFault::Refused(Refusal::OutOfOrder));
+        return Some(Refusal::OutOfOrder);
     }
-    if takes_a_name_twice(schema, name, columns) || references_twice(alloc, schema, columns)? {
-        return Err(DeclareFault::Refused(Refusal::DuplicateName));
+    if takes_a_name_twice(schema, table) {
+        return Some(Refusal::DuplicateName);
     }
-    if has_unknown_reference(schema, columns) {
-        return Err(DeclareFault::Refused(Refusal::UnknownName));
+    if schema.dimensions.len() >= MAX_DIMENSIONS || table.columns.len() > MAX_COLUMNS {
+        return Some(Refusal::Limit);
     }
-    if columns.len() > MAX_COLUMNS {
-        return Err(DeclareFault::Refused(Refusal::Limit));
-    }
-    if has_reference_of_another_kind(schema, columns) {
-        return Err(DeclareFault::Refused(Refusal::TypeMismatch));
-    }
-    Ok(fact_table(alloc, schema, name, columns)?)
+    None
 }
 
-/// Whether the name is taken, or two columns have one name.
-fn takes_a_name_twice(schema: &Schema, name: &SmallText, columns: &[AstColumn]) -> bool
+/// The first reason that refuses a fact table. A table that is refused may lose the order of its columns.
+fn refusal_of_fact(schema: &Schema, table: &mut TableDef) -> Option<Refusal>
     requires { IsWithinLimits schema.now }
-    ensures { result ≡ takes_a_name_twice schema.now name.now columns.now }
+    ensures { Refuses (declared_fact schema.now table.old) table.new result }
 {
-    find_table(schema, name).is_some() || has_repeated_name(columns)
+    if schema.fact.is_some() {
+        return Some(Refusal::OutOfOrder);
+    }
+    // Both are found before the names, whose test may sort the columns.
+    let twice = references_twice(schema, table.columns.as_slice());
+    let unknown = has_unknown_reference(schema, table.columns.as_slice());
+    if takes_a_name_twice(schema, table) || twice {
+        return Some(Refusal::DuplicateName);
+    }
+    if unknown {
+        return Some(Refusal::UnknownName);
+    }
+    if table.columns.len() > MAX_COLUMNS {
+        return Some(Refusal::Limit);
+    }
+    if has_reference_of_another_kind(schema, table.columns.as_slice()) {
+        return Some(Refusal::TypeMismatch);
+    }
+    None
 }
 
-fn has_repeated_name(columns: &[AstColumn]) -> bool
-    ensures { result ≡ repeats (λ a b. bytes_eq a.name b.name) columns.now }
+/// Whether the table's name is taken, or two of its columns have one name.
+fn takes_a_name_twice(schema: &Schema, table: &mut TableDef) -> bool
+    requires { IsWithinLimits schema.now }
+    ensures twice { result ≡ takes_a_name_twice schema.now table.old }
+    ensures count { length table.new.columns ≡ length table.old.columns }
+    ensures few { length table.old.columns ≤ MAX_COLUMNS → table.new ≡ table.old }
 {
-    let mut rest = columns;
-    'columns: while let [first, more @ ..] = rest {
-        if has_column_named(more, &first.name) {
+    let taken = find_table(schema, &table.name).is_some();
+    taken || has_repeated_name(table.columns.as_mut_slice())
+}
+
+/// Whether two columns reference one declared dimension.
+fn references_twice(schema: &Schema, columns: &[ColumnDef]) -> bool
+    requires { IsWithinLimits schema.now }
+    ensures { result ≡ references_twice schema.now columns.now }
+{
+    let count = schema.dimensions.len() as u8;
+    'dimensions: for dimension in 0..count {
+        if is_referenced_twice(columns, dimension) {
             return true;
         }
-        rest = more;
     }
     false
 }
 
-fn has_column_named(columns: &[AstColumn], name: &SmallText) -> bool
-    ensures { result ≡ list_any (λ column. bytes_eq name.now column.name) columns.now }
+fn is_referenced_twice(columns: &[ColumnDef], dimension: u8) -> bool
+    ensures { result ≡ is_referenced_twice columns.now dimension }
 {
-    columns.iter().any(|column| *name == column.name)
+    count_of_references(columns, dimension) > 1
 }
 
-/// Whether two columns reference one dimension.
-fn references_twice(alloc: Global, schema: &Schema, columns: &[AstColumn]) -> Result<bool, NoMemory>
-    requires { IsWithinLimits schema.now }
-    ensures { IfOk result (λ twice. twice ≡ references_twice schema.now columns.now) }
+fn count_of_references(columns: &[ColumnDef], dimension: u8) -> usize
+    ensures { result ≡ count_by (references dimension) columns.now }
 {
-    let mut targets = Vec::new(alloc);
-    'columns: for column in columns {
-        if let Some(target) = target_of(schema, column) {
-            targets.push(target)?;
-        }
-    }
-    Ok(has_repeat(targets.as_slice()))
+    columns
+        .iter()
+        .filter(|column| references(dimension, column))
+        .count()
 }
 
-/// The number of the dimension that a column references, where it was declared.
-fn target_of(schema: &Schema, column: &AstColumn) -> Option<u8>
-    requires { IsWithinLimits schema.now }
-    ensures { result ≡ target_of schema.now column.now }
+fn references(dimension: u8, column: &ColumnDef) -> bool
+    ensures { result ≡ references dimension column.now }
 {
-    match &column.references {
-        Some(name) => find_dimension(schema, name),
-        None => None,
+    match column.target {
+        Some(target) => target == dimension,
+        None => false,
     }
 }
 
-fn has_unknown_reference(schema: &Schema, columns: &[AstColumn]) -> bool
-    requires { IsWithinLimits schema.now }
+fn has_unknown_reference(schema: &Schema, columns: &[ColumnDef]) -> bool
     ensures { result ≡ list_any (references_nothing schema.now) columns.now }
 {
-    'columns: for column in columns {
-        if references_nothing(schema, column) {
-            return true;
-        }
-    }
-    false
+    columns
+        .iter()
+        .any(|column| references_nothing(schema, column))
 }
 
-fn references_nothing(schema: &Schema, column: &AstColumn) -> bool
-    requires { IsWithinLimits schema.now }
+fn references_nothing(schema: &Schema, column: &ColumnDef) -> bool
     ensures { result ≡ references_nothing schema.now column.now }
 {
-    column.references.is_some() && target_of(schema, column).is_none()
+    match column.target {
+        Some(target) => schema.dimensions.len() <= target as usize,
+        None => false,
+    }
 }
 
-fn has_reference_of_another_kind(schema: &Schema, columns: &[AstColumn]) -> bool
-    requires { IsWithinLimits schema.now }
+fn has_reference_of_another_kind(schema: &Schema, columns: &[ColumnDef]) -> bool
     ensures { result ≡ list_any (references_another_kind schema.now) columns.now }
 {
-    'columns: for column in columns {
-        if references_another_kind(schema, column) {
-            return true;
-        }
-    }
-    false
+    columns
+        .iter()
+        .any(|column| references_another_kind(schema, column))
 }
 
-fn references_another_kind(schema: &Schema, column: &AstColumn) -> bool
-    requires { IsWithinLimits schema.now }
+fn references_another_kind(schema: &Schema, column: &ColumnDef) -> bool
     ensures { result ≡ references_another_kind schema.now column.now }
 {
-    match target_of(schema, column) {
-        Some(dimension) => !has_key_of(schema, column.kind, dimension),
+    match column.target {
+        Some(target) => !has_key_of(schema, column.kind, target),
         None => false,
     }
 }
@@ -176,50 +186,4 @@ fn has_key_of(schema: &Schema, kind: Kind, dimension: u8) -> bool
         [key, ..] => kind == key.kind,
         [] => false,
     }
-}
-
-fn dimension_table(
-    alloc: Global,
-    name: &SmallText,
-    columns: &[AstColumn],
-) -> Result<TableDef, NoMemory>
-    ensures { IfOk result (λ table. table ≡ dimension_table name.now columns.now) }
-{
-    let mut defined = Vec::with_capacity(alloc, columns.len())?;
-    'columns: for column in columns {
-        defined.push(defined_column(None, column)?)?;
-    }
-    Ok(TableDef {
-        name: name.copy()?,
-        columns: ColumnList::from(defined),
-    })
-}
-
-fn fact_table(
-    alloc: Global,
-    schema: &Schema,
-    name: &SmallText,
-    columns: &[AstColumn],
-) -> Result<TableDef, NoMemory>
-    requires { IsWithinLimits schema.now }
-    ensures { IfOk result (λ table. table ≡ fact_table schema.now name.now columns.now) }
-{
-    let mut defined = Vec::with_capacity(alloc, columns.len())?;
-    'columns: for column in columns {
-        defined.push(defined_column(target_of(schema, column), column)?)?;
-    }
-    Ok(TableDef {
-        name: name.copy()?,
-        columns: ColumnList::from(defined),
-    })
-}
-
-fn defined_column(target: Option<u8>, column: &AstColumn) -> Result<ColumnDef, NoMemory>
-    ensures { IfOk result (λ defined. defined ≡ defined_column target column.now) }
-{
-    Ok(ColumnDef {
-        name: column.name.copy()?,
-        kind: column.kind,
-        target,
-    })
 }

@@ -1,11 +1,12 @@
 //! Tables and columns by their names.
 ghost use Rattle.std.specs.Prelude.{◌≡◌, ◌≤◌, false, length, option_copied, position};
 ghost use Rattle.std.specs.Option.{option_map_or};
-ghost use Rattle.star_schema.specs.Limits.{IsWithinLimits, column_limit};
-ghost use Rattle.star_schema.specs.Named.{column_named, columns_of, definition_of, dimension_named, has_name, table_named};
+ghost use Rattle.star_plan.specs.Columns.{columns_of, definition_of};
+ghost use Rattle.star_schema.specs.Limits.{IsWithinLimits};
+ghost use Rattle.star_schema.specs.Named.{column_named, dimension_named, has_name, table_named};
 
-use crate::table::Table;
-use star_plan::{ColumnDef, Schema, TableDef};
+use crate::MAX_COLUMNS;
+use star_plan::{ColumnDef, Schema, Table, TableDef};
 use star_values::SmallText;
 
 /// The table of this name.
@@ -24,7 +25,7 @@ pub fn find_table(schema: &Schema, name: &SmallText) -> Option<Table>
 }
 
 /// The number of the dimension of this name.
-pub(crate) fn find_dimension(schema: &Schema, name: &SmallText) -> Option<u8>
+pub fn find_dimension(schema: &Schema, name: &SmallText) -> Option<u8>
     requires { IsWithinLimits schema.now }
     ensures { result ≡ dimension_named schema.now name.now }
 {
@@ -70,7 +71,7 @@ pub fn columns_of(schema: &Schema, table: Table) -> &[ColumnDef]
 
 /// The number of the column of this name.
 pub fn find_column(columns: &[ColumnDef], name: &SmallText) -> Option<u8>
-    requires { length columns.now ≤ column_limit }
+    requires { length columns.now ≤ MAX_COLUMNS }
     ensures { result ≡ column_named columns.now name.now }
 {
     let number = column_position(columns, name)?;

@@ -5,18 +5,17 @@
 mod declare;
 mod fault;
 mod find;
-mod grow;
+mod laws;
+mod names;
 mod repeat;
-mod table;
 #[cfg(test)]
 mod tests;
 
 pub use declare::{declare_dimension, declare_fact};
 pub use fault::DeclareFault;
-pub use find::{columns_of, find_column, find_table, is_table_named};
-pub use grow::{with_dimension, with_fact};
-pub use repeat::has_repeat;
-pub use table::Table;
+pub use find::{columns_of, find_column, find_dimension, find_table, is_table_named};
+pub use laws::{empty_schemas_are_declared, repeats_are_pairs};
+pub use repeat::sorts_to_repeat;
 
 /// The most dimensions of a schema.
 pub const MAX_DIMENSIONS: usize = 8;

@@ -1,9 +1,11 @@
-use Rattle.std.proofs.Common.{◌≡◌, ◌++◌, drop, filter_map}
-use Rattle.star_schema.specs.Declaration.{target_of}
+use Rattle.std.proofs.Common.{◌≡◌, ◌-◌, length}
+use Rattle.std.specs.List.{list_any, range_with_len}
+use Rattle.star_schema.specs.Declaration.{is_referenced_twice}
 use Rattle.star_schema.proofs.declare.references_twice.Given as goal
 
--- the targets so far, and those of the columns that are left, are those of all columns
-abbrev pub invariant-columns : goal.invariant-columns
-invariant-columns l =
-    l.targets.items ++ filter_map (target_of l.schema) (drop l.column-index l.columns)
-    ≡ filter_map (target_of l.schema) l.columns
+-- some dimension is referenced twice where one of those that are left is
+abbrev pub invariant-dimensions : goal.invariant-dimensions
+invariant-dimensions l =
+    (l.count ≡ length l.schema.dimensions)
+    × (list_any (is_referenced_twice l.columns) (range_with_len l.dimension (l.count - l.dimension))
+    ≡ list_any (is_referenced_twice l.columns) (range_with_len 0 l.count))

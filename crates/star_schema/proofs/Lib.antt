@@ -1,0 +1,4 @@
+-- Lemmas on the definitions of this crate.
+mod ListLemmas
+mod RepeatLemmas
+mod SchemaLemmas
