@@ -4,14 +4,14 @@ use Rattle.std.specs.List.{Any, list_any}
 use Rattle.std.specs.Option.{option_map_or}
 use Rattle.std.proofs.lemmas.Option.{get_or_from_slice_get, slice_get_within}
 use Rattle.star_parser.specs.Condition.{Condition, Either, Both, Negate, Test, Same, Between, OneOf}
-use Rattle.star_plan.specs.Over.{fact_columns}
+use Rattle.star_plan.specs.Columns.{fact_columns}
 use Rattle.star_plan.specs.declared.place.Place.{Place}
 use Rattle.star_plan.specs.declared.place.Place.TheVariants.{Fact, Dimension}
 use Rattle.star_plan.specs.declared.schema.Schema.{Schema}
-use Rattle.star_schema.specs.declared.table.Table.{Table}
 use Rattle.star_binder.specs.Conjuncts.{joined_by_key, joined_dimension, joins, references}
 use Rattle.star_binder.specs.Places.{place_of}
 use Rattle.star_binder.proofs.ListLemmas.{Contains-passes, Some-passes}
+use Rattle.star_binder.specs.Scope.{TablesInScope}
 
 -- a number that passes the test of being another is it
 target_is : (target : Option ℕ) (dimension : ℕ) → option_map_or (λ number. number == dimension) target false ≡ true → target ≡ Some dimension
@@ -55,19 +55,19 @@ joined-Any schema (Fact left) (Fact right) dimension h = cc
 joined-Any schema (Dimension left column) (Dimension right other) dimension h = cc
 
 -- a dimension that a conjunct joins is referenced
-joins-Any : (schema : Schema) (tables : List Table) (dimension : ℕ) (t : Condition) → joins schema tables dimension t ≡ true
-    → Any (λ column. column.target ≡ Some dimension) (fact_columns schema)
-joins-Any schema tables dimension (Same left right) h = joined-Any schema (place_of schema tables left) (place_of schema tables right) dimension h
-joins-Any schema tables dimension (Either ts) h = cc
-joins-Any schema tables dimension (Both ts) h = cc
-joins-Any schema tables dimension (Negate t) h = cc
-joins-Any schema tables dimension (Test column how value) h = cc
-joins-Any schema tables dimension (Between column low high) h = cc
-joins-Any schema tables dimension (OneOf column values) h = cc
+joins-Any : (scope : TablesInScope) (dimension : ℕ) (t : Condition) → joins scope dimension t ≡ true
+    → Any (λ column. column.target ≡ Some dimension) (fact_columns scope.schema)
+joins-Any scope dimension (Same left right) h = joined-Any scope.schema (place_of scope left) (place_of scope right) dimension h
+joins-Any scope dimension (Either ts) h = cc
+joins-Any scope dimension (Both ts) h = cc
+joins-Any scope dimension (Negate t) h = cc
+joins-Any scope dimension (Test column how value) h = cc
+joins-Any scope dimension (Between column low high) h = cc
+joins-Any scope dimension (OneOf column values) h = cc
 
 -- a dimension that some conjunct joins is referenced
-pub some_joins-Any : (schema : Schema) (tables : List Table) (dimension : ℕ) (conjuncts : List Condition)
-    → list_any (joins schema tables dimension) conjuncts ≡ true → Any (λ column. column.target ≡ Some dimension) (fact_columns schema)
-some_joins-Any schema tables dimension conjuncts h =
-    let found = Contains-passes (joins schema tables dimension) conjuncts h in
-    joins-Any schema tables dimension found.0 found.2
+pub some_joins-Any : (scope : TablesInScope) (dimension : ℕ) (conjuncts : List Condition)
+    → list_any (joins scope dimension) conjuncts ≡ true → Any (λ column. column.target ≡ Some dimension) (fact_columns scope.schema)
+some_joins-Any scope dimension conjuncts h =
+    let found = Contains-passes (joins scope dimension) conjuncts h in
+    joins-Any scope dimension found.0 found.2

@@ -8,3 +8,4 @@ mod ConjunctLemmas
 mod BoundLemmas
 mod StatementLemmas
 mod ScopeLemmas
+mod WhereLemmas

@@ -4,23 +4,24 @@ use Rattle.std.specs.Option.{option_map_or}
 use Rattle.std.proofs.lemmas.List.Elements.{All-head, All-tail}
 use Rattle.star_plan.specs.declared.schema.Schema.{Schema}
 use Rattle.star_plan.specs.declared.table_def.TableDef.{TableDef}
-use Rattle.star_schema.specs.Limits.{HasFewColumns, IsWithinLimits, column_limit}
-use Rattle.star_schema.specs.Named.{columns_of}
-use Rattle.star_schema.specs.declared.table.Table.{Table}
-use Rattle.star_schema.specs.declared.table.Table.TheVariants.{Fact, Dimension}
+use Rattle.star_schema.specs.Limits.{HasFewColumns, IsWithinLimits}
+use Rattle.star_schema.specs.declared.TheConstants.{MAX_COLUMNS}
+use Rattle.star_plan.specs.Columns.{columns_of}
+use Rattle.star_plan.specs.declared.table.Table.{Table}
+use Rattle.star_plan.specs.declared.table.Table.TheVariants.{Fact, Dimension}
 
 -- no table has no columns
-few_of : (table : Option TableDef) → IfSome table HasFewColumns → length (option_map_or (λ t. t.columns) table []) ≤ column_limit
+few_of : (table : Option TableDef) → IfSome table HasFewColumns → length (option_map_or (λ t. t.columns) table []) ≤ MAX_COLUMNS
 few_of None h = omega arith
 few_of (Some table) h = h
 
 -- each of many
-few_at : (tables : List TableDef) (d : ℕ) → All HasFewColumns tables → length (option_map_or (λ t. t.columns) (slice_get tables d) []) ≤ column_limit
+few_at : (tables : List TableDef) (d : ℕ) → All HasFewColumns tables → length (option_map_or (λ t. t.columns) (slice_get tables d) []) ≤ MAX_COLUMNS
 few_at [] d h = omega arith
 few_at (t ∷ tables) zero h = All-head HasFewColumns t tables h
 few_at (t ∷ tables) (suc d) h = few_at tables d (All-tail HasFewColumns t tables h)
 
 -- each table of the schema
-pub few_columns : (schema : Schema) (table : Table) → IsWithinLimits schema → length (columns_of schema table) ≤ column_limit
+pub few_columns : (schema : Schema) (table : Table) → IsWithinLimits schema → length (columns_of schema table) ≤ MAX_COLUMNS
 few_columns schema Fact h = few_of schema.fact h.fact
 few_columns schema (Dimension d) h = few_at schema.dimensions d h.columns

@@ -1,5 +1,5 @@
 -- What binding a statement answers.
-use Rattle.std.specs.Prelude.{◌≡◌, ℕ, Bool, true, false, List, codes, Option, option_map, Result, Ok, Err}
+use Rattle.std.specs.Prelude.{◌≡◌, ℕ, Bool, true, false, List, ◌∷◌, codes, Option, option_map, Result, Ok, Err}
 use Rattle.star_values.specs.declared.refusal.Refusal.{Refusal}
 use Rattle.star_values.specs.Refusal.{words_of}
 use Rattle.star_parser.specs.Statement.{Statement, Delete, Select}
@@ -9,6 +9,7 @@ use Rattle.star_plan.specs.declared.schema.Schema.{Schema}
 use Rattle.star_plan.specs.declared.star_query.StarQuery.{StarQuery}
 use Rattle.star_binder.specs.Named.{where_conjuncts}
 use Rattle.star_binder.specs.Refused.{bound_select, bound_delete}
+use Rattle.star_binder.specs.Select.{select_of}
 use Rattle.star_binder.specs.declared.fault.BindFault.{BindFault}
 use Rattle.star_binder.specs.declared.fault.BindFault.TheVariants.{Refused, Memory}
 
@@ -26,7 +27,7 @@ Binds view (Err Memory) bound = Unit {0}
 -- the answer says what query a select is, and nothing is said of another statement
 abbrev pub BindsSelect : Result StarQuery BindFault → Schema → Statement → Type 0
 BindsSelect result schema (Select items names condition groups) =
-    Binds query_of result (bound_select schema items names (where_conjuncts condition) groups)
+    Binds query_of result (bound_select schema (select_of items names condition groups))
 BindsSelect result schema other = Unit {0}
 
 -- the answer says what test a delete has
@@ -35,9 +36,9 @@ BindsDelete result schema (Delete name condition) =
     Binds (option_map test_of) result (bound_delete schema name (where_conjuncts condition))
 BindsDelete result schema other = Unit {0}
 
--- a select
+-- a select of some item
 abbrev pub is_select : Statement → Bool
-is_select (Select items names condition groups) = true
+is_select (Select (item ∷ items) names condition groups) = true
 is_select other = false
 
 -- a delete

@@ -1,6 +1,6 @@
 -- What the condition of a WHERE names: its columns, its literals with the columns that they stand beside, and
 -- whether it compares two columns.
-use Rattle.std.specs.Prelude.{Bool, true, false, ◌||◌, List, [], ◌∷◌, ◌++◌, map, filter_map, flat_map, Option, Some, None}
+use Rattle.std.specs.Prelude.{Bool, true, false, ◌||◌, List, [], ◌∷◌, ◌++◌, map, Option, Some, None}
 use Rattle.star_values.specs.declared.value.Value.{Value}
 use Rattle.star_parser.specs.declared.ast.AstItem.{AstItem}
 use Rattle.star_parser.specs.declared.ast.AstItem.TheVariants.{Plain, CountAll, Count, Sum, Min, Max}
@@ -69,8 +69,3 @@ column_of_item (Count column) = Some column
 column_of_item (Sum column) = Some column
 column_of_item (Min column) = Some column
 column_of_item (Max column) = Some column
-
--- the columns that a select names: those of its items, of its conjuncts and of its groups
-abbrev pub columns_named : List AstItem → List Condition → List Column → List Column
-columns_named items conjuncts groups =
-    filter_map column_of_item items ++ flat_map columns_in conjuncts ++ groups

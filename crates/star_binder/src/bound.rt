@@ -1,7 +1,7 @@
 //! The parts of a query: its conditions as predicates, its choices, groups and items.
 ghost use Rattle.std.specs.Prelude.{◌≡◌, map, length, option_map, IfOk};
 ghost use Rattle.std.specs.List.{list_any, range_with_len};
-ghost use Rattle.star_schema.specs.Named.{same_table};
+ghost use Rattle.star_plan.specs.Columns.{same_table};
 ghost use Rattle.star_parser.specs.Condition.{condition_of, conditions};
 ghost use Rattle.star_plan.specs.Members.{members_of};
 ghost use Rattle.star_plan.specs.Test.{selection_of, test_of, tests};
@@ -12,17 +12,16 @@ use crate::conjuncts::is_on;
 use crate::scope::Scope;
 use star_parser::{AstItem, Column, Relation, Tree};
 use star_plan::{
-    Choice, ChoiceList, How, Item, ItemList, Place, PlaceList, Predicate, PredicateList,
+    Choice, ChoiceList, How, Item, ItemList, Place, PlaceList, Predicate, PredicateList, Table,
 };
-use star_schema::Table;
-use star_values::{NoMemory, Row, Value};
+use star_values::{LiteralList, NoMemory, Value};
 use std::alloc::Global;
 
 /// A condition on one table as a predicate on its rows.
 #[cycle(predicates)]
 fn bound_test(alloc: Global, scope: &Scope, tree: &Tree) -> Result<Predicate, NoMemory>
     ensures { IfOk result (λ predicate. test_of predicate
-        ≡ bound.bound_test scope.now.schema.now scope.now.tables.now (condition_of tree.now)) }
+        ≡ bound.bound_test scope.now (condition_of tree.now)) }
 {
     match tree {
         Tree::Either(list) => {
@@ -59,7 +58,7 @@ fn bound_test(alloc: Global, scope: &Scope, tree: &Tree) -> Result<Predicate, No
 #[cycle(predicates)]
 fn bound_tests(alloc: Global, scope: &Scope, trees: &[Tree]) -> Result<PredicateList, NoMemory>
     ensures { IfOk result (λ list. tests (map test_of (members_of list))
-        ≡ bound.bound_tests scope.now.schema.now scope.now.tables.now
+        ≡ bound.bound_tests scope.now
         (conditions (map condition_of trees.now))) }
 {
     let mut members = Vec::with_capacity(alloc, trees.len())?;
@@ -82,14 +81,14 @@ fn how_of(how: Relation) -> How
     }
 }
 
-fn copied(alloc: Global, values: &[Value]) -> Result<Row, NoMemory>
+fn copied(alloc: Global, values: &[Value]) -> Result<LiteralList, NoMemory>
     ensures { IfOk result (λ copy. copy ≡ values.now) }
 {
     let mut copy = Vec::with_capacity(alloc, values.len())?;
     'values: for value in values {
         copy.push(value.copy()?)?;
     }
-    Ok(Row::from(copy))
+    Ok(LiteralList::from(copy))
 }
 
 /// The conditions on a table among the conjuncts, as one predicate.
@@ -100,7 +99,7 @@ pub(crate) fn test_on(
     table: Table,
 ) -> Result<Option<Predicate>, NoMemory>
     ensures { IfOk result (λ predicate. option_map test_of predicate
-        ≡ bound.test_on scope.now.schema.now scope.now.tables.now
+        ≡ bound.test_on scope.now
         (map condition_of conjuncts.now) table) }
 {
     let mut members = Vec::new(alloc);
@@ -130,9 +129,9 @@ pub(crate) fn choices(
     conjuncts: &[Tree],
 ) -> Result<ChoiceList, NoMemory>
     ensures { IfOk result (λ choices. map selection_of choices
-        ≡ map (bound.selection_on scope.now.schema.now scope.now.tables.now
+        ≡ map (bound.selection_on scope.now
         (map condition_of conjuncts.now))
-        (range_with_len 0 (length scope.now.schema.now.dimensions))) }
+        (range_with_len 0 (length scope.now.schema.dimensions))) }
 {
     let count = scope.schema.dimensions.as_slice().len() as u8;
     let mut choices = Vec::with_capacity(alloc, count as usize)?;
@@ -150,7 +149,7 @@ fn choice_on(
     dimension: u8,
 ) -> Result<Choice, NoMemory>
     ensures { IfOk result (λ choice. selection_of choice
-        ≡ bound.selection_on scope.now.schema.now scope.now.tables.now
+        ≡ bound.selection_on scope.now
         (map condition_of conjuncts.now) dimension) }
 {
     let table = Table::Dimension(dimension);
@@ -176,7 +175,7 @@ pub(crate) fn groups(
     columns: &[Column],
 ) -> Result<Vec<Place>, NoMemory>
     ensures { IfOk result (λ groups. groups.items
-        ≡ map (place_of scope.now.schema.now scope.now.tables.now) columns.now) }
+        ≡ map (place_of scope.now) columns.now) }
 {
     let mut groups = Vec::with_capacity(alloc, columns.len())?;
     'columns: for column in columns {
@@ -187,7 +186,7 @@ pub(crate) fn groups(
 
 pub(crate) fn items(alloc: Global, scope: &Scope, written: &[AstItem]) -> Result<ItemList, NoMemory>
     ensures { IfOk result (λ items. items
-        ≡ map (bound.bound_item scope.now.schema.now scope.now.tables.now) written.now) }
+        ≡ map (bound.bound_item scope.now) written.now) }
 {
     let mut items = Vec::with_capacity(alloc, written.len())?;
     'items: for item in written {
@@ -198,7 +197,7 @@ pub(crate) fn items(alloc: Global, scope: &Scope, written: &[AstItem]) -> Result
 
 /// An item with its column replaced by its place.
 fn bound_item(scope: &Scope, item: &AstItem) -> Item
-    ensures { result ≡ bound.bound_item scope.now.schema.now scope.now.tables.now item.now }
+    ensures { result ≡ bound.bound_item scope.now item.now }
 {
     match item {
         AstItem::Plain(column) => Item::Plain(scope.place_of(column)),

@@ -3,21 +3,22 @@ ghost use Rattle.std.specs.Prelude.{◌≡◌, ◌==◌, false, not, map, slice_
 ghost use Rattle.std.specs.List.{list_any};
 ghost use Rattle.std.specs.Option.{option_map_or};
 ghost use Rattle.star_parser.specs.Condition.{condition_of};
-ghost use Rattle.star_schema.specs.Named as named;
-ghost use Rattle.star_binder.specs.Conjuncts.{has_another, is_mixed, is_on, joined_by_key, joined_dimension, joins, key_join, references, tables_in};
+ghost use Rattle.star_plan.specs.Columns as columns;
+ghost use Rattle.star_plan.specs.declared.table.Table.TheVariants as table;
+ghost use Rattle.star_binder.specs.Conjuncts.{first_table, has_another, is_mixed, is_on, joined_by_key, joined_dimension, joins, key_join, references, tables_in};
 ghost use Rattle.star_binder.specs.Places.{table_of};
 
 use crate::named::{add_columns, compares_columns};
 use crate::scope::Scope;
 use star_parser::{Column, Tree};
-use star_plan::{Place, Schema};
-use star_schema::{Table, columns_of};
+use star_plan::{Place, Schema, Table};
+use star_schema::columns_of;
 use star_values::NoMemory;
 use std::alloc::Global;
 
 /// The dimension that a conjunct joins by its key, where it is a key join.
 pub(crate) fn key_join(scope: &Scope, tree: &Tree) -> Option<u8>
-    ensures { result ≡ key_join scope.now.schema.now scope.now.tables.now (condition_of tree.now) }
+    ensures { result ≡ key_join scope.now (condition_of tree.now) }
 {
     match tree {
         Tree::Same { left, right } => {
@@ -80,7 +81,7 @@ fn is_target(target: Option<u8>, dimension: u8) -> bool
 
 /// Whether a conjunct joins this dimension.
 pub(crate) fn joins(scope: &Scope, dimension: u8, tree: &Tree) -> bool
-    ensures { result ≡ joins scope.now.schema.now scope.now.tables.now dimension
+    ensures { result ≡ joins scope.now dimension
         (condition_of tree.now) }
 {
     is_target(key_join(scope, tree), dimension)
@@ -89,7 +90,7 @@ pub(crate) fn joins(scope: &Scope, dimension: u8, tree: &Tree) -> bool
 /// Whether a conjunct is no key join, and compares two columns or names columns of two tables.
 pub(crate) fn is_mixed(alloc: Global, scope: &Scope, tree: &Tree) -> Result<bool, NoMemory>
     ensures { IfOk result (λ mixed. mixed
-        ≡ is_mixed scope.now.schema.now scope.now.tables.now (condition_of tree.now)) }
+        ≡ is_mixed scope.now (condition_of tree.now)) }
 {
     if key_join(scope, tree).is_some() {
         return Ok(false);
@@ -108,20 +109,27 @@ pub(crate) fn is_on(
     table: Table,
     tree: &Tree,
 ) -> Result<bool, NoMemory>
-    ensures { IfOk result (λ on. on
-        ≡ is_on scope.now.schema.now scope.now.tables.now table (condition_of tree.now)) }
+    ensures { IfOk result (λ on. on ≡ is_on scope.now table (condition_of tree.now)) }
 {
     if key_join(scope, tree).is_some() {
         return Ok(false);
     }
+    Ok(is_same(table, first_table(alloc, scope, tree)?))
+}
+
+/// The table of the first column that a condition names. One that names none, which no line has,
+/// counts to the fact table.
+fn first_table(alloc: Global, scope: &Scope, tree: &Tree) -> Result<Table, NoMemory>
+    ensures { IfOk result (λ table. table ≡ first_table scope.now (condition_of tree.now)) }
+{
     let tables = tables_in(alloc, scope, tree)?;
-    Ok(begins_with(tables.as_slice(), table))
+    Ok(first_of(tables.as_slice()))
 }
 
 /// The tables of the columns that a condition names.
 fn tables_in(alloc: Global, scope: &Scope, tree: &Tree) -> Result<Vec<Table>, NoMemory>
     ensures { IfOk result (λ tables. tables.items
-        ≡ tables_in scope.now.schema.now scope.now.tables.now (condition_of tree.now)) }
+        ≡ tables_in scope.now (condition_of tree.now)) }
 {
     let mut columns = Vec::new(alloc);
     add_columns(&mut columns, tree)?;
@@ -130,7 +138,7 @@ fn tables_in(alloc: Global, scope: &Scope, tree: &Tree) -> Result<Vec<Table>, No
 
 fn tables_of(alloc: Global, scope: &Scope, columns: &[&Column]) -> Result<Vec<Table>, NoMemory>
     ensures { IfOk result (λ tables. tables.items
-        ≡ map (table_of scope.now.schema.now scope.now.tables.now) (map (λ c. c.now) columns.now)) }
+        ≡ map (table_of scope.now) (map (λ c. c.now) columns.now)) }
 {
     let mut tables = Vec::with_capacity(alloc, columns.len())?;
     'columns: for column in columns {
@@ -150,22 +158,22 @@ fn has_another(tables: &[Table]) -> bool
 }
 
 fn has_other_than(tables: &[Table], table: Table) -> bool
-    ensures { result ≡ list_any (λ other. not (named.same_table table other)) tables.now }
+    ensures { result ≡ list_any (λ other. not (columns.same_table table other)) tables.now }
 {
     tables.iter().any(|other| !is_same(table, *other))
 }
 
-fn begins_with(tables: &[Table], table: Table) -> bool
-    ensures { result ≡ option_map_or (named.same_table table) (slice_get tables.now 0) false }
+fn first_of(tables: &[Table]) -> Table
+    ensures { result ≡ option_map_or (λ table. table) (slice_get tables.now 0) table.Fact }
 {
     match tables {
-        [] => false,
-        [first, ..] => is_same(table, *first),
+        [] => Table::Fact,
+        [first, ..] => *first,
     }
 }
 
 pub(crate) fn is_same(table: Table, other: Table) -> bool
-    ensures { result ≡ named.same_table table other }
+    ensures { result ≡ columns.same_table table other }
 {
     table == other
 }

@@ -9,22 +9,22 @@ use crate::bound::has_table;
 use crate::conjuncts::{is_mixed, joins};
 use crate::scope::Scope;
 use star_parser::Tree;
-use star_schema::Table;
+use star_plan::Table;
 use star_values::NoMemory;
 use std::alloc::Global;
 
 /// Whether the fact table is missing in FROM, or a dimension is not joined.
 pub(crate) fn lacks_a_join(scope: &Scope, conjuncts: &[Tree]) -> bool
-    ensures { result ≡ lacks_a_join scope.now.schema.now scope.now.tables.now
+    ensures { result ≡ lacks_a_join scope.now
         (map condition_of conjuncts.now) }
 {
     !has_table(scope.tables, Table::Fact) || has_table_that_is_not_joined(scope, conjuncts)
 }
 
 fn has_table_that_is_not_joined(scope: &Scope, conjuncts: &[Tree]) -> bool
-    ensures { result ≡ list_any (is_not_joined scope.now.schema.now scope.now.tables.now
+    ensures { result ≡ list_any (is_not_joined scope.now
         (map condition_of conjuncts.now))
-        scope.now.tables.now }
+        scope.now.tables }
 {
     'tables: for table in scope.tables {
         if is_not_joined(scope, conjuncts, *table) {
@@ -35,7 +35,7 @@ fn has_table_that_is_not_joined(scope: &Scope, conjuncts: &[Tree]) -> bool
 }
 
 fn is_not_joined(scope: &Scope, conjuncts: &[Tree], table: Table) -> bool
-    ensures { result ≡ is_not_joined scope.now.schema.now scope.now.tables.now
+    ensures { result ≡ is_not_joined scope.now
         (map condition_of conjuncts.now) table }
 {
     match table {
@@ -45,7 +45,7 @@ fn is_not_joined(scope: &Scope, conjuncts: &[Tree], table: Table) -> bool
 }
 
 fn is_joined(scope: &Scope, conjuncts: &[Tree], dimension: u8) -> bool
-    ensures { result ≡ list_any (joins scope.now.schema.now scope.now.tables.now dimension)
+    ensures { result ≡ list_any (joins scope.now dimension)
         (map condition_of conjuncts.now) }
 {
     'conjuncts: for conjunct in conjuncts {
@@ -63,7 +63,7 @@ pub(crate) fn has_mixed_conjunct(
     conjuncts: &[Tree],
 ) -> Result<bool, NoMemory>
     ensures { IfOk result (λ mixed. mixed
-        ≡ list_any (is_mixed scope.now.schema.now scope.now.tables.now)
+        ≡ list_any (is_mixed scope.now)
         (map condition_of conjuncts.now)) }
 {
     'conjuncts: for conjunct in conjuncts {

@@ -5,17 +5,18 @@ ghost use Rattle.std.specs.Option.{option_map_or};
 ghost use Rattle.star_values.specs.declared.value.Kind.TheVariants as kinds;
 ghost use Rattle.star_parser.specs.Condition.{condition_of};
 ghost use Rattle.star_plan.specs.Fits as fits;
-ghost use Rattle.star_plan.specs.Over.{kind_at, kinds_of};
+ghost use Rattle.star_plan.specs.Columns.{kind_at, kinds_of};
 ghost use Rattle.star_binder.specs.Literals.{literal_of};
 ghost use Rattle.star_binder.specs.Named.{beside};
+ghost use Rattle.star_binder.specs.Parts.{parts_of};
 ghost use Rattle.star_binder.specs.Refused.{has_another_kind, is_of_another_kind, sums_a_text};
 
 use crate::named::{Literal, add_conjunct_literals};
-use crate::scope::Scope;
+use crate::scope::{Scope, number_at, table_at};
 use crate::select::Select;
 use star_parser::{AstItem, Column, Tree};
-use star_plan::{ColumnDef, Place, Schema};
-use star_schema::{Table, columns_of};
+use star_plan::{ColumnDef, Place, Schema, Table};
+use star_schema::columns_of;
 use star_values::{Kind, NoMemory, Value};
 use std::alloc::Global;
 
@@ -26,9 +27,9 @@ pub(crate) fn has_type_mismatch(
     select: &Select,
 ) -> Result<bool, NoMemory>
     ensures { IfOk result (λ mismatch. mismatch
-        ≡ (has_another_kind scope.now.schema.now scope.now.tables.now
-        (map condition_of select.now.conjuncts.now)
-        || list_any (sums_a_text scope.now.schema.now scope.now.tables.now) select.now.items.now)) }
+        ≡ (has_another_kind scope.now
+        (parts_of select.now).conjuncts
+        || list_any (sums_a_text scope.now) (parts_of select.now).items)) }
 {
     let another = has_another_kind(alloc, scope, select.conjuncts)?;
     Ok(another || has_sum_of_a_text(scope, select.items))
@@ -40,7 +41,7 @@ pub(crate) fn has_another_kind(
     conjuncts: &[Tree],
 ) -> Result<bool, NoMemory>
     ensures { IfOk result (λ another. another
-        ≡ has_another_kind scope.now.schema.now scope.now.tables.now
+        ≡ has_another_kind scope.now
         (map condition_of conjuncts.now)) }
 {
     let mut literals = Vec::new(alloc);
@@ -49,7 +50,7 @@ pub(crate) fn has_another_kind(
 }
 
 fn has_literal_of_another_kind(scope: &Scope, literals: &[Literal]) -> bool
-    ensures { result ≡ list_any (is_of_another_kind scope.now.schema.now scope.now.tables.now)
+    ensures { result ≡ list_any (is_of_another_kind scope.now)
         (map literal_of literals.now) }
 {
     'literals: for literal in literals {
@@ -61,11 +62,15 @@ fn has_literal_of_another_kind(scope: &Scope, literals: &[Literal]) -> bool
 }
 
 fn is_of_another_kind(scope: &Scope, column: &Column, value: &Value) -> bool
-    ensures { result ≡ is_of_another_kind scope.now.schema.now scope.now.tables.now
+    ensures { result ≡ is_of_another_kind scope.now
         (beside column.now value.now) }
 {
-    let columns = columns_of(scope.schema, scope.table_of(column));
-    !fits_column(columns, scope.number_of(column), value)
+    let place = scope.place_of(column);
+    !fits_column(
+        columns_of(scope.schema, table_at(place)),
+        number_at(place),
+        value,
+    )
 }
 
 fn fits_column(columns: &[ColumnDef], number: u8, value: &Value) -> bool
@@ -87,7 +92,7 @@ fn kind_of_column(columns: &[ColumnDef], number: u8) -> Option<Kind>
 }
 
 fn has_sum_of_a_text(scope: &Scope, items: &[AstItem]) -> bool
-    ensures { result ≡ list_any (sums_a_text scope.now.schema.now scope.now.tables.now) items.now }
+    ensures { result ≡ list_any (sums_a_text scope.now) items.now }
 {
     'items: for item in items {
         if sums_a_text(scope, item) {
@@ -98,7 +103,7 @@ fn has_sum_of_a_text(scope: &Scope, items: &[AstItem]) -> bool
 }
 
 fn sums_a_text(scope: &Scope, item: &AstItem) -> bool
-    ensures { result ≡ sums_a_text scope.now.schema.now scope.now.tables.now item.now }
+    ensures { result ≡ sums_a_text scope.now item.now }
 {
     match item {
         AstItem::Sum(column) => !has_integers(scope.schema, scope.place_of(column)),

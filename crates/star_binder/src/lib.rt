@@ -15,9 +15,17 @@ mod refused;
 mod scope;
 mod select;
 mod statement;
+mod table;
 #[cfg(test)]
 mod tests;
 
 pub use fault::BindFault;
-pub use laws::bound_queries_keep_to_their_schema;
+pub use laws::{bound_queries_keep_to_their_schema, bound_queries_keep_what_the_where_keeps};
 pub use statement::{bind, bind_delete};
+pub use table::bind_table;
+
+/// The most items of a select.
+pub const MAX_ITEMS: usize = 64;
+
+/// The most columns of a GROUP BY.
+pub const MAX_GROUPS: usize = 16;

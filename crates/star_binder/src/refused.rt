@@ -2,10 +2,11 @@
 //! Each check alone is in `known`, `select`, `kinds`, `joined` or `grouped`.
 ghost use Rattle.std.specs.Prelude.{◌≡◌, map, IfOk};
 ghost use Rattle.star_parser.specs.Condition.{condition_of};
-ghost use Rattle.star_schema.specs.declared.table.Table.TheVariants as table;
+ghost use Rattle.star_plan.specs.declared.table.Table.TheVariants as table;
 ghost use Rattle.star_binder.specs.Bound.{query_in, test_on};
 ghost use Rattle.star_binder.specs.Checked.{unless_refused};
-ghost use Rattle.star_binder.specs.Refused.{bound_delete, bound_over, fact_alone};
+ghost use Rattle.star_binder.specs.Parts.{parts_of};
+ghost use Rattle.star_binder.specs.Refused.{bound_in, bound_over};
 
 use crate::grouped::has_item_that_is_not_grouped;
 use crate::joined::{has_mixed_conjunct, lacks_a_join};
@@ -26,14 +27,11 @@ pub(crate) fn refusal_of(
     scope: &Scope,
     select: &Select,
 ) -> Result<Option<Refusal>, NoMemory>
-    ensures { IfOk result (λ refusal.
-        bound_over scope.now.schema.now scope.now.tables.now select.now.names.now
-        select.now.items.now (map condition_of select.now.conjuncts.now) select.now.groups.now
-        ≡ unless_refused refusal (query_in scope.now.schema.now scope.now.tables.now
-        select.now.items.now (map condition_of select.now.conjuncts.now) select.now.groups.now)) }
+    ensures { IfOk result (λ refusal. bound_over scope.now (parts_of select.now)
+        ≡ unless_refused refusal (query_in scope.now (parts_of select.now))) }
 {
     let columns = columns_named(alloc, select)?;
-    if has_repeated_table(scope) {
+    if has_repeated_table(alloc, scope)? {
         return Ok(Some(Refusal::DuplicateName));
     }
     if has_unknown_name(scope, select.names, columns.as_slice()) {
@@ -60,18 +58,17 @@ pub(crate) fn refusal_of(
     Ok(None)
 }
 
-/// The first reason that refuses a delete, where there is one. It is over the fact table alone.
+/// The first reason that refuses a delete, where there is one.
 pub(crate) fn refusal_of_delete(
     alloc: Global,
     scope: &Scope,
     name: &SmallText,
     conjuncts: &[Tree],
 ) -> Result<Option<Refusal>, NoMemory>
-    requires { scope.now.tables.now ≡ fact_alone }
     ensures { IfOk result (λ refusal.
-        bound_delete scope.now.schema.now name.now (map condition_of conjuncts.now)
+        bound_in scope.now name.now (map condition_of conjuncts.now)
         ≡ unless_refused refusal
-        (test_on scope.now.schema.now fact_alone (map condition_of conjuncts.now) table.Fact)) }
+        (test_on scope.now (map condition_of conjuncts.now) table.Fact)) }
 {
     let mut columns = Vec::new(alloc);
     add_conjunct_columns(&mut columns, conjuncts)?;

@@ -1,19 +1,14 @@
 //! A select as the checks see it: its parts, the columns that it names, and how large it may be.
 ghost use Rattle.std.specs.Prelude.{◌≡◌, ◌++◌, ◌||◌, filter_map, length, map, nat_lt, IfOk, OnOk};
-ghost use Rattle.star_parser.specs.Condition.{condition_of};
-ghost use Rattle.star_binder.specs.Named.{column_of_item, columns_named};
-ghost use Rattle.star_binder.specs.Refused.{group_limit, item_limit};
+ghost use Rattle.star_binder.specs.Named.{column_of_item};
+ghost use Rattle.star_binder.specs.Parts.{parts_of};
+ghost use Rattle.star_binder.specs.Select.{columns_named};
 
 use crate::named::{add_column, add_conjunct_columns};
+use crate::{MAX_GROUPS, MAX_ITEMS};
 use star_parser::{AstItem, Column, Tree};
 use star_values::{NoMemory, SmallText};
 use std::alloc::Global;
-
-/// The most items of a select.
-const MAX_ITEMS: usize = 64;
-
-/// The most columns of a GROUP BY.
-const MAX_GROUPS: usize = 16;
 
 /// A select, with the conjuncts of its WHERE.
 #[derive(Drop)]
@@ -26,8 +21,8 @@ pub(crate) struct Select<'a> {
 
 /// Whether a select has too many items or groups.
 pub(crate) fn is_too_large(select: &Select) -> bool
-    ensures { result ≡ (nat_lt item_limit (length select.now.items.now)
-        || nat_lt group_limit (length select.now.groups.now)) }
+    ensures { result ≡ (nat_lt MAX_ITEMS (length select.now.items.now)
+        || nat_lt MAX_GROUPS (length select.now.groups.now)) }
 {
     select.items.len() > MAX_ITEMS || select.groups.len() > MAX_GROUPS
 }
@@ -38,8 +33,7 @@ pub(crate) fn columns_named<'a>(
     select: &Select<'a>,
 ) -> Result<Vec<&'a Column>, NoMemory>
     ensures { IfOk result (λ columns. map (λ c. c.now) columns.items
-        ≡ columns_named select.now.items.now (map condition_of select.now.conjuncts.now)
-        select.now.groups.now) }
+        ≡ columns_named (parts_of select.now)) }
 {
     let mut columns = Vec::new(alloc);
     add_item_columns(&mut columns, select.items)?;

@@ -2,13 +2,15 @@
 ghost use Rattle.std.specs.Prelude.{◌≡◌, true, filter_map, map, option_map, IfOk};
 ghost use Rattle.star_parser.specs.Condition.{condition_of};
 ghost use Rattle.star_parser.specs.Statement.{statement_of};
-ghost use Rattle.star_plan.specs.Fits.{condition_fits};
-ghost use Rattle.star_plan.specs.Over.{IsOver, fact_columns, kinds_of};
+ghost use Rattle.star_plan.specs.Fits.{some_test_fits};
+ghost use Rattle.star_plan.specs.Columns.{fact_columns, kinds_of};
+ghost use Rattle.star_plan.specs.Over.{IsOver};
 ghost use Rattle.star_plan.specs.Test.{query_of, test_of};
 ghost use Rattle.star_schema.specs.Limits.{IsWithinLimits};
 ghost use Rattle.star_schema.specs.Named.{table_named};
 ghost use Rattle.star_binder.specs.Bound as bound;
 ghost use Rattle.star_binder.specs.Fault.{Binds, BindsDelete, BindsSelect, is_delete, is_select};
+ghost use Rattle.star_binder.specs.Parts.{parts_of};
 ghost use Rattle.star_binder.specs.Places.{tables_named};
 ghost use Rattle.star_binder.specs.Refused.{bound_delete, bound_over, bound_select};
 
@@ -19,12 +21,12 @@ use crate::refused::{refusal_of, refusal_of_delete};
 use crate::scope::Scope;
 use crate::select::Select;
 use star_parser::{Ast, Tree};
-use star_plan::{PlaceList, Predicate, Schema, StarQuery};
-use star_schema::{Table, find_table};
+use star_plan::{PlaceList, Predicate, Schema, StarQuery, Table};
+use star_schema::find_table;
 use star_values::{NoMemory, SmallText};
 use std::alloc::Global;
 
-/// The query of a select.
+/// The query of a select of some item.
 pub fn bind(alloc: Global, ast: &Ast, schema: &Schema) -> Result<StarQuery, BindFault>
     requires limits { IsWithinLimits schema.now }
     requires select { is_select (statement_of ast.now) ≡ true }
@@ -63,8 +65,8 @@ pub fn bind_delete(
     requires limits { IsWithinLimits schema.now }
     requires delete { is_delete (statement_of ast.now) ≡ true }
     ensures binds { BindsDelete result schema.now (statement_of ast.now) }
-    ensures fits { IfOk result (λ condition.
-        condition_fits condition (kinds_of (fact_columns schema.now)) ≡ true) }
+    ensures fits { IfOk result (λ condition. some_test_fits (kinds_of (fact_columns schema.now))
+        (option_map test_of condition) ≡ true) }
 {
     match ast {
         Ast::Delete { name, condition } => {
@@ -78,11 +80,10 @@ pub fn bind_delete(
     }
 }
 
+#[tactic(auto, unfolding(crate::specs::Refused::bound_select))]
 fn bind_select(alloc: Global, schema: &Schema, select: &Select) -> Result<StarQuery, BindFault>
     requires { IsWithinLimits schema.now }
-    ensures { Binds query_of result
-        (bound_select schema.now select.now.items.now select.now.names.now
-        (map condition_of select.now.conjuncts.now) select.now.groups.now) }
+    ensures { Binds query_of result (bound_select schema.now (parts_of select.now)) }
 {
     let tables = tables_named(alloc, schema, select.names)?;
     let scope = Scope {
@@ -108,9 +109,7 @@ fn tables_named(alloc: Global, schema: &Schema, names: &[SmallText]) -> Result<V
 
 /// The query of a select over tables that are found.
 fn bind_over(alloc: Global, scope: &Scope, select: &Select) -> Result<StarQuery, BindFault>
-    ensures { Binds query_of result
-        (bound_over scope.now.schema.now scope.now.tables.now select.now.names.now
-        select.now.items.now (map condition_of select.now.conjuncts.now) select.now.groups.now) }
+    ensures { Binds query_of result (bound_over scope.now (parts_of select.now)) }
 {
     match refusal_of(alloc, scope, select)? {
         Some(reason) => Err(BindFault::Refused(reason)),
@@ -120,9 +119,7 @@ fn bind_over(alloc: Global, scope: &Scope, select: &Select) -> Result<StarQuery,
 
 /// The query of a select that no check refuses.
 fn query_in(alloc: Global, scope: &Scope, select: &Select) -> Result<StarQuery, NoMemory>
-    ensures { IfOk result (λ query. query_of query
-        ≡ bound.query_in scope.now.schema.now scope.now.tables.now select.now.items.now
-        (map condition_of select.now.conjuncts.now) select.now.groups.now) }
+    ensures { IfOk result (λ query. query_of query ≡ bound.query_in scope.now (parts_of select.now)) }
 {
     let fact = test_on(alloc, scope, select.conjuncts, Table::Fact)?;
     let choices = choices(alloc, scope, select.conjuncts)?;
@@ -136,6 +133,7 @@ fn query_in(alloc: Global, scope: &Scope, select: &Select) -> Result<StarQuery, 
     })
 }
 
+#[tactic(auto, unfolding(crate::specs::Refused::bound_delete))]
 fn bind_conjuncts(
     alloc: Global,
     schema: &Schema,

@@ -8,8 +8,7 @@ use Rattle.star_binder.proofs.bound.+predicates.Goals as goal
 
 pub bound_tests-returns : goal.bound_tests-returns
 bound_tests-returns t c =
-    let schema = c.args.scope.now.schema.now in
-    let tables = c.args.scope.now.tables.now in
+    let scope = c.args.scope.now in
     ap (λ members. tests (map test_of members)) c.from.ensures
-    ∙ ap tests (made_all (λ tree. bound_test schema tables (condition_of tree)) c.args.trees.now (map test_of c.trees.members.items) c.trees.tree-index (omega arith) c.trees.invariant)
-    ∙ sym (tests_bound schema tables c.args.trees.now)
+    ∙ ap tests (made_all (λ tree. bound_test scope (condition_of tree)) c.args.trees.now (map test_of c.trees.members.items) c.trees.tree-index (omega arith) c.trees.invariant)
+    ∙ sym (tests_bound scope c.args.trees.now)

@@ -7,5 +7,5 @@ use Rattle.star_binder.proofs.bound.+predicates.Given as goal
 -- the tests so far, and those of the trees that are left, are all
 abbrev pub invariant-bound_tests-trees : goal.invariant-bound_tests-trees
 invariant-bound_tests-trees l =
-    map test_of l.members.items ++ map (λ tree. bound_test l.scope.schema.now l.scope.tables.now (condition_of tree)) (drop l.tree-index l.trees)
-    ≡ map (λ tree. bound_test l.scope.schema.now l.scope.tables.now (condition_of tree)) l.trees
+    map test_of l.members.items ++ map (λ tree. bound_test l.scope (condition_of tree)) (drop l.tree-index l.trees)
+    ≡ map (λ tree. bound_test l.scope (condition_of tree)) l.trees

@@ -7,6 +7,6 @@ use Rattle.star_binder.proofs.bound.choices.Goals as goal
 
 pub dimensions-preserved : goal.dimensions-preserved
 dimensions-preserved c =
-    made_more selection_of (selection_on c.args.scope.now.schema.now c.args.scope.now.tables.now (map condition_of c.args.conjuncts.now))
+    made_more selection_of (selection_on c.args.scope.now (map condition_of c.args.conjuncts.now))
     c.dimensions.choices.items c.push.new.self.items c.in_ok-choice_on.field-0 c.dimensions.dimension
     c.in_ok-push.ensures.items c.in_ok-choice_on.ensures c.dimensions.invariant

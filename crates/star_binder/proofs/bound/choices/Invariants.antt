@@ -9,4 +9,4 @@ use Rattle.star_binder.proofs.bound.choices.Given as goal
 abbrev pub invariant-dimensions : goal.invariant-dimensions
 invariant-dimensions l =
     map selection_of l.choices.items
-    ≡ map (selection_on l.scope.schema.now l.scope.tables.now (map condition_of l.conjuncts)) (range_with_len 0 l.dimension)
+    ≡ map (selection_on l.scope (map condition_of l.conjuncts)) (range_with_len 0 l.dimension)

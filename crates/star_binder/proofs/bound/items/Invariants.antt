@@ -5,5 +5,5 @@ use Rattle.star_binder.proofs.bound.items.Given as goal
 -- the items so far, and those that are left, are all
 abbrev pub invariant-items : goal.invariant-items
 invariant-items l =
-    l.items.items ++ map (bound_item l.scope.schema.now l.scope.tables.now) (drop l.item-index l.written)
-    ≡ map (bound_item l.scope.schema.now l.scope.tables.now) l.written
+    l.items.items ++ map (bound_item l.scope) (drop l.item-index l.written)
+    ≡ map (bound_item l.scope) l.written

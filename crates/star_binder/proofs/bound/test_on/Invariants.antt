@@ -10,5 +10,5 @@ use Rattle.star_binder.proofs.bound.test_on.Given as goal
 abbrev pub invariant-conjuncts : goal.invariant-conjuncts
 invariant-conjuncts l =
     map test_of l.members.items
-    ++ map (bound_test l.scope.schema.now l.scope.tables.now) (filter (is_on l.scope.schema.now l.scope.tables.now l.table) (map condition_of (drop l.conjunct-index l.conjuncts)))
-    ≡ map (bound_test l.scope.schema.now l.scope.tables.now) (filter (is_on l.scope.schema.now l.scope.tables.now l.table) (map condition_of l.conjuncts))
+    ++ map (bound_test l.scope) (filter (is_on l.scope l.table) (map condition_of (drop l.conjunct-index l.conjuncts)))
+    ≡ map (bound_test l.scope) (filter (is_on l.scope l.table) (map condition_of l.conjuncts))

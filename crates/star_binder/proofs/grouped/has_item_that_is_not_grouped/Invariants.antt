@@ -6,5 +6,5 @@ use Rattle.star_binder.proofs.grouped.has_item_that_is_not_grouped.Given as goal
 -- some item is not grouped where one of those that are left is not
 abbrev pub invariant-items : goal.invariant-items
 invariant-items l =
-    list_any (is_not_grouped l.scope.schema.now l.scope.tables.now l.groups) (drop l.item-index l.items)
-    ≡ list_any (is_not_grouped l.scope.schema.now l.scope.tables.now l.groups) l.items
+    list_any (is_not_grouped l.scope l.groups) (drop l.item-index l.items)
+    ≡ list_any (is_not_grouped l.scope l.groups) l.items

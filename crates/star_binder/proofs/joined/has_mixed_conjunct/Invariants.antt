@@ -7,5 +7,5 @@ use Rattle.star_binder.proofs.joined.has_mixed_conjunct.Given as goal
 -- some conjunct is mixed where one of those that are left is
 abbrev pub invariant-conjuncts : goal.invariant-conjuncts
 invariant-conjuncts l =
-    list_any (is_mixed l.scope.schema.now l.scope.tables.now) (map condition_of (drop l.conjunct-index l.conjuncts))
-    ≡ list_any (is_mixed l.scope.schema.now l.scope.tables.now) (map condition_of l.conjuncts)
+    list_any (is_mixed l.scope) (map condition_of (drop l.conjunct-index l.conjuncts))
+    ≡ list_any (is_mixed l.scope) (map condition_of l.conjuncts)

@@ -7,5 +7,5 @@ use Rattle.star_binder.proofs.joined.has_table_that_is_not_joined.Given as goal
 -- some table is not joined where one of those that are left is not
 abbrev pub invariant-tables : goal.invariant-tables
 invariant-tables l =
-    list_any (is_not_joined l.scope.schema.now l.scope.tables.now (map condition_of l.conjuncts)) (drop l.table-index l.scope.tables.now)
-    ≡ list_any (is_not_joined l.scope.schema.now l.scope.tables.now (map condition_of l.conjuncts)) l.scope.tables.now
+    list_any (is_not_joined l.scope (map condition_of l.conjuncts)) (drop l.table-index l.scope.tables)
+    ≡ list_any (is_not_joined l.scope (map condition_of l.conjuncts)) l.scope.tables

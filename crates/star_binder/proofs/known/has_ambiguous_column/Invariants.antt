@@ -6,5 +6,5 @@ use Rattle.star_binder.proofs.known.has_ambiguous_column.Given as goal
 -- some column is ambiguous where one of those that are left is
 abbrev pub invariant-columns : goal.invariant-columns
 invariant-columns l =
-    list_any (is_ambiguous l.scope.schema.now l.scope.tables.now) (map (λ c. c.now) (drop l.column-index l.columns))
-    ≡ list_any (is_ambiguous l.scope.schema.now l.scope.tables.now) (map (λ c. c.now) l.columns)
+    list_any (is_ambiguous l.scope) (map (λ c. c.now) (drop l.column-index l.columns))
+    ≡ list_any (is_ambiguous l.scope) (map (λ c. c.now) l.columns)

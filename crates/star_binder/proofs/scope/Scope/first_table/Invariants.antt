@@ -5,4 +5,4 @@ use Rattle.star_binder.proofs.scope.Scope.first_table.Given as goal
 -- the first of all tables in which the column stands is the first of those that are left
 abbrev pub invariant-tables : goal.invariant-tables
 invariant-tables l =
-    find (stands_in l.self.schema.now l.column) (drop l.table-index l.self.tables.now) ≡ find (stands_in l.self.schema.now l.column) l.self.tables.now
+    find (stands_in l.self.schema l.column) (drop l.table-index l.self.tables) ≡ find (stands_in l.self.schema l.column) l.self.tables
