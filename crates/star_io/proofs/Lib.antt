@@ -1,2 +1,3 @@
 -- Lemmas that several proofs of this crate share.
 pub mod BytesLemmas
+mod FaultLemmas

@@ -1,5 +1,5 @@
 -- Counts of faults, and when one rose. Every crate that speaks of a failed call cites these words.
-use Rattle.std.specs.Prelude.{◌≡◌, ℕ, ◌+◌, ◌-◌, ◌^◌, ◌<◌, ◌≤◌, min, MatchResult, Result}
+use Rattle.std.specs.Prelude.{◌≡◌, ℕ, ◌+◌, ◌-◌, ◌^◌, ◌<◌, ◌≤◌, ◌⊎◌, min, Bool, true, false, MatchResult, Result}
 
 -- the last value of a counter, where it stands still
 abbrev pub last_count : ℕ
@@ -9,10 +9,26 @@ last_count = 2 ^ 64 - 1
 abbrev pub next_count : ℕ → ℕ
 next_count n = min (n + 1) last_count
 
--- a fault came: its count is greater than it was, or stands at the last value of a counter
+-- a fault came: its count is greater than it was, or stands still at the last value of a counter
 abbrev pub Rose : ℕ → ℕ → Type 0
-Rose old new = (old ≤ new) × (new < last_count → old < new)
+Rose old new = (old < new) ⊎ ((old ≡ last_count) × (new ≡ last_count))
 
--- an Ok leaves the count of faults as it was, and at an Err it rose
+-- an Ok leaves the count of faults as it was, and an Err is one fault more
 abbrev pub CountsFault : {A E : Type 0} → ℕ → ℕ → Result A E → Type 0
-CountsFault old new result = MatchResult result (λ _. new ≡ old) (λ _. Rose old new)
+CountsFault old new result = MatchResult result (λ _. new ≡ old) (λ _. new ≡ next_count old)
+
+-- whether the last call failed, after a call with this result
+abbrev pub NotesFault : {A E : Type 0} → Bool → Result A E → Type 0
+NotesFault failed result = MatchResult result (λ _. failed ≡ false) (λ _. failed ≡ true)
+
+-- over some calls one fault came, and the last call was it: no call was made after it
+abbrev pub FailedOnce : ℕ → ℕ → Bool → Type 0
+FailedOnce old new failed = (new ≡ next_count old) × (failed ≡ true)
+
+-- over some calls none failed, or the last one alone
+abbrev pub FailedOnceAtMost : ℕ → ℕ → Bool → Type 0
+FailedOnceAtMost old new failed = (new ≡ old) ⊎ FailedOnce old new failed
+
+-- a counter that counts one fault more rose
+abbrev pub OneMoreIsARise : Type 0
+OneMoreIsARise = (count : ℕ) → count ≤ last_count → Rose count (next_count count)

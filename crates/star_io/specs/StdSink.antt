@@ -1,5 +1,5 @@
 -- A sink over one of std's writers, as contracts see it.
-use Rattle.std.specs.Prelude.{ℕ}
+use Rattle.std.specs.Prelude.{ℕ, Bool}
 use Rattle.star_io.specs.declared.std_sink.StdSink.{StdSink}
 
 module _ {W : Type 0} where
@@ -10,3 +10,7 @@ module _ {W : Type 0} where
   -- how many of its writes failed
   abbrev pub failed_writes : StdSink W → ℕ
   failed_writes sink = sink.faults
+
+  -- whether the last of its writes failed
+  abbrev pub last_write_failed : StdSink W → Bool
+  last_write_failed sink = sink.failed

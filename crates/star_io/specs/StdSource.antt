@@ -11,6 +11,10 @@ module _ {R : Type 0} where
   abbrev pub failed_reads : StdSource R → ℕ
   failed_reads source = source.faults
 
+  -- whether the last of its reads failed
+  abbrev pub last_read_failed : StdSource R → Bool
+  last_read_failed source = source.failed
+
   -- whether a read answered `Ok(0)`
   abbrev pub has_ended : StdSource R → Bool
   has_ended source = source.ended

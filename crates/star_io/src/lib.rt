@@ -3,6 +3,7 @@
 #![tactic(auto)]
 
 mod failed;
+mod laws;
 mod list_sink;
 mod piece_source;
 mod read_end;
@@ -14,6 +15,7 @@ mod std_source;
 mod transfer;
 
 pub use failed::Failed;
+pub use laws::one_more_is_a_rise;
 pub use list_sink::ListSink;
 pub use piece_source::PieceSource;
 pub use read_end::{ReadAll, ReadEnd};
@@ -24,5 +26,7 @@ pub use std_sink::StdSink;
 pub use std_source::StdSource;
 pub use transfer::{read_all, write_all};
 
+#[cfg(test)]
+mod fault_tests;
 #[cfg(test)]
 mod tests;

@@ -1,7 +1,7 @@
 //! A sink in memory that takes bytes in pieces, and fails where it is told to.
-ghost use Rattle.std.specs.Prelude.{◌≡◌, ◌⊎◌, ◌<◌, ◌≤◌, Some, [], length, min, Contains, IfOk, IsErr, OnErr};
+ghost use Rattle.std.specs.Prelude.{◌≡◌, ◌⊎◌, ◌<◌, ◌≤◌, Some, [], false, length, min, Contains, IfOk, IsErr, OnErr};
 ghost use Rattle.std.specs.Io.KnownBytes.{WriteAppends};
-ghost use Rattle.star_io.specs.Faults.{CountsFault};
+ghost use Rattle.star_io.specs.Faults.{CountsFault, NotesFault};
 
 use crate::failed::Failed;
 use crate::sink::Sink;
@@ -19,6 +19,7 @@ pub struct ListSink {
     fails: Vec<u64>,
     calls: u64,
     faults: u64,
+    failed: bool,
 }
 
 impl Model for ListSink {
@@ -33,6 +34,7 @@ impl Model for ListSink {
       fails = s.fails.items;
       calls = s.calls;
       faults = s.faults;
+      failed = s.failed;
       room = vec_capacity s.taken - length s.taken.items;
     } };
 
@@ -49,6 +51,7 @@ impl ListSink {
           fails = fails.items;
           calls = 0;
           faults = 0;
+          failed = false;
           room = 0;
         } }
     {
@@ -58,6 +61,7 @@ impl ListSink {
             fails,
             calls: 0,
             faults: 0,
+            failed: false,
         }
     }
 
@@ -76,6 +80,8 @@ impl Sink for ListSink {
 
     ghost write_faults = { λ s. s.faults };
 
+    ghost write_failed = { λ s. s.failed };
+
     fn write(&mut self, bytes: &[u8]) -> Result<usize, Failed>
         requires { 0 < length bytes.now }
 
@@ -84,6 +90,7 @@ impl Sink for ListSink {
         ensures bound { IfOk result (λ n. n ≤ length bytes.now) }
         ensures bytes { WriteAppends (Some self.old.taken) (Some self.new.taken) result bytes.now }
         ensures faults { CountsFault self.old.faults self.new.faults result }
+        ensures last { NotesFault self.new.failed result }
 
         // A write that is listed fails; another takes this many bytes, or finds no memory.
         ensures listed { Contains self.old.fails self.old.calls → IsErr result }
@@ -97,8 +104,10 @@ impl Sink for ListSink {
         let n = self.piece.min(bytes.len());
         if self.fails.contains(&number) || self.taken.extend_from_slice(&bytes[..n]).is_err() {
             self.faults = self.faults.saturating_add(1);
+            self.failed = true;
             return Err(Failed);
         }
+        self.failed = false;
         Ok(n)
     }
 }

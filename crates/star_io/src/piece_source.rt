@@ -1,7 +1,7 @@
 //! A source in memory that gives its bytes in pieces, and fails where it is told to.
 ghost use Rattle.std.specs.Prelude.{◌≡◌, ◌↔◌, ◌<◌, ◌≤◌, Some, false, length, min, take, Contains, IfOk, IsErr};
 ghost use Rattle.std.specs.Io.KnownBytes.{ReadConsumes};
-ghost use Rattle.star_io.specs.Faults.{CountsFault};
+ghost use Rattle.star_io.specs.Faults.{CountsFault, NotesFault};
 ghost use Rattle.star_io.specs.Source.{NotesEnd};
 
 use crate::failed::Failed;
@@ -20,6 +20,7 @@ pub struct PieceSource {
     fails: Vec<u64>,
     calls: u64,
     faults: u64,
+    failed: bool,
     ended: bool,
 }
 
@@ -35,6 +36,7 @@ impl Model for PieceSource {
       fails = s.fails.items;
       calls = s.calls;
       faults = s.faults;
+      failed = s.failed;
       ended = s.ended;
     } };
 
@@ -51,6 +53,7 @@ impl PieceSource {
           fails = fails.items;
           calls = 0;
           faults = 0;
+          failed = false;
           ended = false;
         } }
     {
@@ -61,6 +64,7 @@ impl PieceSource {
             fails,
             calls: 0,
             faults: 0,
+            failed: false,
             ended: false,
         }
     }
@@ -73,6 +77,8 @@ impl Source for PieceSource {
 
     ghost read_faults = { λ s. s.faults };
 
+    ghost read_failed = { λ s. s.failed };
+
     ghost ended = { λ s. s.ended };
 
     fn read(&mut self, into: &mut [u8]) -> Result<usize, Failed>
@@ -83,6 +89,7 @@ impl Source for PieceSource {
         ensures bytes { ReadConsumes (Some self.old.left) (Some self.new.left) result into.new }
         ensures end { NotesEnd self.old.ended self.new.ended result }
         ensures faults { CountsFault self.old.faults self.new.faults result }
+        ensures last { NotesFault self.new.failed result }
 
         // Which reads fail, how many bytes the others give, and all that changes.
         ensures fails { IsErr result ↔ Contains self.old.fails self.old.calls }
@@ -94,8 +101,10 @@ impl Source for PieceSource {
         self.calls = number.saturating_add(1);
         if self.fails.contains(&number) {
             self.faults = self.faults.saturating_add(1);
+            self.failed = true;
             return Err(Failed);
         }
+        self.failed = false;
         let n = copy_piece(&self.bytes[self.at..], self.piece, into);
         self.at += n;
         self.ended = n == 0 || self.ended;

@@ -1,7 +1,7 @@
 //! Where bytes go. A sink in memory is in `list_sink`, a real one in `std_sink`.
-ghost use Rattle.std.specs.Prelude.{ℕ, ◌<◌, ◌≤◌, List, Option, None, length, IfOk};
+ghost use Rattle.std.specs.Prelude.{ℕ, ◌<◌, ◌≤◌, List, Bool, Option, None, length, IfOk};
 ghost use Rattle.std.specs.Io.KnownBytes.{WriteAppends};
-ghost use Rattle.star_io.specs.Faults.{CountsFault};
+ghost use Rattle.star_io.specs.Faults.{CountsFault, NotesFault};
 
 use crate::failed::Failed;
 
@@ -10,8 +10,11 @@ pub trait Sink {
     // The bytes accepted so far, where the sink tells them.
     ghost taken: { Self → Option (List ℕ) } = { λ _. None };
 
-    // How many writes have failed: it never falls, and may stand still at a counter's last value.
+    // How many writes have failed: it may stand still at a counter's last value.
     ghost write_faults: { Self → ℕ };
+
+    // Whether the last write failed.
+    ghost write_failed: { Self → Bool };
 
     /// Takes bytes from the front of `bytes`, at least one, and answers how many.
     fn write(&mut self, bytes: &[u8]) -> Result<usize, Failed>
@@ -19,5 +22,6 @@ pub trait Sink {
         ensures some { IfOk result (λ n. 0 < n) }
         ensures bound { IfOk result (λ n. n ≤ length bytes.now) }
         ensures bytes { WriteAppends (taken self.old) (taken self.new) result bytes.now }
-        ensures faults { CountsFault (write_faults self.old) (write_faults self.new) result };
+        ensures faults { CountsFault (write_faults self.old) (write_faults self.new) result }
+        ensures last { NotesFault (write_failed self.new) result };
 }

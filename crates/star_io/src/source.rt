@@ -1,7 +1,7 @@
 //! Where bytes come from. Sources in memory are in `piece_source`, real ones in `std_source`.
 ghost use Rattle.std.specs.Prelude.{ℕ, ◌<◌, ◌≤◌, List, Bool, Option, None, length, IfOk};
 ghost use Rattle.std.specs.Io.KnownBytes.{ReadConsumes};
-ghost use Rattle.star_io.specs.Faults.{CountsFault};
+ghost use Rattle.star_io.specs.Faults.{CountsFault, NotesFault};
 ghost use Rattle.star_io.specs.Source.{NotesEnd};
 
 use crate::failed::Failed;
@@ -11,8 +11,11 @@ pub trait Source {
     // The bytes still to come, where the source tells them.
     ghost left: { Self → Option (List ℕ) } = { λ _. None };
 
-    // How many reads have failed: it never falls, and may stand still at a counter's last value.
+    // How many reads have failed: it may stand still at a counter's last value.
     ghost read_faults: { Self → ℕ };
+
+    // Whether the last read failed.
+    ghost read_failed: { Self → Bool };
 
     // Whether some read answered `Ok(0)`.
     ghost ended: { Self → Bool };
@@ -24,5 +27,6 @@ pub trait Source {
         ensures bound { IfOk result (λ n. n ≤ length into.new) }
         ensures bytes { ReadConsumes (left self.old) (left self.new) result into.new }
         ensures end { NotesEnd (ended self.old) (ended self.new) result }
-        ensures faults { CountsFault (read_faults self.old) (read_faults self.new) result };
+        ensures faults { CountsFault (read_faults self.old) (read_faults self.new) result }
+        ensures last { NotesFault (read_failed self.new) result };
 }

@@ -1,5 +1,5 @@
 //! A real sink, over any of std's writers: a file, standard output, a socket.
-ghost use Rattle.std.specs.Prelude.{◌≡◌};
+ghost use Rattle.std.specs.Prelude.{◌≡◌, false};
 
 use crate::failed::Failed;
 use crate::sink::Sink;
@@ -14,6 +14,7 @@ use std::io::Write;
 pub struct StdSink<W> {
     writer: W,
     faults: u64,
+    failed: bool,
 }
 
 impl<W: Write> StdSink<W> {
@@ -21,23 +22,41 @@ impl<W: Write> StdSink<W> {
     pub fn new(writer: W) -> StdSink<W>
         ensures taken { ⟦<StdSink<W> as Sink>⟧.taken result ≡ W.contents writer }
         ensures faults { ⟦<StdSink<W> as Sink>⟧.write_faults result ≡ 0 }
+        ensures last { ⟦<StdSink<W> as Sink>⟧.write_failed result ≡ false }
     {
-        StdSink { writer, faults: 0 }
+        StdSink {
+            writer,
+            faults: 0,
+            failed: false,
+        }
+    }
+
+    /// How many writes failed so far.
+    pub fn faults(&self) -> u64
+        ensures { result ≡ ⟦<StdSink<W> as Sink>⟧.write_faults self.now }
+    {
+        self.faults
     }
 }
 
 impl<W: Write> Sink for StdSink<W> {
-    ghost use Rattle.star_io.specs.StdSink.{writer_of, failed_writes};
+    ghost use Rattle.star_io.specs.StdSink.{writer_of, failed_writes, last_write_failed};
 
     ghost taken = { λ s. W.contents (writer_of s) };
 
     ghost write_faults = { failed_writes };
 
+    ghost write_failed = { last_write_failed };
+
     fn write(&mut self, bytes: &[u8]) -> Result<usize, Failed> {
         match self.writer.write(bytes) {
-            Ok(n) if n > 0 => Ok(n),
+            Ok(n) if n > 0 => {
+                self.failed = false;
+                Ok(n)
+            }
             _ => {
                 self.faults = self.faults.saturating_add(1);
+                self.failed = true;
                 Err(Failed)
             }
         }

@@ -1,5 +1,5 @@
 //! Reading a source to its end, and writing all of a text to a sink.
-ghost use Rattle.std.specs.Prelude.{◌≡◌, ◌↔◌, ◌+◌, ◌^◌, ◌<◌, ◌≤◌, length, vec_len, OnOk, OnErr, IfErr, MatchResult};
+ghost use Rattle.std.specs.Prelude.{◌≡◌, ◌↔◌, ◌+◌, ◌^◌, ◌<◌, ◌≤◌, true, length, vec_len, OnOk, OnErr, IfErr, MatchResult};
 ghost use Rattle.std.specs.Io.KnownBytes.{Consumes, Appends};
 ghost use Rattle.star_io.specs.Faults.{CountsFault};
 ghost use Rattle.star_io.specs.Transfer.{AppendsFront, FindsEnd, CountsReadFault, TakesPiece};
@@ -15,8 +15,8 @@ const PIECE_BYTES: usize = 64 * 1024;
 
 /// Reads `source` to its end, and stops at the first byte past `limit`.
 ///
-/// Memory is reserved before each read, so want of it loses no byte. It grows by doubling, and a
-/// piece of 64 KiB comes beside it.
+/// Room is made before each read, so want of memory loses no byte. A piece of 64 KiB comes beside the
+/// bytes that are kept.
 pub fn read_all<S: Source>(alloc: Global, source: &mut S, limit: usize) -> ReadAll
     requires { limit < 2 ^ 63 }
     ensures none_lost { Consumes (S.left source.old) (S.left source.new) result.bytes.items }
@@ -25,7 +25,7 @@ pub fn read_all<S: Source>(alloc: Global, source: &mut S, limit: usize) -> ReadA
     ensures end { FindsEnd result.end
         (S.ended source.old) (S.ended source.new) (S.left source.new) }
     ensures faults { CountsReadFault result.end
-        (S.read_faults source.old) (S.read_faults source.new) }
+        (S.read_faults source.old) (S.read_faults source.new) (S.read_failed source.new) }
 {
     let mut bytes = Vec::new(alloc);
     let Ok(mut piece) = vec![in alloc; 0u8; PIECE_BYTES] else {
@@ -60,7 +60,8 @@ fn read_piece<S: Source>(
     ensures end { MatchResult result (λ _. S.ended source.new ≡ S.ended source.old)
         (λ end. FindsEnd end (S.ended source.old) (S.ended source.new) (S.left source.new)) }
     ensures faults { MatchResult result (λ _. S.read_faults source.new ≡ S.read_faults source.old)
-        (λ end. CountsReadFault end (S.read_faults source.old) (S.read_faults source.new)) }
+        (λ end. CountsReadFault end
+        (S.read_faults source.old) (S.read_faults source.new) (S.read_failed source.new)) }
 {
     let room = (limit + 1 - bytes.len()).min(piece.len());
     if room == 0 {
@@ -82,16 +83,18 @@ fn read_piece<S: Source>(
     }
 }
 
-/// Writes all of `text` to `sink`, and stops at the first write that fails. Each write offers all
-/// that is left.
+/// Writes all of `text` to `sink`, and stops at the first write that fails.
 pub fn write_all<K: Sink>(sink: &mut K, text: &[u8]) -> Result<(), Failed>
     ensures ok { OnOk result (Appends (K.taken sink.old) (K.taken sink.new) text.now) }
     ensures err { OnErr result (AppendsFront (K.taken sink.old) (K.taken sink.new) text.now) }
     ensures faults { CountsFault (K.write_faults sink.old) (K.write_faults sink.new) result }
+    ensures last { OnErr result (K.write_failed sink.new ≡ true) }
 {
     let mut rest = text;
     'pieces: while !rest.is_empty() {
-        let n = sink.write(rest)?;
+        let Ok(n) = sink.write(rest) else {
+            return Err(Failed);
+        };
         rest = &rest[n..];
     }
     Ok(())

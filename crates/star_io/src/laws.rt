@@ -1,0 +1,7 @@
+//! What the words on counts of faults mean, said once more in other words.
+ghost use Rattle.star_io.specs.Faults.{OneMoreIsARise};
+
+/// A count of faults rises with each fault, or stands still at its last value.
+pub fn one_more_is_a_rise()
+    ensures { OneMoreIsARise }
+{}
