@@ -2,4 +2,5 @@
 pub mod Coming
 pub mod Cut
 pub mod Laws
+pub mod Reach
 pub mod Script

@@ -2,6 +2,7 @@
 ghost use Rattle.std.specs.Prelude.{◌≡◌, ℕ, List, [], IfNone, IfSome};
 ghost use Rattle.script_reader.specs.Cut.{statements_from_load, statements_from_closing, IsWithin};
 ghost use Rattle.script_reader.specs.Coming.{StaysClosed};
+ghost use Rattle.script_reader.specs.Reach.{Closes};
 
 use crate::lines::{first_line_len, is_dot_line};
 
@@ -21,6 +22,7 @@ pub fn first_closing(script: &[u8], ended: bool) -> Option<Closing>
         statements_from_load ended text script.now
         ≡ statements_from_closing ended text script.now closing) }
     ensures within { IfSome result (IsWithin script.now) }
+    ensures lines { IfSome result (Closes ended script.now) }
     ensures stays { IfSome result (StaysClosed ended script.now) }
 {
     let mut len = 0;

@@ -1,8 +1,9 @@
 //! The first statement of a script, copied out of it.
-ghost use Rattle.std.specs.Prelude.{◌≡◌, ◌∷◌, ◌<◌, ◌≤◌, [], length, drop, IfOk, IfNone, IfSome};
+ghost use Rattle.std.specs.Prelude.{◌≡◌, ◌≢◌, ◌∷◌, ◌<◌, ◌≤◌, [], length, drop, IfOk, OnErr, IfNone, IfSome};
 ghost use Rattle.script_reader.specs.Script.{statements_of};
 ghost use Rattle.script_reader.specs.Cut.{statements_from_load};
 ghost use Rattle.script_reader.specs.Coming.{StaysFirst, StaysLoad};
+ghost use Rattle.script_reader.specs.Reach.{TakesLines, TakesBehind};
 
 use crate::closing::{Closing, first_closing};
 use crate::lines::has_block;
@@ -15,19 +16,22 @@ use std::alloc::Global;
 #[derive(Debug, Drop)]
 pub struct Taken {
     pub statement: Statement,
-    /// The bytes of the script up to the end of the statement's last line: its own, or the dot line.
+    /// The bytes of the script up to the end of the statement's last line: its own, or for one with a
+    /// block the dot line or the last line of the input.
     pub len: usize,
 }
 
-/// The first statement of the script, in time linear in the bytes up to its end.
+/// The first statement of the script.
 ///
 /// Where the input has not ended, `None` says that no statement has come to its end yet, and a
-/// statement that has come is the same whatever comes behind it. The only error is want of memory
-/// for the texts of the statement.
+/// statement that has come is the same whatever comes behind it. The only error is want of memory,
+/// and it comes only where there is a statement.
 pub fn take_statement(alloc: Global, script: &[u8], ended: bool) -> Result<Option<Taken>, NoMemory>
     ensures none { IfOk result (λ r. IfNone r (statements_of ended script.now ≡ [])) }
     ensures found { IfOk result (λ r. IfSome r (λ t.
         statements_of ended script.now ≡ t.statement ∷ statements_of ended (drop t.len script.now))) }
+    ensures wanted { OnErr result (statements_of ended script.now ≢ []) }
+    ensures lines { IfOk result (λ r. IfSome r (λ t. TakesLines ended script.now t.statement t.len)) }
     ensures within { IfOk result (λ r. IfSome r (λ t. (0 < t.len) × (t.len ≤ length script.now))) }
     ensures stays { IfOk result (λ r. IfSome r (λ t. StaysFirst ended script.now t.statement t.len)) }
 {
@@ -65,6 +69,10 @@ fn take_load(
     ensures found { IfOk result (λ r. IfSome r (λ t.
         statements_from_load ended text.now rest.now
         ≡ t.statement ∷ statements_of ended (drop t.len rest.now))) }
+    ensures wanted { OnErr result (statements_from_load ended text.now rest.now ≢ []) }
+    ensures line { IfOk result (λ r. IfSome r (λ t. t.statement.line ≡ text.now)) }
+    ensures lines { IfOk result (λ r. IfSome r (λ t.
+        TakesBehind ended rest.now t.statement.block t.len)) }
     ensures within { IfOk result (λ r. IfSome r (λ t. t.len ≤ length rest.now)) }
     ensures stays { IfOk result (λ r. IfSome r (λ t.
         StaysLoad ended text.now rest.now t.statement t.len)) }

@@ -3,6 +3,7 @@ ghost use Rattle.std.specs.Prelude.{◌≡◌, ◌<◌, ◌≤◌, [], length, d
 ghost use Rattle.script_reader.specs.Script.{statements_of};
 ghost use Rattle.script_reader.specs.Cut.{statements_from};
 ghost use Rattle.script_reader.specs.Coming.{StaysOpening};
+ghost use Rattle.script_reader.specs.Reach.{Opens};
 
 use crate::lines::{first_line_len, is_no_statement, line_text};
 
@@ -20,6 +21,7 @@ pub fn first_opening(script: &[u8], ended: bool) -> Option<Opening<'_>>
     ensures some { IfSome result (λ o.
         statements_of ended script.now ≡ statements_from ended o.text.now (drop o.end script.now)) }
     ensures within { IfSome result (λ o. (0 < o.end) × (o.end ≤ length script.now)) }
+    ensures lines { IfSome result (λ o. Opens ended script.now o.text.now o.end) }
     ensures stays { IfSome result (λ o. StaysOpening ended script.now o.text.now o.end) }
 {
     let mut end = 0;

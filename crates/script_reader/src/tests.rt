@@ -1,4 +1,5 @@
-//! Scripts whose statements were written down by hand.
+//! The bytes of lines and blocks, and what has not ended. What the program shows of scripts are the cases of
+//! `star_cases`.
 use crate::{Block, take_statement};
 use star_values::NoMemory;
 use std::alloc::Global;
@@ -32,56 +33,37 @@ fn shown(alloc: Global, script: &[u8], ended: bool) -> Result<Vec<u8>, NoMemory>
 
 #[test]
 fn statements_are_lines_and_their_blocks(rt: HostRuntime) -> Result<(), NoMemory> {
-    let cases: [(&[u8], &[u8]); 19] = [
-        (b"", b""),
-        (b"\n\r\n \t\r\n\t", b""),
-        (b"select a\r\nselect b\r\n", b"select a\nselect b\n"),
-        (b"select a\nselect b", b"select a\nselect b\n"),
-        (b"a\r\r\nb\r", b"a\r\nb\n"),
-        (b"-- one\n \t--two\nwait\n--", b"wait\n"),
-        (b"-\n- -\n\xff\n", b"-\n- -\n\xff\n"),
-        (b" \twait  \n", b" \twait  \n"),
+    let cases: [(&[u8], bool, &[u8]); 13] = [
+        (
+            b"a\r\r\n\n-- b\n \twait  \nb\r",
+            true,
+            b"a\r\n \twait  \nb\n",
+        ),
         (
             b"LOAD Store HEADER\n1,a\n\n-- 2\n \t\n.\nwait\n",
+            true,
             b"LOAD Store HEADER{1,a\n\n-- 2\n \t\n}\nwait\n",
         ),
-        (b"load x\r\n1\r\n.\r\nwait\r\n", b"load x{1\r\n}\nwait\n"),
-        (b"load x\n1\n.", b"load x{1\n}\n"),
-        (b"load x\n1\n.\r", b"load x{1\n}\n"),
-        (b"load x\n..\n .\n. \n.\n", b"load x{..\n .\n. \n}\n"),
-        (b"load x\n1\nwait", b"load x{1\nwait\n"),
-        (b"load x", b"load x{\n"),
         (
-            b"loads x\nloadX\nload_x\nload1\n1load\nun load\n",
-            b"loads x\nloadX\nload_x\nload1\n1load\nun load\n",
+            b"load x\r\n1\r\n.\r\nwait\r\n",
+            true,
+            b"load x{1\r\n}\nwait\n",
         ),
-        (b"load\n.\n\tLoad-x\n.\n", b"load{}\n\tLoad-x{}\n"),
-        (b".\nwait\n", b".\nwait\n"),
-        (b"-- load\nload a\nload b\n.\n.\n", b"load a{load b\n}\n.\n"),
+        (b"load x\n1\n.", true, b"load x{1\n}\n"),
+        (b"load x\n..\n .\n. \n.\n", true, b"load x{..\n .\n. \n}\n"),
+        (b"load x\n1\nwait", true, b"load x{1\nwait\n"),
+        (b"load x", true, b"load x{\n"),
+        // What has not ended is no statement.
+        (b"select a\nselect b", false, b"select a\n"),
+        (b"wait\nload x\n1\n", false, b"wait\n"),
+        (b"load x\n1\n.", false, b""),
+        (b"load x\n1\n.\r", false, b""),
+        (b"load x\n1\n.\nwait", false, b"load x{1\n}\n"),
+        (b"load x", false, b""),
     ];
-    for (script, want) in cases {
+    for (script, ended, want) in cases {
         assert_eq!(rt;
-            shown(rt.alloc(), script, true)?.as_slice(),
-            want,
-            "at {script:?}"
-        );
-    }
-    Ok(())
-}
-
-#[test]
-fn what_has_not_ended_is_no_statement(rt: HostRuntime) -> Result<(), NoMemory> {
-    let cases: [(&[u8], &[u8]); 6] = [
-        (b"select a\nselect b", b"select a\n"),
-        (b"wait\nload x\n1\n", b"wait\n"),
-        (b"load x\n1\n.", b""),
-        (b"load x\n1\n.\r", b""),
-        (b"load x\n1\n.\nwait", b"load x{1\n}\n"),
-        (b"load x", b""),
-    ];
-    for (script, want) in cases {
-        assert_eq!(rt;
-            shown(rt.alloc(), script, false)?.as_slice(),
+            shown(rt.alloc(), script, ended)?.as_slice(),
             want,
             "at {script:?}"
         );
