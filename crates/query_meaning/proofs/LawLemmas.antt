@@ -12,13 +12,15 @@ use Rattle.star_parser.specs.Statement as written
 use Rattle.star_parser.specs.declared.ast.AstItem.{AstItem}
 use Rattle.star_parser.specs.declared.tree.Column.{Column}
 use Rattle.star_plan.specs.Test.{Query, Test}
+use Rattle.star_plan.specs.declared.table.Table.{Table}
+use Rattle.star_plan.specs.declared.table.Table.TheVariants as table
 use Rattle.star_plan.specs.declared.table_def.TableDef.{TableDef}
 use Rattle.star_schema.specs.Declaration.{declared_dimension, declared_fact}
 use Rattle.star_schema.specs.Named.{table_named}
-use Rattle.star_schema.specs.declared.table.Table.{Table}
-use Rattle.star_schema.specs.declared.table.Table.TheVariants as table
 use Rattle.star_binder.specs.Named.{where_conjuncts}
 use Rattle.star_binder.specs.Refused.{bound_delete, bound_select}
+use Rattle.star_binder.specs.Select.{select_of}
+use Rattle.star_binder.specs.Table.{declared_table}
 use Rattle.query_meaning.specs.Tables.{DimensionRow, Fact, Store, Version, schema_of}
 use Rattle.query_meaning.specs.History.{DimensionDeclared, DimensionLoaded, FactDeclared, FactLoaded, after_change}
 use Rattle.query_meaning.specs.Effect.{Effect, declared, refused}
@@ -93,15 +95,17 @@ selected_agrees store (Ok query) = query_agrees store query
 selected_agrees store (Err reason) = refl
 
 meaning_agrees : (store : Store) (block : Block) (meaning : written.Statement) → Agrees store (meaning_effect store block meaning)
-meaning_agrees store block (written.Dimension name columns) = dimension_agrees store (declared_dimension (schema_of store) name columns)
-meaning_agrees store block (written.Fact name columns) = fact_agrees store (declared_fact (schema_of store) name columns)
+meaning_agrees store block (written.Dimension name columns) =
+    dimension_agrees store (declared_dimension (schema_of store) (declared_table (schema_of store) (written.Dimension name columns)))
+meaning_agrees store block (written.Fact name columns) =
+    fact_agrees store (declared_fact (schema_of store) (declared_table (schema_of store) (written.Fact name columns)))
 meaning_agrees store block (written.Load name header) = load_agrees store name header block
 meaning_agrees store block (written.Delete name condition) =
     either (Agrees store) (is_none store.fact) (refused OutOfOrder) (deleted (bound_delete (schema_of store) name (where_conjuncts condition)))
     refl (deleted_agrees store (bound_delete (schema_of store) name (where_conjuncts condition)))
 meaning_agrees store block (written.Select items names condition groups) =
-    either (Agrees store) (is_none store.fact) (refused OutOfOrder) (selected store (bound_select (schema_of store) items names (where_conjuncts condition) groups))
-    refl (selected_agrees store (bound_select (schema_of store) items names (where_conjuncts condition) groups))
+    either (Agrees store) (is_none store.fact) (refused OutOfOrder) (selected store (bound_select (schema_of store) (select_of items names condition groups)))
+    refl (selected_agrees store (bound_select (schema_of store) (select_of items names condition groups)))
 meaning_agrees store block written.Wait = refl
 
 by_agrees : (store : Store) (block : Block) (meaning : Result written.Statement Refusal) → Agrees store (effect_by store block meaning)
@@ -115,19 +119,19 @@ effect_agrees store statement = by_agrees store statement.block (meaning_of stat
 select_by : (store : Store) (statement : Statement) (items : List AstItem) (names : List (List ℕ)) (condition : Option Condition) (groups : List Column)
     → meaning_of statement ≡ Ok (written.Select items names condition groups)
     → effect_of store statement
-    ≡ (if is_none store.fact then refused OutOfOrder else selected store (bound_select (schema_of store) items names (where_conjuncts condition) groups))
+    ≡ (if is_none store.fact then refused OutOfOrder else selected store (bound_select (schema_of store) (select_of items names condition groups)))
 select_by store statement items names condition groups e = ap (effect_by store statement.block) e
 
 pub select_early : (store : Store) (statement : Statement) (items : List AstItem) (names : List (List ℕ)) (condition : Option Condition) (groups : List Column)
     → meaning_of statement ≡ Ok (written.Select items names condition groups) → store.fact ≡ None → effect_of store statement ≡ refused OutOfOrder
 select_early store statement items names condition groups e none =
     select_by store statement items names condition groups e
-    ∙ ap (λ (fact : Option Fact). if is_none fact then refused OutOfOrder else selected store (bound_select (schema_of store) items names (where_conjuncts condition) groups)) none
+    ∙ ap (λ (fact : Option Fact). if is_none fact then refused OutOfOrder else selected store (bound_select (schema_of store) (select_of items names condition groups))) none
 
 pub select_refused : (store : Store) (fact : Fact) (statement : Statement) (items : List AstItem) (names : List (List ℕ)) (condition : Option Condition) (groups : List Column)
     → (reason : Refusal) → meaning_of statement ≡ Ok (written.Select items names condition groups) → store.fact ≡ Some fact
-    → bound_select (schema_of store) items names (where_conjuncts condition) groups ≡ Err reason → effect_of store statement ≡ refused reason
+    → bound_select (schema_of store) (select_of items names condition groups) ≡ Err reason → effect_of store statement ≡ refused reason
 select_refused store fact statement items names condition groups reason e there bound =
     select_by store statement items names condition groups e
-    ∙ ap (λ (f : Option Fact). if is_none f then refused OutOfOrder else selected store (bound_select (schema_of store) items names (where_conjuncts condition) groups)) there
+    ∙ ap (λ (f : Option Fact). if is_none f then refused OutOfOrder else selected store (bound_select (schema_of store) (select_of items names condition groups))) there
     ∙ ap (selected store) bound

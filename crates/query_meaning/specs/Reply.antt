@@ -1,6 +1,6 @@
 -- The text of replies.
 use Rattle.std.specs.Prelude.{ℕ, List, [], ◌∷◌, ◌++◌, length, codes, decimal, flat_map}
-use Rattle.star_values.specs.Value.{cell_text}
+use Rattle.star_values.specs.Value.{value_text}
 use Rattle.star_values.specs.Refusal.{number_of, words_of}
 use Rattle.star_values.specs.declared.value.Value as cell
 use Rattle.query_meaning.specs.declared.reply.Reply.{Reply}
@@ -9,7 +9,7 @@ use Rattle.query_meaning.specs.declared.reply.Reply.TheVariants.{Table, Commit, 
 -- a row of an answer: its cells with a comma between each two, and a line feed
 abbrev pub row_text : List cell.Value → List ℕ
 row_text [] = codes "\n"
-row_text (value ∷ values) = cell_text value ++ flat_map (λ next. 44 ∷ cell_text next) values ++ codes "\n"
+row_text (value ∷ values) = value_text value ++ flat_map (λ next. 44 ∷ value_text next) values ++ codes "\n"
 
 -- a reply: one line, and behind an answer's line its rows
 abbrev pub text_of : Reply → List ℕ

@@ -1,5 +1,5 @@
 -- The effect of a statement: it is refused for its text, or does what it means.
-use Rattle.std.specs.Prelude.{ℕ, Bool, not, ◌&&◌, List, [], ◌∷◌, length, Option, Some, None, is_none, Result, Ok, Err, if◌then◌else◌}
+use Rattle.std.specs.Prelude.{ℕ, Bool, true, false, not, ◌&&◌, List, [], ◌∷◌, length, Option, Some, None, is_none, Result, Ok, Err, if◌then◌else◌}
 use Rattle.std.specs.Option.{option_map_or}
 use Rattle.star_values.specs.declared.refusal.Refusal.{Refusal}
 use Rattle.star_values.specs.declared.refusal.Refusal.TheVariants.{NotBuilt, OutOfOrder, UnknownName}
@@ -10,12 +10,15 @@ use Rattle.script_reader.specs.declared.statement.Block.TheVariants.{Absent, Clo
 use Rattle.star_parser.specs.Condition.{Condition}
 use Rattle.star_parser.specs.Statement as written
 use Rattle.star_plan.specs.Test.{Query, Test}
+use Rattle.star_plan.specs.declared.schema.Schema.{Schema}
+use Rattle.star_plan.specs.declared.table.Table.{Table}
+use Rattle.star_plan.specs.declared.table.Table.TheVariants as table
 use Rattle.star_schema.specs.Declaration.{declared_dimension, declared_fact}
 use Rattle.star_schema.specs.Named.{table_named}
-use Rattle.star_schema.specs.declared.table.Table.{Table}
-use Rattle.star_schema.specs.declared.table.Table.TheVariants as table
 use Rattle.star_binder.specs.Named.{where_conjuncts}
 use Rattle.star_binder.specs.Refused.{bound_delete, bound_select}
+use Rattle.star_binder.specs.Select.{select_of}
+use Rattle.star_binder.specs.Table.{declared_table}
 use Rattle.plain_records.specs.Record.{dimension_records, fact_records}
 use Rattle.query_meaning.specs.Tables.{DimensionRow, Version, Dimension, Store, schema_of}
 use Rattle.query_meaning.specs.History.{Change, DimensionDeclared, FactDeclared, DimensionLoaded, FactLoaded}
@@ -120,18 +123,33 @@ abbrev pub selected : Store → Result Query Refusal → Effect
 selected store (Ok query) = query_effect store query
 selected store (Err reason) = refused reason
 
+-- the declaration of a dimension
+abbrev pub is_dimension : written.Statement → Bool
+is_dimension (written.Dimension name columns) = true
+is_dimension other = false
+
+-- the effect of the declaration of a dimension over a schema
+abbrev pub dimension_effect : Schema → written.Statement → Effect
+dimension_effect schema meaning =
+    declared DimensionDeclared (declared_dimension schema (declared_table schema meaning))
+
+-- the effect of the declaration of a fact table over a schema
+abbrev pub fact_effect : Schema → written.Statement → Effect
+fact_effect schema meaning =
+    declared FactDeclared (declared_fact schema (declared_table schema meaning))
+
 -- the effect of a statement of this meaning
 abbrev pub meaning_effect : Store → Block → written.Statement → Effect
 meaning_effect store block (written.Dimension name columns) =
-    declared DimensionDeclared (declared_dimension (schema_of store) name columns)
+    dimension_effect (schema_of store) (written.Dimension name columns)
 meaning_effect store block (written.Fact name columns) =
-    declared FactDeclared (declared_fact (schema_of store) name columns)
+    fact_effect (schema_of store) (written.Fact name columns)
 meaning_effect store block (written.Load name header) = load_effect store name header block
 meaning_effect store block (written.Delete name condition) =
     delete_effect store name (where_conjuncts condition)
 meaning_effect store block (written.Select items names condition groups) =
     if is_none store.fact then refused OutOfOrder
-    else selected store (bound_select (schema_of store) items names (where_conjuncts condition) groups)
+    else selected store (bound_select (schema_of store) (select_of items names condition groups))
 meaning_effect store block written.Wait = only_replies reply.Waited
 
 -- the effect of what a statement means, or refused for its text

@@ -7,8 +7,8 @@ ghost use Rattle.star_parser.specs.Condition.{Condition};
 ghost use Rattle.star_parser.specs.Statement as written;
 ghost use Rattle.star_parser.specs.declared.ast.AstItem.{AstItem};
 ghost use Rattle.star_parser.specs.declared.tree.Column.{Column};
-ghost use Rattle.star_binder.specs.Named.{where_conjuncts};
 ghost use Rattle.star_binder.specs.Refused.{bound_select};
+ghost use Rattle.star_binder.specs.Select.{select_of};
 ghost use Rattle.query_meaning.specs.Effect.{refused};
 ghost use Rattle.query_meaning.specs.Laws.{AgreesWith};
 ghost use Rattle.query_meaning.specs.Script.{store_after};
@@ -50,6 +50,6 @@ pub fn selects_are_refused_by_the_schema()
     ensures bound { (store : Store) (fact : Fact) (statement : Statement) (items : List AstItem) (names : List (List ℕ))
         (condition : Option Condition) (groups : List Column) (reason : Refusal)
         → meaning_of statement ≡ Ok (written.Select items names condition groups) → store.fact ≡ Some fact
-        → bound_select (schema_of store) items names (where_conjuncts condition) groups ≡ Err reason
+        → bound_select (schema_of store) (select_of items names condition groups) ≡ Err reason
         → effect_of store statement ≡ refused reason }
 {}

@@ -10,7 +10,7 @@ ghost use Rattle.query_meaning.specs.Effect.{dimension_rows_of, dimension_values
 use crate::dimension_rows::DimensionRows;
 use crate::fact_versions::FactVersions;
 use plain_records::{read_dimension_records, read_fact_records};
-use star_schema::Table;
+use star_plan::Table;
 use star_values::{NoMemory, Refusal, SmallText};
 use std::alloc::Global;
 use std::collections::BTreeSet;
