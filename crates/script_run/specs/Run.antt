@@ -1,8 +1,8 @@
 -- What a run of a script writes, and why it ends.
-use Rattle.std.specs.Prelude.{◌≡◌, ℕ, ◌+◌, ◌≤◌, Bool, true, false, List, ◌++◌, length, take, Option}
+use Rattle.std.specs.Prelude.{◌≡◌, ℕ, ◌+◌, ◌<◌, ◌≤◌, ◌⊎◌, Bool, true, false, List, [], ◌++◌, length, take, Option}
 use Rattle.std.specs.List.{list_any}
-use Rattle.std.specs.Io.KnownBytes.{Appends, Consumes}
-use Rattle.star_io.specs.Faults.{Rose}
+use Rattle.std.specs.Io.KnownBytes.{Appends, Consumes, IsAtEnd}
+use Rattle.star_io.specs.Faults.{FailedOnce, FailedOnceAtMost}
 use Rattle.star_io.specs.declared.run_end.RunEnd.{RunEnd}
 use Rattle.star_io.specs.declared.run_end.RunEnd.TheVariants.{Clean, SomeRefused, ReadFault, WriteFault, NoMemory, ScriptLimit}
 use Rattle.script_reader.specs.Script.{statements_of}
@@ -40,18 +40,26 @@ some_refused ended script = list_any is_refusal (script_replies ended script)
 abbrev pub IsFront : List ℕ → List ℕ → Type 0
 IsFront front bytes = (rest : List ℕ) × (bytes ≡ front ++ rest)
 
--- what a run wrote, by the bytes that its source gave and by whether the source has ended: at `Clean` and
--- `SomeRefused` all replies of a script whose input has ended, at a read fault or the limit all replies of one whose
--- input has not, and else a front of the replies
-abbrev pub Writes : RunEnd → Bool → List ℕ → List ℕ → Type 0
-Writes Clean ended given written =
-    (ended ≡ true) × (written ≡ script_text true given) × (some_refused true given ≡ false)
-Writes SomeRefused ended given written =
-    (ended ≡ true) × (written ≡ script_text true given) × (some_refused true given ≡ true)
-Writes ReadFault ended given written = written ≡ script_text false given
-Writes ScriptLimit ended given written = written ≡ script_text false (within_limit given)
-Writes WriteFault ended given written = IsFront written (script_text ended (within_limit given))
-Writes NoMemory ended given written = IsFront written (script_text ended (within_limit given))
+-- the bytes begin with these, and go on
+abbrev pub IsProperFront : List ℕ → List ℕ → Type 0
+IsProperFront front bytes = (rest : List ℕ) × (0 < length rest) × (bytes ≡ front ++ rest)
+
+-- the source has ended, and no known byte is left
+abbrev pub HasEnded : Bool → Option (List ℕ) → Type 0
+HasEnded ended left = (ended ≡ true) × IsAtEnd left
+
+-- what a run wrote, by the bytes that its source gave, by whether the source has ended and by what is left at it: at
+-- `Clean` and `SomeRefused` all replies of a script whose input has ended, at a read fault or the limit all replies of
+-- one whose input has not, at a write fault a proper front of the replies, and where no memory was left a front
+abbrev pub Writes : RunEnd → Bool → Option (List ℕ) → List ℕ → List ℕ → Type 0
+Writes Clean ended left given written =
+    HasEnded ended left × (written ≡ script_text true given) × (some_refused true given ≡ false)
+Writes SomeRefused ended left given written =
+    HasEnded ended left × (written ≡ script_text true given) × (some_refused true given ≡ true)
+Writes ReadFault ended left given written = written ≡ script_text false given
+Writes ScriptLimit ended left given written = written ≡ script_text false (within_limit given)
+Writes WriteFault ended left given written = IsProperFront written (script_text ended (within_limit given))
+Writes NoMemory ended left given written = IsFront written (script_text ended (within_limit given))
 
 -- how many bytes were read: the byte past the limit at `ScriptLimit`, and at each end that is no fault of the
 -- sink and no want of memory only there
@@ -63,20 +71,31 @@ ReadsBytes ScriptLimit count = count ≡ script_limit + 1
 ReadsBytes WriteFault count = count ≤ script_limit + 1
 ReadsBytes NoMemory count = count ≤ script_limit + 1
 
--- which counts of faults rose: those of the source and of the sink, before and after
-abbrev pub CountsFaults : RunEnd → ℕ → ℕ → ℕ → ℕ → Type 0
-CountsFaults Clean read read' write write' = (read' ≡ read) × (write' ≡ write)
-CountsFaults SomeRefused read read' write write' = (read' ≡ read) × (write' ≡ write)
-CountsFaults ReadFault read read' write write' = Rose read read' × (write' ≡ write)
-CountsFaults ScriptLimit read read' write write' = (read' ≡ read) × (write' ≡ write)
-CountsFaults WriteFault read read' write write' = (read ≤ read') × Rose write write'
-CountsFaults NoMemory read read' write write' = (read ≤ read') × (write' ≡ write)
+-- the reading met no end: the source has ended no more than before, no read failed, and the limit was not passed
+abbrev pub MetNoEnd : Bool → Bool → ℕ → ℕ → List ℕ → Type 0
+MetNoEnd ended ended' read read' given = (ended' ≡ ended) × (read' ≡ read) × (length given ≤ script_limit)
 
--- in a run the source gave these bytes and the sink took those, and they belong together as its end says
-pub record AnswersScript (end : RunEnd) (ended : Bool) (left left' taken taken' : Option (List ℕ)) : Type 0 where
+-- which faults came: the count of reads that failed, before and after, and whether the last read failed, and the same
+-- of the writes. Nothing was read after a read that failed, and nothing was written after a write that failed
+abbrev pub CountsFaults : RunEnd → ℕ → ℕ → Bool → ℕ → ℕ → Bool → Type 0
+CountsFaults Clean read read' read_failed write write' write_failed = (read' ≡ read) × (write' ≡ write)
+CountsFaults SomeRefused read read' read_failed write write' write_failed = (read' ≡ read) × (write' ≡ write)
+CountsFaults ReadFault read read' read_failed write write' write_failed =
+    FailedOnce read read' read_failed × (write' ≡ write)
+CountsFaults ScriptLimit read read' read_failed write write' write_failed = (read' ≡ read) × (write' ≡ write)
+CountsFaults WriteFault read read' read_failed write write' write_failed =
+    FailedOnceAtMost read read' read_failed × FailedOnce write write' write_failed
+CountsFaults NoMemory read read' read_failed write write' write_failed =
+    FailedOnceAtMost read read' read_failed × (write' ≡ write)
+
+-- in a run the source gave these bytes and the sink took those, and they belong together as its end says. Want of memory
+-- is told in place of no other end: some reply was still to be written, or the reading met no end and nothing was written
+pub record AnswersScript (end : RunEnd) (ended ended' : Bool) (read read' : ℕ) (left left' taken taken' : Option (List ℕ)) : Type 0 where
   pub given : List ℕ
   pub written : List ℕ
   pub gave : Consumes left left' given
   pub took : Appends taken taken' written
   pub reads : ReadsBytes end (length given)
-  pub writes : Writes end ended given written
+  pub writes : Writes end ended' left' given written
+  pub memory : end ≡ NoMemory → IsProperFront written (script_text ended' (within_limit given))
+      ⊎ (MetNoEnd ended ended' read read' given × (written ≡ []))

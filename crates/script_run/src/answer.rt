@@ -1,5 +1,5 @@
 //! The replies to a script that is in memory, written one after the other.
-ghost use Rattle.std.specs.Prelude.{◌≡◌, ◌<◌, ◌≤◌, [], drop, length, IfOk, MatchOption};
+ghost use Rattle.std.specs.Prelude.{◌≡◌, ◌≢◌, ◌<◌, ◌≤◌, [], drop, length, IfOk, OnErr, MatchOption};
 ghost use Rattle.script_reader.specs.Script.{statements_of};
 ghost use Rattle.query_meaning.specs.Script.{replies_at};
 ghost use Rattle.script_run.specs.Run.{script_text, some_refused};
@@ -45,7 +45,8 @@ pub(crate) fn answer_script<K: Sink>(
     ensures writes { WritesReplies result (K.taken sink.old) (K.taken sink.new)
         (script_text ended script.now) }
     ensures refused { IfOk result (λ refused. refused ≡ some_refused ended script.now) }
-    ensures faults { CountsHalt result (K.write_faults sink.old) (K.write_faults sink.new) }
+    ensures faults { CountsHalt result
+        (K.write_faults sink.old) (K.write_faults sink.new) (K.write_failed sink.new) }
 {
     let mut warehouse = Warehouse::new(alloc);
     let mut rest = script;
@@ -78,9 +79,10 @@ fn answer_first(
     rest: &[u8],
     ended: bool,
 ) -> Result<Option<Answered>, NoMemory>
-    ensures { IfOk result (λ found. MatchOption found
+    ensures found { IfOk result (λ found. MatchOption found
         (replies_at warehouse (statements_of ended rest.now) ≡ [])
         (AnswersFirst warehouse ended rest.now)) }
+    ensures wanted { OnErr result (replies_at warehouse (statements_of ended rest.now) ≢ []) }
 {
     let Some(taken) = take_statement(alloc, rest, ended)? else {
         return Ok(None);

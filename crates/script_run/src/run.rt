@@ -15,11 +15,12 @@ pub const SCRIPT_LIMIT: usize = 67_108_864;
 /// At a read that fails, and at the byte past the limit, the statements that are whole before it
 /// are still answered. After a write that fails nothing more is written.
 pub fn run_script<S: Source, K: Sink>(alloc: Global, source: &mut S, sink: &mut K) -> RunEnd
-    ensures answers { AnswersScript result (S.ended source.new)
+    ensures answers { AnswersScript result (S.ended source.old) (S.ended source.new)
+        (S.read_faults source.old) (S.read_faults source.new)
         (S.left source.old) (S.left source.new) (K.taken sink.old) (K.taken sink.new) }
     ensures faults { CountsFaults result
-        (S.read_faults source.old) (S.read_faults source.new)
-        (K.write_faults sink.old) (K.write_faults sink.new) }
+        (S.read_faults source.old) (S.read_faults source.new) (S.read_failed source.new)
+        (K.write_faults sink.old) (K.write_faults sink.new) (K.write_failed sink.new) }
 {
     let read = read_all(alloc, source, SCRIPT_LIMIT);
     let script = within(read.bytes.as_slice(), SCRIPT_LIMIT);

@@ -6,7 +6,7 @@ use Rattle.script_run.proofs.run.run_script.Goals as goal
 pub returns-in-Ended-clause-answers : goal.returns-in-Ended-clause-answers
 returns-in-Ended-clause-answers g c =
     let read = c.as_slice.ensures.value in
-    rw c.end_of_all.ensures (ended_run c.answer_script.result _ _ _ _ _ _ _ _ _ _ c.in-Ended.is (c.within-script.ensures ∙ ap within_limit read)
+    rw c.end_of_all.ensures (ended_run c.answer_script.result _ _ _ _ _ _ _ _ _ _ _ _ c.in-Ended.is (c.within-script.ensures ∙ ap within_limit read)
     (sym (ap length read) ∙ c.as_slice.ensures.len)
     c.read_all-read.ensures.none_lost c.read_all-read.ensures.bound c.read_all-read.ensures.limit c.read_all-read.ensures.end
     c.answer_script.ensures.writes c.answer_script.ensures.refused)
@@ -14,7 +14,7 @@ returns-in-Ended-clause-answers g c =
 pub returns-in-Fault-clause-answers : goal.returns-in-Fault-clause-answers
 returns-in-Fault-clause-answers g c =
     let read = c.as_slice.ensures.value in
-    rw c.end_of_cut.ensures (fault_run c.answer_script-in-Fault.result _ _ _ _ _ _ _ _ _ c.in-Fault.is (c.within-script.ensures ∙ ap within_limit read)
+    rw c.end_of_cut.ensures (fault_run c.answer_script-in-Fault.result _ _ _ _ _ _ _ _ _ _ _ _ c.in-Fault.is (c.within-script.ensures ∙ ap within_limit read)
     (sym (ap length read) ∙ c.as_slice.ensures.len)
     c.read_all-read.ensures.none_lost c.read_all-read.ensures.bound c.read_all-read.ensures.limit
     c.answer_script-in-Fault.ensures.writes)
@@ -22,7 +22,7 @@ returns-in-Fault-clause-answers g c =
 pub returns-in-Limit-clause-answers : goal.returns-in-Limit-clause-answers
 returns-in-Limit-clause-answers g c =
     let read = c.as_slice.ensures.value in
-    rw c.end_of_cut-in-Limit.ensures (limit_run c.answer_script-in-Limit.result _ _ _ _ _ _ _ _ _ c.in-Limit.is (c.within-script.ensures ∙ ap within_limit read)
+    rw c.end_of_cut-in-Limit.ensures (limit_run c.answer_script-in-Limit.result _ _ _ _ _ _ _ _ _ _ _ _ c.in-Limit.is (c.within-script.ensures ∙ ap within_limit read)
     (sym (ap length read) ∙ c.as_slice.ensures.len)
     c.read_all-read.ensures.none_lost c.read_all-read.ensures.limit
     c.answer_script-in-Limit.ensures.writes)
@@ -30,4 +30,5 @@ returns-in-Limit-clause-answers g c =
 pub returns-clause-answers : goal.returns-clause-answers
 returns-clause-answers g c =
     let read = c.as_slice.ensures.value in
-    unanswered _ _ _ _ _ _ (sym (ap length read) ∙ c.as_slice.ensures.len) c.read_all-read.ensures.none_lost c.read_all-read.ensures.bound
+    unanswered _ _ _ _ _ _ _ _ _ _ _ c.in-NoMemory.is (sym (ap length read) ∙ c.as_slice.ensures.len) c.read_all-read.ensures.none_lost
+    c.read_all-read.ensures.bound c.read_all-read.ensures.limit c.read_all-read.ensures.end c.read_all-read.ensures.faults
