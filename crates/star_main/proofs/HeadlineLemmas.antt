@@ -7,9 +7,10 @@ use Rattle.script_run.specs.Run.{AnswersScript, CountsFaults}
 use Rattle.star_main.specs.Headline.{Headline, HasCause, status_of}
 
 -- the status of a run tells what its end tells
-pub headline_of : (end : RunEnd) (ended : Bool) (left left' taken taken' : Option (List ℕ))
-    → AnswersScript end ended left left' taken taken' → Headline (status_of end) ended left left' taken taken'
-headline_of Clean ended left left' taken taken' run =
+pub headline_of : (end : RunEnd) (ended ended' : Bool) (read read' : ℕ) (left left' taken taken' : Option (List ℕ))
+    → AnswersScript end ended ended' read read' left left' taken taken'
+    → Headline (status_of end) ended ended' read read' left left' taken taken'
+headline_of Clean ended ended' read read' left left' taken taken' run =
     record {
       given = run.given;
       written = run.written;
@@ -25,7 +26,7 @@ headline_of Clean ended left left' taken taken' run =
       bounded = let reads = run.reads in omega arith;
       known = omega arith;
     }
-headline_of SomeRefused ended left left' taken taken' run =
+headline_of SomeRefused ended ended' read read' left left' taken taken' run =
     record {
       given = run.given;
       written = run.written;
@@ -41,7 +42,7 @@ headline_of SomeRefused ended left left' taken taken' run =
       bounded = let reads = run.reads in omega arith;
       known = omega arith;
     }
-headline_of ReadFault ended left left' taken taken' run =
+headline_of ReadFault ended ended' read read' left left' taken taken' run =
     record {
       given = run.given;
       written = run.written;
@@ -57,7 +58,7 @@ headline_of ReadFault ended left left' taken taken' run =
       bounded = let reads = run.reads in omega arith;
       known = omega arith;
     }
-headline_of WriteFault ended left left' taken taken' run =
+headline_of WriteFault ended ended' read read' left left' taken taken' run =
     record {
       given = run.given;
       written = run.written;
@@ -73,7 +74,7 @@ headline_of WriteFault ended left left' taken taken' run =
       bounded = let reads = run.reads in omega arith;
       known = omega arith;
     }
-headline_of NoMemory ended left left' taken taken' run =
+headline_of NoMemory ended ended' read read' left left' taken taken' run =
     record {
       given = run.given;
       written = run.written;
@@ -84,12 +85,12 @@ headline_of NoMemory ended left left' taken taken' run =
       no_settings = λ h. absurd (omega arith);
       read_fault = λ h. absurd (omega arith);
       write_fault = λ h. absurd (omega arith);
-      no_memory = λ _. run.writes;
+      no_memory = λ _. run.memory refl;
       past_limit = λ h. absurd (omega arith);
       bounded = let reads = run.reads in omega arith;
       known = omega arith;
     }
-headline_of ScriptLimit ended left left' taken taken' run =
+headline_of ScriptLimit ended ended' read read' left left' taken taken' run =
     record {
       given = run.given;
       written = run.written;
@@ -107,8 +108,8 @@ headline_of ScriptLimit ended left left' taken taken' run =
     }
 
 -- where there are no settings nothing is read or written
-pub untouched : (ended : Bool) (left taken : Option (List ℕ)) → Headline 2 ended left left taken taken
-untouched ended left taken =
+pub untouched : (ended : Bool) (read : ℕ) (left taken : Option (List ℕ)) → Headline 2 ended ended read read left left taken taken
+untouched ended read left taken =
     record {
       given = [];
       written = [];
@@ -126,10 +127,12 @@ untouched ended left taken =
     }
 
 -- the status of a run has the causes of its end
-pub causes_of : (end : RunEnd) (read read' write write' : ℕ) → CountsFaults end read read' write write' → HasCause (status_of end) read read' write write'
-causes_of Clean read read' write write' h = record { unfailed = λ _. h; read_fault = λ e. absurd (omega arith); write_fault = λ e. absurd (omega arith); no_memory = λ e. absurd (omega arith); past_limit = λ e. absurd (omega arith) }
-causes_of SomeRefused read read' write write' h = record { unfailed = λ _. h; read_fault = λ e. absurd (omega arith); write_fault = λ e. absurd (omega arith); no_memory = λ e. absurd (omega arith); past_limit = λ e. absurd (omega arith) }
-causes_of ReadFault read read' write write' h = record { unfailed = λ e. absurd (omega arith); read_fault = λ _. h; write_fault = λ e. absurd (omega arith); no_memory = λ e. absurd (omega arith); past_limit = λ e. absurd (omega arith) }
-causes_of WriteFault read read' write write' h = record { unfailed = λ e. absurd (omega arith); read_fault = λ e. absurd (omega arith); write_fault = λ _. h; no_memory = λ e. absurd (omega arith); past_limit = λ e. absurd (omega arith) }
-causes_of NoMemory read read' write write' h = record { unfailed = λ e. absurd (omega arith); read_fault = λ e. absurd (omega arith); write_fault = λ e. absurd (omega arith); no_memory = λ _. h; past_limit = λ e. absurd (omega arith) }
-causes_of ScriptLimit read read' write write' h = record { unfailed = λ e. absurd (omega arith); read_fault = λ e. absurd (omega arith); write_fault = λ e. absurd (omega arith); no_memory = λ e. absurd (omega arith); past_limit = λ _. h }
+pub causes_of : (end : RunEnd) (read read' : ℕ) (read_failed : Bool) (write write' : ℕ) (write_failed : Bool)
+    → CountsFaults end read read' read_failed write write' write_failed
+    → HasCause (status_of end) read read' read_failed write write' write_failed
+causes_of Clean read read' read_failed write write' write_failed h = record { unfailed = λ _. h; read_fault = λ e. absurd (omega arith); write_fault = λ e. absurd (omega arith); no_memory = λ e. absurd (omega arith); past_limit = λ e. absurd (omega arith) }
+causes_of SomeRefused read read' read_failed write write' write_failed h = record { unfailed = λ _. h; read_fault = λ e. absurd (omega arith); write_fault = λ e. absurd (omega arith); no_memory = λ e. absurd (omega arith); past_limit = λ e. absurd (omega arith) }
+causes_of ReadFault read read' read_failed write write' write_failed h = record { unfailed = λ e. absurd (omega arith); read_fault = λ _. h; write_fault = λ e. absurd (omega arith); no_memory = λ e. absurd (omega arith); past_limit = λ e. absurd (omega arith) }
+causes_of WriteFault read read' read_failed write write' write_failed h = record { unfailed = λ e. absurd (omega arith); read_fault = λ e. absurd (omega arith); write_fault = λ _. h; no_memory = λ e. absurd (omega arith); past_limit = λ e. absurd (omega arith) }
+causes_of NoMemory read read' read_failed write write' write_failed h = record { unfailed = λ e. absurd (omega arith); read_fault = λ e. absurd (omega arith); write_fault = λ e. absurd (omega arith); no_memory = λ _. h; past_limit = λ e. absurd (omega arith) }
+causes_of ScriptLimit read read' read_failed write write' write_failed h = record { unfailed = λ e. absurd (omega arith); read_fault = λ e. absurd (omega arith); write_fault = λ e. absurd (omega arith); no_memory = λ e. absurd (omega arith); past_limit = λ _. h }

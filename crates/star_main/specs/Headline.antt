@@ -1,10 +1,10 @@
 -- The headline: what the program writes is the replies to its script, each query answered as if alone.
-use Rattle.std.specs.Prelude.{◌≡◌, ℕ, ◌+◌, ◌≤◌, ◌↔◌, Bool, true, false, List, [], length, Option}
+use Rattle.std.specs.Prelude.{◌≡◌, ℕ, ◌+◌, ◌≤◌, ◌⊎◌, ◌↔◌, Bool, true, false, List, [], length, Option}
 use Rattle.std.specs.Io.KnownBytes.{Appends, Consumes}
-use Rattle.star_io.specs.Faults.{Rose}
+use Rattle.star_io.specs.Faults.{FailedOnce, FailedOnceAtMost}
 use Rattle.star_io.specs.declared.run_end.RunEnd.{RunEnd}
 use Rattle.star_io.specs.declared.run_end.RunEnd.TheVariants.{Clean, SomeRefused, ReadFault, WriteFault, NoMemory, ScriptLimit}
-use Rattle.script_run.specs.Run.{script_limit, within_limit, script_text, some_refused, IsFront}
+use Rattle.script_run.specs.Run.{script_limit, within_limit, script_text, some_refused, IsProperFront, HasEnded, MetNoEnd}
 
 -- the status of a run
 abbrev pub status_of : RunEnd → ℕ
@@ -16,28 +16,30 @@ status_of NoMemory = 5
 status_of ScriptLimit = 6
 
 -- The source gave these bytes in the call, the sink took those, and the status says how they belong together: all
--- replies to the statements of the bytes, in order; where a read failed or the limit was passed, to those that were
--- whole by then; where a write failed or no memory was left, a front of the replies.
-pub record Headline (status : ℕ) (ended : Bool) (left left' taken taken' : Option (List ℕ)) : Type 0 where
+-- replies to the statements of the bytes, in order, where nothing is left at the source; where a read failed or the
+-- limit was passed, to those that were whole by then; where a write failed, a proper front of the replies; where no
+-- memory was left, such a front too, or nothing where the reading had met no end.
+pub record Headline (status : ℕ) (ended ended' : Bool) (read read' : ℕ) (left left' taken taken' : Option (List ℕ)) : Type 0 where
   pub given : List ℕ
   pub written : List ℕ
   pub gave : Consumes left left' given
   pub took : Appends taken taken' written
-  pub answered : status ≤ 1 → (ended ≡ true) × (length given ≤ script_limit) × (written ≡ script_text true given)
-  pub refused : status ≤ 1 → (status ≡ 1) ↔ (some_refused true given ≡ true)
+  pub answered : status ≤ 1 → HasEnded ended' left' × (length given ≤ script_limit) × (written ≡ script_text true given)
+  pub refused : status ≤ 1 → ((status ≡ 1) ↔ (some_refused true given ≡ true))
   pub no_settings : status ≡ 2 → (given ≡ []) × (written ≡ [])
   pub read_fault : status ≡ 3 → (length given ≤ script_limit) × (written ≡ script_text false given)
-  pub write_fault : status ≡ 4 → IsFront written (script_text ended (within_limit given))
-  pub no_memory : status ≡ 5 → IsFront written (script_text ended (within_limit given))
+  pub write_fault : status ≡ 4 → IsProperFront written (script_text ended' (within_limit given))
+  pub no_memory : status ≡ 5 → IsProperFront written (script_text ended' (within_limit given))
+      ⊎ (MetNoEnd ended ended' read read' given × (written ≡ []))
   pub past_limit : status ≡ 6 → (length given ≡ script_limit + 1) × (written ≡ script_text false (within_limit given))
   pub bounded : length given ≤ script_limit + 1
   pub known : status ≤ 6
 
--- A status that tells a fault has its cause in the call: the count of that fault rose, and no other did. Without a
--- fault the counts stay; where no memory was left a read may have failed before.
-pub record HasCause (status read read' write write' : ℕ) : Type 0 where
+-- A status that tells a fault has its cause in the call: one read or one write failed, the last one, and no other did.
+-- Without a fault the counts stay; where a write failed or no memory was left, the last read may have failed before.
+pub record HasCause (status read read' : ℕ) (read_failed : Bool) (write write' : ℕ) (write_failed : Bool) : Type 0 where
   pub unfailed : status ≤ 2 → (read' ≡ read) × (write' ≡ write)
-  pub read_fault : status ≡ 3 → Rose read read' × (write' ≡ write)
-  pub write_fault : status ≡ 4 → (read ≤ read') × Rose write write'
-  pub no_memory : status ≡ 5 → (read ≤ read') × (write' ≡ write)
+  pub read_fault : status ≡ 3 → FailedOnce read read' read_failed × (write' ≡ write)
+  pub write_fault : status ≡ 4 → FailedOnceAtMost read read' read_failed × FailedOnce write write' write_failed
+  pub no_memory : status ≡ 5 → FailedOnceAtMost read read' read_failed × (write' ≡ write)
   pub past_limit : status ≡ 6 → (read' ≡ read) × (write' ≡ write)

@@ -1,9 +1,10 @@
 //! The CJOIN program: the command line, the top call, and what is told of a run that was cut short.
 #![tactic(auto)]
 
+ghost use Rattle.std.specs.Prelude.{◌≡◌, ◌≢◌};
+ghost use Rattle.std.specs.IoError.{error_kind};
+
 mod fault;
-#[cfg(test)]
-mod schema_tests;
 mod settings;
 #[cfg(test)]
 mod tests;
@@ -13,7 +14,7 @@ use crate::fault::Fault;
 use crate::top::{FAULTY_WORDS, OUT_OF_MEMORY, cjoin};
 use star_io::{StdSink, StdSource};
 use std::env::{self, Env};
-use std::io;
+use std::io::{self, ErrorKind};
 use std::process::ExitCode;
 
 /// Runs the script on the standard input, and ends with the status of its run.
@@ -24,8 +25,7 @@ fn main(rt: HostRuntime) -> ExitCode {
             let mut sink = StdSink::new(io::writer(&rt));
             cjoin(rt.alloc(), &words, &mut source, &mut sink)
         }
-        Err(error) if error.kind() == io::ErrorKind::OutOfMemory => OUT_OF_MEMORY,
-        Err(_) => FAULTY_WORDS,
+        Err(error) => status_without_words(&error),
     };
     if let Some(fault) = Fault::of_status(status) {
         // There is nowhere to tell of a standard error that fails.
@@ -41,4 +41,16 @@ fn words(rt: &(impl Env + AllocGlobal)) -> io::Result<Vec<String>> {
         words.push(word)?;
     }
     Ok(words)
+}
+
+/// The status where the words cannot be read: a word is not text, or no memory was left for them.
+fn status_without_words(error: &io::Error) -> u8
+    ensures memory { error_kind error.now ≡ ErrorKind.OutOfMemory → result ≡ 5 }
+    ensures faulty { error_kind error.now ≢ ErrorKind.OutOfMemory → result ≡ 2 }
+{
+    if error.kind() == ErrorKind::OutOfMemory {
+        OUT_OF_MEMORY
+    } else {
+        FAULTY_WORDS
+    }
 }

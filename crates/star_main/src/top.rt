@@ -27,11 +27,12 @@ pub fn cjoin<S: Source, K: Sink>(
 ) -> u8
     ensures settings { (result ≡ 2) ↔ IsNone (settings_of (map string_bytes words.now)) }
     ensures untouched { result ≡ 2 → (source.new ≡ source.old) × (sink.new ≡ sink.old) }
-    ensures headline { Headline result (S.ended source.new)
+    ensures headline { Headline result (S.ended source.old) (S.ended source.new)
+        (S.read_faults source.old) (S.read_faults source.new)
         (S.left source.old) (S.left source.new) (K.taken sink.old) (K.taken sink.new) }
     ensures causes { HasCause result
-        (S.read_faults source.old) (S.read_faults source.new)
-        (K.write_faults sink.old) (K.write_faults sink.new) }
+        (S.read_faults source.old) (S.read_faults source.new) (S.read_failed source.new)
+        (K.write_faults sink.old) (K.write_faults sink.new) (K.write_failed sink.new) }
 {
     match read_words(words) {
         Some(Mode::Run) => status_of(run_script(alloc, source, sink)),
