@@ -1,0 +1,2 @@
+-- What is known of the run of a case.
+pub mod OutcomeLemmas

@@ -1,0 +1,3 @@
+-- When a case is right.
+pub mod Judge
+pub mod Outcome

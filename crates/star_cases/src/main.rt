@@ -1,0 +1,41 @@
+//! Runs every case of the folder in which it starts, prints a line a case, and ends with 0 where all are right.
+#![tactic(auto)]
+
+mod case;
+mod judge;
+mod outcome;
+
+use crate::case::case_names;
+use crate::outcome::{are_all_right, check_case, count_right};
+use std::io;
+use std::process::ExitCode;
+use std::rt::Files;
+
+fn main(rt: HostRuntime) -> ExitCode {
+    match check_folder(&rt, ".") {
+        Ok(true) => ExitCode::SUCCESS,
+        Ok(false) => ExitCode::FAILURE,
+        Err(error) => {
+            // There is nowhere to tell of a standard error that fails.
+            let _ = eprintln!(rt; "{error}");
+            ExitCode::from(2)
+        }
+    }
+}
+
+/// Runs the cases of a folder, prints what came of them, and answers whether all are right.
+fn check_folder<R: Files + Print + AllocGlobal + Clone + Drop>(
+    rt: &R,
+    folder: &str,
+) -> io::Result<bool> {
+    let mut outcomes = Vec::new(rt.alloc());
+    for name in case_names(rt, folder)? {
+        let outcome = check_case(rt, folder, name)?;
+        println!(rt; "{outcome}")?;
+        outcomes.push(outcome)?;
+    }
+    let right = count_right(&outcomes);
+    let all = outcomes.len();
+    println!(rt; "{right} of {all} cases are right")?;
+    Ok(are_all_right(&outcomes))
+}

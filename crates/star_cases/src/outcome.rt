@@ -1,0 +1,125 @@
+//! What came of the runs of a case.
+ghost use Rattle.std.specs.Prelude.{◌≡◌, ◌&&◌, ◌==◌, ◌<◌, not, length, IfOk, IsNone, count_by};
+ghost use Rattle.std.specs.List.{list_all};
+ghost use Rattle.star_cases.specs.Outcome.{Answers, is_right};
+
+use crate::case::{Case, read_case};
+use crate::judge::{Fault, fault_of};
+use script_run::run_script;
+use star_io::{ListSink, PieceSource};
+use std::alloc::{AllocError, Global};
+use std::fmt;
+use std::rt::Files;
+
+/// The bytes at which a script comes and its replies go at once: all that is asked for, and few.
+const PIECES: [usize; 3] = [65_536, 7, 1];
+
+/// A case, and what is wrong with it, if anything is.
+#[derive(Debug, Drop)]
+pub(crate) struct Outcome {
+    name: String,
+    wrong: Option<String>,
+}
+
+impl fmt::Display for Outcome {
+    fn fmt<W: fmt::Write>(&self, f: &mut fmt::Formatter<W>) -> fmt::Result {
+        match &self.wrong {
+            None => write!(f, "ok {}", self.name),
+            Some(wrong) => write!(f, "WRONG {}: {wrong}", self.name),
+        }
+    }
+}
+
+/// Whether nothing is wrong with a case.
+fn is_right(outcome: &Outcome) -> bool
+    ensures { result ≡ is_right outcome.now }
+{
+    outcome.wrong.is_none()
+}
+
+/// How many cases are right.
+pub(crate) fn count_right(outcomes: &[Outcome]) -> usize
+    ensures { result ≡ count_by is_right outcomes.now }
+{
+    outcomes.iter().filter(|outcome| is_right(*outcome)).count()
+}
+
+fn is_each_right(outcomes: &[Outcome]) -> bool
+    ensures { result ≡ list_all is_right outcomes.now }
+{
+    outcomes.iter().all(|outcome| is_right(outcome))
+}
+
+/// Whether there are cases, and all are right.
+pub(crate) fn are_all_right(outcomes: &[Outcome]) -> bool
+    ensures { result ≡ not (length outcomes.now == 0) && list_all is_right outcomes.now }
+{
+    !outcomes.is_empty() && is_each_right(outcomes)
+}
+
+/// Runs a case of a folder. Files that cannot be read are wrong.
+pub(crate) fn check_case<R: Files + AllocGlobal>(
+    rt: &R,
+    folder: &str,
+    name: String,
+) -> Result<Outcome, AllocError> {
+    let wrong = match read_case(rt, folder, name.as_str()) {
+        Ok(case) => wrong_in(rt.alloc(), &case)?,
+        Err(error) => Some(format!(in rt.alloc(); "not read: {error}")?),
+    };
+    Ok(Outcome { name, wrong })
+}
+
+/// What is wrong with the first run of a case that is wrong.
+fn wrong_in(alloc: Global, case: &Case) -> Result<Option<String>, AllocError> {
+    for piece in PIECES {
+        if let Some(wrong) = wrong_in_pieces(alloc, case, piece)? {
+            return Ok(Some(wrong));
+        }
+    }
+    Ok(None)
+}
+
+/// What is wrong with a run whose bytes come and go in pieces of this size.
+fn wrong_in_pieces(alloc: Global, case: &Case, piece: usize) -> Result<Option<String>, AllocError>
+    requires { 0 < piece }
+    ensures { IfOk result
+        (λ wrong. IsNone wrong → Answers case.now.script.items case.now.replies.items) }
+{
+    let mut source = PieceSource::new(case.script.clone()?, piece, Vec::new(alloc));
+    let mut sink = ListSink::new(alloc, piece, Vec::new(alloc));
+    let end = run_script(alloc, &mut source, &mut sink);
+    match fault_of(sink.bytes(), end, &case.replies) {
+        None => Ok(None),
+        Some(fault) => Ok(Some(told(alloc, fault, piece, sink.bytes(), &case.replies)?)),
+    }
+}
+
+/// A fault in words, with the two lines that differ and the lengths of the two texts.
+fn told(
+    alloc: Global,
+    fault: Fault,
+    piece: usize,
+    written: &[u8],
+    replies: &[u8],
+) -> Result<String, AllocError> {
+    match fault {
+        Fault::End(end) => {
+            format!(in alloc; "in pieces of {piece} bytes the run ends by {end:?}")
+        }
+        Fault::Line(number) => {
+            let one = line_at(written, number);
+            let other = line_at(replies, number);
+            let (length, wanted) = (written.len(), replies.len());
+            format!(in alloc;
+                "in pieces of {piece} bytes line {number} is {one:?} and not {other:?}, of {length} bytes and not {wanted}"
+            )
+        }
+    }
+}
+
+/// A line of a text, or nothing where it has fewer or the line is no text.
+fn line_at(text: &[u8], number: usize) -> Option<&str> {
+    let line = text.split(|byte| *byte == b'\n').nth(number)?;
+    std::str::from_utf8(line).ok()
+}
