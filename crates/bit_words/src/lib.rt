@@ -1,0 +1,12 @@
+//! Sets of small numbers, held in words of 64 bits.
+#![tactic(auto)]
+
+mod bits;
+mod laws;
+mod rows;
+#[cfg(test)]
+mod tests;
+
+pub use bits::Bits;
+pub use laws::{least_numbers_are_the_members, sets_are_their_members};
+pub use rows::and_all;
