@@ -1,0 +1,2 @@
+pub mod EndsLemmas
+pub mod VisibleLemmas

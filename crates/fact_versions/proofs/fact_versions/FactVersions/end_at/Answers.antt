@@ -1,0 +1,10 @@
+use Rattle.std.proofs.Common.{◌<◌, ap, arith, length}
+use Rattle.fact_versions.proofs.EndsLemmas.{lent-with_end}
+use Rattle.fact_versions.proofs.fact_versions.FactVersions.end_at.Goals as goal
+
+pub returns : goal.returns
+returns c =
+    let many = ap (λ roomy. length roomy.items) c.self.view_is in
+    let within : c.args.position < length c.self.inside.versions.items = omega (arith, c.requires.within, many) in
+    lent-with_end c.self.inside.versions c.args.self.now c.as_mut_slice.result.now c.args.position c.args.commit
+    c.index-as_mut_slice-position.result c.self.view_is c.as_mut_slice.ensures.members within

@@ -1,0 +1,3 @@
+-- What the contracts of this crate, and of those above it, say of versions.
+pub mod Ends
+pub mod Visible
