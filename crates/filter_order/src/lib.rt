@@ -1,0 +1,13 @@
+//! In which order do rows meet the filters? The filter that drops the most rows is met first.
+#![tactic(auto)]
+
+mod laws;
+mod order;
+mod rates;
+mod tally;
+#[cfg(test)]
+mod tests;
+
+pub use laws::orders_by_drop_rate_are_equal;
+pub use order::{Order, best_order};
+pub use tally::Tally;
