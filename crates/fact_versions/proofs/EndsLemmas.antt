@@ -1,8 +1,8 @@
 -- Versions of which one is written in place.
-use Rattle.std.proofs.Common.{◌≡◌, ℕ, zero, suc, ◌<◌, List, [], ◌∷◌, length, slice_index_or, slice_set, refl, ap, ◌∙◌, arith}
+use Rattle.std.proofs.Common.{◌≡◌, ◌≢◌, ℕ, zero, suc, ◌<◌, List, [], ◌∷◌, length, slice_get, slice_index_or, slice_set, option_map, refl, ap, ◌∙◌, arith}
 use Rattle.std.proofs.lemmas.List.{length-set}
 use Rattle.std.specs.List.{refill}
-use Rattle.fact_versions.specs.Ends.{with_end}
+use Rattle.fact_versions.specs.Ends.{ended_by, with_end}
 use Rattle.fact_versions.specs.declared.version.Version.{Version}
 use Rattle.star_lists.specs.Roomy.{Roomy}
 
@@ -40,3 +40,27 @@ lent-with_end inside now members position commit read view same within =
     ∙ written-with_end inside.items position commit read within in
     ap {B = Roomy Version} (λ list. record { items = list; room = inside.room }) items
     ∙ ap {B = Roomy Version} (λ roomy. record { items = with_end roomy.items position commit; room = roomy.room }) view
+
+-- there are as many versions
+pub length-with_end : (versions : List Version) (position commit : ℕ) → length (with_end versions position commit) ≡ length versions
+length-with_end [] position commit = refl
+length-with_end (version ∷ versions) zero commit = refl
+length-with_end (version ∷ versions) (suc position) commit = ap suc (length-with_end versions position commit)
+
+-- the version at the position has this end
+pub there-with_end : (versions : List Version) (position commit : ℕ)
+    → slice_get (with_end versions position commit) position
+    ≡ option_map (ended_by commit) (slice_get versions position)
+there-with_end [] position commit = refl
+there-with_end (version ∷ versions) zero commit = refl
+there-with_end (version ∷ versions) (suc position) commit = there-with_end versions position commit
+
+-- every other version is as it was
+pub other-with_end : (versions : List Version) (position commit other : ℕ) → other ≢ position
+    → slice_get (with_end versions position commit) other ≡ slice_get versions other
+other-with_end [] position commit other differ = refl
+other-with_end (version ∷ versions) zero commit zero differ = absurd (differ refl)
+other-with_end (version ∷ versions) zero commit (suc other) differ = refl
+other-with_end (version ∷ versions) (suc position) commit zero differ = refl
+other-with_end (version ∷ versions) (suc position) commit (suc other) differ =
+    other-with_end versions position commit other (λ same. differ (ap suc same))

@@ -1,6 +1,19 @@
 //! What holds of all versions, whatever call made them.
-ghost use Rattle.std.specs.Prelude.{◌≡◌, ℕ, ◌<◌, false};
+ghost use Rattle.std.specs.Prelude.{◌≡◌, ◌≢◌, ℕ, ◌<◌, false, List, length, slice_get, option_map};
+ghost use Rattle.fact_versions.specs.declared.version.Version.{Version};
+ghost use Rattle.fact_versions.specs.Ends.{ended_by, with_end};
 ghost use Rattle.fact_versions.specs.Visible.{is_visible};
+
+/// A written end changes the version at its position alone, and there the end alone.
+pub fn ends_change_one_version()
+    ensures count { (versions : List Version) (position commit : ℕ) →
+        length (with_end versions position commit) ≡ length versions }
+    ensures there { (versions : List Version) (position commit : ℕ) →
+        slice_get (with_end versions position commit) position
+        ≡ option_map (ended_by commit) (slice_get versions position) }
+    ensures others { (versions : List Version) (position commit other : ℕ) → other ≢ position →
+        slice_get (with_end versions position commit) other ≡ slice_get versions other }
+{}
 
 /// A version that was not ended is seen at a snapshot as before when a later commit ends it.
 pub fn a_later_end_hides_nothing()

@@ -3,7 +3,8 @@ ghost use Rattle.std.specs.Prelude.{◌≡◌, ◌≤◌, ◌+◌, [], ◌∷◌
 
 use crate::{
     FactVersions, KEYS_IN_A_VERSION, MAX_VERSIONS, Version, a_later_end_hides_nothing,
-    a_later_load_is_not_seen, fact_versions_may_be_sent, fact_versions_may_be_shared, is_visible,
+    a_later_load_is_not_seen, ends_change_one_version, fact_versions_may_be_sent,
+    fact_versions_may_be_shared, is_visible,
 };
 use star_values::{NoMemory, Row, Value};
 use std::alloc::Global;
@@ -68,4 +69,5 @@ fn versions_cross_threads_and_meet_the_laws(_rt: HostRuntime) {
     fact_versions_may_be_shared();
     a_later_end_hides_nothing();
     a_later_load_is_not_seen();
+    ends_change_one_version();
 }
