@@ -1,6 +1,6 @@
 -- Frames as they are made.
-use Rattle.std.proofs.Common.{◌≡◌, ℕ, ◌≤◌, ◌∙◌, List, length, replicate, get_or, take, drop, ◌++◌, ap, arith, All}
-use Rattle.frame_pool.specs.Stock.{written}
+use Rattle.std.proofs.Common.{◌≡◌, ℕ, ◌≤◌, ◌∙◌, List, length, replicate, get_or, ap, arith, All}
+use Rattle.std.specs.List.{refill}
 use Rattle.std.proofs.Math.ListN.{length-replicate}
 use Rattle.std.proofs.lemmas.List.{get_or-replicate}
 
@@ -18,6 +18,6 @@ all_of_one_length n words frames same =
 
 -- what is written over a vector's front is written over the frame
 pub written_over : (items frame words : List ℕ) (len : ℕ) → len ≡ length items → items ≡ frame
-    → take len (words ++ drop (length words) items) ≡ written frame words
+    → refill len items words ≡ refill (length frame) frame words
 written_over items frame words len all view =
-    ap (λ n. take n (words ++ drop (length words) items)) all ∙ ap (λ f. written f words) view
+    ap (λ n. refill n items words) all ∙ ap (λ f. refill (length f) f words) view

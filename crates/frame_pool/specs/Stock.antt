@@ -1,9 +1,5 @@
 -- What a pool is: how many frames it was made with, how long they are, and those that are in.
-use Rattle.std.specs.Prelude.{◌≡◌, ℕ, ◌≤◌, ◌++◌, List, length, take, drop, All}
-
--- a frame over whose front these words were written; as many as it has replace it
-abbrev pub written : List ℕ → List ℕ → List ℕ
-written frame words = take (length frame) (words ++ drop (length words) frame)
+use Rattle.std.specs.Prelude.{◌≡◌, ℕ, ◌≤◌, List, length, All}
 
 -- a pool
 pub record Stock : Type 0 where

@@ -1,7 +1,7 @@
 //! Words of memory that one owner holds. A stock of them is in `pool`.
 ghost use Rattle.std.specs.Prelude.{◌≡◌, ◌<◌, length, slice_set};
+ghost use Rattle.std.specs.List.{refill};
 ghost use Rattle.std.specs.Borrow.{Lends, Array, sem, u64 as word};
-ghost use Rattle.frame_pool.specs.Stock.{written};
 ghost use Rattle.frame_pool.specs.contracts.frame.Frame.{the_row};
 
 use std::marker::Model;
@@ -28,7 +28,7 @@ impl Frame {
     }
 
     pub fn words_mut(&mut self) -> &mut [u64]
-        ensures* writes_back { sem 𝓛 (Lends the_row (Array word 0) self.entry result (written self.entry.now)) }
+        ensures* writes_back { sem 𝓛 (Lends the_row (Array word 0) self.entry result (refill (length self.entry.now) self.entry.now)) }
         ensures value { result.now ≡ self.old }
     {
         self.words.as_mut_slice()
