@@ -1,20 +1,20 @@
 -- Numbers of filters that are sorted by drop rate.
-use Rattle.std.proofs.Common.{◌≡◌, ℕ, zero, suc, ◌<◌, ◌≤◌, Bool, true, false, ◌||◌, List, [], ◌∷◌, ◌++◌, length, get_or, take, refl, ap, sym, subst, ◌∙◌, ◌⊎◌, inl, inr, arith, nat_eq}
-use Rattle.std.specs.List.{AllPairs, Contains, IsDistinct, list_any}
+use Rattle.std.proofs.Common.{◌≡◌, ℕ, zero, suc, ◌<◌, ◌≤◌, Bool, true, false, List, [], ◌∷◌, ◌++◌, length, get_or, take, refl, ap, sym, subst, ◌∙◌, ◌⊎◌, inl, inr, arith, nat_eq}
+use Rattle.std.specs.List.{AllPairs, Contains, IsDistinct, range_with_len}
 use Rattle.std.specs.List.Sorted.{IsPermutation, IsSortedBy}
 use Rattle.std.proofs.lemmas.Bool.Decides.{nat_tests}
 use Rattle.std.proofs.lemmas.Cmp.{nat_eq_equiv}
 use Rattle.std.proofs.lemmas.List.{length-take-le, take_at}
-use Rattle.std.proofs.lemmas.List.Folds.{list_any-append}
+use Rattle.std.proofs.lemmas.List.FromFn.{length-range_with_len, get_or-range_with_len}
 use Rattle.std.proofs.lemmas.List.Sorted.{Contains-permutation, IsPermutation-sym, length_permutation, sorted_far}
-use Rattle.std.proofs.lemmas.Map.Keys.{IsDistinct-from_apart, IsDistinct-push, IsDistinct-IsPermutation, apart_from_distinct}
+use Rattle.std.proofs.lemmas.Map.Keys.{IsDistinct-from_apart, IsDistinct-IsPermutation, apart_from_distinct}
 use Rattle.filter_order.specs.declared.tally.Tally.{Tally}
-use Rattle.filter_order.specs.Numbers.{all_numbers, numbers_below}
+use Rattle.filter_order.specs.Numbers.{all_numbers}
 use Rattle.filter_order.specs.Rates.{IsOrderedByDropRate, comes_before}
 use Rattle.filter_order.proofs.RateLemmas.{before_weak, one_before}
 
 -- the first of all numbers, as many as there are tallies
-pub first_numbers : (n : ℕ) → n ≤ 8 → take n all_numbers ≡ numbers_below n
+pub first_numbers : (n : ℕ) → n ≤ 8 → take n all_numbers ≡ range_with_len 0 n
 first_numbers zero few = refl
 first_numbers (suc zero) few = refl
 first_numbers (suc (suc zero)) few = refl
@@ -26,27 +26,19 @@ first_numbers (suc (suc (suc (suc (suc (suc (suc zero))))))) few = refl
 first_numbers (suc (suc (suc (suc (suc (suc (suc (suc zero)))))))) few = refl
 first_numbers (suc (suc (suc (suc (suc (suc (suc (suc (suc n))))))))) few = absurd (omega arith)
 
--- no number below n is n or more
-none_as_great : (n m : ℕ) → n ≤ m → list_any (nat_eq m) (numbers_below n) ≡ false
-none_as_great zero m low = refl
-none_as_great (suc n) m low =
-    list_any-append (nat_eq m) (numbers_below n) (n ∷ [])
-    ∙ ap (λ t. t || list_any (nat_eq m) (n ∷ [])) (none_as_great n m (omega arith))
-    ∙ ap (λ t. t || false) (apart m n (omega arith))
-  where
-    apart : (m n : ℕ) → n < m → nat_eq m n ≡ false
-    apart m n low = grind (arith, nat_tests)
-
-distinct_below : (n : ℕ) → IsDistinct nat_eq (numbers_below n)
-distinct_below zero = IsDistinct-from_apart nat_eq [] (λ i j d lt low. absurd (omega arith))
-distinct_below (suc n) = IsDistinct-push nat_eq_equiv (numbers_below n) n (distinct_below n) (none_as_great n n (omega arith))
+distinct_below : (n : ℕ) → IsDistinct nat_eq (range_with_len 0 n)
+distinct_below n = IsDistinct-from_apart nat_eq (range_with_len 0 n) (λ i j d before low.
+    let long = length-range_with_len 0 n in
+    let first = get_or-range_with_len 0 n i d (omega arith) in
+    let second = get_or-range_with_len 0 n j d (omega arith) in
+    grind (arith, nat_tests))
 
 -- numbers that are sorted by drop rate are ordered by it
-pub ordered_from_sorted : (tallies : List Tally) (order : List ℕ) → IsPermutation (numbers_below (length tallies)) order
+pub ordered_from_sorted : (tallies : List Tally) (order : List ℕ) → IsPermutation (range_with_len 0 (length tallies)) order
     → IsSortedBy (comes_before tallies) order → IsOrderedByDropRate tallies order
 ordered_from_sorted tallies order permuted sorted =
     let distinct : IsDistinct nat_eq order =
-    IsDistinct-IsPermutation nat_eq (λ x y. nat_eq_equiv.symm x y) (numbers_below (length tallies)) order permuted (distinct_below (length tallies)) in
+    IsDistinct-IsPermutation nat_eq (λ x y. nat_eq_equiv.symm x y) (range_with_len 0 (length tallies)) order permuted (distinct_below (length tallies)) in
     record {
       each_once = permuted;
       ordered = λ i j d before low.
@@ -59,7 +51,7 @@ ordered_from_sorted tallies order permuted sorted =
 pub ordered_in_front : (tallies : List Tally) (order rest : List ℕ) → length tallies ≤ 8 → IsPermutation (take (length tallies) all_numbers) order
     → IsSortedBy (comes_before tallies) order → IsOrderedByDropRate tallies (take (length tallies) (order ++ rest))
 ordered_in_front tallies order rest few permuted sorted =
-    let permuted_below : IsPermutation (numbers_below (length tallies)) order =
+    let permuted_below : IsPermutation (range_with_len 0 (length tallies)) order =
     subst (λ numbers. IsPermutation numbers order) (first_numbers (length tallies) few) permuted in
     let as_long : length order ≡ length tallies =
     length_permutation (take (length tallies) all_numbers) order permuted ∙ length-take-le (length tallies) all_numbers few in
@@ -125,7 +117,7 @@ module _ (lt : ℕ → ℕ → Bool) (one_way : (x y : ℕ) → lt x y ≡ true 
 -- tallies have one order
 pub one_order : (tallies : List Tally) (order other : List ℕ) → IsOrderedByDropRate tallies order → IsOrderedByDropRate tallies other → order ≡ other
 one_order tallies order other p q =
-    let numbers = numbers_below (length tallies) in
+    let numbers = range_with_len 0 (length tallies) in
     unique (comes_before tallies) (before_weak tallies).one_way order other p.ordered q.ordered
     (λ z there. Contains-permutation numbers other z q.each_once
     (Contains-permutation order numbers z (IsPermutation-sym numbers order p.each_once) there))
