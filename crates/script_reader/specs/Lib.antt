@@ -1,6 +1,6 @@
 -- What the contracts of this crate, and of those above it, say of scripts.
-pub mod Coming
-pub mod Cut
+pub mod Script
 pub mod Laws
 pub mod Reach
-pub mod Script
+pub mod Coming
+pub mod Cut

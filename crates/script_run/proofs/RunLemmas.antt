@@ -9,18 +9,19 @@ use Rattle.star_io.specs.Transfer.{FindsEnd, CountsReadFault}
 use Rattle.star_io.specs.declared.run_end.RunEnd.TheVariants as run
 use Rattle.script_run.specs.declared.answer.Halt.{Halt}
 use Rattle.script_run.specs.declared.answer.Halt.TheVariants as halt
-use Rattle.script_run.specs.Run.{AnswersScript, HasEnded, within_limit, script_limit, script_text, some_refused, IsFront, IsProperFront}
+use Rattle.script_run.specs.declared.run.TheConstants.{SCRIPT_LIMIT}
+use Rattle.script_run.specs.Run.{AnswersScript, HasEnded, within_limit, script_text, some_refused, IsFront, IsProperFront}
 use Rattle.script_run.specs.Answer.{WritesReplies}
 use Rattle.script_run.specs.End.{end_of_all, end_of_cut}
 use Rattle.script_run.proofs.FrontLemmas.{script_text-front}
 
 -- bytes within the limit are all of them
-within_all : (given : List ℕ) → length given ≤ script_limit → within_limit given ≡ given
-within_all given few = take_all script_limit given few
+within_all : (given : List ℕ) → length given ≤ SCRIPT_LIMIT → within_limit given ≡ given
+within_all given few = take_all SCRIPT_LIMIT given few
 
 -- the replies to a script whose input was read to its end
 pub all_answered : (answered : Result Bool Halt) (given : List ℕ) (was ended : Bool) (read read' : ℕ) (left left' taken taken' : Option (List ℕ))
-    → Consumes left left' given → length given ≤ script_limit → HasEnded ended left'
+    → Consumes left left' given → length given ≤ SCRIPT_LIMIT → HasEnded ended left'
     → WritesReplies answered taken taken' (script_text true (within_limit given))
     → IfOk answered (λ refused. refused ≡ some_refused true (within_limit given))
     → AnswersScript (end_of_all answered) was ended read read' left left' taken taken'
@@ -65,7 +66,7 @@ halted_front true written script front =
 
 -- the replies to what had come before a read failed
 pub fault_answered : (answered : Result Bool Halt) (given : List ℕ) (was ended : Bool) (read read' : ℕ) (left left' taken taken' : Option (List ℕ))
-    → Consumes left left' given → length given ≤ script_limit
+    → Consumes left left' given → length given ≤ SCRIPT_LIMIT
     → WritesReplies answered taken taken' (script_text false (within_limit given))
     → AnswersScript (end_of_cut answered run.ReadFault) was ended read read' left left' taken taken'
 fault_answered (Ok refused) given was ended read read' left left' taken taken' gave few wrote =
@@ -79,7 +80,7 @@ fault_answered (Err halt.NoMemory) given was ended read read' left left' taken t
 
 -- the replies to what had come before the limit was passed
 pub limit_answered : (answered : Result Bool Halt) (given : List ℕ) (was ended : Bool) (read read' : ℕ) (left left' taken taken' : Option (List ℕ))
-    → Consumes left left' given → length given ≡ script_limit + 1
+    → Consumes left left' given → length given ≡ SCRIPT_LIMIT + 1
     → WritesReplies answered taken taken' (script_text false (within_limit given))
     → AnswersScript (end_of_cut answered run.ScriptLimit) was ended read read' left left' taken taken'
 limit_answered (Ok refused) given was ended read read' left left' taken taken' gave past wrote =
@@ -92,14 +93,14 @@ limit_answered (Err halt.NoMemory) given was ended read read' left left' taken t
     record { given = given; written = wrote.0; gave = gave; took = wrote.1; reads = omega arith; writes = (front.0, front.2); memory = λ _. inl front }
 
 -- within the limit are the bytes of every end but `Limit`
-pub within_the_limit : (end : ReadEnd) (count : ℕ) → count ≤ script_limit + 1 → ((end ≡ Limit) ↔ (count ≡ script_limit + 1)) → end ≢ Limit → count ≤ script_limit
+pub within_the_limit : (end : ReadEnd) (count : ℕ) → count ≤ SCRIPT_LIMIT + 1 → ((end ≡ Limit) ↔ (count ≡ SCRIPT_LIMIT + 1)) → end ≢ Limit → count ≤ SCRIPT_LIMIT
 within_the_limit end count few past other =
-    let short : count ≢ script_limit + 1 = λ h. other (past.1 h) in omega arith
+    let short : count ≢ SCRIPT_LIMIT + 1 = λ h. other (past.1 h) in omega arith
 
 -- no memory was left to read on, before the reading met an end, and nothing is written
 pub unanswered : (given : List ℕ) (count : ℕ) (end : ReadEnd) (was ended failed : Bool) (read read' : ℕ) (left left' taken : Option (List ℕ))
     → end ≡ NoMemory → length given ≡ count → Consumes left left' given
-    → count ≤ script_limit + 1 → ((end ≡ Limit) ↔ (count ≡ script_limit + 1)) → FindsEnd end was ended left' → CountsReadFault end read read' failed
+    → count ≤ SCRIPT_LIMIT + 1 → ((end ≡ Limit) ↔ (count ≡ SCRIPT_LIMIT + 1)) → FindsEnd end was ended left' → CountsReadFault end read read' failed
     → AnswersScript run.NoMemory was ended read read' left left' taken taken
 unanswered given count Ended was ended failed read read' left left' taken is counted gave few past found faults = cc
 unanswered given count Limit was ended failed read read' left left' taken is counted gave few past found faults = cc
@@ -126,7 +127,7 @@ ended_told NoMemory old new left e h = cc
 -- the run of a script that was read to its end
 pub ended_run : (answered : Result Bool Halt) (given script : List ℕ) (count : ℕ) (end : ReadEnd) (old new : Bool) (read read' : ℕ) (left left' taken taken' : Option (List ℕ))
     → end ≡ Ended → script ≡ within_limit given → length given ≡ count
-    → Consumes left left' given → count ≤ script_limit + 1 → ((end ≡ Limit) ↔ (count ≡ script_limit + 1)) → FindsEnd end old new left'
+    → Consumes left left' given → count ≤ SCRIPT_LIMIT + 1 → ((end ≡ Limit) ↔ (count ≡ SCRIPT_LIMIT + 1)) → FindsEnd end old new left'
     → WritesReplies answered taken taken' (script_text true script)
     → IfOk answered (λ refused. refused ≡ some_refused true script)
     → AnswersScript (end_of_all answered) old new read read' left left' taken taken'
@@ -140,7 +141,7 @@ ended_run answered given script count end old new read read' left left' taken ta
 -- the run of a script of which a read failed
 pub fault_run : (answered : Result Bool Halt) (given script : List ℕ) (count : ℕ) (end : ReadEnd) (was ended : Bool) (read read' : ℕ) (left left' taken taken' : Option (List ℕ))
     → end ≡ Fault → script ≡ within_limit given → length given ≡ count
-    → Consumes left left' given → count ≤ script_limit + 1 → ((end ≡ Limit) ↔ (count ≡ script_limit + 1))
+    → Consumes left left' given → count ≤ SCRIPT_LIMIT + 1 → ((end ≡ Limit) ↔ (count ≡ SCRIPT_LIMIT + 1))
     → WritesReplies answered taken taken' (script_text false script)
     → AnswersScript (end_of_cut answered run.ReadFault) was ended read read' left left' taken taken'
 fault_run answered given script count end was ended read read' left left' taken taken' is e counted gave few past wrote =
@@ -151,7 +152,7 @@ fault_run answered given script count end was ended read read' left left' taken 
 -- the run of a script that is longer than its limit
 pub limit_run : (answered : Result Bool Halt) (given script : List ℕ) (count : ℕ) (end : ReadEnd) (was ended : Bool) (read read' : ℕ) (left left' taken taken' : Option (List ℕ))
     → end ≡ Limit → script ≡ within_limit given → length given ≡ count
-    → Consumes left left' given → ((end ≡ Limit) ↔ (count ≡ script_limit + 1))
+    → Consumes left left' given → ((end ≡ Limit) ↔ (count ≡ SCRIPT_LIMIT + 1))
     → WritesReplies answered taken taken' (script_text false script)
     → AnswersScript (end_of_cut answered run.ScriptLimit) was ended read read' left left' taken taken'
 limit_run answered given script count end was ended read read' left left' taken taken' is e counted gave past wrote =

@@ -10,14 +10,11 @@ use Rattle.query_meaning.specs.declared.reply.Reply.{Reply}
 use Rattle.query_meaning.specs.declared.reply.Reply.TheVariants.{Refused}
 use Rattle.query_meaning.specs.Reply.{text_of_all}
 use Rattle.query_meaning.specs.Script.{replies_of}
-
--- the most bytes of a script
-abbrev pub script_limit : ℕ
-script_limit = 67108864
+use Rattle.script_run.specs.declared.run.TheConstants.{SCRIPT_LIMIT}
 
 -- the bytes of a script within the limit
 abbrev pub within_limit : List ℕ → List ℕ
-within_limit given = take script_limit given
+within_limit given = take SCRIPT_LIMIT given
 
 -- the replies to a script, whose input has ended or not
 abbrev pub script_replies : Bool → List ℕ → List Reply
@@ -64,16 +61,16 @@ Writes NoMemory ended left given written = IsFront written (script_text ended (w
 -- how many bytes were read: the byte past the limit at `ScriptLimit`, and at each end that is no fault of the
 -- sink and no want of memory only there
 abbrev pub ReadsBytes : RunEnd → ℕ → Type 0
-ReadsBytes Clean count = count ≤ script_limit
-ReadsBytes SomeRefused count = count ≤ script_limit
-ReadsBytes ReadFault count = count ≤ script_limit
-ReadsBytes ScriptLimit count = count ≡ script_limit + 1
-ReadsBytes WriteFault count = count ≤ script_limit + 1
-ReadsBytes NoMemory count = count ≤ script_limit + 1
+ReadsBytes Clean count = count ≤ SCRIPT_LIMIT
+ReadsBytes SomeRefused count = count ≤ SCRIPT_LIMIT
+ReadsBytes ReadFault count = count ≤ SCRIPT_LIMIT
+ReadsBytes ScriptLimit count = count ≡ SCRIPT_LIMIT + 1
+ReadsBytes WriteFault count = count ≤ SCRIPT_LIMIT + 1
+ReadsBytes NoMemory count = count ≤ SCRIPT_LIMIT + 1
 
 -- the reading met no end: the source has ended no more than before, no read failed, and the limit was not passed
 abbrev pub MetNoEnd : Bool → Bool → ℕ → ℕ → List ℕ → Type 0
-MetNoEnd ended ended' read read' given = (ended' ≡ ended) × (read' ≡ read) × (length given ≤ script_limit)
+MetNoEnd ended ended' read read' given = (ended' ≡ ended) × (read' ≡ read) × (length given ≤ SCRIPT_LIMIT)
 
 -- which faults came: the count of reads that failed, before and after, and whether the last read failed, and the same
 -- of the writes. Nothing was read after a read that failed, and nothing was written after a write that failed

@@ -2,7 +2,7 @@
 use Rattle.std.proofs.Common.{◌≡◌, ℕ, ◌+◌, ◌<◌, ◌≤◌, ◌⊎◌, inl, inr, min, arith}
 use Rattle.std.proofs.Math.Nat.{min-eq_left, min-eq_right}
 use Rattle.std.proofs.lemmas.Bool.{cases_lt}
-use Rattle.star_io.specs.Faults.{last_count, OneMoreIsARise}
+use Rattle.star_io.specs.Faults.{last_count, next_count, Rose}
 
 -- below the last value a count rises, and there it stands still
 rises : (last count : ℕ) → count ≤ last → (count < last) ⊎ (last ≤ count)
@@ -13,5 +13,5 @@ rises last count within (inl below) =
 rises last count within (inr above) = inr (omega arith, min-eq_right (omega arith))
 
 -- a count that stands at its last value at most rises by one fault more
-pub one_more : OneMoreIsARise
+pub one_more : (count : ℕ) → count ≤ last_count → Rose count (next_count count)
 one_more count within = rises last_count count within (cases_lt count last_count)

@@ -1,5 +1,5 @@
 -- Counts of faults, and when one rose. Every crate that speaks of a failed call cites these words.
-use Rattle.std.specs.Prelude.{◌≡◌, ℕ, ◌+◌, ◌-◌, ◌^◌, ◌<◌, ◌≤◌, ◌⊎◌, min, Bool, true, false, MatchResult, Result}
+use Rattle.std.specs.Prelude.{◌≡◌, ℕ, ◌+◌, ◌-◌, ◌^◌, ◌<◌, ◌⊎◌, min, Bool, true, false, MatchResult, Result}
 
 -- the last value of a counter, where it stands still
 abbrev pub last_count : ℕ
@@ -28,7 +28,3 @@ FailedOnce old new failed = (new ≡ next_count old) × (failed ≡ true)
 -- over some calls none failed, or the last one alone
 abbrev pub FailedOnceAtMost : ℕ → ℕ → Bool → Type 0
 FailedOnceAtMost old new failed = (new ≡ old) ⊎ FailedOnce old new failed
-
--- a counter that counts one fault more rose
-abbrev pub OneMoreIsARise : Type 0
-OneMoreIsARise = (count : ℕ) → count ≤ last_count → Rose count (next_count count)

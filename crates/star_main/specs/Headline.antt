@@ -4,7 +4,8 @@ use Rattle.std.specs.Io.KnownBytes.{Appends, Consumes}
 use Rattle.star_io.specs.Faults.{FailedOnce, FailedOnceAtMost}
 use Rattle.star_io.specs.declared.run_end.RunEnd.{RunEnd}
 use Rattle.star_io.specs.declared.run_end.RunEnd.TheVariants.{Clean, SomeRefused, ReadFault, WriteFault, NoMemory, ScriptLimit}
-use Rattle.script_run.specs.Run.{script_limit, within_limit, script_text, some_refused, IsProperFront, HasEnded, MetNoEnd}
+use Rattle.script_run.specs.declared.run.TheConstants.{SCRIPT_LIMIT}
+use Rattle.script_run.specs.Run.{within_limit, script_text, some_refused, IsProperFront, HasEnded, MetNoEnd}
 
 -- the status of a run
 abbrev pub status_of : RunEnd → ℕ
@@ -24,15 +25,15 @@ pub record Headline (status : ℕ) (ended ended' : Bool) (read read' : ℕ) (lef
   pub written : List ℕ
   pub gave : Consumes left left' given
   pub took : Appends taken taken' written
-  pub answered : status ≤ 1 → HasEnded ended' left' × (length given ≤ script_limit) × (written ≡ script_text true given)
+  pub answered : status ≤ 1 → HasEnded ended' left' × (length given ≤ SCRIPT_LIMIT) × (written ≡ script_text true given)
   pub refused : status ≤ 1 → ((status ≡ 1) ↔ (some_refused true given ≡ true))
   pub no_settings : status ≡ 2 → (given ≡ []) × (written ≡ [])
-  pub read_fault : status ≡ 3 → (length given ≤ script_limit) × (written ≡ script_text false given)
+  pub read_fault : status ≡ 3 → (length given ≤ SCRIPT_LIMIT) × (written ≡ script_text false given)
   pub write_fault : status ≡ 4 → IsProperFront written (script_text ended' (within_limit given))
   pub no_memory : status ≡ 5 → IsProperFront written (script_text ended' (within_limit given))
       ⊎ (MetNoEnd ended ended' read read' given × (written ≡ []))
-  pub past_limit : status ≡ 6 → (length given ≡ script_limit + 1) × (written ≡ script_text false (within_limit given))
-  pub bounded : length given ≤ script_limit + 1
+  pub past_limit : status ≡ 6 → (length given ≡ SCRIPT_LIMIT + 1) × (written ≡ script_text false (within_limit given))
+  pub bounded : length given ≤ SCRIPT_LIMIT + 1
   pub known : status ≤ 6
 
 -- A status that tells a fault has its cause in the call: one read or one write failed, the last one, and no other did.

@@ -9,13 +9,13 @@ use crate::sign::Sign;
 use crate::symbol::Symbol;
 
 /// How many `(` may stand beyond the `)` in front of any place.
-const MAX_DEPTH: usize = 64;
+pub const MAX_DEPTH: usize = 64;
 
 /// How many `not` a line may have.
-const MAX_NOTS: usize = 64;
+pub const MAX_NOTS: usize = 64;
 
 /// How many literals a list may have.
-const MAX_LIST: usize = 256;
+pub const MAX_LIST: usize = 256;
 
 /// The limits of a line can be tested.
 pub fn limits_are_tested()

@@ -5,6 +5,7 @@ ghost use Rattle.star_symbols.specs.Limits.{IsTooLong, IsOverLimit};
 ghost use Rattle.star_symbols.specs.Read.{IsReadIn, IsWord, IsPlain, content_from};
 ghost use Rattle.star_symbols.specs.Symbol.{token_bytes, word_symbol, content, symbol_of, symbolic};
 ghost use Rattle.star_symbols.specs.Written.{IsName, IsWritable};
+ghost use Rattle.star_values.specs.declared.small_text.TheConstants.{MAX_TEXT_BYTES};
 ghost use Rattle.star_values.specs.declared.value.Value.TheVariants as value;
 ghost use Rattle.star_symbols.specs.declared.symbol.Symbol.TheVariants as symbol;
 
@@ -31,7 +32,7 @@ pub fn read_symbols(alloc: Global, line: &str) -> Result<Symbols, LineFault>
     ensures writable { IfOk result (λ symbols. All IsWritable symbols.symbols) }
     ensures within { OnOk result (¬ (IsOverLimit line.now)) }
     ensures limit { IsErrOf result LineFault.Limit → IsOverLimit line.now }
-    ensures bytes { 65536 < length line.now → IsErrOf result LineFault.Limit }
+    ensures bytes { MAX_LINE_BYTES < length line.now → IsErrOf result LineFault.Limit }
 {
     if MAX_LINE_BYTES < line.len() {
         return Err(LineFault::Limit);
@@ -121,8 +122,8 @@ fn lower(alloc: Global, word: &[u8]) -> Result<Vec<u8>, AllocError>
 fn small_name(alloc: Global, name: &[u8]) -> Result<SmallText, LineFault>
     requires { IsPlain name.now }
     ensures text { IfOk result (λ text. text ≡ name.now) }
-    ensures short { OnOk result (length name.now ≤ 63) }
-    ensures long { IsErrOf result LineFault.Limit ↔ 63 < length name.now }
+    ensures short { OnOk result (length name.now ≤ MAX_NAME_BYTES) }
+    ensures long { IsErrOf result LineFault.Limit ↔ MAX_NAME_BYTES < length name.now }
 {
     if MAX_NAME_BYTES < name.len() {
         return Err(LineFault::Limit);
@@ -133,8 +134,8 @@ fn small_name(alloc: Global, name: &[u8]) -> Result<SmallText, LineFault>
 fn small_text(alloc: Global, text: &[u8]) -> Result<SmallText, LineFault>
     requires { IsPlain text.now }
     ensures text { IfOk result (λ small. small ≡ text.now) }
-    ensures short { OnOk result (length text.now ≤ 255) }
-    ensures long { IsErrOf result LineFault.Limit ↔ 255 < length text.now }
+    ensures short { OnOk result (length text.now ≤ MAX_TEXT_BYTES) }
+    ensures long { IsErrOf result LineFault.Limit ↔ MAX_TEXT_BYTES < length text.now }
 {
     match SmallText::from_bytes(alloc, text) {
         Ok(small) => Ok(small),
@@ -149,7 +150,7 @@ fn text_symbol(alloc: Global, quoted: &[u8]) -> Result<Symbol, LineFault>
     ensures symbol { IfOk result (λ s. s ≡ symbol.Literal (value.Str (content quoted.now))) }
     ensures writable { IfOk result IsWritable }
     ensures short { IfOk result (λ s. ¬ (IsTooLong s)) }
-    ensures long { IsErrOf result LineFault.Limit → 255 < length (content quoted.now) }
+    ensures long { IsErrOf result LineFault.Limit → MAX_TEXT_BYTES < length (content quoted.now) }
 {
     let text = content(alloc, quoted)?;
     Ok(Symbol::Literal(Value::Str(small_text(alloc, text.as_slice())?)))

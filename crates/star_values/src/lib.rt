@@ -24,4 +24,4 @@ pub use no_memory::NoMemory;
 pub use refusal::Refusal;
 pub use row::{Row, rows_are_in_order};
 pub use small_text::{MAX_TEXT_BYTES, SmallText, TextFault, small_text_rule_is_tested};
-pub use value::{Kind, Value, equal_values_are_the_same, values_are_in_order};
+pub use value::{Kind, Value, values_are_in_order};

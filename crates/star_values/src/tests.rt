@@ -35,7 +35,7 @@ fn is_same_row(row: &Row, other: &Row) -> bool
 fn is_same_value(value: &Value, other: &Value) -> bool
     ensures { IsTrue result ↔ (value.now ≡ other.now) }
 {
-    equal_values_are_the_same();
+    values_are_in_order();
     value == other
 }
 

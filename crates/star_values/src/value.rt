@@ -74,13 +74,10 @@ impl Value {
     }
 }
 
-/// The order of values is total, and two values are equal in it exactly where they are the same.
+/// The order of values is total, and two values are equal in it, and by `==`, exactly where they are
+/// the same.
 pub fn values_are_in_order()
     ensures total { IsTotalOrder value_cmp }
     ensures same { (x y : Value) → (value_cmp x y ≡ Equal) ↔ (x ≡ y) }
-{}
-
-/// Two values are equal by `==` exactly where they are the same.
-pub fn equal_values_are_the_same()
-    ensures { (x y : Value) → IsTrue (⟦<Value as PartialEq>⟧.eq x y) ↔ (x ≡ y) }
+    ensures equal { (x y : Value) → IsTrue (⟦<Value as PartialEq>⟧.eq x y) ↔ (x ≡ y) }
 {}
