@@ -14,7 +14,9 @@ mod tests;
 pub use declare::{declare_dimension, declare_fact};
 pub use fault::DeclareFault;
 pub use find::{columns_of, find_column, find_dimension, find_table, is_table_named};
-pub use laws::{empty_schemas_are_declared, repeats_are_pairs};
+pub use laws::{
+    accepted_tables_keep_a_schema_declared, empty_schemas_are_declared, repeats_are_pairs,
+};
 pub use repeat::sorts_to_repeat;
 
 /// The most dimensions of a schema.
