@@ -1,0 +1,5 @@
+-- What the contracts of this crate, and of those above it, say of the rows of a dimension.
+pub mod Keys
+pub mod Hash
+pub mod Links
+pub mod Parts

@@ -1,0 +1,60 @@
+//! The parts that rows and their index consist of, and how one more row goes into each.
+ghost use Rattle.std.specs.Prelude.{◌≡◌, ℕ, ◌≤◌, ◌<◌, ◌+◌, [], ◌∷◌, ◌++◌, length, nat_eq, IsSome, IfSome, None, OnOk, OnErr};
+ghost use Rattle.std.specs.HashMap.{get, spare};
+ghost use Rattle.dimension_rows.specs.Keys.{key_of, index_of};
+ghost use Rattle.dimension_rows.specs.Hash.{hash_of_key};
+ghost use Rattle.dimension_rows.specs.Parts.{AreIndexed, HaveRoom};
+
+use crate::dimension_row::{DimensionRow, MAX_DIMENSION_ROWS};
+use crate::key_hash::row_hash;
+use star_lists::ListWithRoom;
+use star_values::NoMemory;
+use std::collections::HashMap;
+
+/// For each row the next older row whose key has the same hash.
+pub(crate) type OlderRows = ListWithRoom<Option<u32>>;
+
+/// For each hash of a key the newest row that has it.
+pub(crate) type NewestRows = HashMap<u64, u32>;
+
+/// Puts a row behind all others, into the room that each part has.
+pub(crate) fn push_row(
+    rows: &mut ListWithRoom<DimensionRow>,
+    older: &mut OlderRows,
+    newest: &mut NewestRows,
+    entry: DimensionRow,
+)
+    requires indexed { AreIndexed rows.old.items older.old.items (get nat_eq newest.old) }
+    requires room { HaveRoom 1 rows.old.room older.old.room (spare newest.old) }
+    requires few { length rows.old.items < MAX_DIMENSION_ROWS }
+    requires key { IsSome (key_of entry.row) }
+    requires fresh { IfSome (key_of entry.row) (λ key. index_of rows.old.items key ≡ None) }
+    ensures items { rows.new.items ≡ rows.old.items ++ entry ∷ [] }
+    ensures indexed { AreIndexed rows.new.items older.new.items (get nat_eq newest.new) }
+    ensures rows_room { rows.new.room + 1 ≡ rows.old.room }
+    ensures older_room { older.new.room + 1 ≡ older.old.room }
+    ensures newest_room { spare newest.old ≤ spare newest.new + 1 }
+{
+    let place = rows.len() as u32;
+    let inserted: Result<Option<u32>, _> = newest.insert(row_hash(&entry.row), place);
+    older.push_reserved(inserted.unwrap());
+    rows.push_reserved(entry);
+}
+
+/// Makes room for this many more rows in each part. Where that fails, what each part has stays.
+pub(crate) fn reserve_rows(
+    rows: &mut ListWithRoom<DimensionRow>,
+    older: &mut OlderRows,
+    newest: &mut NewestRows,
+    more: usize,
+) -> Result<(), NoMemory>
+    requires indexed { AreIndexed rows.old.items older.old.items (get nat_eq newest.old) }
+    ensures items { rows.new.items ≡ rows.old.items }
+    ensures indexed { AreIndexed rows.new.items older.new.items (get nat_eq newest.new) }
+    ensures enough { OnOk result (HaveRoom more rows.new.room older.new.room (spare newest.new)) }
+    ensures grows { (room : ℕ) → HaveRoom room rows.old.room older.old.room (spare newest.old) → HaveRoom room rows.new.room older.new.room (spare newest.new) }
+{
+    newest.reserve(more)?;
+    older.reserve(more)?;
+    rows.reserve(more)
+}
