@@ -10,7 +10,7 @@ use star_values::{NoMemory, Row, SmallText, Value};
 use std::alloc::Global;
 use std::test::Fail;
 
-/// A row of a key and of one value more, and none where bytes are no text.
+/// The key of these bytes, and none where they are no text.
 fn text_key(alloc: Global, bytes: &[u8]) -> Option<Value> {
     match SmallText::from_bytes(alloc, bytes) {
         Ok(text) => Some(Value::Str(text)),
@@ -32,25 +32,45 @@ fn append_new(
     Ok(true)
 }
 
-/// Appends a row for each number below the count, with its square as the key.
-fn append_squares(rows: &mut DimensionRows, alloc: Global, count: u32) -> Result<bool, NoMemory> {
+/// A key for each number.
+fn key_of_number(number: u32) -> Value {
+    Value::Int(number as i64 * 1_000_003)
+}
+
+/// Appends a row for each number below the count.
+fn append_numbers(rows: &mut DimensionRows, alloc: Global, count: u32) -> Result<bool, NoMemory> {
     let mut all = true;
-    for n in 0..count {
-        let square = n as i64 * n as i64;
-        all &= append_new(rows, alloc, Value::Int(square), n as u64)?;
+    for number in 0..count {
+        all &= append_new(rows, alloc, key_of_number(number), number as u64)?;
     }
     Ok(all)
 }
 
-/// Whether each number below the count is the place of its square.
-fn finds_squares(rows: &DimensionRows, count: u32) -> bool {
-    for n in 0..count {
-        let square = n as i64 * n as i64;
-        if rows.index_of(&Value::Int(square)) != Some(n) {
+/// Whether each number below the count is the place of its key.
+fn finds_numbers(rows: &DimensionRows, count: u32) -> bool {
+    for number in 0..count {
+        if rows.index_of(&key_of_number(number)) != Some(number) {
             return false;
         }
     }
     true
+}
+
+/// Where room for both is reserved first, either both are appended or none is.
+fn append_both(rows: &mut DimensionRows, first: Row, second: Row) -> Result<(), NoMemory>
+    requires few { length rows.old.items + 2 ≤ MAX_DIMENSION_ROWS }
+    requires keys { IsSome (key_of first) × IsSome (key_of second) }
+    requires first { IfSome (key_of first) (λ key. index_of rows.old.items key ≡ None) }
+    requires second { IfSome (key_of second) (λ key. index_of rows.old.items key ≡ None) }
+    requires differ { key_of first ≢ key_of second }
+    ensures ok { OnOk result (rows.new.items ≡ rows.old.items ++ record { row = first; commit = 1 } ∷ record { row = second; commit = 2 } ∷ []) }
+    ensures err { OnErr result (rows.new ≡ rows.old) }
+{
+    a_new_row_moves_no_other();
+    rows.reserve(2)?;
+    rows.append(first, 1)?;
+    rows.append(second, 2)?;
+    Ok(())
 }
 
 #[test]
@@ -73,13 +93,13 @@ fn rows_are_found_by_texts(rt: HostRuntime) -> Result<(), Fail> {
 #[test]
 fn rows_keep_their_values_and_commits(rt: HostRuntime) -> Result<(), Fail> {
     let mut rows = DimensionRows::new(rt.alloc());
-    assert!(rt; append_new(&mut rows, rt.alloc(), Value::Int(30), 4)?);
-    assert!(rt; append_new(&mut rows, rt.alloc(), Value::Int(20), 5)?);
-    if rows.len() == 2 {
-        assert_eq!(rt; rows.commit(0), 4);
-        assert_eq!(rt; rows.commit(1), 5);
-        assert!(rt; rows.row(1).as_slice() == [Value::Int(20), Value::Int(7)].as_slice());
-    }
+    let first = Row::from(vec![in rt.alloc(); Value::Int(30)]?);
+    let second = Row::from(vec![in rt.alloc(); Value::Int(20), Value::Int(7)]?);
+    append_both(&mut rows, first, second)?;
+    assert_eq!(rt; rows.commit(0), 1);
+    assert_eq!(rt; rows.commit(1), 2);
+    assert!(rt; rows.row(1).as_slice() == [Value::Int(20), Value::Int(7)].as_slice());
+    assert!(rt; rows.index_of(&Value::Int(20)) == Some(1));
     assert!(rt; !rows.is_empty());
     Ok(())
 }
@@ -103,8 +123,8 @@ fn keys_of_one_hash_are_told_apart(rt: HostRuntime) -> Result<(), Fail> {
 #[test]
 fn each_of_many_rows_is_found(rt: HostRuntime) -> Result<(), Fail> {
     let mut rows = DimensionRows::new(rt.alloc());
-    assert!(rt; append_squares(&mut rows, rt.alloc(), 300)?);
-    assert!(rt; finds_squares(&rows, 300));
+    assert!(rt; append_numbers(&mut rows, rt.alloc(), 300)?);
+    assert!(rt; finds_numbers(&rows, 300));
     assert!(rt; rows.index_of(&Value::Int(2)).is_none());
     assert_eq!(rt; rows.len(), 300);
     Ok(())

@@ -1,4 +1,4 @@
-use Rattle.std.proofs.Common.{◌≡◌, nat_eq}
+use Rattle.std.proofs.Common.{nat_eq}
 use Rattle.std.specs.HashMap.{get}
 use Rattle.dimension_rows.proofs.PartLemmas.{AreIndexed-append}
 use Rattle.dimension_rows.proofs.parts.push_row.Goals as goal
