@@ -1,0 +1,6 @@
+pub mod CommitLemmas
+pub mod FoundLemmas
+pub mod KeyLemmas
+pub mod LaterLemmas
+pub mod ListLemmas
+pub mod SettledLemmas

@@ -1,0 +1,62 @@
+//! What holds of histories and of queries alone.
+ghost use Rattle.std.specs.Prelude.{◌≡◌, ℕ, ◌≤◌, List, Contains, Some, count_by};
+ghost use Rattle.star_values.specs.declared.value.Value.{Value};
+ghost use Rattle.star_plan.specs.Over.{IsOver};
+ghost use Rattle.star_plan.specs.Test.{Query};
+ghost use Rattle.star_history.specs.Accepted.{Accepts, AcceptsAll};
+ghost use Rattle.star_history.specs.Alone.{alone, foreign_key, is_matched, kept, visible, visible_rows};
+ghost use Rattle.star_history.specs.History.{Change, after_change, commits_of, store_of};
+ghost use Rattle.star_history.specs.Keyed.{IsKeyed, KeyedStore, kept_by_keys, plain};
+ghost use Rattle.star_history.specs.Settled.{IsSettled};
+ghost use Rattle.star_history.specs.Store.{PlainVersion, Store, empty_store, rows_in};
+
+use dimension_rows::a_new_row_moves_no_other;
+use star_plan::rows_fit_by_their_kinds;
+use star_schema::{accepted_tables_keep_a_schema_declared, empty_schemas_are_declared};
+
+/// The commits of a history are numbered from 1, and are as many as its loads and deletes.
+pub fn commits_are_counted()
+    ensures { (history : List Change) → (store_of history).commits ≡ commits_of history }
+{}
+
+/// The tables of each history whose changes were taken one after the other are settled.
+pub fn accepted_histories_are_settled()
+    ensures all { (history : List Change) →
+        AcceptsAll empty_store history → IsSettled (store_of history) }
+    ensures next { (store : Store) (change : Change) →
+        IsSettled store → Accepts store change → IsSettled (after_change store change) }
+{
+    accepted_tables_keep_a_schema_declared();
+    empty_schemas_are_declared();
+    rows_fit_by_their_kinds();
+    a_new_row_moves_no_other();
+}
+
+/// Exactly one row of a dimension that the snapshot sees has the foreign key of a version that it sees.
+pub fn one_row_joins_a_visible_version()
+    ensures { (store : Store) (snapshot dimension : ℕ) (version : PlainVersion) (key : Value) →
+        IsSettled store → Contains (visible store snapshot) version →
+        foreign_key store.schema dimension version.row ≡ Some key →
+        count_by (is_matched snapshot key) (rows_in store.dimensions dimension) ≡ 1 }
+{}
+
+/// A change that the tables take after a snapshot changes nothing there: the same rows of the fact table
+/// are seen, a query keeps the same joined rows, and its answer alone is the same.
+pub fn later_changes_are_not_seen()
+    ensures rows { (store : Store) (change : Change) (snapshot : ℕ) →
+        Accepts store change → snapshot ≤ store.commits →
+        visible_rows (after_change store change) snapshot ≡ visible_rows store snapshot }
+    ensures kept { (store : Store) (change : Change) (query : Query) (snapshot : ℕ) →
+        IsSettled store → Accepts store change → snapshot ≤ store.commits →
+        kept (after_change store change) query snapshot ≡ kept store query snapshot }
+    ensures answer { (store : Store) (change : Change) (query : Query) (snapshot : ℕ) →
+        IsSettled store → Accepts store change → snapshot ≤ store.commits →
+        alone (after_change store change) query snapshot ≡ alone store query snapshot }
+{}
+
+/// A query keeps the same joined rows by key numbers as by keys.
+pub fn key_numbers_stand_for_keys()
+    ensures { (store : KeyedStore) (query : Query) (snapshot : ℕ) →
+        IsOver store.schema query → IsKeyed store →
+        kept_by_keys store query snapshot ≡ kept (plain store) query snapshot }
+{}

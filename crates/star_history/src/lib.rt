@@ -1,0 +1,10 @@
+//! What the tables hold after a history, and what a query alone answers over them: definitions, in
+//! `specs/`, and their laws.
+#![tactic(auto)]
+
+mod laws;
+
+pub use laws::{
+    accepted_histories_are_settled, commits_are_counted, key_numbers_stand_for_keys,
+    later_changes_are_not_seen, one_row_joins_a_visible_version,
+};
