@@ -1,0 +1,9 @@
+pub mod QueryLemmas
+pub mod LifeLemmas
+pub mod PassedLemmas
+pub mod SoundLemmas
+pub mod CallLemmas
+pub mod EndLemmas
+pub mod CutLemmas
+pub mod LawLemmas
+pub mod HolderLemmas

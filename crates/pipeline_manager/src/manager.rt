@@ -1,0 +1,207 @@
+//! Which query holds which slot, and how far it is. What becomes of them is in `life`.
+ghost use Rattle.std.specs.Prelude.{◌≡◌, ◌<◌, ◌≤◌, [], length, replicate, IfOk, OnOk, OnErr, IfSome, option_map};
+ghost use Rattle.pipeline_manager.specs.declared.life.SlotState.TheVariants.{Free};
+ghost use Rattle.pipeline_manager.specs.Lives.{life_of, oldest_waiting, free_slot, slot_at};
+ghost use Rattle.pipeline_manager.specs.Conditions.{IsNew, CanReserve, CanBuild, CanRun, CanCut, CanEnd, CanClear, CanFree, CanSpoil, CanAbandon};
+ghost use Rattle.pipeline_manager.specs.Sound.{IsSound};
+ghost use Rattle.pipeline_manager.specs.Changes.{after_submit, after_reserve, after_built, after_run, after_cut, after_end, after_cleared, after_free, after_spoil, after_abandon};
+
+use crate::life::{Life, QueryLife, SlotState};
+use crate::{queries, slots};
+use star_lists::ListOf;
+use star_values::NoMemory;
+use std::alloc::Global;
+use std::marker::Model;
+
+/// The lives of all queries that were submitted, and the states of all slots.
+///
+/// No call takes memory but `new` and `submit`.
+#[derive(Debug, Drop)]
+pub struct Manager {
+    queries: ListOf<QueryLife>,
+    slots: ListOf<SlotState>,
+    filters: u8,
+
+    /// How many queries at the front are known not to wait.
+    passed: usize,
+}
+
+impl Model for Manager {
+    ghost use Rattle.pipeline_manager.specs.Lives.{Lives};
+    ghost use Rattle.pipeline_manager.specs.Sound.{IsSound};
+    ghost use Rattle.pipeline_manager.specs.Inside.{ArePassed};
+
+    ghost Value = { Lives };
+
+    ghost view = { λ manager. record {
+      queries = manager.queries;
+      slots = manager.slots;
+      filters = manager.filters;
+    } };
+
+    ghost invariant = { λ manager.
+        IsSound (record { queries = manager.queries; slots = manager.slots; filters = manager.filters })
+        × ArePassed manager.passed manager.queries };
+}
+
+impl Manager {
+    /// No queries, and 1 to 64 slots, all Free. Bit j of `filters` says that dimension j is a filter.
+    pub fn new(alloc: Global, slots: u32, filters: u8) -> Result<Manager, NoMemory>
+        requires some { 1 ≤ slots }
+        requires few { slots ≤ 64 }
+        ensures { IfOk result (λ manager. manager ≡ record {
+          queries = [];
+          slots = replicate slots Free;
+          filters = filters;
+        }) }
+    {
+        Ok(Manager {
+            queries: ListOf::new(alloc),
+            slots: ListOf::from(vec![in alloc; SlotState::Free; slots as usize]?),
+            filters,
+            passed: 0,
+        })
+    }
+
+    /// Puts a query behind all others. It waits. Its number is greater than theirs.
+    pub fn submit(&mut self, query: u64, extent: u32) -> Result<(), NoMemory>
+        requires { IsNew query self.old }
+        ensures ok { OnOk result (self.new ≡ after_submit query extent self.old) }
+        ensures err { OnErr result (self.new ≡ self.old) }
+    {
+        self.queries.push(QueryLife {
+            query,
+            extent,
+            life: Life::Waiting,
+        })?;
+        Ok(())
+    }
+
+    /// The number of the query that waits the longest, or `None` where none waits.
+    pub fn oldest_waiting(&self) -> Option<u64>
+        ensures oldest { result ≡ oldest_waiting self.now }
+        ensures sound { IsSound self.now }
+    {
+        let place = queries::first_waiting(self.queries.as_slice(), self.passed);
+        Some(self.queries.as_slice().get(place)?.query)
+    }
+
+    /// The least slot that is Free, or `None` where none is.
+    pub fn free_slot(&self) -> Option<u32>
+        ensures least { result ≡ free_slot self.now }
+        ensures within { IfSome result (λ slot. slot < length self.now.slots) }
+        ensures is_free { IfSome result (λ slot. slot_at self.now slot ≡ Free) }
+        ensures sound { IsSound self.now }
+    {
+        Some(slots::first_free(self.slots.as_slice())? as u32)
+    }
+
+    /// The life of a query, or `None` where none with this number was submitted.
+    pub fn life(&self, query: u64) -> Option<Life>
+        ensures life { result ≡ life_of self.now query }
+        ensures sound { IsSound self.now }
+    {
+        Some(queries::find_query(self.queries.as_slice(), query)?.life)
+    }
+
+    pub fn slot(&self, slot: u32) -> SlotState
+        requires { slot < length self.now.slots }
+        ensures state { result ≡ slot_at self.now slot }
+        ensures sound { IsSound self.now }
+    {
+        self.slots.as_slice()[slot as usize]
+    }
+
+    /// Gives a Free slot to the query that waits the longest. Nothing is built for it yet.
+    pub fn reserve(&mut self, slot: u32)
+        requires within { slot < length self.old.slots }
+        requires can { CanReserve slot self.old }
+        ensures { self.new ≡ after_reserve slot self.old }
+    {
+        if let Some(query) = self.oldest_waiting() {
+            queries::set_life(&mut self.queries, query, Life::Building);
+            let held = SlotState::Held { query, built: 0 };
+            slots::set_slot(&mut self.slots, slot as usize, held);
+            self.passed = queries::first_waiting(self.queries.as_slice(), self.passed);
+        }
+    }
+
+    /// Notes that a filter's dimension is built for a query.
+    pub fn built(&mut self, query: u64, dimension: u8)
+        requires range { dimension < 8 }
+        requires can { CanBuild query dimension self.old }
+        ensures { self.new ≡ after_built query dimension self.old }
+    {
+        if let Some(slot) = slots::first_held(self.slots.as_slice(), query) {
+            let state = slots::with_dimension(self.slots.as_slice()[slot], dimension);
+            slots::set_slot(&mut self.slots, slot, state);
+        }
+    }
+
+    /// Notes that the scan gives a query rows from the position `start` on.
+    pub fn run(&mut self, query: u64, start: u32)
+        requires { CanRun query self.old }
+        ensures { self.new ≡ after_run query start self.old }
+    {
+        let extent = queries::extent_of(self.queries.as_slice(), query);
+        queries::set_life(&mut self.queries, query, queries::started(start, extent));
+    }
+
+    /// Notes that the scan has given all Running queries the positions from `first` to `last`, both
+    /// included.
+    pub fn cut(&mut self, first: u32, last: u32)
+        requires { CanCut first last self.old }
+        ensures { self.new ≡ after_cut first last self.old }
+    {
+        queries::cut_holders(&mut self.queries, self.slots.as_slice(), first, last);
+    }
+
+    /// Takes a slot from its holder, which is Ending, Spoiled or Abandoned. What is Ending is Answered.
+    pub fn end(&mut self, slot: u32)
+        requires within { slot < length self.old.slots }
+        requires can { CanEnd slot self.old }
+        ensures { self.new ≡ after_end slot self.old }
+    {
+        if let SlotState::Held { query, built } = self.slots.as_slice()[slot as usize] {
+            queries::answer(&mut self.queries, query);
+            slots::set_slot(&mut self.slots, slot as usize, SlotState::Clearing(built));
+        }
+    }
+
+    /// Notes that a dimension is cleared of a slot.
+    pub fn cleared(&mut self, slot: u32, dimension: u8)
+        requires within { slot < length self.old.slots }
+        requires range { dimension < 8 }
+        requires can { CanClear slot dimension self.old }
+        ensures { self.new ≡ after_cleared slot dimension self.old }
+    {
+        let state = slots::without_dimension(self.slots.as_slice()[slot as usize], dimension);
+        slots::set_slot(&mut self.slots, slot as usize, state);
+    }
+
+    /// Makes a slot Free of which everything is cleared.
+    pub fn free(&mut self, slot: u32)
+        requires within { slot < length self.old.slots }
+        requires can { CanFree slot self.old }
+        ensures { self.new ≡ after_free slot self.old }
+    {
+        slots::set_slot(&mut self.slots, slot as usize, SlotState::Free);
+    }
+
+    /// Notes that a query has no answer. It keeps its slot.
+    pub fn spoil(&mut self, query: u64)
+        requires { CanSpoil query self.old }
+        ensures { self.new ≡ after_spoil query self.old }
+    {
+        queries::set_life(&mut self.queries, query, Life::Spoiled);
+    }
+
+    /// Notes that nobody wants a query's answer. If it has a slot, it keeps it.
+    pub fn abandon(&mut self, query: u64)
+        requires { CanAbandon query self.old }
+        ensures { self.new ≡ after_abandon query self.old }
+    {
+        queries::set_life(&mut self.queries, query, Life::Abandoned);
+        self.passed = queries::first_waiting(self.queries.as_slice(), self.passed);
+    }
+}
