@@ -27,7 +27,7 @@ use Rattle.star_history.specs.Alone.{foreign_key, is_matched, joined, joined_row
 use Rattle.star_history.specs.Keyed.{HasKeyNumbers, IsKeyed, KeyedStore, joined_by_keys, kept_by_keys, key_number, plain, plain_version, row_at_key}
 use Rattle.star_history.specs.Settled.{IsMatched, IsPlaceOf, IsSettled}
 use Rattle.star_history.specs.Store.{PlainVersion, Store, rows_in}
-use Rattle.star_history.proofs.SettledLemmas.{keyed_in}
+use Rattle.star_history.proofs.LoadedLemmas.{keyed_in}
 use Rattle.star_history.proofs.FoundLemmas.{both_true, find_narrower, find_position, one_passes, position_there, second_true, slice_get_at}
 
 abbrev no_row : DimensionRow

@@ -3,4 +3,5 @@ pub mod FoundLemmas
 pub mod KeyLemmas
 pub mod LaterLemmas
 pub mod ListLemmas
+pub mod LoadedLemmas
 pub mod SettledLemmas
