@@ -8,5 +8,5 @@ mod rows;
 mod tests;
 
 pub use bits::Bits;
-pub use laws::{least_numbers_are_the_members, sets_are_their_members};
+pub use laws::{least_numbers_are_the_members, numbers_go_in_and_out, sets_are_their_members};
 pub use rows::and_all;

@@ -1,5 +1,8 @@
-//! Sets of one word and of four at the ends of their words, and that they may be shared by threads.
-use crate::{Bits, and_all};
+//! Sets of one word and of four at the ends of their words, that they may be shared by threads, and that
+//! the laws may be called.
+use crate::{
+    Bits, and_all, least_numbers_are_the_members, numbers_go_in_and_out, sets_are_their_members,
+};
 use std::test::Fail;
 
 fn is_shared<T: Copy + Eq + Send + Sync>(_value: &T) {}
@@ -54,4 +57,11 @@ fn rows_keep_what_the_vector_has(rt: HostRuntime) -> Result<(), Fail> {
     and_all(&mut rows, &vector);
     assert_eq!(rt; rows.as_slice(), [2, 0, 2].as_slice());
     Ok(())
+}
+
+#[test]
+fn the_laws_hold(_rt: HostRuntime) {
+    sets_are_their_members();
+    numbers_go_in_and_out();
+    least_numbers_are_the_members();
 }

@@ -1,13 +1,13 @@
 -- Each call keeps what holds of all lives and slots.
-use Rattle.std.proofs.Common.{◌≡◌, ℕ, zero, suc, ◌<◌, ◌≤◌, ◌+◌, Bool, true, false, cond, eqb, eq-eqb, [], ◌∷◌, ◌++◌, length, get_or, set, replicate, Option, Some, None, option_map, refl, ap, sym, ◌∙◌, arith, subst, ⊎_elim}
+use Rattle.std.proofs.Common.{◌≡◌, ◌≢◌, ℕ, zero, suc, ◌<◌, ◌≤◌, ◌+◌, ◌^◌, ◌↔◌, ◌⊎◌, Bool, true, false, cond, eqb, eq-eqb, [], ◌∷◌, ◌++◌, length, get_or, set, replicate, Option, Some, None, option_map, refl, ap, sym, ◌∙◌, arith, subst, ⊎_elim}
 use Rattle.std.specs.Option.{option_map_or}
 use Rattle.std.proofs.lemmas.Bool.{eqb-true, eqb-false}
+use Rattle.std.proofs.lemmas.Nat.Bits.{bit_at-zero}
 use Rattle.std.proofs.lemmas.List.{length-set, length-replicate}
 use Rattle.std.proofs.lemmas.List.Elements.{All-set, All-push, All-map, All-weaker, All-replicate, All-nil}
 use Rattle.std.proofs.lemmas.List.Sums.{sum_by-cons}
 use Rattle.std.proofs.lemmas.List.Quantifiers.{all_pairs_push}
-use Rattle.bit_words.specs.Sets.{Has}
-use Rattle.bit_words.proofs.SetLemmas.{Has-with, Has-less, none_in_zero}
+use Rattle.bit_words.specs.Sets.{Has, with_number, without}
 use Rattle.pipeline_manager.specs.declared.life.Life.TheVariants.{Waiting, Building, Spoiled, Abandoned}
 use Rattle.pipeline_manager.specs.declared.life.SlotState.{SlotState}
 use Rattle.pipeline_manager.specs.declared.life.SlotState.TheVariants.{Free, Held, Clearing}
@@ -94,7 +94,7 @@ sound-reserved slot query lives within is_free oldest sound =
       held = λ other. by_number other (eqb query other) refl;
       left = left-with_life lives.queries query Building sound.rising (λ entry found. tt) sound.left;
       of_filters = All-set (IsOfFilters lives.filters) lives.slots slot (Held query 0)
-          (λ dimension has. absurd (none_in_zero 0 dimension refl has)) sound.of_filters;
+          (λ dimension has. let none = bit_at-zero dimension in absurd (omega arith)) sound.of_filters;
     }
   where
     waits : life_in lives.queries query ≡ Some Waiting
@@ -124,6 +124,14 @@ sound-reserved slot query lives within is_free oldest sound =
         (sym (life_in-other lives.queries query other Building (λ same. eqb-false query other (sym e) (sym same))))
         (subst (FitsSlots (life_in lives.queries other)) equal (sound.held other))
 
+-- what the law of sets says of a number that is put in
+abbrev pub PutIn : Type 0
+PutIn = (set i j : ℕ) → Has (with_number set i) j ↔ ((Has set j) ⊎ (j ≡ i))
+
+-- and of one that is taken out
+abbrev pub TakenOut : Type 0
+TakenOut = (set i j : ℕ) → Has (without set (2 ^ i)) j ↔ (Has set j × (j ≢ i))
+
 -- `built`: the holder stays, and the bit is that of a filter
 pub holder-with_dimension : (dimension : ℕ) (state : SlotState) (query : ℕ)
     → is_held_by query (with_dimension dimension state) ≡ is_held_by query state
@@ -131,12 +139,12 @@ holder-with_dimension dimension Free query = refl
 holder-with_dimension dimension (Held holder built) query = refl
 holder-with_dimension dimension (Clearing left) query = refl
 
-pub filters-with_dimension : (filters dimension : ℕ) (state : SlotState) → Has filters dimension → IsOfFilters filters state
-    → IsOfFilters filters (with_dimension dimension state)
-filters-with_dimension filters dimension Free is_filter kept = tt
-filters-with_dimension filters dimension (Held query built) is_filter kept = λ other has.
-    ⊎_elim (kept other) (λ same. subst (Has filters) (sym same) is_filter) ((Has-with built dimension other).0 has)
-filters-with_dimension filters dimension (Clearing left) is_filter kept = kept
+pub filters-with_dimension : PutIn → (filters dimension : ℕ) (state : SlotState) → Has filters dimension
+    → IsOfFilters filters state → IsOfFilters filters (with_dimension dimension state)
+filters-with_dimension put_in filters dimension Free is_filter kept = tt
+filters-with_dimension put_in filters dimension (Held query built) is_filter kept = λ other has.
+    ⊎_elim (kept other) (λ same. subst (Has filters) (sym same) is_filter) ((put_in built dimension other).0 has)
+filters-with_dimension put_in filters dimension (Clearing left) is_filter kept = kept
 
 -- `cleared`: the holder stays, and no bit comes
 pub holder-without_dimension : (dimension : ℕ) (state : SlotState) (query : ℕ)
@@ -145,11 +153,12 @@ holder-without_dimension dimension Free query = refl
 holder-without_dimension dimension (Held holder built) query = refl
 holder-without_dimension dimension (Clearing left) query = refl
 
-pub filters-without_dimension : (filters dimension : ℕ) (state : SlotState) → IsOfFilters filters state
+pub filters-without_dimension : TakenOut → (filters dimension : ℕ) (state : SlotState) → IsOfFilters filters state
     → IsOfFilters filters (without_dimension dimension state)
-filters-without_dimension filters dimension Free kept = tt
-filters-without_dimension filters dimension (Held query built) kept = kept
-filters-without_dimension filters dimension (Clearing left) kept = λ other has. kept other ((Has-less left dimension other).0 has).0
+filters-without_dimension taken_out filters dimension Free kept = tt
+filters-without_dimension taken_out filters dimension (Held query built) kept = kept
+filters-without_dimension taken_out filters dimension (Clearing left) kept = λ other has.
+    kept other ((taken_out left dimension other).0 has).0
 
 -- `run`
 pub sound-after_run : (query start : ℕ) (lives : Lives) → life_in lives.queries query ≡ Some Building → IsSound lives

@@ -9,7 +9,7 @@ use Rattle.pipeline_manager.specs.Changes.{with_dimension, without_dimension, gi
 use Rattle.pipeline_manager.specs.Conditions.{CanReserve, CanBuild, CanEnd, CanFree, IsOver}
 use Rattle.pipeline_manager.specs.Sound.{IsSound, IsOfFilters}
 use Rattle.pipeline_manager.proofs.SoundLemmas.{sound-with_slot}
-use Rattle.pipeline_manager.proofs.CallLemmas.{sound-reserved, holder-with_dimension, filters-with_dimension, holder-without_dimension, filters-without_dimension}
+use Rattle.pipeline_manager.proofs.CallLemmas.{PutIn, TakenOut, sound-reserved, holder-with_dimension, filters-with_dimension, holder-without_dimension, filters-without_dimension}
 use Rattle.pipeline_manager.proofs.EndLemmas.{sound-ended}
 
 -- the bits of a slot are those of filters
@@ -24,9 +24,9 @@ sound-after_reserve slot lives within can sound = by_oldest (oldest_waiting live
     by_oldest None e = rw (sym e) sound
     by_oldest (Some query) e = rw (sym e) (sound-reserved slot query lives within can.is_free (sym e) sound)
 
-pub sound-after_built : (query dimension : ℕ) (lives : Lives) → CanBuild query dimension lives → IsSound lives
+pub sound-after_built : PutIn → (query dimension : ℕ) (lives : Lives) → CanBuild query dimension lives → IsSound lives
     → IsSound (after_built query dimension lives)
-sound-after_built query dimension lives can sound = by_slot (slot_of lives query) refl
+sound-after_built put_in query dimension lives can sound = by_slot (slot_of lives query) refl
   where
     by_slot : (slot : Option ℕ) → slot ≡ slot_of lives query → IsSound (after_built query dimension lives)
     by_slot None e = rw (sym e) sound
@@ -34,7 +34,7 @@ sound-after_built query dimension lives can sound = by_slot (slot_of lives query
         let within : slot < length lives.slots = (position-Some (is_held_by query) lives.slots slot Free (sym e)).0 in
         rw (sym e)
         (sound-with_slot slot (with_dimension dimension (slot_at lives slot)) lives within (holder-with_dimension dimension (slot_at lives slot))
-        (filters-with_dimension lives.filters dimension (slot_at lives slot) can.filters (bits-at slot lives within sound)) sound)
+        (filters-with_dimension put_in lives.filters dimension (slot_at lives slot) can.filters (bits-at slot lives within sound)) sound)
 
 pub sound-after_end : (slot : ℕ) (lives : Lives) → slot < length lives.slots → CanEnd slot lives → IsSound lives
     → IsSound (after_end slot lives)
@@ -45,11 +45,11 @@ sound-after_end slot lives within can sound = by_state (slot_at lives slot) refl
     by_state (Held query built) e over = sound-ended slot query built lives within (sym e) over sound
     by_state (Clearing left) e over = absurd over
 
-pub sound-after_cleared : (slot dimension : ℕ) (lives : Lives) → slot < length lives.slots → IsSound lives
+pub sound-after_cleared : TakenOut → (slot dimension : ℕ) (lives : Lives) → slot < length lives.slots → IsSound lives
     → IsSound (after_cleared slot dimension lives)
-sound-after_cleared slot dimension lives within sound =
+sound-after_cleared taken_out slot dimension lives within sound =
     sound-with_slot slot (without_dimension dimension (slot_at lives slot)) lives within (holder-without_dimension dimension (slot_at lives slot))
-    (filters-without_dimension lives.filters dimension (slot_at lives slot) (bits-at slot lives within sound)) sound
+    (filters-without_dimension taken_out lives.filters dimension (slot_at lives slot) (bits-at slot lives within sound)) sound
 
 pub sound-after_free : (slot : ℕ) (lives : Lives) → slot < length lives.slots → CanFree slot lives → IsSound lives
     → IsSound (after_free slot lives)

@@ -9,6 +9,8 @@ ghost use Rattle.pipeline_manager.specs.Conditions.{IsNew, CanReserve, CanBuild,
 ghost use Rattle.pipeline_manager.specs.Changes.{with_life, with_slot, covered, cut_life, after_submit, after_reserve, after_built, after_run, after_cut, after_end, after_cleared, after_free, after_spoil, after_abandon};
 ghost use Rattle.pipeline_manager.specs.Sound.{IsSound};
 
+use bit_words::numbers_go_in_and_out;
+
 /// Each call that takes or reads a slot keeps what holds of all lives and slots.
 pub fn calls_on_slots_keep_lives_sound()
     ensures reserve { (slot : ℕ) (lives : Lives) → slot < length lives.slots → CanReserve slot lives →
@@ -21,7 +23,9 @@ pub fn calls_on_slots_keep_lives_sound()
         CanClear slot dimension lives → IsSound lives → IsSound (after_cleared slot dimension lives) }
     ensures free { (slot : ℕ) (lives : Lives) → slot < length lives.slots → CanFree slot lives →
         IsSound lives → IsSound (after_free slot lives) }
-{}
+{
+    numbers_go_in_and_out();
+}
 
 /// Each call that changes lives alone keeps what holds of all lives and slots.
 pub fn calls_on_queries_keep_lives_sound()

@@ -8,6 +8,7 @@ ghost use Rattle.pipeline_manager.specs.Changes.{after_submit, after_reserve, af
 
 use crate::life::{Life, QueryLife, SlotState};
 use crate::{queries, slots};
+use bit_words::numbers_go_in_and_out;
 use star_lists::ListOf;
 use star_values::NoMemory;
 use std::alloc::Global;
@@ -132,6 +133,7 @@ impl Manager {
         requires can { CanBuild query dimension self.old }
         ensures { self.new ≡ after_built query dimension self.old }
     {
+        numbers_go_in_and_out();
         if let Some(slot) = slots::first_held(self.slots.as_slice(), query) {
             let state = slots::with_dimension(self.slots.as_slice()[slot], dimension);
             slots::set_slot(&mut self.slots, slot, state);
@@ -175,6 +177,7 @@ impl Manager {
         requires can { CanClear slot dimension self.old }
         ensures { self.new ≡ after_cleared slot dimension self.old }
     {
+        numbers_go_in_and_out();
         let state = slots::without_dimension(self.slots.as_slice()[slot as usize], dimension);
         slots::set_slot(&mut self.slots, slot as usize, state);
     }

@@ -19,7 +19,7 @@ invariant_of-self c =
     ∙ ap (λ slots. with_dimension c.args.dimension (get_or slots slot Free)) c.as_slice-in-Some.ensures in
     rw (c.set_slot.ensures, same) (
       sound-with_slot slot (with_dimension c.args.dimension state) _ within (holder-with_dimension c.args.dimension state)
-          (filters-with_dimension c.self.inside.filters c.args.dimension state is_filter
+          (filters-with_dimension c.numbers_go_in_and_out.ensures.put_in c.self.inside.filters c.args.dimension state is_filter
           (All-get_or (IsOfFilters c.self.inside.filters) c.self.inside.slots slot Free within c.self.invariant.0.of_filters))
           c.self.invariant.0,
       c.self.invariant.1,

@@ -16,7 +16,7 @@ invariant_of-self c =
     ∙ ap (λ slots. without_dimension c.args.dimension (get_or slots c.args.slot Free)) c.as_slice.ensures in
     rw (c.set_slot.ensures, same) (
       sound-with_slot c.args.slot (without_dimension c.args.dimension state) _ within (holder-without_dimension c.args.dimension state)
-          (filters-without_dimension c.self.inside.filters c.args.dimension state
+          (filters-without_dimension c.numbers_go_in_and_out.ensures.taken_out c.self.inside.filters c.args.dimension state
           (All-get_or (IsOfFilters c.self.inside.filters) c.self.inside.slots c.args.slot Free within c.self.invariant.0.of_filters))
           c.self.invariant.0,
       c.self.invariant.1,
