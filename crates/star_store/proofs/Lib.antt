@@ -1,0 +1,11 @@
+pub mod AppendLemmas
+pub mod ChangeLemmas
+pub mod CommitLemmas
+pub mod EndLemmas
+pub mod KeyNumberLemmas
+pub mod KeyTestLemmas
+pub mod LoadLemmas
+pub mod RowLemmas
+pub mod SoundLemmas
+pub mod TakenLemmas
+pub mod VersionLemmas

@@ -1,0 +1,17 @@
+-- The words of a fault.
+use Rattle.std.specs.Prelude.{ℕ, List, codes}
+use Rattle.star_values.specs.Refusal.{words_of}
+use Rattle.star_schema.specs.declared.fault.DeclareFault.{DeclareFault}
+use Rattle.star_schema.specs.declared.fault.DeclareFault.TheVariants as declared
+use Rattle.star_store.specs.declared.fault.StoreFault.{StoreFault}
+use Rattle.star_store.specs.declared.fault.StoreFault.TheVariants.{Refused, Memory}
+
+-- what is printed of a fault
+abbrev pub words_of_fault : StoreFault → List ℕ
+words_of_fault (Refused reason) = words_of reason
+words_of_fault Memory = codes "out of memory"
+
+-- the fault of a declaration, as one of the tables
+abbrev pub fault_of : DeclareFault → StoreFault
+fault_of (declared.Refused reason) = Refused reason
+fault_of declared.Memory = Memory

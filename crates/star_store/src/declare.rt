@@ -1,0 +1,46 @@
+//! Declarations: a table more, and for a dimension the list of its rows.
+ghost use Rattle.std.specs.Prelude.{◌≡◌, ◌<◌, List, [], ◌∷◌, ◌++◌, length, IsOkAnd, IfErr, OnOk, OnErr};
+ghost use Rattle.star_schema.specs.Declaration.{declared_dimension};
+ghost use Rattle.star_schema.specs.Limits.{with_dimension};
+ghost use Rattle.star_schema.specs.Schemas.{IsDeclared, ReferencesNothing};
+ghost use Rattle.star_store.specs.Kept.{Tells, rows_of_all};
+
+use crate::fault::StoreFault;
+use dimension_rows::{DimensionRows, Dims};
+use star_lists::ListOf;
+use star_plan::{Schema, TableDef};
+use star_schema::declare_dimension;
+use std::alloc::Global;
+use std::mem;
+
+/// Adds a dimension, with no rows yet.
+pub(crate) fn add_dimension(
+    alloc: Global,
+    schema: &mut Schema,
+    dims: &mut Dims,
+    table: TableDef,
+) -> Result<(), StoreFault>
+    requires declared { IsDeclared schema.old }
+    requires columns { 0 < length table.columns }
+    requires plain { ReferencesNothing table }
+    ensures schema { OnOk result (IsOkAnd (declared_dimension schema.old table) (λ declared. schema.new ≡ with_dimension schema.old declared)) }
+    ensures rows { OnOk result (rows_of_all dims.new ≡ rows_of_all dims.old ++ [] ∷ []) }
+    ensures tells { IfErr result (Tells (declared_dimension schema.old table)) }
+    ensures err { OnErr result ((schema.new ≡ schema.old) × (dims.new ≡ dims.old)) }
+{
+    declare_dimension(schema, table)?;
+    let pushed = dims.push(DimensionRows::new(alloc));
+    if pushed.is_err() {
+        drop_last(alloc, &mut schema.dimensions);
+    }
+    Ok(pushed?)
+}
+
+/// Takes the last member of a list away.
+fn drop_last<T: Drop>(alloc: Global, list: &mut ListOf<T>)
+    ensures { (front : List T) (last : T) → list.old ≡ front ++ last ∷ [] → list.new ≡ front }
+{
+    let mut members = mem::replace(list, ListOf::new(alloc)).into_vec();
+    let _last = members.pop();
+    *list = ListOf::from(members);
+}

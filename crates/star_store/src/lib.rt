@@ -1,0 +1,22 @@
+//! The tables of a star schema as they are kept, and the statements that change them.
+#![tactic(auto)]
+
+mod crossing;
+mod declare;
+mod delete;
+mod done;
+mod ends;
+mod fault;
+mod laws;
+mod load;
+mod rows;
+mod store;
+#[cfg(test)]
+mod tests;
+mod versions;
+
+pub use crossing::{store_may_be_sent, store_may_be_shared};
+pub use done::Done;
+pub use fault::StoreFault;
+pub use laws::changes_of_statements_are_taken;
+pub use store::Store;

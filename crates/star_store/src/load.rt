@@ -1,0 +1,284 @@
+//! Loads: the checks of a block, in their order, and the rows that it adds.
+ghost use Rattle.std.specs.Prelude.{◌≡◌, ◌⊎◌, ℕ, ◌+◌, ◌^◌, ◌<◌, List, ◌≤◌, ◌++◌, false, not, nat_lt, All, IsSome, Some, None, Ok, IfOk, IfErr, IfSome, IsErrOf, OnOk, OnErr, length, map};
+ghost use Rattle.star_values.specs.declared.refusal.Refusal.TheVariants.{BadRecord};
+ghost use Rattle.star_lists.specs.Roomy.{Roomy};
+ghost use Rattle.star_plan.specs.Columns.{kinds_of};
+ghost use Rattle.star_plan.specs.Row.{kinds_in};
+ghost use Rattle.star_plan.specs.declared.table.Table.TheVariants.{Fact, Dimension};
+ghost use Rattle.star_schema.specs.Named.{table_named};
+ghost use Rattle.star_schema.specs.Schemas.{IsDeclared};
+ghost use Rattle.fact_versions.specs.declared.version.Version.{Version};
+ghost use Rattle.dimension_rows.specs.declared.dimension_row.DimensionRow.{DimensionRow};
+ghost use Rattle.dimension_rows.specs.Keys.{key_of};
+ghost use Rattle.csv_load.specs.Records.{records_in};
+ghost use Rattle.csv_load.specs.Rows.{typed_rows};
+ghost use Rattle.star_history.specs.History.{Loaded, grown_at, rows_by, versions_by};
+ghost use Rattle.star_history.specs.Keyed.{HasKeyNumbers, IsKeyed, plain, plain_version};
+ghost use Rattle.star_history.specs.Store.{rows_in};
+ghost use Rattle.star_store.specs.Done.{Commits};
+ghost use Rattle.star_store.specs.Kept.{AreSound, Tells, rows_of_all, tables_of};
+ghost use Rattle.star_store.specs.Loads.{load_change, loaded_records, repeats_a_key};
+ghost use Rattle.star_store.specs.declared.done.Done.{Done};
+ghost use Rattle.star_store.specs.declared.fault.StoreFault.TheVariants.{Refused, Memory};
+
+use crate::done::Done;
+use crate::fault::StoreFault;
+use crate::rows::{append_rows, kinds_of, repeats_a_key};
+use crate::versions::{append_versions, versions_of};
+use csv_load::{BlockFault, LoadRows, count_records, each_record_is_a_row, read_block};
+use dimension_rows::{DimensionRows, Dims, MAX_DIMENSION_ROWS, a_new_row_moves_no_other};
+use fact_versions::{FactVersions, MAX_VERSIONS, Version};
+use star_plan::{ColumnDef, Schema, Table, rows_fit_by_their_kinds};
+use star_schema::{columns_of, find_table};
+use star_values::{NoMemory, Refusal, SmallText};
+use std::alloc::Global;
+
+/// The rows of a block for a table with these columns, where each of its records is one.
+fn read_rows(
+    alloc: Global,
+    columns: &[ColumnDef],
+    header: bool,
+    block: &[u8],
+) -> Result<Option<LoadRows>, NoMemory>
+    ensures rows { IfOk result (λ rows. rows ≡ typed_rows (kinds_of columns.now) (records_in header block.now)) }
+    ensures kinds { IfOk result (λ rows. IfSome rows (All (λ row. kinds_in row ≡ kinds_of columns.now))) }
+{
+    let kinds = kinds_of(alloc, columns)?;
+    match read_block(alloc, block, header, kinds.as_slice()) {
+        Ok(rows) => Ok(Some(rows)),
+        Err(BlockFault::BadRecord) => Ok(None),
+        Err(BlockFault::Memory) => Err(NoMemory),
+    }
+}
+
+/// Whether a table with so many rows has room for the records of a block.
+fn has_room(
+    alloc: Global,
+    count: u32,
+    most: usize,
+    header: bool,
+    block: &[u8],
+) -> Result<bool, NoMemory>
+    requires { count ≤ most }
+    ensures { IfOk result (λ has. has ≡ not (nat_lt most (count + length (records_in header block.now)))) }
+{
+    let more = count_records(alloc, block, header)?;
+    Ok(more <= (most - count as usize) as u64)
+}
+
+/// The rows that a block adds to a dimension, by the checks in their order.
+fn checked_rows(
+    alloc: Global,
+    schema: &Schema,
+    dims: &Dims,
+    number: u8,
+    header: bool,
+    block: &[u8],
+) -> Result<LoadRows, StoreFault>
+    requires declared { IsDeclared schema.now }
+    requires there { number < length schema.now.dimensions }
+    requires count { length dims.now ≡ length schema.now.dimensions }
+    ensures rows { (facts : Roomy Version) (commits : ℕ) → IfOk result (λ rows.
+        loaded_records (plain (tables_of schema.now dims.now facts commits)) (Dimension number) (records_in header block.now)
+        ≡ Ok (Loaded (Dimension number) rows)) }
+    ensures keys { IfOk result (All (λ row. IsSome (key_of row))) }
+    ensures fresh { IfOk result (λ rows. repeats_a_key (rows_in (rows_of_all dims.now) number) rows ≡ false) }
+    ensures few { IfOk result (λ rows. length (rows_in (rows_of_all dims.now) number) + length rows ≤ MAX_DIMENSION_ROWS) }
+    ensures tells { (facts : Roomy Version) (commits : ℕ) → IfErr result (Tells
+        (loaded_records (plain (tables_of schema.now dims.now facts commits)) (Dimension number) (records_in header block.now))) }
+{
+    each_record_is_a_row();
+    let dimension = &dims.as_slice()[number as usize];
+    if !has_room(alloc, dimension.len(), MAX_DIMENSION_ROWS, header, block)? {
+        return Err(StoreFault::Refused(Refusal::Limit));
+    }
+    let columns = columns_of(schema, Table::Dimension(number));
+    let Some(rows) = read_rows(alloc, columns, header, block)? else {
+        return Err(StoreFault::Refused(Refusal::BadRecord));
+    };
+    if repeats_a_key(alloc, dimension, rows.as_slice())? {
+        return Err(StoreFault::Refused(Refusal::DuplicateKey));
+    }
+    Ok(rows)
+}
+
+/// Loads rows into a dimension, as the next commit.
+fn commit_rows(
+    dims: &mut Dims,
+    number: u8,
+    rows: LoadRows,
+    commits: &mut u64,
+) -> Result<Done, NoMemory>
+    requires there { number < length dims.old }
+    requires few { length (rows_in (rows_of_all dims.old) number) + length rows ≤ MAX_DIMENSION_ROWS }
+    requires keys { All (λ row. IsSome (key_of row)) rows }
+    requires fresh { repeats_a_key (rows_in (rows_of_all dims.old) number) rows ≡ false }
+    ensures rows { OnOk result (rows_of_all dims.new ≡ grown_at number (rows_by (commits.old + 1) rows) (rows_of_all dims.old)) }
+    ensures commits { OnOk result (commits.new ≡ commits.old + 1) }
+    ensures done { IfOk result (λ done. done ≡ record { commit = commits.old + 1; rows = length rows }) }
+    ensures err { OnErr result ((rows_of_all dims.new ≡ rows_of_all dims.old) × (commits.new ≡ commits.old)) }
+{
+    let count = rows.len() as u64;
+    let Some(commit) = commits.checked_add(1) else {
+        return Err(NoMemory);
+    };
+    grow(&mut dims.as_mut_slice()[number as usize], rows, commit)?;
+    *commits = commit;
+    Ok(Done {
+        commit,
+        rows: count,
+    })
+}
+
+/// Loads the rows of a block into a dimension.
+fn load_dimension(
+    alloc: Global,
+    schema: &Schema,
+    dims: &mut Dims,
+    commits: &mut u64,
+    number: u8,
+    header: bool,
+    block: &[u8],
+) -> Result<Done, StoreFault>
+    requires declared { IsDeclared schema.now }
+    requires there { number < length schema.now.dimensions }
+    requires count { length dims.old ≡ length schema.now.dimensions }
+    ensures commits { (facts : Roomy Version) → Commits
+        (loaded_records (plain (tables_of schema.now dims.old facts commits.old)) (Dimension number) (records_in header block.now))
+        (tables_of schema.now dims.old facts commits.old) (tables_of schema.now dims.new facts commits.new) result }
+    ensures grown { OnOk result ((more : List DimensionRow) × (rows_of_all dims.new ≡ grown_at number more (rows_of_all dims.old))) }
+{
+    let rows = checked_rows(alloc, schema, dims, number, header, block)?;
+    Ok(commit_rows(dims, number, rows, commits)?)
+}
+
+/// Appends rows that a commit loads to a dimension. All room is made before the first row goes in.
+fn grow(dimension: &mut DimensionRows, rows: LoadRows, commit: u64) -> Result<(), NoMemory>
+    requires few { length dimension.old.items + length rows ≤ MAX_DIMENSION_ROWS }
+    requires keys { All (λ row. IsSome (key_of row)) rows }
+    requires fresh { repeats_a_key dimension.old.items rows ≡ false }
+    ensures ok { OnOk result (dimension.new.items ≡ dimension.old.items ++ rows_by commit rows) }
+    ensures err { OnErr result (dimension.new.items ≡ dimension.old.items) }
+{
+    dimension.reserve(rows.len())?;
+    append_rows(dimension, rows, commit);
+    Ok(())
+}
+
+/// The versions that a block adds to the fact table, by the checks in their order.
+fn checked_versions(
+    alloc: Global,
+    schema: &Schema,
+    dims: &Dims,
+    facts: &FactVersions,
+    commit: u64,
+    header: bool,
+    block: &[u8],
+) -> Result<Vec<Version>, StoreFault>
+    requires declared { IsDeclared schema.now }
+    requires count { length dims.now ≡ length schema.now.dimensions }
+    requires loaded { (dimension : ℕ) → All (λ entry. entry.commit ≤ commit) (rows_in (rows_of_all dims.now) dimension) }
+    ensures rows { (commits : ℕ) → IfOk result (λ versions.
+        loaded_records (plain (tables_of schema.now dims.now facts.now commits)) Fact (records_in header block.now)
+        ≡ Ok (Loaded Fact (map (λ version. version.row) versions.items))) }
+    ensures versions { IfOk result (λ versions.
+        map plain_version versions.items ≡ versions_by commit (map (λ version. version.row) versions.items)) }
+    ensures keyed { IfOk result (λ versions. All (HasKeyNumbers schema.now (rows_of_all dims.now)) versions.items) }
+    ensures few { IfOk result (λ versions. length facts.now.items + length versions.items ≤ MAX_VERSIONS) }
+    ensures tells { (commits : ℕ) → IfErr result (Tells
+        (loaded_records (plain (tables_of schema.now dims.now facts.now commits)) Fact (records_in header block.now))) }
+{
+    rows_fit_by_their_kinds();
+    each_record_is_a_row();
+    if !has_room(alloc, facts.len(), MAX_VERSIONS, header, block)? {
+        return Err(StoreFault::Refused(Refusal::Limit));
+    }
+    let columns = columns_of(schema, Table::Fact);
+    let Some(rows) = read_rows(alloc, columns, header, block)? else {
+        return Err(StoreFault::Refused(Refusal::BadRecord));
+    };
+    versions_of(alloc, schema, dims, rows, commit)
+}
+
+/// Loads versions into the fact table, as the commit after so many. All room is made before the first
+/// version goes in.
+fn commit_versions(
+    facts: &mut FactVersions,
+    versions: Vec<Version>,
+    commits: &mut u64,
+) -> Result<Done, NoMemory>
+    requires few { length facts.old.items + length versions.items ≤ MAX_VERSIONS }
+    ensures versions { OnOk result (facts.new.items ≡ facts.old.items ++ versions.items) }
+    ensures commits { OnOk result (commits.new ≡ commits.old + 1) }
+    ensures within { OnOk result (commits.old + 1 < 2 ^ 64) }
+    ensures done { IfOk result (λ done. done ≡ record { commit = commits.old + 1; rows = length versions.items }) }
+    ensures err { OnErr result ((facts.new.items ≡ facts.old.items) × (commits.new ≡ commits.old)) }
+{
+    let count = versions.len() as u64;
+    let Some(commit) = commits.checked_add(1) else {
+        return Err(NoMemory);
+    };
+    facts.reserve(versions.len())?;
+    append_versions(facts, versions);
+    *commits = commit;
+    Ok(Done {
+        commit,
+        rows: count,
+    })
+}
+
+/// Loads the rows of a block into the fact table.
+fn load_facts(
+    alloc: Global,
+    schema: &Schema,
+    dims: &Dims,
+    facts: &mut FactVersions,
+    commits: &mut u64,
+    header: bool,
+    block: &[u8],
+) -> Result<Done, StoreFault>
+    requires declared { IsDeclared schema.now }
+    requires count { length dims.now ≡ length schema.now.dimensions }
+    requires loaded { (dimension : ℕ) → All (λ entry. entry.commit ≤ commits.old) (rows_in (rows_of_all dims.now) dimension) }
+    ensures commits { Commits
+        (loaded_records (plain (tables_of schema.now dims.now facts.old commits.old)) Fact (records_in header block.now))
+        (tables_of schema.now dims.now facts.old commits.old) (tables_of schema.now dims.now facts.new commits.new) result }
+    ensures keyed { All (HasKeyNumbers schema.now (rows_of_all dims.now)) facts.old.items → All (HasKeyNumbers schema.now (rows_of_all dims.now)) facts.new.items }
+{
+    let commit = commits.saturating_add(1);
+    let versions = checked_versions(alloc, schema, dims, facts, commit, header, block)?;
+    Ok(commit_versions(facts, versions, commits)?)
+}
+
+/// Loads a block into the table of a name, as the next commit.
+pub(crate) fn load(
+    alloc: Global,
+    schema: &Schema,
+    dims: &mut Dims,
+    facts: &mut FactVersions,
+    commits: &mut u64,
+    name: &SmallText,
+    header: bool,
+    block: &[u8],
+) -> Result<Done, StoreFault>
+    requires sound { AreSound (tables_of schema.now dims.old facts.old commits.old) }
+    ensures commits { Commits
+        (load_change (plain (tables_of schema.now dims.old facts.old commits.old)) name.now header block.now)
+        (tables_of schema.now dims.old facts.old commits.old) (tables_of schema.now dims.new facts.new commits.new) result }
+    ensures keyed { IsKeyed (tables_of schema.now dims.new facts.new commits.new) }
+    ensures known { IsErrOf result StoreFault.Memory → IsSome schema.now.fact × IsSome (table_named schema.now name.now) }
+{
+    a_new_row_moves_no_other();
+    if schema.fact.is_none() {
+        return Err(StoreFault::Refused(Refusal::OutOfOrder));
+    }
+    let Some(table) = find_table(schema, name) else {
+        return Err(StoreFault::Refused(Refusal::UnknownName));
+    };
+    match table {
+        Table::Fact => load_facts(alloc, schema, dims, facts, commits, header, block),
+        Table::Dimension(number) => {
+            load_dimension(alloc, schema, dims, commits, number, header, block)
+        }
+    }
+}
