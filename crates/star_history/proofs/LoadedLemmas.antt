@@ -14,15 +14,22 @@ use Rattle.star_plan.specs.Row.{kinds_in}
 use Rattle.star_schema.specs.Declaration.{declared_dimension, declared_fact}
 use Rattle.star_schema.specs.Limits.{with_dimension, with_fact}
 use Rattle.star_schema.specs.Schemas.{IsDeclared, ReferencesNothing}
+use Rattle.fact_versions.specs.declared.version.Version.{Version}
 use Rattle.dimension_rows.specs.declared.dimension_row.DimensionRow.{DimensionRow}
 use Rattle.dimension_rows.specs.declared.dimension_row.TheConstants.{MAX_DIMENSION_ROWS}
 use Rattle.dimension_rows.specs.Keys.{AreKeyed, has_key, index_of, key_of}
 use Rattle.star_history.specs.Accepted.{HaveOtherKeys}
 use Rattle.star_history.specs.Alone.{foreign_key}
 use Rattle.star_history.specs.History.{grown_at, rows_by}
+use Rattle.star_history.specs.Keyed.{HasKeyNumbers, key_number}
 use Rattle.star_history.specs.Settled.{AreRowsOf, IsMatched, IsPlaceOf, IsSettled}
 use Rattle.star_history.specs.Store.{Store, rows_in}
 use Rattle.star_history.proofs.ListLemmas.{all_pairs_head, all_pairs_tail}
+
+-- a key that has a place has it also where a row is appended
+abbrev pub KeepsPlaces : Type 0
+KeepsPlaces = (rows : List DimensionRow) (entry : DimensionRow) (key : cell.Value) (place : ℕ)
+    → index_of rows key ≡ Some place → index_of (rows ++ entry ∷ []) key ≡ Some place
 
 -- what the laws of declarations, of rows that fit and of rows that are appended say
 pub record Laws : Type 0 where
@@ -31,8 +38,7 @@ pub record Laws : Type 0 where
   pub fact : (schema : Schema) (table : TableDef) → IsDeclared schema → 0 < length table.columns
       → declared_fact schema table ≡ Ok table → IsDeclared (with_fact schema table)
   pub fits : (table : TableDef) (row : List cell.Value) → IsTrue (fits_table table row) ↔ (kinds_in row ≡ kinds_of table.columns)
-  pub kept : (rows : List DimensionRow) (entry : DimensionRow) (key : cell.Value) (place : ℕ)
-      → index_of rows key ≡ Some place → index_of (rows ++ entry ∷ []) key ≡ Some place
+  pub kept : KeepsPlaces
   pub others : (rows : List DimensionRow) (entry : DimensionRow) (key : cell.Value)
       → key_of entry.row ≢ Some key → index_of rows key ≡ None → index_of (rows ++ entry ∷ []) key ≡ None
   pub keyed : (rows : List DimensionRow) (entry : DimensionRow) (key : cell.Value)
@@ -98,12 +104,12 @@ keyed_with_more laws commit rows (row ∷ more) keyed some new apart =
     (all_pairs_tail HaveOtherKeys row more apart) in
     subst AreKeyed (append_assoc rows (entry ∷ []) (rows_by commit more)) rest
 
-found_with_more : Laws → (rows more : List DimensionRow) (key : cell.Value) (place : ℕ) → index_of rows key ≡ Some place
+found_with_more : KeepsPlaces → (rows more : List DimensionRow) (key : cell.Value) (place : ℕ) → index_of rows key ≡ Some place
     → index_of (rows ++ more) key ≡ Some place
-found_with_more laws rows [] key place found = subst (λ all. index_of all key ≡ Some place) (sym (append-nil rows)) found
-found_with_more laws rows (entry ∷ more) key place found =
+found_with_more keeps rows [] key place found = subst (λ all. index_of all key ≡ Some place) (sym (append-nil rows)) found
+found_with_more keeps rows (entry ∷ more) key place found =
     subst (λ all. index_of all key ≡ Some place) (append_assoc rows (entry ∷ []) more)
-    (found_with_more laws (rows ++ entry ∷ []) more key place (laws.kept rows entry key place found))
+    (found_with_more keeps (rows ++ entry ∷ []) more key place (keeps rows entry key place found))
 
 abbrev no_row : DimensionRow
 no_row = record { row = []; commit = 0 }
@@ -111,10 +117,10 @@ no_row = record { row = []; commit = 0 }
 place_low : (rows : List DimensionRow) (key : cell.Value) (place : ℕ) → index_of rows key ≡ Some place → place < length rows
 place_low rows key place found = (position-Some (has_key key) rows place no_row found).0
 
-place_with_more : Laws → (rows more : List DimensionRow) (key : cell.Value) (commit place : ℕ) → IsPlaceOf rows key commit place
+place_with_more : KeepsPlaces → (rows more : List DimensionRow) (key : cell.Value) (commit place : ℕ) → IsPlaceOf rows key commit place
     → IsPlaceOf (rows ++ more) key commit place
-place_with_more laws rows more key commit place is = record {
-  found = found_with_more laws rows more key place is.found;
+place_with_more keeps rows more key commit place is = record {
+  found = found_with_more keeps rows more key place is.found;
   loaded = subst (λ (found : Option DimensionRow). IfSome found (λ entry. entry.commit ≤ commit))
       (sym (slice_get_front rows more place (place_low rows key place is.found))) is.loaded;
 }
@@ -130,15 +136,26 @@ in_grown Q (rows ∷ dimensions) (suc grown) zero more before there = before
 in_grown Q (rows ∷ dimensions) (suc grown) (suc dimension) more before there =
     in_grown Q dimensions grown dimension more before (λ same. there (ap suc same))
 
-pub matched_in_grown : Laws → (schema : Schema) (dimensions : List (List DimensionRow)) (grown : ℕ) (more : List DimensionRow)
+pub matched_in_grown : KeepsPlaces → (schema : Schema) (dimensions : List (List DimensionRow)) (grown : ℕ) (more : List DimensionRow)
     (row : List cell.Value) (commit : ℕ) → IsMatched schema dimensions row commit → IsMatched schema (grown_at grown more dimensions) row commit
-matched_in_grown laws schema dimensions grown more row commit is dimension =
+matched_in_grown keeps schema dimensions grown more row commit is dimension =
     if_some_weaker (λ key. (place : ℕ) × IsPlaceOf (rows_in dimensions dimension) key commit place)
     (λ key. (place : ℕ) × IsPlaceOf (rows_in (grown_at grown more dimensions) dimension) key commit place)
     (foreign_key schema dimension row)
     (λ key place. in_grown (λ rows. (at : ℕ) × IsPlaceOf rows key commit at) dimensions grown dimension more place
-    (λ _. (place.0, place_with_more laws (rows_in dimensions dimension) more key commit place.0 place.1)))
+    (λ _. (place.0, place_with_more keeps (rows_in dimensions dimension) more key commit place.0 place.1)))
     (is dimension)
+
+-- key numbers are the places of their keys also where the rows of a dimension have grown
+pub key_numbers_in_grown : KeepsPlaces → (schema : Schema) (dimensions : List (List DimensionRow)) (grown : ℕ) (more : List DimensionRow)
+    (version : Version) → HasKeyNumbers schema dimensions version → HasKeyNumbers schema (grown_at grown more dimensions) version
+key_numbers_in_grown keeps schema dimensions grown more version has dimension =
+    if_some_weaker (λ key. IsPlaceOf (rows_in dimensions dimension) key version.begin (key_number version dimension))
+    (λ key. IsPlaceOf (rows_in (grown_at grown more dimensions) dimension) key version.begin (key_number version dimension))
+    (foreign_key schema dimension version.row)
+    (λ key is. in_grown (λ rows. IsPlaceOf rows key version.begin (key_number version dimension)) dimensions grown dimension more is
+    (λ _. place_with_more keeps (rows_in dimensions dimension) more key version.begin (key_number version dimension) is))
+    (has dimension)
 
 -- Rows of a dimension.
 

@@ -1,12 +1,15 @@
 //! What holds of histories and of queries alone.
 ghost use Rattle.std.specs.Prelude.{◌≡◌, ℕ, ◌≤◌, List, Contains, Some, count_by};
 ghost use Rattle.star_values.specs.declared.value.Value.{Value};
+ghost use Rattle.star_plan.specs.declared.schema.Schema.{Schema};
 ghost use Rattle.star_plan.specs.Over.{IsOver};
 ghost use Rattle.star_plan.specs.Test.{Query};
+ghost use Rattle.fact_versions.specs.declared.version.Version.{Version};
+ghost use Rattle.dimension_rows.specs.declared.dimension_row.DimensionRow.{DimensionRow};
 ghost use Rattle.star_history.specs.Accepted.{Accepts, AcceptsAll};
 ghost use Rattle.star_history.specs.Alone.{alone, foreign_key, is_matched, kept, visible, visible_rows};
-ghost use Rattle.star_history.specs.History.{Change, after_change, commits_of, store_of};
-ghost use Rattle.star_history.specs.Keyed.{IsKeyed, KeyedStore, kept_by_keys, plain};
+ghost use Rattle.star_history.specs.History.{Change, after_change, commits_of, grown_at, store_of};
+ghost use Rattle.star_history.specs.Keyed.{HasKeyNumbers, IsKeyed, KeyedStore, kept_by_keys, plain};
 ghost use Rattle.star_history.specs.Settled.{IsSettled};
 ghost use Rattle.star_history.specs.Store.{PlainVersion, Store, empty_store, rows_in};
 
@@ -53,6 +56,15 @@ pub fn later_changes_are_not_seen()
         IsSettled store → Accepts store change → snapshot ≤ store.commits →
         alone (after_change store change) query snapshot ≡ alone store query snapshot }
 {}
+
+/// Key numbers stay those of their keys where more rows are loaded into a dimension.
+pub fn later_rows_move_no_key_number()
+    ensures { (schema : Schema) (dimensions : List (List DimensionRow)) (number : ℕ) (more : List DimensionRow) (version : Version) →
+        HasKeyNumbers schema dimensions version →
+        HasKeyNumbers schema (grown_at number more dimensions) version }
+{
+    a_new_row_moves_no_other();
+}
 
 /// A query keeps the same joined rows by key numbers as by keys.
 pub fn key_numbers_stand_for_keys()

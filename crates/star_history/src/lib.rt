@@ -6,5 +6,5 @@ mod laws;
 
 pub use laws::{
     accepted_histories_are_settled, commits_are_counted, key_numbers_stand_for_keys,
-    later_changes_are_not_seen, one_row_joins_a_visible_version,
+    later_changes_are_not_seen, later_rows_move_no_key_number, one_row_joins_a_visible_version,
 };

@@ -1,13 +1,10 @@
 -- Which of the checks of a load refuses it, and the tables behind a load or a delete.
-use Rattle.std.proofs.Common.{◌≡◌, ℕ, zero, suc, ◌+◌, ◌≤◌, ◌<◌, Bool, true, false, List, [], ◌∷◌, ◌++◌, append_assoc, length, map, Option, Some, None, Result, Ok, Err, refl, ap, sym, subst, ◌∙◌, arith}
+use Rattle.std.proofs.Common.{◌≡◌, ℕ, zero, suc, ◌+◌, ◌≤◌, ◌<◌, Bool, true, false, List, [], ◌∷◌, length, map, Option, Some, None, Result, Ok, Err, refl, ap, sym, subst, ◌∙◌, arith}
 use Rattle.std.specs.Prelude.{IfSome, OnOk, is_none, slice_get}
 use Rattle.std.specs.List.{All, fold}
-use Rattle.std.proofs.lemmas.List.{append-nil}
 use Rattle.std.proofs.lemmas.List.Elements.{All-cons, All-head, All-nil, All-tail, All-weaker}
-use Rattle.std.proofs.lemmas.List.Quantifiers.{position-Some}
 use Rattle.star_values.specs.declared.refusal.Refusal.{Refusal}
 use Rattle.star_values.specs.declared.refusal.Refusal.TheVariants.{OutOfOrder, UnknownName}
-use Rattle.star_values.specs.declared.value.Value as cell
 use Rattle.star_lists.specs.Roomy.{Roomy}
 use Rattle.star_plan.specs.declared.schema.Schema.{Schema}
 use Rattle.star_plan.specs.declared.table.Table.{Table}
@@ -17,12 +14,10 @@ use Rattle.star_schema.specs.Named.{table_named}
 use Rattle.fact_versions.specs.declared.version.Version.{Version}
 use Rattle.fact_versions.specs.Ends as ends
 use Rattle.dimension_rows.specs.declared.dimension_row.DimensionRow.{DimensionRow}
-use Rattle.dimension_rows.specs.Keys.{has_key, index_of}
 use Rattle.csv_load.specs.Records.{records_in}
-use Rattle.star_history.specs.Alone.{foreign_key}
 use Rattle.star_history.specs.History.{Change, grown_at, with_end, with_ends}
-use Rattle.star_history.specs.Keyed.{HasKeyNumbers, IsKeyed, key_number, plain, plain_version}
-use Rattle.star_history.specs.Settled.{AreRowsOf, IsPlaceOf, IsSettled}
+use Rattle.star_history.specs.Keyed.{HasKeyNumbers, IsKeyed, plain, plain_version}
+use Rattle.star_history.specs.Settled.{AreRowsOf, IsSettled}
 use Rattle.star_history.specs.Store.{Store, rows_in}
 use Rattle.star_store.specs.declared.done.Done.{Done}
 use Rattle.star_store.specs.declared.fault.StoreFault.{StoreFault}
@@ -67,59 +62,13 @@ loaded_by (table ∷ tables) (first ∷ dimensions) commits count rows (suc dime
 pub loaded_in : (store : Store) → IsSettled store → (dimension : ℕ) → All (λ entry. entry.commit ≤ store.commits) (rows_in store.dimensions dimension)
 loaded_in store settled dimension = loaded_by store.schema.dimensions store.dimensions store.commits settled.count settled.rows dimension
 
--- a place is found where a row is appended, as it was before
-abbrev KeepsPlaces : Type 0
-KeepsPlaces = (rows : List DimensionRow) (entry : DimensionRow) (key : cell.Value) (place : ℕ)
-    → index_of rows key ≡ Some place → index_of (rows ++ entry ∷ []) key ≡ Some place
-
-found_with_more : KeepsPlaces → (rows more : List DimensionRow) (key : cell.Value) (place : ℕ) → index_of rows key ≡ Some place
-    → index_of (rows ++ more) key ≡ Some place
-found_with_more keeps rows [] key place found = subst (λ all. index_of all key ≡ Some place) (sym (append-nil rows)) found
-found_with_more keeps rows (entry ∷ more) key place found =
-    subst (λ all. index_of all key ≡ Some place) (append_assoc rows (entry ∷ []) more)
-    (found_with_more keeps (rows ++ entry ∷ []) more key place (keeps rows entry key place found))
-
-slice_get_front : {X : Type 0} (xs ys : List X) (place : ℕ) → place < length xs → slice_get (xs ++ ys) place ≡ slice_get xs place
-slice_get_front [] ys place low = absurd (omega arith)
-slice_get_front (x ∷ xs) ys zero low = refl
-slice_get_front (x ∷ xs) ys (suc place) low = slice_get_front xs ys place (omega arith)
-
-abbrev no_row : DimensionRow
-no_row = record { row = []; commit = 0 }
-
-place_with_more : KeepsPlaces → (rows more : List DimensionRow) (key : cell.Value) (commit place : ℕ) → IsPlaceOf rows key commit place
-    → IsPlaceOf (rows ++ more) key commit place
-place_with_more keeps rows more key commit place is = record {
-  found = found_with_more keeps rows more key place is.found;
-  loaded = subst (λ (found : Option DimensionRow). IfSome found (λ entry. entry.commit ≤ commit))
-      (sym (slice_get_front rows more place (position-Some (has_key key) rows place no_row is.found).0)) is.loaded;
-}
-
-in_grown : (Q : List DimensionRow → Type 0) (dimensions : List (List DimensionRow)) (grown dimension : ℕ) (more : List DimensionRow)
-    → Q (rows_in dimensions dimension) → (Q (rows_in dimensions dimension) → Q (rows_in dimensions dimension ++ more))
-    → Q (rows_in (grown_at grown more dimensions) dimension)
-in_grown Q [] grown dimension more before grows = before
-in_grown Q (rows ∷ dimensions) zero zero more before grows = grows before
-in_grown Q (rows ∷ dimensions) zero (suc dimension) more before grows = before
-in_grown Q (rows ∷ dimensions) (suc grown) zero more before grows = before
-in_grown Q (rows ∷ dimensions) (suc grown) (suc dimension) more before grows = in_grown Q dimensions grown dimension more before grows
-
-if_some_weaker : {X : Type 0} (P Q : X → Type 0) (found : Option X) → ((x : X) → P x → Q x) → IfSome found P → IfSome found Q
-if_some_weaker P Q None more is = tt
-if_some_weaker P Q (Some x) more is = more x is
-
-keyed_in_grown : KeepsPlaces → (schema : Schema) (dimensions : List (List DimensionRow)) (grown : ℕ) (more : List DimensionRow) (version : Version)
-    → HasKeyNumbers schema dimensions version → HasKeyNumbers schema (grown_at grown more dimensions) version
-keyed_in_grown keeps schema dimensions grown more version has dimension =
-    if_some_weaker (λ key. IsPlaceOf (rows_in dimensions dimension) key version.begin (key_number version dimension))
-    (λ key. IsPlaceOf (rows_in (grown_at grown more dimensions) dimension) key version.begin (key_number version dimension))
-    (foreign_key schema dimension version.row)
-    (λ key is. in_grown (λ rows. IsPlaceOf rows key version.begin (key_number version dimension)) dimensions grown dimension more is
-    (place_with_more keeps (rows_in dimensions dimension) more key version.begin (key_number version dimension)))
-    (has dimension)
+-- key numbers stay those of their keys where a dimension grows
+abbrev KeepsKeyNumbers : Type 0
+KeepsKeyNumbers = (schema : Schema) (dimensions : List (List DimensionRow)) (number : ℕ) (more : List DimensionRow) (version : Version)
+    → HasKeyNumbers schema dimensions version → HasKeyNumbers schema (grown_at number more dimensions) version
 
 -- the versions have their key numbers where the rows of a dimension have grown, or nothing changed
-pub keyed_after : KeepsPlaces → (schema : Schema) (dims grown : List (Roomy DimensionRow)) (facts : Roomy Version) (commits next number : ℕ)
+pub keyed_after : KeepsKeyNumbers → (schema : Schema) (dims grown : List (Roomy DimensionRow)) (facts : Roomy Version) (commits next number : ℕ)
     (found : Result Change Refusal) (result : Result Done StoreFault)
     → Commits found (tables_of schema dims facts commits) (tables_of schema grown facts next) result
     → OnOk result ((more : List DimensionRow) × (rows_of_all grown ≡ grown_at number more (rows_of_all dims)))
@@ -127,7 +76,7 @@ pub keyed_after : KeepsPlaces → (schema : Schema) (dims grown : List (Roomy Di
 keyed_after keeps schema dims grown facts commits next number found (Ok done) commits_is grows keyed =
     subst (λ dimensions. All (HasKeyNumbers schema dimensions) facts.items) (sym grows.1)
     (All-weaker (HasKeyNumbers schema (rows_of_all dims)) (HasKeyNumbers schema (grown_at number grows.0 (rows_of_all dims)))
-    (keyed_in_grown keeps schema (rows_of_all dims) number grows.0) facts.items keyed)
+    (keeps schema (rows_of_all dims) number grows.0) facts.items keyed)
 keyed_after keeps schema dims grown facts commits next number found (Err (Refused reason)) commits_is grows keyed = subst IsKeyed (sym commits_is.1) keyed
 keyed_after keeps schema dims grown facts commits next number found (Err Memory) commits_is grows keyed = subst IsKeyed (sym commits_is) keyed
 

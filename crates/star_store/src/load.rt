@@ -26,8 +26,9 @@ use crate::fault::StoreFault;
 use crate::rows::{append_rows, kinds_of, repeats_a_key};
 use crate::versions::{append_versions, versions_of};
 use csv_load::{BlockFault, LoadRows, count_records, each_record_is_a_row, read_block};
-use dimension_rows::{DimensionRows, Dims, MAX_DIMENSION_ROWS, a_new_row_moves_no_other};
+use dimension_rows::{DimensionRows, Dims, MAX_DIMENSION_ROWS};
 use fact_versions::{FactVersions, MAX_VERSIONS, Version};
+use star_history::later_rows_move_no_key_number;
 use star_plan::{ColumnDef, Schema, Table, rows_fit_by_their_kinds};
 use star_schema::{columns_of, find_table};
 use star_values::{NoMemory, Refusal, SmallText};
@@ -268,7 +269,7 @@ pub(crate) fn load(
     ensures keyed { IsKeyed (tables_of schema.now dims.new facts.new commits.new) }
     ensures known { IsErrOf result StoreFault.Memory → IsSome schema.now.fact × IsSome (table_named schema.now name.now) }
 {
-    a_new_row_moves_no_other();
+    later_rows_move_no_key_number();
     if schema.fact.is_none() {
         return Err(StoreFault::Refused(Refusal::OutOfOrder));
     }

@@ -42,6 +42,6 @@ returns-in-Dimension-clause-commits c =
 
 pub returns-in-Dimension-clause-keyed : goal.returns-in-Dimension-clause-keyed
 returns-in-Dimension-clause-keyed c =
-    keyed_after c.a_new_row_moves_no_other.ensures.kept c.args.schema.now c.args.dims.now c.load_dimension.new.dims c.args.facts.now
+    keyed_after c.later_rows_move_no_key_number.ensures c.args.schema.now c.args.dims.now c.load_dimension.new.dims c.args.facts.now
     c.args.commits.now c.load_dimension.new.commits c.in-Dimension.number _ c.load_dimension.result
     (c.load_dimension.ensures.commits c.args.facts.now) c.load_dimension.ensures.grown c.requires.sound.1
