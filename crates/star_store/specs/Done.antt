@@ -1,5 +1,5 @@
 -- What a call answers, and what the tables are then.
-use Rattle.std.specs.Prelude.{◌≡◌, ℕ, ◌+◌, length, IsOkAnd, Result, Ok, Err}
+use Rattle.std.specs.Prelude.{◌≡◌, ℕ, ◌+◌, length, IsOk, IsOkAnd, Result, Ok, Err}
 use Rattle.star_values.specs.declared.refusal.Refusal.{Refusal}
 use Rattle.star_plan.specs.declared.table_def.TableDef.{TableDef}
 use Rattle.star_history.specs.History.{Change, DimensionDeclared, FactDeclared, Loaded, Ended, after_change}
@@ -23,8 +23,8 @@ Commits found old new (Ok done) = IsOkAnd found (λ change.
 Commits found old new (Err (Refused reason)) = (found ≡ Err reason) × (new ≡ old)
 Commits found old new (Err Memory) = new ≡ old
 
--- the same of a declaration, which is no commit
+-- the same of a declaration, which is no commit, and for which no memory is wanted where it is refused
 abbrev pub Declares : (TableDef → Change) → Result TableDef Refusal → KeyedStore → KeyedStore → Result (Unit {0}) StoreFault → Type 0
 Declares declared found old new (Ok done) = IsOkAnd found (λ table. plain new ≡ after_change (plain old) (declared table))
 Declares declared found old new (Err (Refused reason)) = (found ≡ Err reason) × (new ≡ old)
-Declares declared found old new (Err Memory) = new ≡ old
+Declares declared found old new (Err Memory) = IsOk found × (new ≡ old)

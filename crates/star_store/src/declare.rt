@@ -1,5 +1,5 @@
 //! Declarations: a table more, and for a dimension the list of its rows.
-ghost use Rattle.std.specs.Prelude.{◌≡◌, ◌<◌, List, [], ◌∷◌, ◌++◌, length, IsOkAnd, IfErr, OnOk, OnErr};
+ghost use Rattle.std.specs.Prelude.{◌≡◌, ◌<◌, List, [], ◌∷◌, ◌++◌, length, IsOk, IsOkAnd, IsErrOf, IfErr, OnOk, OnErr};
 ghost use Rattle.star_schema.specs.Declaration.{declared_dimension};
 ghost use Rattle.star_schema.specs.Limits.{with_dimension};
 ghost use Rattle.star_schema.specs.Schemas.{IsDeclared, ReferencesNothing};
@@ -26,6 +26,7 @@ pub(crate) fn add_dimension(
     ensures schema { OnOk result (IsOkAnd (declared_dimension schema.old table) (λ declared. schema.new ≡ with_dimension schema.old declared)) }
     ensures rows { OnOk result (rows_of_all dims.new ≡ rows_of_all dims.old ++ [] ∷ []) }
     ensures tells { IfErr result (Tells (declared_dimension schema.old table)) }
+    ensures memory { IsErrOf result StoreFault.Memory → IsOk (declared_dimension schema.old table) }
     ensures err { OnErr result ((schema.new ≡ schema.old) × (dims.new ≡ dims.old)) }
 {
     declare_dimension(schema, table)?;
