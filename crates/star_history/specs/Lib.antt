@@ -5,3 +5,4 @@ pub mod Store
 pub mod Accepted
 pub mod Settled
 pub mod Keyed
+pub mod Examples
