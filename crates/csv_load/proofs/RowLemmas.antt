@@ -5,12 +5,12 @@ use Rattle.std.proofs.lemmas.List.Elements.{All-nil, All-cons}
 use Rattle.csv.specs.Records.{field_at}
 use Rattle.star_values.specs.Integer.{integer_in}
 use Rattle.star_values.specs.SmallText.{is_small_text}
-use Rattle.star_values.specs.Value.{kind_of}
+use Rattle.star_values.specs.Value.{kind_of, kinds_in}
 use Rattle.star_values.specs.declared.value.Kind.{Kind}
 use Rattle.star_values.specs.declared.value.Kind.TheVariants as kind
 use Rattle.star_values.specs.declared.value.Value.{Value}
 use Rattle.star_values.specs.declared.value.Value.TheVariants.{Int, Str}
-use Rattle.csv_load.specs.Rows.{field_value, kinds_in, typed_row, typed_rows}
+use Rattle.csv_load.specs.Rows.{field_value, typed_row, typed_rows}
 
 -- a member, where there is one, in front of the others, where there are
 abbrev in_front : {A : Type 0} → Option A → Option (List A) → Option (List A)

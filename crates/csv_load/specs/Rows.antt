@@ -1,9 +1,8 @@
 -- Which rows the records of a block are, where its fields have values of the wanted kinds.
-use Rattle.std.specs.Prelude.{ℕ, List, [], ◌∷◌, map, Option, Some, None, option_map, if◌then◌else◌}
+use Rattle.std.specs.Prelude.{ℕ, List, [], ◌∷◌, Option, Some, None, option_map, if◌then◌else◌}
 use Rattle.std.specs.Option.{option_and_then}
 use Rattle.star_values.specs.Integer.{integer_in}
 use Rattle.star_values.specs.SmallText.{is_small_text}
-use Rattle.star_values.specs.Value.{kind_of}
 use Rattle.star_values.specs.declared.value.Kind.{Kind}
 use Rattle.star_values.specs.declared.value.Kind.TheVariants as kind
 use Rattle.star_values.specs.declared.value.Value.{Value}
@@ -27,7 +26,3 @@ abbrev pub typed_rows : List Kind → List (List (List ℕ)) → Option (List (L
 typed_rows kinds [] = Some []
 typed_rows kinds (fields ∷ records) =
     option_and_then (λ row. option_map (λ rows. row ∷ rows) (typed_rows kinds records)) (typed_row kinds fields)
-
--- the kinds of a row's values, in their order
-abbrev pub kinds_in : List Value → List Kind
-kinds_in row = map kind_of row

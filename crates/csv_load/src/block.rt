@@ -1,7 +1,8 @@
 //! The records of a block counted, and the rows that they are.
 ghost use Rattle.std.specs.Prelude.{◌≡◌, length, All, Some, None, IfOk, IsErrOf};
+ghost use Rattle.star_values.specs.Value.{kinds_in};
 ghost use Rattle.csv_load.specs.Records.{records_in};
-ghost use Rattle.csv_load.specs.Rows.{kinds_in, typed_rows};
+ghost use Rattle.csv_load.specs.Rows.{typed_rows};
 ghost use Rattle.csv_load.specs.declared.block.BlockFault.TheVariants.{Memory};
 
 use crate::laws::rows_have_the_kinds;

@@ -5,7 +5,8 @@ ghost use Rattle.csv.specs.declared.parser.State.TheVariants as state;
 ghost use Rattle.star_values.specs.declared.value.Kind.{Kind};
 ghost use Rattle.star_values.specs.declared.value.Value.{Value};
 ghost use Rattle.csv_load.specs.Records.{records_of};
-ghost use Rattle.csv_load.specs.Rows.{kinds_in, typed_row, typed_rows};
+ghost use Rattle.star_values.specs.Value.{kinds_in};
+ghost use Rattle.csv_load.specs.Rows.{typed_row, typed_rows};
 
 /// A list of records is that of bytes by csv's own rule exactly where it is `records_of` of them.
 pub fn csv_fixes_the_records()

@@ -1,9 +1,14 @@
--- Lemmas on the definitions of this crate.
-mod AnswerLemmas
-mod DimensionLemmas
-mod EffectLemmas
-mod LawLemmas
-mod LoadLemmas
-mod SchemaLemmas
-mod ScriptLemmas
-mod TextLemmas
+-- Lemmas of this crate.
+mod ChosenLemmas
+mod ListLemmas
+mod PlainLemmas
+mod SumLemmas
+mod ScanLemmas
+mod TallyLemmas
+mod KeptLemmas
+mod GroupLemmas
+mod EndLemmas
+mod SortedLemmas
+mod ReadLemmas
+mod TakesLemmas
+mod StandsLemmas

@@ -1,17 +1,8 @@
--- What a script means: its tables, its history, its queries, and the replies to its statements.
-pub mod Script
-pub mod Effect
-pub mod History
-pub mod Tables
-pub mod Query
-pub mod Reply
-pub mod Statement
-pub mod Text
-pub mod Laws
-pub mod Star
-pub mod Snapshot
-pub mod Warehouse
-pub mod Loaded
-pub mod Follows
-pub mod DimensionRows
-pub mod FactVersions
+-- What a query by itself is asked over, and what is kept of rows until its answer is made of it.
+pub mod Stands
+pub mod Read
+pub mod Chosen
+pub mod Summed
+pub mod Tally
+pub mod Kept
+pub mod Finish

@@ -1,95 +1,68 @@
-//! Statements that no script has, and an answer as it is printed. Scripts with their replies are the cases of
-//! `star_cases`.
-use crate::{AnswerRows, Reply, Warehouse, print_reply};
-use script_reader::{Block, Statement};
-use star_values::{ByteText, NoMemory, Row, SmallText, Value};
+//! Sums, least and greatest values at their borders, and tallies that end as cells.
+use crate::finish::group_cells;
+use crate::tally::{Tally, keep_greater, keep_less};
+use crate::wide_sum::WideSum;
+use star_plan::{CellList, Item, Place};
+use star_values::{Cell, Row, SmallText, Value};
 use std::alloc::Global;
 use std::test::Fail;
 
-/// What stands behind the line of a statement.
-#[derive(Clone, Copy)]
-enum Behind<'a> {
-    Nothing,
-    Closed(&'a str),
-    Unclosed(&'a str),
-}
-
-use Behind::{Closed, Nothing, Unclosed};
-
-fn bytes_of(alloc: Global, text: &str) -> Result<ByteText, NoMemory> {
-    let mut bytes = ByteText::new(alloc);
-    bytes.extend_from_slice(text.as_bytes())?;
-    Ok(bytes)
-}
-
-fn block_of(alloc: Global, behind: Behind) -> Result<Block, NoMemory> {
-    match behind {
-        Nothing => Ok(Block::Absent),
-        Closed(records) => Ok(Block::Closed(bytes_of(alloc, records)?)),
-        Unclosed(records) => Ok(Block::Unclosed(bytes_of(alloc, records)?)),
-    }
-}
-
-/// A line of a script, what stands behind it, and the text of its reply.
-type Told<'a> = (&'a str, Behind<'a>, &'a str);
-
-/// The line of the first statement whose reply is another, where they are executed one after the
-/// other.
-fn line_told_otherwise<'a>(
-    alloc: Global,
-    script: &[Told<'a>],
-) -> Result<Option<&'a str>, NoMemory> {
-    let mut warehouse = Warehouse::new(alloc);
-    for (line, behind, told) in script {
-        let statement = Statement {
-            line: bytes_of(alloc, line)?,
-            block: block_of(alloc, *behind)?,
-        };
-        let (next, reply) = warehouse.execute(&statement)?;
-        warehouse = next;
-        let mut text = ByteText::new(alloc);
-        print_reply(&reply, &mut text)?;
-        if text.as_bytes() != told.as_bytes() {
-            return Ok(Some(line));
-        }
-    }
-    Ok(None)
+fn text(alloc: Global, bytes: &[u8]) -> Result<Value, Fail> {
+    Ok(Value::Str(SmallText::from_bytes(alloc, bytes)?))
 }
 
 #[test]
-fn statements_that_no_script_has(rt: HostRuntime) -> Result<(), Fail> {
-    let script = [
-        ("load store", Nothing, "refused 1 syntax at 10\n"),
-        ("wait", Unclosed("1,Oslo\n"), "waited\n"),
-        (
-            "select count(*) from sales where",
-            Closed("1,Oslo\n"),
-            "refused 1 syntax at 32\n",
-        ),
-    ];
-    assert_eq!(rt; line_told_otherwise(rt.alloc(), &script)?, None);
+fn a_sum_may_leave_the_range_and_come_back(rt: HostRuntime) {
+    let mut sum = WideSum::new();
+    assert!(rt; sum.cell() == Some(Cell::Null));
+    sum.add(i64::MAX);
+    sum.add(1);
+    assert!(rt; sum.cell().is_none());
+    sum.add(-1);
+    assert!(rt; sum.cell() == Some(Cell::Full(Value::Int(i64::MAX))));
+}
+
+#[test]
+fn the_least_and_the_greatest_text_are_kept(rt: HostRuntime) -> Result<(), Fail> {
+    let mut least = None;
+    let mut greatest = None;
+    for bytes in ["Oslo", "Rome", "Bergen", "Oslo"] {
+        let value = text(rt.alloc(), bytes.as_bytes())?;
+        keep_less(&mut least, &value)?;
+        keep_greater(&mut greatest, &value)?;
+    }
+    assert!(rt; least == Some(text(rt.alloc(), b"Bergen")?));
+    assert!(rt; greatest == Some(text(rt.alloc(), b"Rome")?));
     Ok(())
 }
 
 #[test]
-fn an_answer_has_a_line_for_each_row(rt: HostRuntime) -> Result<(), Fail> {
-    let mut rows = Vec::new(rt.alloc());
-    for (number, text) in [(-7, "O'Hara"), (12, "Rome")] {
-        let text = SmallText::from_bytes(rt.alloc(), text.as_bytes())?;
-        let mut row = Vec::new(rt.alloc());
-        row.push(Value::Int(number))?;
-        row.push(Value::Str(text))?;
-        rows.push(Row::from(row))?;
+fn a_group_of_no_rows_ends_as_nulls(rt: HostRuntime) -> Result<(), Fail> {
+    let place = Place::Fact(0);
+    let items = [
+        Item::Plain(place),
+        Item::CountAll,
+        Item::Sum(place),
+        Item::Min(place),
+    ];
+    let mut tallies = Vec::new(rt.alloc());
+    for item in &items {
+        tallies.push(Tally::new(item))?;
     }
-    let reply = Reply::Answer {
-        snapshot: 3,
-        rows: AnswerRows::from(rows),
-    };
-    let mut out = bytes_of(rt.alloc(), "wait\n")?;
-    print_reply(&reply, &mut out)?;
-    assert_eq!(rt;
-        str::from_utf8(out.as_bytes())?,
-        "wait\nanswer 3 rows 2\n-7,'O''Hara'\n12,'Rome'\n"
-    );
+    let key = Row::from(vec![in rt.alloc(); Value::Int(7)]?);
+    let cells = group_cells(
+        rt.alloc(),
+        &[place],
+        &items,
+        key.as_slice(),
+        tallies.as_slice(),
+    )?;
+    let wanted = [
+        Cell::Full(Value::Int(7)),
+        Cell::Full(Value::Int(0)),
+        Cell::Null,
+        Cell::Null,
+    ];
+    assert!(rt; cells == Some(CellList::from(Vec::from_array(rt.alloc(), wanted)?)));
     Ok(())
 }

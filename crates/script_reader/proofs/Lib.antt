@@ -2,3 +2,6 @@
 mod BlockLemmas
 mod LineLemmas
 mod ReachLemmas
+mod SoughtLemmas
+mod OpenLemmas
+mod StepLemmas

@@ -12,7 +12,7 @@ abbrev pub feed : List ℕ → ℕ
 feed s = position_or_len (λ byte. byte == 10) s
 
 -- behind a first byte that is no line feed everything stands one place further
-feed_behind : (x : ℕ) (xs : List ℕ) → (x == 10) ≡ false → feed (x ∷ xs) ≡ suc (feed xs)
+pub feed_behind : (x : ℕ) (xs : List ℕ) → (x == 10) ≡ false → feed (x ∷ xs) ≡ suc (feed xs)
 feed_behind x xs e = rw e (omega arith)
 
 -- one byte in front of a script with a line feed: its first line

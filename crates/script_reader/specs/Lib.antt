@@ -4,3 +4,6 @@ pub mod Laws
 pub mod Reach
 pub mod Coming
 pub mod Cut
+pub mod Reading
+pub mod Steps
+pub mod Open

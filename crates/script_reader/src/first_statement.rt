@@ -99,7 +99,7 @@ fn take_load(
     }
 }
 
-fn copy_bytes(alloc: Global, bytes: &[u8]) -> Result<ByteText, NoMemory>
+pub(crate) fn copy_bytes(alloc: Global, bytes: &[u8]) -> Result<ByteText, NoMemory>
     ensures { IfOk result (λ t. t ≡ bytes.now) }
 {
     Ok(ByteText::from(Vec::from_slice(alloc, bytes)?))

@@ -1,4 +1,5 @@
 //! What the definitions of lines and blocks mean, said once more in other words.
+ghost use Rattle.script_reader.specs.Steps.{StatementsComeInOrder};
 ghost use Rattle.script_reader.specs.Laws.{LinesJoinedAreTheScript, LineEndsAtItsLineFeed, BlockEndsAtTheFirstDotLine};
 
 /// No byte of a script is lost between its lines.
@@ -14,4 +15,10 @@ pub fn line_ends_at_its_line_feed()
 /// A block has the lines in front of the first dot line as they stand, and the script goes on behind it.
 pub fn block_ends_at_the_first_dot_line()
     ensures { BlockEndsAtTheFirstDotLine }
+{}
+
+/// Over any calls of a reader, the statements taken are the first of those of all bytes that were fed, up
+/// to the limit, and what waits is behind them: it does not matter how a script was cut into pieces.
+pub fn statements_come_in_order()
+    ensures { StatementsComeInOrder }
 {}

@@ -5,7 +5,10 @@ mod closing;
 mod first_statement;
 mod laws;
 mod lines;
+mod open_load;
 mod opening;
+mod pending;
+mod reader;
 mod statement;
 #[cfg(test)]
 mod tests;
@@ -13,6 +16,8 @@ mod tests;
 pub use first_statement::{Taken, take_statement};
 pub use laws::{
     block_ends_at_the_first_dot_line, line_ends_at_its_line_feed, lines_joined_are_the_script,
+    statements_come_in_order,
 };
 pub use lines::{first_line_len, line_text};
+pub use reader::{FeedFault, Next, SCRIPT_LIMIT, ScriptReader};
 pub use statement::{Block, Statement};

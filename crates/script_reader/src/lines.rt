@@ -1,7 +1,8 @@
 //! The lines of a script one at a time, and what is asked of each. Where a statement begins is in `opening`.
-ghost use Rattle.std.specs.Prelude.{◌≡◌, ◌∷◌, ◌<◌, ◌≤◌, ◌==◌, [], length, take, drop, IfNone, IfSome};
+ghost use Rattle.std.specs.Prelude.{◌≡◌, ◌∷◌, ◌<◌, ◌≤◌, ◌==◌, [], false, length, take, drop, IfNone, IfSome};
 ghost use Rattle.std.specs.List.{position_or_len, prefix_len};
-ghost use Rattle.script_reader.specs.Script.{whole_lines, without_last, line_text, is_blank, without_blanks, is_no_statement, is_word_byte, first_word, has_block, is_dot_line};
+ghost use Rattle.script_reader.specs.Open.{FirstLine, NoLine};
+ghost use Rattle.script_reader.specs.Script.{is_ended, whole_lines, without_last, line_text, is_blank, without_blanks, is_no_statement, is_word_byte, first_word, has_block, is_dot_line};
 ghost use Rattle.script_reader.specs.Coming.{StaysLine};
 
 /// The bytes in front of the first line feed, or all bytes where there is none.
@@ -9,6 +10,33 @@ fn bytes_to_line_feed(bytes: &[u8]) -> usize
     ensures { result ≡ position_or_len (λ byte. byte == 10) bytes.now }
 {
     bytes.iter().take_while(|byte| **byte != b'\n').count()
+}
+
+/// The bytes in front of the first line feed, or all bytes where there is none. In so many of them none stands.
+fn bytes_to_line_feed_from(bytes: &[u8], sought: usize) -> usize
+    requires within { sought ≤ length bytes.now }
+    requires none { is_ended (take sought bytes.now) ≡ false }
+    ensures { result ≡ position_or_len (λ byte. byte == 10) bytes.now }
+{
+    sought + bytes_to_line_feed(bytes.split_at(sought).1)
+}
+
+/// The length of the first line that has come, with its line feed. In so many bytes there is no line feed.
+pub(crate) fn line_len_from(bytes: &[u8], sought: usize, ended: bool) -> Option<usize>
+    requires within { sought ≤ length bytes.now }
+    requires none { is_ended (take sought bytes.now) ≡ false }
+    ensures some { IfSome result (FirstLine ended bytes.now) }
+    ensures within { IfSome result (λ n. (0 < n) × (n ≤ length bytes.now)) }
+    ensures none { IfNone result (NoLine ended bytes.now) }
+{
+    let feed = bytes_to_line_feed_from(bytes, sought);
+    if feed < bytes.len() {
+        Some(feed + 1)
+    } else if ended && feed > 0 {
+        Some(feed)
+    } else {
+        None
+    }
 }
 
 /// The length of the first line that has come, with its line feed.

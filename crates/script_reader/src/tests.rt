@@ -1,11 +1,33 @@
 //! The bytes of lines and blocks, and what has not ended. What the program shows of scripts are the cases of
 //! `star_cases`.
-use crate::{Block, take_statement};
+ghost use Rattle.std.specs.Prelude.{◌<◌};
+ghost use Rattle.script_reader.specs.Reading.{StaysFed};
+
+use crate::{Block, Next, ScriptReader, Statement, take_statement};
 use star_values::NoMemory;
 use std::alloc::Global;
 
-/// The statements, a line each. Behind the line of a `load` its block stands in braces; the second
-/// is missing where the block is unclosed.
+/// Appends a statement, a line. Behind the line of a `load` its block stands in braces; the second is
+/// missing where the block is unclosed.
+fn show(shown: &mut Vec<u8>, statement: &Statement) -> Result<(), NoMemory> {
+    shown.extend_from_slice(statement.line.as_bytes())?;
+    match &statement.block {
+        Block::Absent => {}
+        Block::Closed(block) => {
+            shown.extend_from_slice(b"{")?;
+            shown.extend_from_slice(block.as_bytes())?;
+            shown.extend_from_slice(b"}")?;
+        }
+        Block::Unclosed(block) => {
+            shown.extend_from_slice(b"{")?;
+            shown.extend_from_slice(block.as_bytes())?;
+        }
+    }
+    shown.extend_from_slice(b"\n")?;
+    Ok(())
+}
+
+/// The statements of a whole script.
 fn shown(alloc: Global, script: &[u8], ended: bool) -> Result<Vec<u8>, NoMemory> {
     let mut shown = Vec::new(alloc);
     let mut rest = script;
@@ -14,21 +36,45 @@ fn shown(alloc: Global, script: &[u8], ended: bool) -> Result<Vec<u8>, NoMemory>
             return Ok(shown);
         };
         rest = &rest[taken.len..];
-        shown.extend_from_slice(taken.statement.line.as_bytes())?;
-        match &taken.statement.block {
-            Block::Absent => {}
-            Block::Closed(block) => {
-                shown.extend_from_slice(b"{")?;
-                shown.extend_from_slice(block.as_bytes())?;
-                shown.extend_from_slice(b"}")?;
-            }
-            Block::Unclosed(block) => {
-                shown.extend_from_slice(b"{")?;
-                shown.extend_from_slice(block.as_bytes())?;
-            }
-        }
-        shown.extend_from_slice(b"\n")?;
+        show(&mut shown, &taken.statement)?;
     }
+}
+
+/// Appends the statements that a reader gives now, at most so many.
+fn show_next(reader: &mut ScriptReader, shown: &mut Vec<u8>, most: usize) -> Result<(), NoMemory>
+    ensures { StaysFed reader.old reader.new }
+{
+    'statements: for _ in 0..most {
+        let Next::Got(statement) = reader.next_statement()? else {
+            return Ok(());
+        };
+        show(shown, &statement)?;
+    }
+    Ok(())
+}
+
+/// The statements of a script that a reader is fed in pieces of this length.
+fn shown_in_pieces(
+    alloc: Global,
+    script: &[u8],
+    ended: bool,
+    piece: usize,
+) -> Result<Vec<u8>, NoMemory>
+    requires { 0 < piece }
+{
+    let mut reader = ScriptReader::new(alloc);
+    let mut shown = Vec::new(alloc);
+    'pieces: for bytes in script.chunks(piece) {
+        if reader.feed(bytes).is_err() {
+            return Err(NoMemory);
+        }
+        show_next(&mut reader, &mut shown, script.len())?;
+    }
+    if ended {
+        reader.finish();
+    }
+    show_next(&mut reader, &mut shown, script.len())?;
+    Ok(shown)
 }
 
 #[test]
@@ -67,6 +113,13 @@ fn statements_are_lines_and_their_blocks(rt: HostRuntime) -> Result<(), NoMemory
             want,
             "at {script:?}"
         );
+        for piece in [1, 7, 64] {
+            assert_eq!(rt;
+                shown_in_pieces(rt.alloc(), script, ended, piece)?.as_slice(),
+                want,
+                "at {script:?} in pieces of {piece}"
+            );
+        }
     }
     Ok(())
 }

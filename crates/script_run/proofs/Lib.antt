@@ -1,4 +1,4 @@
 -- Lemmas on runs of scripts.
-mod AnswerLemmas
-mod FrontLemmas
+mod NextLemmas
+mod WholeLemmas
 mod RunLemmas

@@ -1,160 +1,342 @@
--- What a run promises by its end, from what was read and from what became of the replies.
-use Rattle.std.proofs.Common.{◌≡◌, ◌≢◌, ◌↔◌, ℕ, ◌+◌, ◌≤◌, Bool, true, false, List, [], ◌++◌, length, Option, Result, Ok, Err, IfOk, inl, inr, refl, sym, ap, subst, ◌∙◌, append_assoc, length-append, arith}
-use Rattle.std.specs.Io.KnownBytes.{Consumes}
-use Rattle.std.proofs.KnownBytes.{Appends-nil}
-use Rattle.std.proofs.lemmas.List.{take_all}
-use Rattle.star_io.specs.declared.read_end.ReadEnd.{ReadEnd}
-use Rattle.star_io.specs.declared.read_end.ReadEnd.TheVariants.{Ended, Limit, Fault, NoMemory}
-use Rattle.star_io.specs.Transfer.{FindsEnd, CountsReadFault}
-use Rattle.star_io.specs.declared.run_end.RunEnd.TheVariants as run
-use Rattle.script_run.specs.declared.answer.Halt.{Halt}
-use Rattle.script_run.specs.declared.answer.Halt.TheVariants as halt
-use Rattle.script_run.specs.declared.run.TheConstants.{SCRIPT_LIMIT}
-use Rattle.script_run.specs.Run.{AnswersScript, HasEnded, within_limit, script_text, some_refused, IsFront, IsProperFront}
-use Rattle.script_run.specs.Answer.{WritesReplies}
-use Rattle.script_run.specs.End.{end_of_all, end_of_cut}
-use Rattle.script_run.proofs.FrontLemmas.{script_text-front}
+-- A run, from what was read and written so far.
+use Rattle.std.proofs.Common.{◌≡◌, ℕ, ◌+◌, ◌≤◌, Bool, true, false, ◌||◌, List, [], ◌++◌, length, Option, Ok, Err, inl, inr, refl, sym, ap, subst, ◌∙◌, append_assoc, append-nil, length-append, arith}
+use Rattle.std.specs.List.{list_any}
+use Rattle.std.specs.Io.KnownBytes.{Appends, Consumes}
+use Rattle.std.proofs.lemmas.List.{take_all, take-append-le}
+use Rattle.std.proofs.KnownBytes.{Appends-nil, Appends-trans, Consumes-nil, Consumes-trans}
+use Rattle.star_io.specs.declared.run_end.RunEnd.TheVariants as end
+use Rattle.script_reader.specs.Reading.{MayCome, Reading, StaysFed}
+use Rattle.script_reader.specs.Script.{statements_of}
+use Rattle.script_reader.specs.declared.reader.TheConstants.{SCRIPT_LIMIT}
+use Rattle.script_reader.specs.declared.statement.Statement.{Statement}
+use Rattle.star_history.specs.Store.{Store, empty_store}
+use Rattle.reply_text.specs.Text.{text_of_all}
+use Rattle.star_statement.specs.Script.{replies_at, replies_of}
+use Rattle.star_io.specs.Faults.{FailedOnce}
+use Rattle.script_run.specs.Answer.{AnswersWhole, CountsHalt, HaltsBehind, HasNoStatement, Replies, RepliesInPart, refused_left, text_left}
+use Rattle.script_run.specs.End.{end_of_all, end_of_halt}
+use Rattle.script_run.specs.Pieces.{fed_with}
+use Rattle.script_run.specs.Run.{AnswersScript, CountsFaults, HasEnded, IsFront, IsProperFront, is_refusal, script_text, some_refused, within_limit}
+use Rattle.script_run.specs.declared.halt.Halt.{Halt}
+use Rattle.script_run.specs.declared.halt.Halt.TheVariants.{WriteFault, NoMemory}
+use Rattle.script_run.proofs.WholeLemmas.{follows}
 
--- bytes within the limit are all of them
+-- a script of which these bytes came, and whose input has not ended
+abbrev pub came : List ℕ → Reading
+came given = record { waiting = given; fed = length given; ended = false }
+
+-- the replies over the tables are those of the script
+abbrev pub IsLaw : Type 0
+IsLaw = (statements : List Statement) → replies_of [] statements ≡ replies_at [] 0 empty_store statements
+
+script_text-left : IsLaw → (last : Bool) (given : List ℕ) → script_text last given ≡ text_left empty_store last given
+script_text-left law last given = ap text_of_all (law (statements_of last given))
+
+some_refused-left : IsLaw → (last : Bool) (given : List ℕ) → some_refused last given ≡ refused_left empty_store last given
+some_refused-left law last given = ap (list_any is_refusal) (law (statements_of last given))
+
+-- these bytes were given and those written, and the replies to the rest are left
+pub record IsRunning (store : Store) (waits : Reading) (refused : Bool) (left0 left taken0 taken : Option (List ℕ)) : Type 0 where
+  pub given : List ℕ
+  pub written : List ℕ
+  pub gave : Consumes left0 left given
+  pub took : Appends taken0 taken written
+  pub counted : length given ≡ waits.fed
+  pub within : waits.fed ≤ SCRIPT_LIMIT
+  pub not_ended : waits.ended ≡ false
+  pub replies : Replies empty_store (came given) store waits written refused
+
+pub starts_run : (store : Store) (waits : Reading) (left taken : Option (List ℕ)) → store ≡ empty_store → waits ≡ record { waiting = []; fed = 0; ended = false }
+    → IsRunning store waits false left left taken taken
+starts_run store waits left taken is none = rw (is, none) (record {
+  given = [];
+  written = [];
+  gave = Consumes-nil left;
+  took = Appends-nil taken;
+  counted = refl;
+  within = omega arith;
+  not_ended = refl;
+  replies = record { text = λ more last comes. refl; refusals = λ more last comes. refl };
+})
+
+-- what may come of the script may come behind the rest
+may_come : (given : List ℕ) (waits : Reading) → waits.ended ≡ false → (more : List ℕ) (last : Bool) → MayCome (came given) more last → MayCome waits more last
+may_come given waits not_ended more last comes e = comes (sym not_ended ∙ e)
+
+-- every whole statement was replied to
+pub answered_run : (store store' : Store) (waits waits' : Reading) (refused some : Bool) (left0 left taken0 taken taken' : Option (List ℕ))
+    → IsRunning store waits refused left0 left taken0 taken → AnswersWhole (Ok some) store waits store' waits' taken taken' → StaysFed waits waits'
+    → IsRunning store' waits' (refused || some) left0 left taken0 taken'
+answered_run store store' waits waits' refused some left0 left taken0 taken taken' run answers stays = record {
+  given = run.given;
+  written = run.written ++ answers.0;
+  gave = run.gave;
+  took = Appends-trans taken0 taken taken' run.written answers.0 run.took answers.1;
+  counted = run.counted ∙ sym stays.0;
+  within = subst (λ fed. fed ≤ SCRIPT_LIMIT) (sym stays.0) run.within;
+  not_ended = stays.1 ∙ run.not_ended;
+  replies = follows empty_store store store' (came run.given) waits waits' run.written answers.0 refused some run.replies answers.2
+      (may_come run.given waits run.not_ended);
+}
+
+-- a piece more was fed
+pub fed_run : (store : Store) (waits waits' : Reading) (refused : Bool) (left0 left left' taken0 taken : Option (List ℕ)) (piece : List ℕ)
+    → IsRunning store waits refused left0 left taken0 taken → Consumes left left' piece → waits' ≡ fed_with waits piece → waits'.fed ≤ SCRIPT_LIMIT
+    → IsRunning store waits' refused left0 left' taken0 taken
+fed_run store waits waits' refused left0 left left' taken0 taken piece run gave is within = record {
+  given = run.given ++ piece;
+  written = run.written;
+  gave = Consumes-trans left0 left left' run.given piece run.gave gave;
+  took = run.took;
+  counted = length-append run.given piece ∙ ap (λ n. n + length piece) run.counted ∙ ap (λ (w : Reading). w.fed) (sym is);
+  within = within;
+  not_ended = ap (λ (w : Reading). w.ended) is ∙ run.not_ended;
+  replies = rw is (record {
+    text = λ more last comes. ap (λ bytes. text_left empty_store last bytes) (append_assoc run.given piece more)
+        ∙ run.replies.text (piece ++ more) last (λ e. cc)
+        ∙ ap (λ bytes. run.written ++ text_left store last bytes) (sym (append_assoc waits.waiting piece more));
+    refusals = λ more last comes. ap (λ bytes. refused_left empty_store last bytes) (append_assoc run.given piece more)
+        ∙ run.replies.refusals (piece ++ more) last (λ e. cc)
+        ∙ ap (λ bytes. refused || refused_left store last bytes) (sym (append_assoc waits.waiting piece more));
+  });
+}
+
+-- The bytes within the limit.
+
 within_all : (given : List ℕ) → length given ≤ SCRIPT_LIMIT → within_limit given ≡ given
 within_all given few = take_all SCRIPT_LIMIT given few
 
--- the replies to a script whose input was read to its end
-pub all_answered : (answered : Result Bool Halt) (given : List ℕ) (was ended : Bool) (read read' : ℕ) (left left' taken taken' : Option (List ℕ))
-    → Consumes left left' given → length given ≤ SCRIPT_LIMIT → HasEnded ended left'
-    → WritesReplies answered taken taken' (script_text true (within_limit given))
-    → IfOk answered (λ refused. refused ≡ some_refused true (within_limit given))
-    → AnswersScript (end_of_all answered) was ended read read' left left' taken taken'
-all_answered (Ok false) given was ended read read' left left' taken taken' gave few over wrote refused =
-    let all = within_all given few in
-    record {
-      given = given;
-      written = script_text true given;
-      gave = gave;
-      took = rw all at wrote;
-      reads = few;
-      writes = (over, refl, sym (rw all at refused));
-      memory = λ h. cc;
-    }
-all_answered (Ok true) given was ended read read' left left' taken taken' gave few over wrote refused =
-    let all = within_all given few in
-    record {
-      given = given;
-      written = script_text true given;
-      gave = gave;
-      took = rw all at wrote;
-      reads = few;
-      writes = (over, refl, sym (rw all at refused));
-      memory = λ h. cc;
-    }
-all_answered (Err halt.WriteFault) given was ended read read' left left' taken taken' gave few over wrote refused =
-    record { given = given; written = wrote.0; gave = gave; took = wrote.1; reads = omega arith; writes = rw over.0 wrote.2; memory = λ h. cc }
-all_answered (Err halt.NoMemory) given was ended read read' left left' taken taken' gave few over wrote refused =
-    let front : IsProperFront wrote.0 (script_text ended (within_limit given)) = rw over.0 wrote.2 in
-    record { given = given; written = wrote.0; gave = gave; took = wrote.1; reads = omega arith; writes = (front.0, front.2); memory = λ _. inl front }
+within_more : (given piece : List ℕ) → length given ≡ SCRIPT_LIMIT → within_limit (given ++ piece) ≡ given
+within_more given piece full =
+    let fits : SCRIPT_LIMIT ≤ length given = omega arith in
+    take-append-le SCRIPT_LIMIT given piece fits ∙ take_all SCRIPT_LIMIT given (omega arith)
 
--- a proper front of a front is a proper front
-IsProperFront-trans : (front middle all : List ℕ) → IsProperFront front middle → IsFront middle all → IsProperFront front all
-IsProperFront-trans front middle all p q =
-    (p.0 ++ q.0, omega (arith, p.1, length-append p.0 q.0), q.1 ∙ ap (λ bytes. bytes ++ q.0) p.2 ∙ append_assoc front p.0 q.0)
+-- How the replies stand to the text of the script.
 
--- a proper front of the replies to what had come is one of the replies to all
-halted_front : (ended : Bool) (written script : List ℕ) → IsProperFront written (script_text false script) → IsProperFront written (script_text ended script)
-halted_front false written script front = front
-halted_front true written script front =
-    IsProperFront-trans written (script_text false script) (script_text true script) front (script_text-front script)
+no_reply : (store : Store) (waits : Reading) → HasNoStatement waits → waits.ended ≡ false → text_left store false waits.waiting ≡ []
+no_reply store waits none not_ended =
+    let all : statements_of false waits.waiting ≡ [] = subst (λ ended. statements_of ended waits.waiting ≡ []) not_ended none in
+    ap (λ statements. text_of_all (replies_at [] 0 store statements)) all
 
--- the replies to what had come before a read failed
-pub fault_answered : (answered : Result Bool Halt) (given : List ℕ) (was ended : Bool) (read read' : ℕ) (left left' taken taken' : Option (List ℕ))
-    → Consumes left left' given → length given ≤ SCRIPT_LIMIT
-    → WritesReplies answered taken taken' (script_text false (within_limit given))
-    → AnswersScript (end_of_cut answered run.ReadFault) was ended read read' left left' taken taken'
-fault_answered (Ok refused) given was ended read read' left left' taken taken' gave few wrote =
-    record { given = given; written = script_text false given; gave = gave; took = rw (within_all given few) at wrote; reads = few; writes = refl; memory = λ h. cc }
-fault_answered (Err halt.WriteFault) given was ended read read' left left' taken taken' gave few wrote =
-    let front = halted_front ended wrote.0 (within_limit given) wrote.2 in
-    record { given = given; written = wrote.0; gave = gave; took = wrote.1; reads = omega arith; writes = front; memory = λ h. cc }
-fault_answered (Err halt.NoMemory) given was ended read read' left left' taken taken' gave few wrote =
-    let front = halted_front ended wrote.0 (within_limit given) wrote.2 in
-    record { given = given; written = wrote.0; gave = gave; took = wrote.1; reads = omega arith; writes = (front.0, front.2); memory = λ _. inl front }
+-- all replies to what has come were written
+whole_text : IsLaw → (store : Store) (waits : Reading) (refused : Bool) (left0 left taken0 taken : Option (List ℕ)) → (run : IsRunning store waits refused left0 left taken0 taken)
+    → HasNoStatement waits → run.written ≡ script_text false run.given
+whole_text law store waits refused left0 left taken0 taken run none =
+    let all = rw (append-nil run.given, append-nil waits.waiting) at (run.replies.text [] false (λ e. cc)) in
+    sym (script_text-left law false run.given ∙ all ∙ ap (λ text. run.written ++ text) (no_reply store waits none run.not_ended) ∙ append-nil run.written)
 
--- the replies to what had come before the limit was passed
-pub limit_answered : (answered : Result Bool Halt) (given : List ℕ) (was ended : Bool) (read read' : ℕ) (left left' taken taken' : Option (List ℕ))
-    → Consumes left left' given → length given ≡ SCRIPT_LIMIT + 1
-    → WritesReplies answered taken taken' (script_text false (within_limit given))
-    → AnswersScript (end_of_cut answered run.ScriptLimit) was ended read read' left left' taken taken'
-limit_answered (Ok refused) given was ended read read' left left' taken taken' gave past wrote =
-    record { given = given; written = script_text false (within_limit given); gave = gave; took = wrote; reads = past; writes = refl; memory = λ h. cc }
-limit_answered (Err halt.WriteFault) given was ended read read' left left' taken taken' gave past wrote =
-    let front = halted_front ended wrote.0 (within_limit given) wrote.2 in
-    record { given = given; written = wrote.0; gave = gave; took = wrote.1; reads = omega arith; writes = front; memory = λ h. cc }
-limit_answered (Err halt.NoMemory) given was ended read read' left left' taken taken' gave past wrote =
-    let front = halted_front ended wrote.0 (within_limit given) wrote.2 in
-    record { given = given; written = wrote.0; gave = gave; took = wrote.1; reads = omega arith; writes = (front.0, front.2); memory = λ _. inl front }
-
--- within the limit are the bytes of every end but `Limit`
-pub within_the_limit : (end : ReadEnd) (count : ℕ) → count ≤ SCRIPT_LIMIT + 1 → ((end ≡ Limit) ↔ (count ≡ SCRIPT_LIMIT + 1)) → end ≢ Limit → count ≤ SCRIPT_LIMIT
-within_the_limit end count few past other =
-    let short : count ≢ SCRIPT_LIMIT + 1 = λ h. other (past.1 h) in omega arith
-
--- no memory was left to read on, before the reading met an end, and nothing is written
-pub unanswered : (given : List ℕ) (count : ℕ) (end : ReadEnd) (was ended failed : Bool) (read read' : ℕ) (left left' taken : Option (List ℕ))
-    → end ≡ NoMemory → length given ≡ count → Consumes left left' given
-    → count ≤ SCRIPT_LIMIT + 1 → ((end ≡ Limit) ↔ (count ≡ SCRIPT_LIMIT + 1)) → FindsEnd end was ended left' → CountsReadFault end read read' failed
-    → AnswersScript run.NoMemory was ended read read' left left' taken taken
-unanswered given count Ended was ended failed read read' left left' taken is counted gave few past found faults = cc
-unanswered given count Limit was ended failed read read' left left' taken is counted gave few past found faults = cc
-unanswered given count Fault was ended failed read read' left left' taken is counted gave few past found faults = cc
-unanswered given count NoMemory was ended failed read read' left left' taken is counted gave few past found faults =
-    let short = within_the_limit NoMemory count few past (λ limit. cc) in
-    record {
-      given = given;
-      written = [];
-      gave = gave;
-      took = Appends-nil taken;
+-- a read failed
+pub fault_run : IsLaw → (store : Store) (waits : Reading) (refused was ended : Bool) (read read' : ℕ) (left0 left left' taken0 taken : Option (List ℕ)) (piece : List ℕ)
+    → IsRunning store waits refused left0 left taken0 taken → HasNoStatement waits → Consumes left left' piece → piece ≡ []
+    → AnswersScript end.ReadFault was ended read read' left0 left' taken0 taken
+fault_run law store waits refused was ended read read' left0 left left' taken0 taken piece run none gave nothing =
+    let within = run.within in let counted = run.counted in record {
+      given = run.given;
+      written = run.written;
+      gave = rw (append-nil run.given) at (Consumes-trans left0 left left' run.given [] run.gave (rw nothing at gave));
+      took = run.took;
       reads = omega arith;
-      writes = (script_text ended (within_limit given), refl);
-      memory = λ _. inr ((found, faults, omega arith), refl);
+      writes = whole_text law store waits refused left0 left taken0 taken run none;
+      memory = λ h. cc;
     }
 
--- what is told of a read to the end
-ended_told : (end : ReadEnd) (old new : Bool) (left : Option (List ℕ)) → end ≡ Ended → FindsEnd end old new left → HasEnded new left
-ended_told Ended old new left e h = h
-ended_told Limit old new left e h = cc
-ended_told Fault old new left e h = cc
-ended_told NoMemory old new left e h = cc
+-- the byte past the limit came
+pub limit_run : IsLaw → (store : Store) (waits : Reading) (refused was ended : Bool) (read read' : ℕ) (left0 left left' taken0 taken : Option (List ℕ)) (piece : List ℕ)
+    → IsRunning store waits refused left0 left taken0 taken → HasNoStatement waits → Consumes left left' piece → waits.fed ≡ SCRIPT_LIMIT → length piece ≡ 1
+    → AnswersScript end.ScriptLimit was ended read read' left0 left' taken0 taken
+limit_run law store waits refused was ended read read' left0 left left' taken0 taken piece run none gave full one =
+    let counted = run.counted in record {
+      given = run.given ++ piece;
+      written = run.written;
+      gave = Consumes-trans left0 left left' run.given piece run.gave gave;
+      took = run.took;
+      reads = omega (arith, length-append run.given piece);
+      writes = whole_text law store waits refused left0 left taken0 taken run none ∙ ap (script_text false) (sym (within_more run.given piece (omega arith)));
+      memory = λ h. cc;
+    }
 
--- the run of a script that was read to its end
-pub ended_run : (answered : Result Bool Halt) (given script : List ℕ) (count : ℕ) (end : ReadEnd) (old new : Bool) (read read' : ℕ) (left left' taken taken' : Option (List ℕ))
-    → end ≡ Ended → script ≡ within_limit given → length given ≡ count
-    → Consumes left left' given → count ≤ SCRIPT_LIMIT + 1 → ((end ≡ Limit) ↔ (count ≡ SCRIPT_LIMIT + 1)) → FindsEnd end old new left'
-    → WritesReplies answered taken taken' (script_text true script)
-    → IfOk answered (λ refused. refused ≡ some_refused true script)
-    → AnswersScript (end_of_all answered) old new read read' left left' taken taken'
-ended_run answered given script count end old new read read' left left' taken taken' is e counted gave few past found wrote refused =
-    let short = within_the_limit end count few past (λ limit. let wrong = sym is ∙ limit in cc) in
-    all_answered answered given old new read read' left left' taken taken' gave (omega arith)
-    (ended_told end old new left' is found)
-    (subst (λ (bytes : List ℕ). WritesReplies answered taken taken' (script_text true bytes)) e wrote)
-    (subst (λ (bytes : List ℕ). IfOk answered (λ r. r ≡ some_refused true bytes)) e refused)
+-- no memory was left for a piece
+pub unfed_run : IsLaw → (store : Store) (waits : Reading) (refused was ended : Bool) (read read' : ℕ) (left0 left left' taken0 taken : Option (List ℕ)) (piece : List ℕ)
+    → IsRunning store waits refused left0 left taken0 taken → Consumes left left' piece → waits.fed + length piece ≤ SCRIPT_LIMIT
+    → ended ≡ was → read' ≡ read → AnswersScript end.NoMemory was ended read read' left0 left' taken0 taken
+unfed_run law store waits refused was ended read read' left0 left left' taken0 taken piece run gave few same unfailed =
+    let counted = run.counted in
+    let within : length (run.given ++ piece) ≤ SCRIPT_LIMIT = omega (arith, length-append run.given piece) in record {
+      given = run.given ++ piece;
+      written = run.written;
+      gave = Consumes-trans left0 left left' run.given piece run.gave gave;
+      took = run.took;
+      reads = omega (arith, within);
+      writes = (
+        text_left store ended (waits.waiting ++ piece),
+        ap (script_text ended) (within_all (run.given ++ piece) within) ∙ script_text-left law ended (run.given ++ piece) ∙ run.replies.text piece ended (λ e. cc),
+      );
+      memory = λ h. inr (same, unfailed, within);
+    }
 
--- the run of a script of which a read failed
-pub fault_run : (answered : Result Bool Halt) (given script : List ℕ) (count : ℕ) (end : ReadEnd) (was ended : Bool) (read read' : ℕ) (left left' taken taken' : Option (List ℕ))
-    → end ≡ Fault → script ≡ within_limit given → length given ≡ count
-    → Consumes left left' given → count ≤ SCRIPT_LIMIT + 1 → ((end ≡ Limit) ↔ (count ≡ SCRIPT_LIMIT + 1))
-    → WritesReplies answered taken taken' (script_text false script)
-    → AnswersScript (end_of_cut answered run.ReadFault) was ended read read' left left' taken taken'
-fault_run answered given script count end was ended read read' left left' taken taken' is e counted gave few past wrote =
-    let short = within_the_limit end count few past (λ limit. let wrong = sym is ∙ limit in cc) in
-    fault_answered answered given was ended read read' left left' taken taken' gave (omega arith)
-    (subst (λ (bytes : List ℕ). WritesReplies answered taken taken' (script_text false bytes)) e wrote)
+-- Where the replies halt.
 
--- the run of a script that is longer than its limit
-pub limit_run : (answered : Result Bool Halt) (given script : List ℕ) (count : ℕ) (end : ReadEnd) (was ended : Bool) (read read' : ℕ) (left left' taken taken' : Option (List ℕ))
-    → end ≡ Limit → script ≡ within_limit given → length given ≡ count
-    → Consumes left left' given → ((end ≡ Limit) ↔ (count ≡ SCRIPT_LIMIT + 1))
-    → WritesReplies answered taken taken' (script_text false script)
-    → AnswersScript (end_of_cut answered run.ScriptLimit) was ended read read' left left' taken taken'
-limit_run answered given script count end was ended read read' left left' taken taken' is e counted gave past wrote =
-    limit_answered answered given was ended read read' left left' taken taken' gave (counted ∙ past.0 is)
-    (subst (λ (bytes : List ℕ). WritesReplies answered taken taken' (script_text false bytes)) e wrote)
+-- a front of what is still to come, behind what was written
+front_on : IsLaw → (ended last : Bool) (store : Store) (waits : Reading) (given front written : List ℕ) (refused : Bool)
+    → Replies empty_store (came given) store waits front refused → IsFront written (text_left store last (waits.waiting ++ []))
+    → IsFront (front ++ written) (script_text last given)
+front_on law ended last store waits given front written refused way part = (
+  part.0,
+  script_text-left law last given ∙ sym (ap (text_left empty_store last) (append-nil given)) ∙ way.text [] last (λ e. cc)
+      ∙ ap (λ text. front ++ text) part.1 ∙ sym (append_assoc front written part.0),
+)
+
+proper_on : IsLaw → (last : Bool) (store : Store) (waits : Reading) (given front written : List ℕ) (refused : Bool)
+    → Replies empty_store (came given) store waits front refused → IsProperFront written (text_left store last (waits.waiting ++ []))
+    → IsProperFront (front ++ written) (script_text last given)
+proper_on law last store waits given front written refused way part = (
+  part.0,
+  part.1,
+  script_text-left law last given ∙ sym (ap (text_left empty_store last) (append-nil given)) ∙ way.text [] last (λ e. cc)
+      ∙ ap (λ text. front ++ text) part.2 ∙ sym (append_assoc front written part.0),
+)
+
+-- the replies halt before the input has ended
+pub halted_run : IsLaw → (halt : Halt) (store store' : Store) (waits waits' : Reading) (refused was ended : Bool) (read read' : ℕ) (left0 left taken0 taken taken' : Option (List ℕ))
+    → IsRunning store waits refused left0 left taken0 taken → AnswersWhole (Err halt) store waits store' waits' taken taken'
+    → ended ≡ was → read' ≡ read → AnswersScript (end_of_halt halt) was ended read read' left0 left taken0 taken'
+halted_run law WriteFault store store' waits waits' refused was ended read read' left0 left taken0 taken taken' run answers same unfailed =
+    let counted = run.counted in let within = run.within in
+    let few : length run.given ≤ SCRIPT_LIMIT = omega arith in record {
+      given = run.given;
+      written = run.written ++ answers.0;
+      gave = run.gave;
+      took = Appends-trans taken0 taken taken' run.written answers.0 run.took answers.1;
+      reads = omega arith;
+      writes = rw (within_all run.given few) (proper_on law ended store waits run.given run.written answers.0 refused run.replies
+          (answers.2 [] ended (λ e. let wrong = sym run.not_ended ∙ e in cc)));
+      memory = λ h. cc;
+    }
+halted_run law NoMemory store store' waits waits' refused was ended read read' left0 left taken0 taken taken' run answers same unfailed =
+    let counted = run.counted in let within = run.within in
+    let few : length run.given ≤ SCRIPT_LIMIT = omega arith in record {
+      given = run.given;
+      written = run.written ++ answers.0;
+      gave = run.gave;
+      took = Appends-trans taken0 taken taken' run.written answers.0 run.took answers.1;
+      reads = omega arith;
+      writes = rw (within_all run.given few) (front_on law ended ended store waits run.given run.written answers.0 refused run.replies
+          (answers.2.0 [] ended (λ e. let wrong = sym run.not_ended ∙ e in cc)));
+      memory = λ h. inr (same, unfailed, few);
+    }
+
+-- The end of the input.
+
+-- a reader whose input has ended
+abbrev pub finished : Reading → Reading
+finished waits = record waits { ended = true }
+
+-- what may come at the end
+at_end : (waits : Reading) → MayCome (finished waits) [] true
+at_end waits e = (refl, refl)
+
+pub ended_run : IsLaw → (store store' : Store) (waits waits' : Reading) (refused some was ended : Bool) (read read' : ℕ) (left0 left left' taken0 taken taken' : Option (List ℕ)) (piece : List ℕ)
+    → IsRunning store waits refused left0 left taken0 taken → Consumes left left' piece → piece ≡ [] → HasEnded ended left'
+    → AnswersWhole (Ok some) store (finished waits) store' waits' taken taken' → StaysFed (finished waits) waits'
+    → AnswersScript (end_of_all (refused || some)) was ended read read' left0 left' taken0 taken'
+ended_run law store store' waits waits' refused some was ended read read' left0 left left' taken0 taken taken' piece run gave nothing has_ended answers stays =
+    by_refused (refused || some) refl
+  where
+    none : statements_of true waits'.waiting ≡ []
+    none = subst (λ e. statements_of e waits'.waiting ≡ []) stays.1 answers.3
+
+    text : run.written ++ answers.0 ≡ script_text true run.given
+    text =
+        let first = rw (append-nil run.given) at (run.replies.text [] true (λ e. cc)) in
+        let then_all = rw (append-nil waits'.waiting) at (answers.2.text [] true (at_end waits)) in
+        sym (script_text-left law true run.given ∙ first ∙ ap (λ t. run.written ++ t) (then_all
+        ∙ ap (λ statements. answers.0 ++ text_of_all (replies_at [] 0 store' statements)) none ∙ append-nil answers.0))
+
+    refusals : some_refused true run.given ≡ (refused || some)
+    refusals =
+        let first = rw (append-nil run.given) at (run.replies.refusals [] true (λ e. cc)) in
+        let then_all = rw (append-nil waits'.waiting) at (answers.2.refusals [] true (at_end waits)) in
+        some_refused-left law true run.given ∙ first ∙ ap (λ t. refused || t) (then_all
+        ∙ ap (λ statements. some || list_any is_refusal (replies_at [] 0 store' statements)) none ∙ or_false some)
+      where
+        or_false : (a : Bool) → (a || false) ≡ a
+        or_false true = refl
+        or_false false = refl
+
+    gave_all : Consumes left0 left' run.given
+    gave_all = rw (append-nil run.given) at (Consumes-trans left0 left left' run.given [] run.gave (rw nothing at gave))
+
+    few : length run.given ≤ SCRIPT_LIMIT
+    few = let counted = run.counted in let within = run.within in omega arith
+
+    by_refused : (test : Bool) → (refused || some) ≡ test → AnswersScript (end_of_all test) was ended read read' left0 left' taken0 taken'
+    by_refused false e = record {
+      given = run.given;
+      written = run.written ++ answers.0;
+      gave = gave_all;
+      took = Appends-trans taken0 taken taken' run.written answers.0 run.took answers.1;
+      reads = few;
+      writes = (has_ended, text, refusals ∙ e);
+      memory = λ h. cc;
+    }
+    by_refused true e = record {
+      given = run.given;
+      written = run.written ++ answers.0;
+      gave = gave_all;
+      took = Appends-trans taken0 taken taken' run.written answers.0 run.took answers.1;
+      reads = few;
+      writes = (has_ended, text, refusals ∙ e);
+      memory = λ h. cc;
+    }
+
+-- the replies halt behind the end of the input
+pub ended_halted : IsLaw → (halt : Halt) (store store' : Store) (waits waits' : Reading) (refused was ended : Bool) (read read' : ℕ) (left0 left left' taken0 taken taken' : Option (List ℕ)) (piece : List ℕ)
+    → IsRunning store waits refused left0 left taken0 taken → Consumes left left' piece → piece ≡ [] → HasEnded ended left'
+    → AnswersWhole (Err halt) store (finished waits) store' waits' taken taken'
+    → AnswersScript (end_of_halt halt) was ended read read' left0 left' taken0 taken'
+ended_halted law halt store store' waits waits' refused was ended read read' left0 left left' taken0 taken taken' piece run gave nothing has_ended answers =
+    by_halt halt answers.2
+  where
+    gave_all : Consumes left0 left' run.given
+    gave_all = rw (append-nil run.given) at (Consumes-trans left0 left left' run.given [] run.gave (rw nothing at gave))
+
+    few : length run.given ≤ SCRIPT_LIMIT
+    few = let counted = run.counted in let within = run.within in omega arith
+
+    proper : RepliesInPart store (finished waits) answers.0 → IsProperFront (run.written ++ answers.0) (script_text ended (within_limit run.given))
+    proper part = rw (within_all run.given few, has_ended.0)
+        (proper_on law true store waits run.given run.written answers.0 refused run.replies (part [] true (at_end waits)))
+
+    by_halt : (why : Halt) → HaltsBehind why store (finished waits) answers.0 → AnswersScript (end_of_halt why) was ended read read' left0 left' taken0 taken'
+    by_halt WriteFault part = record {
+      given = run.given;
+      written = run.written ++ answers.0;
+      gave = gave_all;
+      took = Appends-trans taken0 taken taken' run.written answers.0 run.took answers.1;
+      reads = omega (arith, few);
+      writes = proper part;
+      memory = λ h. cc;
+    }
+    by_halt NoMemory part =
+        let whole = proper (part.1 refl) in record {
+          given = run.given;
+          written = run.written ++ answers.0;
+          gave = gave_all;
+          took = Appends-trans taken0 taken taken' run.written answers.0 run.took answers.1;
+          reads = omega (arith, few);
+          writes = (whole.0, whole.2);
+          memory = λ h. inl whole;
+        }
+
+-- The faults that came.
+
+pub counts_halted : (halt : Halt) (read read' : ℕ) (read_failed : Bool) (write0 write write' : ℕ) (write_failed : Bool) → read' ≡ read → write ≡ write0
+    → CountsHalt {A = Bool} (Err halt) write write' write_failed → CountsFaults (end_of_halt halt) read read' read_failed write0 write' write_failed
+counts_halted WriteFault read read' read_failed write0 write write' write_failed unread unwritten h =
+    (inl unread, subst (λ w. FailedOnce w write' write_failed) unwritten h)
+counts_halted NoMemory read read' read_failed write0 write write' write_failed unread unwritten h = (inl unread, h ∙ unwritten)
+
+pub counts_all : (refused : Bool) (read read' : ℕ) (read_failed : Bool) (write0 write write' : ℕ) (write_failed : Bool) → read' ≡ read → write ≡ write0
+    → write' ≡ write → CountsFaults (end_of_all refused) read read' read_failed write0 write' write_failed
+counts_all false read read' read_failed write0 write write' write_failed unread unwritten h = (unread, h ∙ unwritten)
+counts_all true read read' read_failed write0 write write' write_failed unread unwritten h = (unread, h ∙ unwritten)

@@ -2,3 +2,4 @@
 pub mod Run
 pub mod End
 pub mod Answer
+pub mod Pieces

@@ -6,30 +6,31 @@ use Rattle.star_io.specs.Faults.{FailedOnce, FailedOnceAtMost}
 use Rattle.star_io.specs.declared.run_end.RunEnd.{RunEnd}
 use Rattle.star_io.specs.declared.run_end.RunEnd.TheVariants.{Clean, SomeRefused, ReadFault, WriteFault, NoMemory, ScriptLimit}
 use Rattle.script_reader.specs.Script.{statements_of}
-use Rattle.query_meaning.specs.declared.reply.Reply.{Reply}
-use Rattle.query_meaning.specs.declared.reply.Reply.TheVariants.{Refused}
-use Rattle.query_meaning.specs.Reply.{text_of_all}
-use Rattle.query_meaning.specs.Script.{replies_of}
-use Rattle.script_run.specs.declared.run.TheConstants.{SCRIPT_LIMIT}
+use Rattle.script_reader.specs.declared.reader.TheConstants.{SCRIPT_LIMIT}
+use Rattle.reply_text.specs.Text.{text_of_all}
+use Rattle.reply_text.specs.declared.reply.Reply.{Reply}
+use Rattle.reply_text.specs.declared.reply.Reply.TheVariants.{Memory, Refused}
+use Rattle.star_statement.specs.Script.{replies_of}
 
 -- the bytes of a script within the limit
 abbrev pub within_limit : List ℕ → List ℕ
 within_limit given = take SCRIPT_LIMIT given
 
--- the replies to a script, whose input has ended or not
+-- the replies to a script, whose input has ended or not. Memory is wanted at no place: a run for which it is ends there
 abbrev pub script_replies : Bool → List ℕ → List Reply
-script_replies ended script = replies_of (statements_of ended script)
+script_replies ended script = replies_of [] (statements_of ended script)
 
 -- their text
 abbrev pub script_text : Bool → List ℕ → List ℕ
 script_text ended script = text_of_all (script_replies ended script)
 
--- the reply is a refusal
+-- the reply is a refusal, or tells that memory was wanted
 abbrev pub is_refusal : Reply → Bool
 is_refusal (Refused reason) = true
+is_refusal Memory = true
 is_refusal reply = false
 
--- some reply is a refusal
+-- some reply is one of these
 abbrev pub some_refused : Bool → List ℕ → Bool
 some_refused ended script = list_any is_refusal (script_replies ended script)
 
@@ -86,7 +87,7 @@ CountsFaults NoMemory read read' read_failed write write' write_failed =
     FailedOnceAtMost read read' read_failed × (write' ≡ write)
 
 -- in a run the source gave these bytes and the sink took those, and they belong together as its end says. Want of memory
--- is told in place of no other end: some reply was still to be written, or the reading met no end and nothing was written
+-- is told in place of no other end: some reply was still to be written, or the reading met no end
 pub record AnswersScript (end : RunEnd) (ended ended' : Bool) (read read' : ℕ) (left left' taken taken' : Option (List ℕ)) : Type 0 where
   pub given : List ℕ
   pub written : List ℕ
@@ -95,4 +96,4 @@ pub record AnswersScript (end : RunEnd) (ended ended' : Bool) (read read' : ℕ)
   pub reads : ReadsBytes end (length given)
   pub writes : Writes end ended' left' given written
   pub memory : end ≡ NoMemory → IsProperFront written (script_text ended' (within_limit given))
-      ⊎ (MetNoEnd ended ended' read read' given × (written ≡ []))
+      ⊎ MetNoEnd ended ended' read read' given

@@ -1,99 +1,62 @@
-//! The replies to a script that is in memory, written one after the other.
-ghost use Rattle.std.specs.Prelude.{◌≡◌, ◌≢◌, ◌<◌, ◌≤◌, [], drop, length, IfOk, OnErr, MatchOption};
-ghost use Rattle.script_reader.specs.Script.{statements_of};
-ghost use Rattle.query_meaning.specs.Script.{replies_at};
-ghost use Rattle.script_run.specs.Run.{script_text, some_refused};
-ghost use Rattle.script_run.specs.Answer.{WritesReplies, CountsHalt, AnswersFirst};
-ghost use Rattle.script_run.specs.declared.answer.Halt.TheVariants.{WriteFault, NoMemory as OutOfMemory};
+//! The replies to the statements that are whole, written one after the other.
+ghost use Rattle.std.specs.Prelude.{◌≡◌, OnErr};
+ghost use Rattle.script_reader.specs.Reading.{StaysFed};
+ghost use Rattle.star_history.specs.Keyed.{plain};
+ghost use Rattle.script_run.specs.Answer.{AnswersWhole, CountsHalt, GivesNext};
 
-use query_meaning::{Reply, Warehouse, print_reply};
-use script_reader::take_statement;
-use star_io::{Failed, Sink, write_all};
+use crate::halt::Halt;
+use crate::reply::{is_refusal, reply_to, text_of};
+use script_reader::{Next, ScriptReader};
+use star_io::{Sink, write_all};
+use star_store::Store;
 use star_values::{ByteText, NoMemory};
 use std::alloc::Global;
 
-/// Why a run stops before its last reply.
-#[derive(Clone, Copy, Debug, PartialEq, Eq)]
-pub(crate) enum Halt {
-    WriteFault,
-    NoMemory,
-}
-
-impl From<Failed> for Halt {
-    ghost from_gives = { λ _ halt. halt ≡ WriteFault };
-
-    fn from(_failed: Failed) -> Halt {
-        Halt::WriteFault
-    }
-}
-
-impl From<NoMemory> for Halt {
-    ghost from_gives = { λ _ halt. halt ≡ OutOfMemory };
-
-    fn from(_none: NoMemory) -> Halt {
-        Halt::NoMemory
-    }
-}
-
-/// Writes the replies to all statements of a script, and tells whether some reply is a refusal.
-pub(crate) fn answer_script<K: Sink>(
+/// Writes the reply to each statement that is whole, in order, and tells whether some reply is a refusal.
+pub(crate) fn answer_whole<K: Sink>(
     alloc: Global,
-    script: &[u8],
-    ended: bool,
+    store: &mut Store,
+    reader: &mut ScriptReader,
     sink: &mut K,
 ) -> Result<bool, Halt>
-    ensures writes { WritesReplies result (K.taken sink.old) (K.taken sink.new)
-        (script_text ended script.now) }
-    ensures refused { IfOk result (λ refused. refused ≡ some_refused ended script.now) }
+    ensures answers { AnswersWhole result (plain store.old) reader.old (plain store.new) reader.new
+        (K.taken sink.old) (K.taken sink.new) }
+    ensures stays { StaysFed reader.old reader.new }
     ensures faults { CountsHalt result
         (K.write_faults sink.old) (K.write_faults sink.new) (K.write_failed sink.new) }
 {
-    let mut warehouse = Warehouse::new(alloc);
-    let mut rest = script;
     let mut refused = false;
     'statements: loop {
-        let Some(answered) = answer_first(alloc, warehouse, rest, ended)? else {
+        let Some(answered) = answer_next(alloc, store, reader)? else {
             return Ok(refused);
         };
         write_all(sink, answered.text.as_bytes())?;
         refused |= answered.refused;
-        rest = rest.split_at(answered.len).1;
-        warehouse = answered.warehouse;
     }
 }
 
-/// The reply to the first statement of what is left of a script, and the tables behind it.
+/// The reply to a statement.
 #[derive(Drop)]
 struct Answered {
-    warehouse: Warehouse,
     text: ByteText,
     refused: bool,
-    /// How many bytes of the script the statement and what stands before it take.
-    len: usize,
 }
 
-/// Answers the first statement of what is left of a script, where there is one.
-fn answer_first(
+/// Does what the first statement that is whole says, and gives its reply, where there is one.
+fn answer_next(
     alloc: Global,
-    warehouse: Warehouse,
-    rest: &[u8],
-    ended: bool,
+    store: &mut Store,
+    reader: &mut ScriptReader,
 ) -> Result<Option<Answered>, NoMemory>
-    ensures found { IfOk result (λ found. MatchOption found
-        (replies_at warehouse (statements_of ended rest.now) ≡ [])
-        (AnswersFirst warehouse ended rest.now)) }
-    ensures wanted { OnErr result (replies_at warehouse (statements_of ended rest.now) ≢ []) }
+    ensures gives { GivesNext result (plain store.old) reader.old (plain store.new) reader.new }
+    ensures stays { StaysFed reader.old reader.new }
 {
-    let Some(taken) = take_statement(alloc, rest, ended)? else {
+    let Next::Got(statement) = reader.next_statement()? else {
         return Ok(None);
     };
-    let (warehouse, reply) = warehouse.execute(&taken.statement)?;
-    let mut text = ByteText::new(alloc);
-    print_reply(&reply, &mut text)?;
+    let reply = reply_to(alloc, store, &statement)?;
     Ok(Some(Answered {
-        warehouse,
-        text,
-        refused: matches!(reply, Reply::Refused(_)),
-        len: taken.len,
+        text: text_of(alloc, &reply)?,
+        refused: is_refusal(&reply),
     }))
 }

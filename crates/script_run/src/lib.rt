@@ -1,7 +1,10 @@
-//! A script from bytes to bytes: its statements are answered one after the other.
+//! A script from bytes to bytes: each statement is replied to as soon as it is whole.
 #![tactic(auto)]
 
 mod answer;
+mod halt;
+mod piece;
+mod reply;
 mod run;
 
-pub use run::{SCRIPT_LIMIT, run_script};
+pub use run::{run_alone, run_script};

@@ -1,19 +1,23 @@
-//! A run of a script: all bytes of the source, and then the replies in order.
-ghost use Rattle.std.specs.Prelude.{◌≡◌, take};
+//! A run of a script: each statement is replied to as soon as it is whole, before more is read.
+ghost use Rattle.std.specs.Prelude.{◌≡◌};
 ghost use Rattle.script_run.specs.Run.{AnswersScript, CountsFaults};
-ghost use Rattle.script_run.specs.End.{end_of_all, end_of_cut, end_of_halt};
+ghost use Rattle.script_run.specs.End.{end_of_all, end_of_halt};
 
-use crate::answer::{Halt, answer_script};
-use star_io::{ReadEnd, RunEnd, Sink, Source, read_all};
+use crate::answer::answer_whole;
+use crate::halt::Halt;
+use crate::piece::{Piece, read_piece};
+use script_reader::ScriptReader;
+use star_io::{RunEnd, Sink, Source};
+use star_statement::replies_follow_from_the_tables;
+use star_store::Store;
 use std::alloc::Global;
 
-/// The most bytes of a script.
-pub const SCRIPT_LIMIT: usize = 67_108_864;
+/// The most bytes that one read asks for.
+const PIECE_BYTES: usize = 64 * 1024;
 
 /// Reads a script to its end, and writes the reply to each of its statements, in order.
 ///
-/// At a read that fails, and at the byte past the limit, the statements that are whole before it
-/// are still answered. After a write that fails nothing more is written.
+/// It is `run_alone`: each query is answered by itself, at its place.
 pub fn run_script<S: Source, K: Sink>(alloc: Global, source: &mut S, sink: &mut K) -> RunEnd
     ensures answers { AnswersScript result (S.ended source.old) (S.ended source.new)
         (S.read_faults source.old) (S.read_faults source.new)
@@ -22,48 +26,55 @@ pub fn run_script<S: Source, K: Sink>(alloc: Global, source: &mut S, sink: &mut 
         (S.read_faults source.old) (S.read_faults source.new) (S.read_failed source.new)
         (K.write_faults sink.old) (K.write_faults sink.new) (K.write_failed sink.new) }
 {
-    let read = read_all(alloc, source, SCRIPT_LIMIT);
-    let script = within(read.bytes.as_slice(), SCRIPT_LIMIT);
-    match read.end {
-        ReadEnd::Ended => end_of_all(answer_script(alloc, script, true, sink)),
-        ReadEnd::Fault => end_of_cut(answer_script(alloc, script, false, sink), RunEnd::ReadFault),
-        ReadEnd::Limit => end_of_cut(
-            answer_script(alloc, script, false, sink),
-            RunEnd::ScriptLimit,
-        ),
-        ReadEnd::NoMemory => RunEnd::NoMemory,
-    }
+    run_alone(alloc, source, sink)
 }
 
-/// The first bytes, as many as the limit at most.
-fn within(given: &[u8], limit: usize) -> &[u8]
-    ensures { result.now ≡ take limit given.now }
+/// Reads a script to its end, and writes the reply to each of its statements, in order, before it reads on.
+/// Each query is answered by itself, at its place.
+///
+/// At a read that fails, and at the byte past the limit, the statements that are whole before it
+/// are answered. After a write that fails nothing more is written or read.
+pub fn run_alone<S: Source, K: Sink>(alloc: Global, source: &mut S, sink: &mut K) -> RunEnd
+    ensures answers { AnswersScript result (S.ended source.old) (S.ended source.new)
+        (S.read_faults source.old) (S.read_faults source.new)
+        (S.left source.old) (S.left source.new) (K.taken sink.old) (K.taken sink.new) }
+    ensures faults { CountsFaults result
+        (S.read_faults source.old) (S.read_faults source.new) (S.read_failed source.new)
+        (K.write_faults sink.old) (K.write_faults sink.new) (K.write_failed sink.new) }
 {
-    if given.len() <= limit {
-        given
-    } else {
-        &given[..limit]
+    replies_follow_from_the_tables();
+    let mut piece = [0u8; PIECE_BYTES];
+    let mut store = Store::new(alloc);
+    let mut reader = ScriptReader::new(alloc);
+    let mut refused = false;
+    'pieces: loop {
+        match answer_whole(alloc, &mut store, &mut reader, sink) {
+            Ok(some) => refused |= some,
+            Err(halt) => return end_of_halt(halt),
+        }
+        match read_piece(source, &mut piece, &mut reader) {
+            Piece::Fed => {}
+            Piece::Ended => break 'pieces,
+            Piece::Fault => return RunEnd::ReadFault,
+            Piece::Limit => return RunEnd::ScriptLimit,
+            Piece::NoMemory => return RunEnd::NoMemory,
+        }
+    }
+    reader.finish();
+    match answer_whole(alloc, &mut store, &mut reader, sink) {
+        Ok(some) => end_of_all(refused | some),
+        Err(halt) => end_of_halt(halt),
     }
 }
 
 /// How a run ends whose input was read to its end.
-fn end_of_all(answered: Result<bool, Halt>) -> RunEnd
-    ensures { result ≡ end_of_all answered }
+fn end_of_all(refused: bool) -> RunEnd
+    ensures { result ≡ end_of_all refused }
 {
-    match answered {
-        Ok(false) => RunEnd::Clean,
-        Ok(true) => RunEnd::SomeRefused,
-        Err(halt) => end_of_halt(halt),
-    }
-}
-
-/// How a run ends whose input was cut short.
-fn end_of_cut(answered: Result<bool, Halt>, cut: RunEnd) -> RunEnd
-    ensures { result ≡ end_of_cut answered cut }
-{
-    match answered {
-        Ok(_) => cut,
-        Err(halt) => end_of_halt(halt),
+    if refused {
+        RunEnd::SomeRefused
+    } else {
+        RunEnd::Clean
     }
 }
 

@@ -10,7 +10,7 @@ use Rattle.star_plan.specs.declared.schema.Schema.{Schema}
 use Rattle.star_plan.specs.declared.table_def.TableDef.{TableDef}
 use Rattle.star_plan.specs.Columns.{kinds_of}
 use Rattle.star_plan.specs.Fits.{fits_table}
-use Rattle.star_plan.specs.Row.{kinds_in}
+use Rattle.star_values.specs.Value.{kinds_in}
 use Rattle.star_schema.specs.Declaration.{declared_dimension, declared_fact}
 use Rattle.star_schema.specs.Limits.{with_dimension, with_fact}
 use Rattle.star_schema.specs.Schemas.{IsDeclared, ReferencesNothing}

@@ -5,4 +5,5 @@ pub mod Store
 pub mod Accepted
 pub mod Settled
 pub mod Keyed
+pub mod Kept
 pub mod Examples

@@ -85,7 +85,7 @@ headline_of NoMemory ended ended' read read' left left' taken taken' run =
       no_settings = λ h. absurd (omega arith);
       read_fault = λ h. absurd (omega arith);
       write_fault = λ h. absurd (omega arith);
-      no_memory = λ _. run.memory refl;
+      no_memory = λ _. (run.writes, run.memory refl);
       past_limit = λ h. absurd (omega arith);
       bounded = let reads = run.reads in omega arith;
       known = omega arith;

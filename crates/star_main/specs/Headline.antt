@@ -4,8 +4,8 @@ use Rattle.std.specs.Io.KnownBytes.{Appends, Consumes}
 use Rattle.star_io.specs.Faults.{FailedOnce, FailedOnceAtMost}
 use Rattle.star_io.specs.declared.run_end.RunEnd.{RunEnd}
 use Rattle.star_io.specs.declared.run_end.RunEnd.TheVariants.{Clean, SomeRefused, ReadFault, WriteFault, NoMemory, ScriptLimit}
-use Rattle.script_run.specs.declared.run.TheConstants.{SCRIPT_LIMIT}
-use Rattle.script_run.specs.Run.{within_limit, script_text, some_refused, IsProperFront, HasEnded, MetNoEnd}
+use Rattle.script_reader.specs.declared.reader.TheConstants.{SCRIPT_LIMIT}
+use Rattle.script_run.specs.Run.{within_limit, script_text, some_refused, IsFront, IsProperFront, HasEnded, MetNoEnd}
 
 -- the status of a run
 abbrev pub status_of : RunEnd → ℕ
@@ -19,7 +19,7 @@ status_of ScriptLimit = 6
 -- The source gave these bytes in the call, the sink took those, and the status says how they belong together: all
 -- replies to the statements of the bytes, in order, where nothing is left at the source; where a read failed or the
 -- limit was passed, to those that were whole by then; where a write failed, a proper front of the replies; where no
--- memory was left, such a front too, or nothing where the reading had met no end.
+-- memory was left, a front of them, and a proper one unless the reading had met no end.
 pub record Headline (status : ℕ) (ended ended' : Bool) (read read' : ℕ) (left left' taken taken' : Option (List ℕ)) : Type 0 where
   pub given : List ℕ
   pub written : List ℕ
@@ -30,8 +30,8 @@ pub record Headline (status : ℕ) (ended ended' : Bool) (read read' : ℕ) (lef
   pub no_settings : status ≡ 2 → (given ≡ []) × (written ≡ [])
   pub read_fault : status ≡ 3 → (length given ≤ SCRIPT_LIMIT) × (written ≡ script_text false given)
   pub write_fault : status ≡ 4 → IsProperFront written (script_text ended' (within_limit given))
-  pub no_memory : status ≡ 5 → IsProperFront written (script_text ended' (within_limit given))
-      ⊎ (MetNoEnd ended ended' read read' given × (written ≡ []))
+  pub no_memory : status ≡ 5 → IsFront written (script_text ended' (within_limit given))
+      × (IsProperFront written (script_text ended' (within_limit given)) ⊎ MetNoEnd ended ended' read read' given)
   pub past_limit : status ≡ 6 → (length given ≡ SCRIPT_LIMIT + 1) × (written ≡ script_text false (within_limit given))
   pub bounded : length given ≤ SCRIPT_LIMIT + 1
   pub known : status ≤ 6

@@ -6,11 +6,10 @@ use Rattle.std.proofs.lemmas.Slice.Eq.{slice_eq-Decides}
 use Rattle.star_values.specs.declared.value.Kind.{Kind}
 use Rattle.star_values.specs.declared.value.Kind.TheVariants.{Int, Text}
 use Rattle.star_values.specs.declared.value.Value.{Value}
-use Rattle.star_values.specs.Value.{kind_of}
+use Rattle.star_values.specs.Value.{kind_of, kinds_in}
 use Rattle.star_plan.specs.declared.table_def.TableDef.{TableDef}
 use Rattle.star_plan.specs.Columns.{kinds_of}
 use Rattle.star_plan.specs.Fits.{fits_column, fits_table, same_kind}
-use Rattle.star_plan.specs.Row.{kinds_in}
 
 -- a column that takes a value is a column
 pub column_below : (row : List Value) (column : ℕ) (value : Value) → fits_column (map kind_of row) column value ≡ true → column < length row

@@ -6,10 +6,9 @@ use Rattle.std.specs.Cmp.Lexicographic.{pointwise}
 use Rattle.star_values.specs.declared.value.Kind.{Kind}
 use Rattle.star_values.specs.declared.value.Kind.TheVariants.{Int, Text}
 use Rattle.star_values.specs.declared.value.Value.{Value}
-use Rattle.star_values.specs.Value.{kind_of}
+use Rattle.star_values.specs.Value.{kind_of, kinds_in}
 use Rattle.star_plan.specs.declared.table_def.TableDef.{TableDef}
 use Rattle.star_plan.specs.Columns.{kinds_of}
-use Rattle.star_plan.specs.Row.{kinds_in}
 use Rattle.star_plan.specs.Test.{Test, Tests, Compare, Between, OneOf, Both, Either, Negate, none, more, Selection, Unnamed, AllRows, Chosen}
 
 -- whether two kinds are the same

@@ -2,7 +2,7 @@
 ghost use Rattle.std.specs.Prelude.{◌≡◌, IsTrue};
 ghost use Rattle.star_plan.specs.Fits.{selection_fits};
 ghost use Rattle.star_plan.specs.Joined.{takes as takes_row};
-ghost use Rattle.star_plan.specs.Row.{kinds_in};
+ghost use Rattle.star_values.specs.Value.{kinds_in};
 ghost use Rattle.star_plan.specs.Test.{selection_of};
 
 use crate::predicate::Predicate;

@@ -7,7 +7,7 @@ ghost use Rattle.star_plan.specs.declared.predicate.How.{How};
 ghost use Rattle.star_plan.specs.declared.table_def.TableDef.{TableDef};
 ghost use Rattle.star_plan.specs.Columns.{kinds_of};
 ghost use Rattle.star_plan.specs.Fits.{fits_column, fits_table, test_fits};
-ghost use Rattle.star_plan.specs.Row.{kinds_in};
+ghost use Rattle.star_values.specs.Value.{kinds_in};
 ghost use Rattle.star_plan.specs.Test as plain;
 ghost use Rattle.star_plan.specs.Test.{Test, test_of, tests};
 

@@ -5,9 +5,10 @@ ghost use Rattle.star_values.specs.declared.value.Value.{Value};
 ghost use Rattle.star_plan.specs.declared.predicate.How.{How};
 ghost use Rattle.star_plan.specs.declared.predicate.How.TheVariants.{Eq, Le, Ge};
 ghost use Rattle.star_plan.specs.Fits.{fits_column, test_fits};
-ghost use Rattle.star_plan.specs.Row.{kinds_in, value_in};
+ghost use Rattle.star_plan.specs.Row.{value_in};
 ghost use Rattle.star_plan.specs.Test as plain;
 ghost use Rattle.star_plan.specs.Test.{Test, test_of, tests};
+ghost use Rattle.star_values.specs.Value.{kinds_in};
 ghost use Rattle.star_plan.specs.Truth.{compares, compares_at, test_holds};
 
 use crate::predicate::{How, Predicate};

@@ -24,7 +24,7 @@ use Rattle.star_store.specs.declared.fault.StoreFault.{StoreFault}
 use Rattle.star_store.specs.declared.fault.StoreFault.TheVariants.{Refused, Memory}
 use Rattle.star_store.specs.Deletes.{delete_change, positions_of}
 use Rattle.star_store.specs.Done.{Commits}
-use Rattle.star_store.specs.Kept.{rows_of_all, tables_of}
+use Rattle.star_history.specs.Kept.{rows_of_all, tables_of}
 use Rattle.star_store.specs.Loads.{load_change, loaded_records}
 
 -- The checks of a load.

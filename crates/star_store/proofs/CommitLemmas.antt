@@ -15,7 +15,8 @@ use Rattle.star_store.specs.declared.done.Done.{Done}
 use Rattle.star_store.specs.declared.fault.StoreFault.{StoreFault}
 use Rattle.star_store.specs.declared.fault.StoreFault.TheVariants.{Refused, Memory}
 use Rattle.star_store.specs.Done.{Commits}
-use Rattle.star_store.specs.Kept.{Tells, rows_of_all, tables_of}
+use Rattle.star_history.specs.Kept.{rows_of_all, tables_of}
+use Rattle.star_store.specs.Fault.{Tells}
 
 -- a fault that tells its reason, where the tables are as they were
 pub commits_told : (found : Result Change Refusal) (old new : KeyedStore) (fault : StoreFault) → Tells found fault → new ≡ old

@@ -13,7 +13,7 @@ use Rattle.star_plan.specs.declared.table.Table.TheVariants.{Fact, Dimension}
 use Rattle.star_plan.specs.declared.table_def.TableDef.{TableDef}
 use Rattle.star_plan.specs.Columns.{columns_of, kinds_of}
 use Rattle.star_plan.specs.Fits.{fits_table}
-use Rattle.star_plan.specs.Row.{kinds_in}
+use Rattle.star_values.specs.Value.{kinds_in}
 use Rattle.star_schema.specs.Schemas.{HasColumns, IsDeclared}
 use Rattle.star_lists.specs.Roomy.{Roomy}
 use Rattle.fact_versions.specs.declared.version.Version.{Version}
@@ -25,7 +25,8 @@ use Rattle.star_history.specs.Keyed.{plain_version}
 use Rattle.star_history.specs.Store.{Store}
 use Rattle.star_store.specs.declared.fault.StoreFault.{StoreFault}
 use Rattle.star_store.specs.declared.fault.StoreFault.TheVariants.{Refused, Memory}
-use Rattle.star_store.specs.Kept.{Tells, rows_of_all}
+use Rattle.star_history.specs.Kept.{rows_of_all}
+use Rattle.star_store.specs.Fault.{Tells}
 use Rattle.star_store.specs.Loads.{count_in, dangles, loaded_records, loaded_rows, most_in}
 
 -- Keys of rows.

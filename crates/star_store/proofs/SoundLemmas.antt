@@ -24,7 +24,7 @@ use Rattle.star_store.specs.declared.done.Done.{Done}
 use Rattle.star_store.specs.declared.fault.StoreFault.{StoreFault}
 use Rattle.star_store.specs.declared.fault.StoreFault.TheVariants.{Refused, Memory}
 use Rattle.star_store.specs.Done.{Commits}
-use Rattle.star_store.specs.Kept.{AreSound, rows_of_all, tables_of}
+use Rattle.star_history.specs.Kept.{AreSound, rows_of_all, tables_of}
 
 -- settled tables stay settled by a change that they take
 abbrev pub StaysSettled : Type 0

@@ -19,7 +19,7 @@ use Rattle.star_plan.specs.declared.table.Table.{Table}
 use Rattle.star_plan.specs.declared.table.Table.TheVariants.{Fact, Dimension}
 use Rattle.star_plan.specs.declared.table_def.TableDef.{TableDef}
 use Rattle.star_plan.specs.Columns.{columns_of, fact_columns, kinds_of}
-use Rattle.star_plan.specs.Row.{kinds_in, value_in}
+use Rattle.star_plan.specs.Row.{value_in}
 use Rattle.star_plan.specs.Test.{Test}
 use Rattle.star_plan.specs.Truth.{passes}
 use Rattle.star_schema.specs.Declaration.{has_key_of, references}
@@ -37,6 +37,7 @@ use Rattle.star_history.specs.Store.{PlainVersion, Store, rows_in}
 use Rattle.star_store.specs.Deletes.{delete_change, is_ended_by, positions_of}
 use Rattle.star_store.specs.Loads.{count_in, dangles, dangles_at, load_change, loaded_records, loaded_rows, most_in, repeats_a_key}
 use Rattle.star_store.proofs.KeyTestLemmas.{all_fail, apart_unless_repeated, new_unless_repeated}
+use Rattle.star_values.specs.Value.{kinds_in}
 use Rattle.star_store.proofs.LoadLemmas.{FitsByKinds, fit_by_kinds, rows_have_keys}
 
 -- what the laws of rows say

@@ -5,13 +5,12 @@ use Rattle.std.specs.List.{All, list_any}
 use Rattle.std.proofs.lemmas.List.{append-nil, length-map}
 use Rattle.std.proofs.lemmas.List.Elements.{All-push}
 use Rattle.star_values.specs.declared.value.Value as cell
-use Rattle.star_values.specs.Value.{kind_of}
+use Rattle.star_values.specs.Value.{kind_of, kinds_in}
 use Rattle.star_plan.specs.declared.column_def.ColumnDef.{ColumnDef}
 use Rattle.star_plan.specs.declared.schema.Schema.{Schema}
 use Rattle.star_plan.specs.declared.table_def.TableDef.{TableDef}
 use Rattle.star_plan.specs.Columns.{fact_columns, kinds_of}
 use Rattle.star_plan.specs.Fits.{fits_table}
-use Rattle.star_plan.specs.Row.{kinds_in}
 use Rattle.fact_versions.specs.declared.version.Version.{Version}
 use Rattle.dimension_rows.specs.declared.dimension_row.DimensionRow.{DimensionRow}
 use Rattle.dimension_rows.specs.Keys.{index_of}

@@ -1,5 +1,6 @@
--- The words of a fault.
-use Rattle.std.specs.Prelude.{ℕ, List, codes}
+-- The words of a fault, and what it tells.
+use Rattle.std.specs.Prelude.{◌≡◌, ℕ, List, codes, Result, Err, ⊤}
+use Rattle.star_values.specs.declared.refusal.Refusal.{Refusal}
 use Rattle.star_values.specs.Refusal.{words_of}
 use Rattle.star_schema.specs.declared.fault.DeclareFault.{DeclareFault}
 use Rattle.star_schema.specs.declared.fault.DeclareFault.TheVariants as declared
@@ -15,3 +16,8 @@ words_of_fault Memory = codes "out of memory"
 abbrev pub fault_of : DeclareFault → StoreFault
 fault_of (declared.Refused reason) = Refused reason
 fault_of declared.Memory = Memory
+
+-- the fault tells the reason that was found, or that there was no memory
+abbrev pub Tells : {A : Type 0} → Result A Refusal → StoreFault → Type 0
+Tells found (Refused reason) = found ≡ Err reason
+Tells found Memory = ⊤

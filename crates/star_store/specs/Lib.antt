@@ -3,5 +3,4 @@ pub mod Loads
 pub mod Deletes
 pub mod Done
 pub mod Fault
-pub mod Kept
 pub mod Parts

@@ -3,7 +3,8 @@ ghost use Rattle.std.specs.Prelude.{◌≡◌, ◌<◌, List, [], ◌∷◌, ◌
 ghost use Rattle.star_schema.specs.Declaration.{declared_dimension};
 ghost use Rattle.star_schema.specs.Limits.{with_dimension};
 ghost use Rattle.star_schema.specs.Schemas.{IsDeclared, ReferencesNothing};
-ghost use Rattle.star_store.specs.Kept.{Tells, rows_of_all};
+ghost use Rattle.star_history.specs.Kept.{rows_of_all};
+ghost use Rattle.star_store.specs.Fault.{Tells};
 
 use crate::fault::StoreFault;
 use dimension_rows::{DimensionRows, Dims};

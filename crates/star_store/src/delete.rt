@@ -8,7 +8,7 @@ ghost use Rattle.dimension_rows.specs.declared.dimension_row.DimensionRow.{Dimen
 ghost use Rattle.star_history.specs.Keyed.{HasKeyNumbers, plain};
 ghost use Rattle.star_store.specs.Deletes.{delete_change};
 ghost use Rattle.star_store.specs.Done.{Commits};
-ghost use Rattle.star_store.specs.Kept.{tables_of};
+ghost use Rattle.star_history.specs.Kept.{tables_of};
 
 use crate::done::Done;
 use crate::ends::end_versions;

@@ -2,7 +2,7 @@
 ghost use Rattle.std.specs.Prelude.{◌≡◌, true, All, fold, length, map, option_map};
 ghost use Rattle.fact_versions.specs.Ends.{with_end};
 ghost use Rattle.star_plan.specs.Fits.{some_test_fits};
-ghost use Rattle.star_plan.specs.Row.{kinds_in};
+ghost use Rattle.star_values.specs.Value.{kinds_in};
 ghost use Rattle.star_plan.specs.Test.{test_of};
 ghost use Rattle.star_plan.specs.Truth.{passes};
 ghost use Rattle.star_history.specs.Keyed.{plain_version};

@@ -3,7 +3,7 @@ ghost use Rattle.std.specs.Prelude.{◌≡◌, ◌⊎◌, ℕ, ◌+◌, ◌^◌,
 ghost use Rattle.star_values.specs.declared.refusal.Refusal.TheVariants.{BadRecord};
 ghost use Rattle.star_lists.specs.Roomy.{Roomy};
 ghost use Rattle.star_plan.specs.Columns.{kinds_of};
-ghost use Rattle.star_plan.specs.Row.{kinds_in};
+ghost use Rattle.star_values.specs.Value.{kinds_in};
 ghost use Rattle.star_plan.specs.declared.table.Table.TheVariants.{Fact, Dimension};
 ghost use Rattle.star_schema.specs.Named.{table_named};
 ghost use Rattle.star_schema.specs.Schemas.{IsDeclared};
@@ -16,7 +16,8 @@ ghost use Rattle.star_history.specs.History.{Loaded, grown_at, rows_by, versions
 ghost use Rattle.star_history.specs.Keyed.{HasKeyNumbers, IsKeyed, plain, plain_version};
 ghost use Rattle.star_history.specs.Store.{rows_in};
 ghost use Rattle.star_store.specs.Done.{Commits};
-ghost use Rattle.star_store.specs.Kept.{AreSound, Tells, rows_of_all, tables_of};
+ghost use Rattle.star_history.specs.Kept.{AreSound, rows_of_all, tables_of};
+ghost use Rattle.star_store.specs.Fault.{Tells};
 ghost use Rattle.star_store.specs.Loads.{load_change, loaded_records, repeats_a_key};
 ghost use Rattle.star_store.specs.declared.done.Done.{Done};
 ghost use Rattle.star_store.specs.declared.fault.StoreFault.TheVariants.{Refused, Memory};

@@ -12,7 +12,7 @@ ghost use Rattle.star_history.specs.Settled.{IsSettled};
 ghost use Rattle.star_history.specs.Store.{empty_store};
 ghost use Rattle.star_store.specs.Deletes.{delete_change};
 ghost use Rattle.star_store.specs.Done.{Commits, Declares};
-ghost use Rattle.star_store.specs.Kept.{rows_of_all};
+ghost use Rattle.star_history.specs.Kept.{rows_of_all};
 ghost use Rattle.star_store.specs.Loads.{load_change};
 
 use crate::declare::add_dimension;
@@ -45,7 +45,7 @@ pub struct Store {
 
 impl Model for Store {
     ghost use Rattle.star_history.specs.Keyed.{KeyedStore};
-    ghost use Rattle.star_store.specs.Kept.{AreSound, tables_of};
+    ghost use Rattle.star_history.specs.Kept.{AreSound, tables_of};
 
     ghost Value = { KeyedStore };
 
@@ -84,6 +84,7 @@ impl Store {
     pub fn facts(&self) -> &FactVersions
         ensures versions { result.now.items ≡ self.now.versions }
         ensures keyed { IsKeyed self.now }
+        ensures settled { IsSettled (plain self.now) }
     {
         &self.facts
     }

@@ -1,7 +1,7 @@
 -- The number and the words of each reason for which a statement is refused.
 use Rattle.std.specs.Prelude.{ℕ, List, ◌++◌, codes, decimal}
 use Rattle.star_values.specs.declared.refusal.Refusal.{Refusal}
-use Rattle.star_values.specs.declared.refusal.Refusal.TheVariants.{Syntax, UnknownName, AmbiguousName, DuplicateName, TypeMismatch, MissingJoin, MixedConjunct, NotGrouped, BadRecord, DuplicateKey, DanglingReference, Limit, OutOfOrder, NotUtf8, NotBuilt}
+use Rattle.star_values.specs.declared.refusal.Refusal.TheVariants.{Syntax, UnknownName, AmbiguousName, DuplicateName, TypeMismatch, MissingJoin, MixedConjunct, NotGrouped, BadRecord, DuplicateKey, DanglingReference, Limit, OutOfOrder, NotUtf8}
 
 -- the number by which a reply names the reason
 abbrev pub number_of : Refusal → ℕ
@@ -19,7 +19,6 @@ number_of DanglingReference = 11
 number_of Limit = 12
 number_of OutOfOrder = 13
 number_of NotUtf8 = 14
-number_of NotBuilt = 15
 
 -- the words behind that number
 abbrev pub words_of : Refusal → List ℕ
@@ -37,4 +36,3 @@ words_of DanglingReference = codes "dangling reference"
 words_of Limit = codes "limit"
 words_of OutOfOrder = codes "out of order"
 words_of NotUtf8 = codes "not UTF-8"
-words_of NotBuilt = codes "not built"

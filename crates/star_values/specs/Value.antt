@@ -1,5 +1,5 @@
 -- The kind of a value, the order of values and of rows, and the text of a value.
-use Rattle.std.specs.Prelude.{ℕ, List, [], ◌∷◌, ◌++◌, ◌==◌, if◌then◌else◌, flat_map}
+use Rattle.std.specs.Prelude.{ℕ, List, [], ◌∷◌, ◌++◌, ◌==◌, if◌then◌else◌, flat_map, map}
 use Rattle.std.specs.Fmt.{signed_decimal}
 use Rattle.std.specs.Ordering.{nat_cmp, int_cmp}
 use Rattle.std.specs.Cmp.Lexicographic.{slice_cmp}
@@ -14,6 +14,10 @@ use Rattle.star_values.specs.declared.value.Value.TheVariants.{Int, Str}
 abbrev pub kind_of : Value → Kind
 kind_of (Int n) = kind.Int
 kind_of (Str text) = kind.Text
+
+-- the kinds of the values of a row, in their order
+abbrev pub kinds_in : List Value → List Kind
+kinds_in row = map kind_of row
 
 -- integers by their value, texts by their bytes, and every integer before every text
 abbrev pub value_cmp : Value → Value → Ordering

@@ -23,8 +23,6 @@ pub enum Refusal {
     Limit,
     OutOfOrder,
     NotUtf8,
-    /// A statement that is not carried out yet.
-    NotBuilt,
 }
 
 impl Refusal {
@@ -46,7 +44,6 @@ impl Refusal {
             Refusal::Limit => 12,
             Refusal::OutOfOrder => 13,
             Refusal::NotUtf8 => 14,
-            Refusal::NotBuilt => 15,
         }
     }
 }
@@ -70,7 +67,6 @@ impl fmt::Display for Refusal {
             Refusal::Limit => f.write_str("limit"),
             Refusal::OutOfOrder => f.write_str("out of order"),
             Refusal::NotUtf8 => f.write_str("not UTF-8"),
-            Refusal::NotBuilt => f.write_str("not built"),
         }
     }
 }

@@ -185,7 +185,6 @@ fn refusals_are_numbered_and_worded(rt: HostRuntime) -> Result<(), Fail> {
         (Refusal::Limit, "12 limit"),
         (Refusal::OutOfOrder, "13 out of order"),
         (Refusal::NotUtf8, "14 not UTF-8"),
-        (Refusal::NotBuilt, "15 not built"),
     ] {
         let number = refusal.number();
         let printed = format!(in rt.alloc(); "{number} {refusal}")?;

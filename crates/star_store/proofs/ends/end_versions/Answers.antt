@@ -1,6 +1,6 @@
 use Rattle.std.proofs.Common.{◌≡◌, true, option_map, sym, arith}
 use Rattle.star_plan.specs.Fits.{some_test_fits}
-use Rattle.star_plan.specs.Row.{kinds_in}
+use Rattle.star_values.specs.Value.{kinds_in}
 use Rattle.star_plan.specs.Test.{test_of}
 use Rattle.star_store.proofs.EndLemmas.{IsEndedTo-start, IsEndedTo-passed, IsEndedTo-ended, IsEndedTo-all, fits_behind}
 use Rattle.star_store.proofs.ends.end_versions.Goals as goal

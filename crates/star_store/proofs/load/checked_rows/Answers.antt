@@ -2,7 +2,7 @@ use Rattle.std.proofs.Common.{◌≡◌, subst, sym}
 use Rattle.std.specs.Prelude.{All, IfSome, IsSome}
 use Rattle.star_plan.specs.declared.table.Table.TheVariants.{Dimension}
 use Rattle.star_plan.specs.Columns.{columns_of, kinds_of}
-use Rattle.star_plan.specs.Row.{kinds_in}
+use Rattle.star_values.specs.Value.{kinds_in}
 use Rattle.dimension_rows.specs.Keys.{key_of}
 use Rattle.star_store.proofs.LoadLemmas.{found_rows, rows_have_keys}
 use Rattle.star_store.proofs.load.checked_rows.Goals as goal

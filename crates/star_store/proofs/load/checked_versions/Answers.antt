@@ -2,12 +2,12 @@ use Rattle.std.proofs.Common.{◌≡◌, ◌∙◌, ◌+◌, nat_lt, false, subs
 use Rattle.std.specs.Prelude.{All, IfSome, length}
 use Rattle.star_plan.specs.declared.table.Table.TheVariants.{Fact}
 use Rattle.star_plan.specs.Columns.{columns_of, kinds_of}
-use Rattle.star_plan.specs.Row.{kinds_in}
+use Rattle.star_values.specs.Value.{kinds_in}
 use Rattle.csv_load.specs.Records.{records_in}
 use Rattle.csv_load.specs.Rows.{typed_rows}
 use Rattle.fact_versions.specs.declared.version.TheConstants.{MAX_VERSIONS}
 use Rattle.star_history.specs.Keyed.{plain}
-use Rattle.star_store.specs.Kept.{tables_of}
+use Rattle.star_history.specs.Kept.{tables_of}
 use Rattle.star_store.proofs.LoadLemmas.{accepted_versions, few_versions, fit_by_kinds, found_rows, length_plain, not_over, tells_dangling, versions_of_rows}
 use Rattle.star_store.proofs.load.checked_versions.Goals as goal
 

@@ -4,7 +4,7 @@ use Rattle.star_plan.specs.Test.{test_of}
 use Rattle.star_history.specs.Keyed.{plain}
 use Rattle.star_store.specs.Deletes.{delete_change}
 use Rattle.star_store.specs.Done.{Commits}
-use Rattle.star_store.specs.Kept.{rows_of_all, tables_of}
+use Rattle.star_history.specs.Kept.{rows_of_all, tables_of}
 use Rattle.star_store.proofs.SoundLemmas.{settled_by, versions_fit}
 use Rattle.star_store.proofs.store.Store.apply_delete.Goals as goal
 

@@ -1,2 +1,0 @@
--- Lemmas on the definitions of this crate.
-mod RecordLemmas

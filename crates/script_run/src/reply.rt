@@ -1,0 +1,67 @@
+//! The reply to one statement. A query is answered by itself, at its place.
+ghost use Rattle.std.specs.Prelude.{◌≡◌, ◌++◌, IfOk, OnOk};
+ghost use Rattle.star_plan.specs.Over.{IsOver};
+ghost use Rattle.star_plan.specs.Test.{query_of};
+ghost use Rattle.star_history.specs.Alone.{alone};
+ghost use Rattle.star_history.specs.Keyed.{plain};
+ghost use Rattle.reply_text.specs.Text.{text_of};
+ghost use Rattle.star_statement.specs.Effect.{answer_reply, effect_of, store_after};
+ghost use Rattle.script_run.specs.Run.{is_refusal};
+
+use query_meaning::answer_alone;
+use reply_text::{Reply, print_reply};
+use script_reader::Statement;
+use star_plan::{Answer, StarQuery};
+use star_statement::{Applied, apply};
+use star_store::Store;
+use star_values::{ByteText, NoMemory};
+use std::alloc::Global;
+
+/// Does what a statement says, and gives its reply. A query is answered over the commits before it.
+pub(crate) fn reply_to(
+    alloc: Global,
+    store: &mut Store,
+    statement: &Statement,
+) -> Result<Reply, NoMemory>
+    ensures reply { IfOk result (λ reply. reply ≡ (effect_of (plain store.old) statement.now).reply) }
+    ensures tables { OnOk result (plain store.new ≡ store_after (plain store.old) statement.now) }
+{
+    match apply(alloc, store, statement)? {
+        Applied::Replied(reply) => Ok(reply),
+        Applied::Accepted { query, snapshot } => reply_to_query(alloc, store, &query, snapshot),
+    }
+}
+
+/// The reply to a query: its answer alone.
+fn reply_to_query(
+    alloc: Global,
+    store: &Store,
+    query: &StarQuery,
+    snapshot: u64,
+) -> Result<Reply, NoMemory>
+    requires { IsOver store.now.schema (query_of query.now) }
+    ensures { IfOk result (λ reply.
+        reply ≡ answer_reply snapshot (alone (plain store.now) (query_of query.now) snapshot)) }
+{
+    let answer = answer_alone(alloc, store.facts(), store.dims(), query, snapshot)?;
+    Ok(match answer {
+        Answer::Rows(rows) => Reply::Answer { snapshot, rows },
+        Answer::Overflow => Reply::Overflow { snapshot },
+    })
+}
+
+/// The text of a reply.
+pub(crate) fn text_of(alloc: Global, reply: &Reply) -> Result<ByteText, NoMemory>
+    ensures { IfOk result (λ text. text ≡ text_of reply.now) }
+{
+    let mut text = ByteText::new(alloc);
+    print_reply(reply, &mut text)?;
+    Ok(text)
+}
+
+/// Whether a reply is a refusal, or tells that memory was wanted.
+pub(crate) fn is_refusal(reply: &Reply) -> bool
+    ensures { result ≡ is_refusal reply.now }
+{
+    matches!(reply, Reply::Refused(_) | Reply::Memory)
+}

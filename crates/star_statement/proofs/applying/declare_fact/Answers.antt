@@ -1,0 +1,12 @@
+use Rattle.std.proofs.Common.{ap, sym, ◌∙◌}
+use Rattle.star_schema.specs.Declaration.{declared_fact}
+use Rattle.star_history.specs.History.{FactDeclared}
+use Rattle.star_statement.proofs.DeclareLemmas.{follows_refused}
+use Rattle.star_statement.proofs.applying.declare_fact.Goals as goal
+
+pub returns-in-Err-Refused : goal.returns-in-Err-Refused
+returns-in-Err-Refused c =
+    let found = rw c.in-Err-Refused.field-0-is at c.in-Err-Refused.ensures.declares in
+    let table = rw c.schema.ensures.schema at c.in_ok-table.ensures in
+    rw (c.refused.ensures, c.in-Err-Refused.reason-is) (follows_refused FactDeclared c.args.name.now c.args.store.now c.declare_fact.new.self _ c.in-Err-Refused.reason
+    (ap (declared_fact c.args.store.now.schema) (sym table) ∙ found.0) found.1)

@@ -1,0 +1,7 @@
+-- What a statement does, and the replies to a list of statements.
+pub mod Script
+pub mod Effect
+pub mod Outcome
+pub mod Text
+pub mod Applied
+pub mod Laws

@@ -1,0 +1,166 @@
+//! What each statement does to the tables.
+ghost use Rattle.std.specs.Prelude.{◌≡◌, true};
+ghost use Rattle.script_reader.specs.declared.statement.Block.{Block};
+ghost use Rattle.star_parser.specs.Printed.{IsShaped};
+ghost use Rattle.star_parser.specs.Statement.{statement_of};
+ghost use Rattle.star_schema.specs.Declaration.{declared_dimension, declared_fact};
+ghost use Rattle.star_binder.specs.Fault.{is_delete, is_select};
+ghost use Rattle.star_binder.specs.Table.{declared_table, is_declaration};
+ghost use Rattle.star_history.specs.History.{DimensionDeclared, FactDeclared};
+ghost use Rattle.star_history.specs.Keyed.{plain};
+ghost use Rattle.reply_text.specs.declared.reply.Reply.TheVariants as reply;
+ghost use Rattle.star_statement.specs.Applied.{Follows, TellsDone};
+ghost use Rattle.star_statement.specs.Outcome.{block_bytes, declared, meaning_outcome, outcome_of};
+ghost use Rattle.star_statement.specs.Text.{is_dimension};
+ghost use Rattle.star_statement.specs.declared.applied.Applied.TheVariants.{Replied};
+
+use crate::applied::Applied;
+use crate::text::read_text;
+use reply_text::Reply;
+use script_reader::{Block, Statement};
+use star_binder::{BindFault, bind, bind_delete, bind_table};
+use star_parser::Ast;
+use star_store::{Done, Store, StoreFault};
+use star_values::{NoMemory, Refusal, SmallText};
+use std::alloc::Global;
+
+/// Does what a statement says to the tables, and tells its reply, or the query that it asks.
+///
+/// A declaration, load or delete that no check refuses makes its change. A refused statement, a query and a
+/// `wait` change nothing. Where memory is wanted, or there is no number for one commit more, nothing has
+/// changed.
+#[tactic(auto, unfolding(crate::specs::Outcome::outcome_of))]
+pub fn apply(alloc: Global, store: &mut Store, statement: &Statement) -> Result<Applied, NoMemory>
+    ensures { Follows store.old store.new result (outcome_of (plain store.old) statement.now) }
+{
+    match read_text(alloc, statement)? {
+        Ok(ast) => follow(alloc, store, &ast, &statement.block),
+        Err(reason) => Ok(refused(reason)),
+    }
+}
+
+/// Does what a statement of this meaning says.
+fn follow(alloc: Global, store: &mut Store, ast: &Ast, block: &Block) -> Result<Applied, NoMemory>
+    requires shaped { IsShaped (statement_of ast.now) }
+    ensures { Follows store.old store.new result
+        (meaning_outcome (plain store.old) block.now (statement_of ast.now)) }
+{
+    match ast {
+        Ast::Dimension { name, .. } => declare_dimension(alloc, store, ast, name),
+        Ast::Fact { name, .. } => declare_fact(alloc, store, ast, name),
+        Ast::Load { name, header } => {
+            committed(store.apply_load(name, block_bytes(block), *header))
+        }
+        Ast::Delete { .. } => delete(alloc, store, ast),
+        Ast::Select { .. } => select(alloc, store, ast),
+        Ast::Wait => Ok(Applied::Replied(Reply::Waited)),
+    }
+}
+
+/// The bytes behind a line.
+fn block_bytes(block: &Block) -> &[u8]
+    ensures { result.now ≡ block_bytes block.now }
+{
+    match block {
+        Block::Absent => &[],
+        Block::Closed(bytes) | Block::Unclosed(bytes) => bytes.as_bytes(),
+    }
+}
+
+/// Declares a dimension of this name.
+fn declare_dimension(
+    alloc: Global,
+    store: &mut Store,
+    ast: &Ast,
+    name: &SmallText,
+) -> Result<Applied, NoMemory>
+    requires shaped { IsShaped (statement_of ast.now) }
+    requires dimension { is_dimension (statement_of ast.now) ≡ true }
+    ensures { Follows store.old store.new result (declared DimensionDeclared name.now
+        (declared_dimension store.old.schema (declared_table store.old.schema (statement_of ast.now)))) }
+{
+    let table = bind_table(alloc, ast, store.schema())?;
+    let name = name.copy()?;
+    match store.declare_dimension(table) {
+        Ok(()) => Ok(Applied::Replied(Reply::Table(name))),
+        Err(StoreFault::Refused(reason)) => Ok(refused(reason)),
+        Err(StoreFault::Memory) => Err(NoMemory),
+    }
+}
+
+/// Declares the fact table, which has this name.
+fn declare_fact(
+    alloc: Global,
+    store: &mut Store,
+    ast: &Ast,
+    name: &SmallText,
+) -> Result<Applied, NoMemory>
+    requires shaped { IsShaped (statement_of ast.now) }
+    requires declaration { is_declaration (statement_of ast.now) ≡ true }
+    ensures { Follows store.old store.new result (declared FactDeclared name.now
+        (declared_fact store.old.schema (declared_table store.old.schema (statement_of ast.now)))) }
+{
+    let table = bind_table(alloc, ast, store.schema())?;
+    let name = name.copy()?;
+    match store.declare_fact(table) {
+        Ok(()) => Ok(Applied::Replied(Reply::Table(name))),
+        Err(StoreFault::Refused(reason)) => Ok(refused(reason)),
+        Err(StoreFault::Memory) => Err(NoMemory),
+    }
+}
+
+/// Ends the versions that a delete selects.
+fn delete(alloc: Global, store: &mut Store, ast: &Ast) -> Result<Applied, NoMemory>
+    requires { is_delete (statement_of ast.now) ≡ true }
+    ensures { (block : Block) → Follows store.old store.new result
+        (meaning_outcome (plain store.old) block (statement_of ast.now)) }
+{
+    if store.schema().fact.is_none() {
+        return Ok(refused(Refusal::OutOfOrder));
+    }
+    match bind_delete(alloc, ast, store.schema()) {
+        Ok(condition) => committed(store.apply_delete(condition.as_ref())),
+        Err(BindFault::Refused(reason)) => Ok(refused(reason)),
+        Err(BindFault::Memory) => Err(NoMemory),
+    }
+}
+
+/// The query of a select, with the last commit as its snapshot.
+fn select(alloc: Global, store: &mut Store, ast: &Ast) -> Result<Applied, NoMemory>
+    requires { is_select (statement_of ast.now) ≡ true }
+    ensures { (block : Block) → Follows store.old store.new result
+        (meaning_outcome (plain store.old) block (statement_of ast.now)) }
+{
+    if store.schema().fact.is_none() {
+        return Ok(refused(Refusal::OutOfOrder));
+    }
+    match bind(alloc, ast, store.schema()) {
+        Ok(query) => Ok(Applied::Accepted {
+            query,
+            snapshot: store.commits(),
+        }),
+        Err(BindFault::Refused(reason)) => Ok(refused(reason)),
+        Err(BindFault::Memory) => Err(NoMemory),
+    }
+}
+
+/// The answer to a refused statement.
+fn refused(reason: Refusal) -> Applied
+    ensures { result ≡ Replied (reply.Refused reason) }
+{
+    Applied::Replied(Reply::Refused(reason))
+}
+
+/// The answer to a load or delete that was carried out or refused.
+fn committed(done: Result<Done, StoreFault>) -> Result<Applied, NoMemory>
+    ensures { TellsDone done result }
+{
+    match done {
+        Ok(done) => Ok(Applied::Replied(Reply::Commit {
+            number: done.commit,
+            rows: done.rows,
+        })),
+        Err(StoreFault::Refused(reason)) => Ok(refused(reason)),
+        Err(StoreFault::Memory) => Err(NoMemory),
+    }
+}
