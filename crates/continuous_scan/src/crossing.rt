@@ -1,0 +1,14 @@
+//! That a scan and what it cuts may cross to other threads.
+use crate::scan::{Cut, Scan};
+
+/// A scan may be sent to another thread.
+pub fn scans_may_be_sent() {
+    is_sent::<Scan>();
+}
+
+/// What a cut gives may be sent to another thread.
+pub fn cuts_may_be_sent() {
+    is_sent::<Cut>();
+}
+
+fn is_sent<T: Send>() {}

@@ -1,0 +1,20 @@
+//! Which positions of the fact table come next. What is done to the rows of a batch is in the crates above.
+#![tactic(auto)]
+
+mod crossing;
+mod laws;
+mod range;
+mod runner;
+mod scan;
+mod slots;
+mod stamping;
+#[cfg(test)]
+mod tests;
+
+pub use crossing::{cuts_may_be_sent, scans_may_be_sent};
+pub use laws::{
+    a_cut_ends_at_its_nearest_bound, a_cut_takes_no_more_than_is_left,
+    a_lap_has_each_position_once, bits_are_those_of_slots, cuts_are_computed,
+    each_position_is_cut_once,
+};
+pub use scan::{Cut, Scan};
