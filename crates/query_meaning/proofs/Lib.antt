@@ -9,6 +9,5 @@ mod KeptLemmas
 mod GroupLemmas
 mod EndLemmas
 mod SortedLemmas
-mod ReadLemmas
 mod TakesLemmas
 mod StandsLemmas

@@ -4,4 +4,5 @@ pub mod KeyLemmas
 pub mod LaterLemmas
 pub mod ListLemmas
 pub mod LoadedLemmas
+pub mod ReadLemmas
 pub mod SettledLemmas

@@ -6,4 +6,5 @@ pub mod Accepted
 pub mod Settled
 pub mod Keyed
 pub mod Kept
+pub mod Read
 pub mod Examples

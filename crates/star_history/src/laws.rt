@@ -1,15 +1,20 @@
 //! What holds of histories and of queries alone.
-ghost use Rattle.std.specs.Prelude.{◌≡◌, ℕ, ◌≤◌, List, Contains, Some, count_by};
+ghost use Rattle.std.specs.Prelude.{◌≡◌, ℕ, ◌≤◌, List, map, All, Contains, Some, count_by};
 ghost use Rattle.star_values.specs.declared.value.Value.{Value};
 ghost use Rattle.star_plan.specs.declared.schema.Schema.{Schema};
-ghost use Rattle.star_plan.specs.Over.{IsOver};
+ghost use Rattle.star_lists.specs.Roomy.{Roomy};
+ghost use Rattle.star_plan.specs.Groups.{key_of};
+ghost use Rattle.star_plan.specs.Joined.{value_at};
+ghost use Rattle.star_plan.specs.Over.{IsOver, places_in};
 ghost use Rattle.star_plan.specs.Test.{Query};
 ghost use Rattle.fact_versions.specs.declared.version.Version.{Version};
 ghost use Rattle.dimension_rows.specs.declared.dimension_row.DimensionRow.{DimensionRow};
 ghost use Rattle.star_history.specs.Accepted.{Accepts, AcceptsAll};
 ghost use Rattle.star_history.specs.Alone.{alone, foreign_key, is_matched, kept, visible, visible_rows};
 ghost use Rattle.star_history.specs.History.{Change, after_change, commits_of, grown_at, store_of};
-ghost use Rattle.star_history.specs.Keyed.{HasKeyNumbers, IsKeyed, KeyedStore, kept_by_keys, plain};
+ghost use Rattle.star_history.specs.Kept.{rows_of_all};
+ghost use Rattle.star_history.specs.Keyed.{HasKeyNumbers, IsKeyed, KeyedStore, joined_by_keys, kept_by_keys, plain};
+ghost use Rattle.star_history.specs.Read.{NamesItsPlaces, item_value_by_key, item_value_of, value_by_key};
 ghost use Rattle.star_history.specs.Settled.{IsSettled};
 ghost use Rattle.star_history.specs.Store.{PlainVersion, Store, empty_store, rows_in};
 
@@ -71,4 +76,15 @@ pub fn key_numbers_stand_for_keys()
     ensures { (store : KeyedStore) (query : Query) (snapshot : ℕ) →
         IsOver store.schema query → IsKeyed store →
         kept_by_keys store query snapshot ≡ kept (plain store) query snapshot }
+{}
+
+/// A version joined by its key numbers has the values that are read by them: at each place of a query's
+/// groups and items, where the query names their dimensions.
+pub fn values_by_key_are_those_of_joined_rows()
+    ensures places { (query : Query) (dims : List (Roomy DimensionRow)) (version : Version) → NamesItsPlaces query →
+        All (λ place. value_by_key dims version place ≡ value_at place (joined_by_keys (rows_of_all dims) query version)) (places_in query) }
+    ensures key { (query : Query) (dims : List (Roomy DimensionRow)) (version : Version) → NamesItsPlaces query →
+        map (value_by_key dims version) query.groups ≡ key_of query.groups (joined_by_keys (rows_of_all dims) query version) }
+    ensures items { (query : Query) (dims : List (Roomy DimensionRow)) (version : Version) → NamesItsPlaces query →
+        All (λ item. item_value_by_key dims version item ≡ item_value_of (joined_by_keys (rows_of_all dims) query version) item) query.items }
 {}

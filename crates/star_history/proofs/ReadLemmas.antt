@@ -20,7 +20,7 @@ use Rattle.dimension_rows.specs.declared.dimension_row.DimensionRow.{DimensionRo
 use Rattle.star_history.specs.Alone.{names}
 use Rattle.star_history.specs.Kept.{rows_of_all}
 use Rattle.star_history.specs.Keyed.{joined_by_keys, row_at_key}
-use Rattle.query_meaning.specs.Read.{item_value_by_key, item_value_of, value_by_key}
+use Rattle.star_history.specs.Read.{NamesItsPlaces, item_value_by_key, item_value_of, value_by_key}
 
 -- a member that passes is there
 below_by : {X : Type 0} (f : X → Bool) (xs : List X) (i : ℕ) → option_map_or f (slice_get xs i) false ≡ true → i < length xs
@@ -45,7 +45,7 @@ made_there {X} {Y} f (first ∷ xs) (suc k) x y low at is = by (f first) (made_t
     by (Some z) there = Contains-append_right (z ∷ []) (filter_map f xs) y there
 
 module _ (query : Query) (dims : List (Roomy DimensionRow)) (version : Version)
-    (named : (dimension column : ℕ) → Contains (places_in query) (Dimension dimension column) → Names query dimension) where
+    (named : NamesItsPlaces query) where
   row_there : (dimension : ℕ) → Names query dimension
       → dimension_of (joined_by_keys (rows_of_all dims) query version) dimension ≡ row_at_key (rows_of_all dims) version dimension
   row_there dimension is =
@@ -57,6 +57,10 @@ module _ (query : Query) (dims : List (Roomy DimensionRow)) (version : Version)
       → value_by_key dims version place ≡ value_at place (joined_by_keys (rows_of_all dims) query version)
   place_same (Fact column) there = refl
   place_same (Dimension dimension column) there = ap (λ row. value_in row column) (sym (row_there dimension (named dimension column there)))
+
+  -- the values at the places
+  pub places_same : All (λ place. value_by_key dims version place ≡ value_at place (joined_by_keys (rows_of_all dims) query version)) (places_in query)
+  places_same k d low = place_same (get_or (places_in query) k d) (Contains-get_or (places_in query) k d low)
 
   -- the key of a version's group
   pub key_same : map (value_by_key dims version) query.groups ≡ key_of query.groups (joined_by_keys (rows_of_all dims) query version)
