@@ -1,0 +1,5 @@
+-- What is kept of rows by groups, what one row more makes of it, how it lies in memory, and what it ends as.
+pub mod Grouped
+pub mod Folding
+pub mod Cells
+pub mod Finish

@@ -1,0 +1,63 @@
+//! What one row more makes of groups, and what groups end as, as laws.
+ghost use Rattle.std.specs.Prelude.{◌≡◌, ◌==◌, ℕ, List, [], ◌∷◌, ◌++◌, IsPermutation, length};
+ghost use Rattle.std.specs.List.{IsDistinct};
+ghost use Rattle.std.specs.List.Sorted.{IsSortedByKey};
+ghost use Rattle.std.specs.Ordering.{eq_by_cmp};
+ghost use Rattle.star_values.specs.declared.value.Value.{Value};
+ghost use Rattle.star_values.specs.Value.{row_cmp};
+ghost use Rattle.star_lists.specs.Roomy.{Roomy};
+ghost use Rattle.star_plan.specs.Answer.{answer_of};
+ghost use Rattle.star_plan.specs.Joined.{Joined, value_at};
+ghost use Rattle.star_plan.specs.Test.{Query};
+ghost use Rattle.fact_versions.specs.declared.version.Version.{Version};
+ghost use Rattle.dimension_rows.specs.declared.dimension_row.DimensionRow.{DimensionRow};
+ghost use Rattle.star_history.specs.Kept.{rows_of_all};
+ghost use Rattle.star_history.specs.Keyed.{joined_by_keys};
+ghost use Rattle.star_history.specs.Read.{NamesItsPlaces, value_by_key};
+ghost use Rattle.aggregations.specs.declared.ordered.NumberedKey.{NumberedKey};
+ghost use Rattle.aggregations.specs.Grouped.{Tally, grouped_of};
+ghost use Rattle.aggregations.specs.Folding.{with_row};
+ghost use Rattle.aggregations.specs.Cells.{groups_in};
+ghost use Rattle.aggregations.specs.Finish.{answer_from, each_of, group_at, group_end, numbered_from};
+
+use star_history::values_by_key_are_those_of_joined_rows;
+use star_plan::{
+    answers_overflow_by_whole_sums, cells_take_one_row_more, groups_are_the_keys_of_the_rows,
+    groups_take_one_row_more,
+};
+use star_values::rows_are_in_order;
+
+/// The groups of rows, with one row more, are the groups of the rows and the one.
+pub fn one_row_more_is_folded()
+    ensures { (query : Query) (rows : List Joined) (row : Joined) →
+        with_row (λ place. value_at place row) (grouped_of query rows)
+        ≡ grouped_of query (rows ++ row ∷ []) }
+{
+    groups_take_one_row_more();
+    cells_take_one_row_more();
+}
+
+/// The same by key numbers: where the query names the dimensions of its places, the row is the version
+/// joined with the rows at its key numbers.
+pub fn values_by_key_fold_the_same()
+    ensures { (query : Query) (dims : List (Roomy DimensionRow)) (version : Version) (rows : List Joined) →
+        NamesItsPlaces query → with_row (value_by_key dims version) (grouped_of query rows)
+        ≡ grouped_of query (rows ++ joined_by_keys (rows_of_all dims) query version ∷ []) }
+{
+    one_row_more_is_folded();
+    values_by_key_are_those_of_joined_rows();
+}
+
+/// The groups of rows, ended in the ascending order of their keys, are the answer.
+pub(crate) fn groups_in_order_end_as_the_answer()
+    ensures { (query : Query) (rows : List Joined) (keys : List (List Value)) (tallies : List Tally) (order : List NumberedKey) →
+        groups_in (length query.items) keys tallies ≡ (grouped_of query rows).groups →
+        IsDistinct (eq_by_cmp row_cmp) keys → IsPermutation (numbered_from 0 keys) order →
+        IsSortedByKey (λ entry. entry.key) row_cmp order →
+        answer_from (each_of (λ entry. group_end (length rows == 0) query.groups query.items (group_at (length query.items) tallies entry)) order)
+        ≡ answer_of query rows }
+{
+    answers_overflow_by_whole_sums();
+    groups_are_the_keys_of_the_rows();
+    rows_are_in_order();
+}

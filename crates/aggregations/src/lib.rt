@@ -1,0 +1,17 @@
+//! What does a query compute of its rows? It folds them into groups, in any order, exactly.
+#![tactic(auto)]
+
+mod crossing;
+mod ending;
+mod flat_cell;
+mod groups;
+mod keys;
+mod laws;
+mod ordered;
+mod read;
+mod taking;
+mod texts;
+
+pub use crossing::groups_may_be_sent;
+pub use groups::Groups;
+pub use laws::{one_row_more_is_folded, values_by_key_fold_the_same};

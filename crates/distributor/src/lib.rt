@@ -1,0 +1,14 @@
+//! Into which queries' groups does each row of a batch go? What groups are is in the crate below.
+#![tactic(auto)]
+
+mod blocks;
+mod crossing;
+mod distributor;
+mod folding;
+mod laws;
+mod masks;
+mod slots;
+
+pub use crossing::distributors_may_be_sent;
+pub use distributor::{Distributor, Spoils};
+pub use laws::{batches_may_be_folded_in_parts, rows_go_where_their_bits_say};
