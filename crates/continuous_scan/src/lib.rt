@@ -8,8 +8,6 @@ mod runner;
 mod scan;
 mod slots;
 mod stamping;
-#[cfg(test)]
-mod tests;
 
 pub use crossing::{cuts_may_be_sent, scans_may_be_sent};
 pub use laws::{

@@ -7,8 +7,6 @@ mod laws;
 mod marks;
 mod reader;
 mod row;
-#[cfg(test)]
-mod tests;
 
 pub use block::{BlockFault, LoadRows, count_records, read_block};
 pub use laws::{csv_fixes_the_records, each_record_is_a_row, rows_have_the_kinds};

@@ -8,8 +8,6 @@ mod key_hash;
 mod laws;
 mod look_up;
 mod parts;
-#[cfg(test)]
-mod tests;
 
 pub use crossing::{dimension_rows_may_be_sent, dimension_rows_may_be_shared};
 pub use dimension_row::{DimensionRow, MAX_DIMENSION_ROWS};

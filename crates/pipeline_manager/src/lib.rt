@@ -8,8 +8,6 @@ mod life;
 mod manager;
 mod queries;
 mod slots;
-#[cfg(test)]
-mod tests;
 
 pub use crossing::{managers_may_be_sent, managers_may_be_shared};
 pub use laws::{

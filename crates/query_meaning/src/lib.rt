@@ -10,8 +10,6 @@ mod read;
 mod scan;
 mod taking;
 mod tally;
-#[cfg(test)]
-mod tests;
 mod wide_sum;
 
 pub use answer::answer_alone;

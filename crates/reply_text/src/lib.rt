@@ -11,8 +11,6 @@ mod refusals;
 mod reply;
 mod rows;
 mod table_name;
-#[cfg(test)]
-mod tests;
 
 pub use crossing::replies_cross_threads;
 pub use printing::print_reply;

@@ -10,8 +10,6 @@ mod opening;
 mod pending;
 mod reader;
 mod statement;
-#[cfg(test)]
-mod tests;
 
 pub use first_statement::{Taken, take_statement};
 pub use laws::{

@@ -16,8 +16,6 @@ mod scope;
 mod select;
 mod statement;
 mod table;
-#[cfg(test)]
-mod tests;
 
 pub use fault::BindFault;
 pub use laws::{bound_queries_keep_to_their_schema, bound_queries_keep_what_the_where_keeps};

@@ -3,8 +3,6 @@
 
 mod lexeme;
 mod line;
-#[cfg(test)]
-mod tests;
 mod token;
 
 pub use line::lex;

@@ -15,8 +15,6 @@ mod printing;
 mod reading;
 mod separated;
 mod statements;
-#[cfg(test)]
-mod tests;
 mod tree;
 
 pub use ast::{Ast, AstColumn, AstItem};

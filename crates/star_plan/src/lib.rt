@@ -18,8 +18,6 @@ mod schema;
 mod star_query;
 mod table;
 mod table_def;
-#[cfg(test)]
-mod tests;
 mod truth;
 
 pub use answer::{Answer, AnswerRows};

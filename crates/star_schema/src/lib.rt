@@ -8,8 +8,6 @@ mod find;
 mod laws;
 mod names;
 mod repeat;
-#[cfg(test)]
-mod tests;
 
 pub use declare::{declare_dimension, declare_fact};
 pub use fault::DeclareFault;

@@ -11,8 +11,6 @@ mod laws;
 mod load;
 mod rows;
 mod store;
-#[cfg(test)]
-mod tests;
 mod versions;
 
 pub use crossing::{store_may_be_sent, store_may_be_shared};

@@ -9,8 +9,6 @@ mod reading;
 mod sign;
 mod symbol;
 mod symbols;
-#[cfg(test)]
-mod tests;
 mod writing;
 
 pub use fault::LineFault;
