@@ -1,0 +1,210 @@
+-- A query that loses its answer keeps a core sound.
+use Rattle.std.proofs.Common.{◌≡◌, ◌≢◌, ◌⊎◌, ℕ, ◌<◌, ◌≤◌, true, false, cond, eqb, eq-eqb, not, List, [], length, get_or, map, set, Option, Some, None, slice_get, refl, sym, ap, ◌∙◌, subst, ⊎_elim, inl, inr, arith}
+use Rattle.std.specs.Prelude.{Contains, IfSome, IsTrue, ◌↔◌}
+use Rattle.std.specs.Option.{option_map_or}
+use Rattle.std.proofs.lemmas.Bool.{cases_eq, cases_lt, eqb-true, ne_eqb}
+use Rattle.std.proofs.lemmas.List.{get_or-set_other, get_or-set_same, get_or_default, get_or_past, length-set}
+use Rattle.std.proofs.lemmas.List.Elements.{All-weaker, filter_passes}
+use Rattle.bit_words.specs.Sets.{Has}
+use Rattle.pipeline_manager.specs.Changes.{with_life}
+use Rattle.pipeline_manager.specs.Conditions.{CanAbandon, CanSpoil, is_begun, is_open}
+use Rattle.pipeline_manager.specs.Lives.{life_in, query_in}
+use Rattle.pipeline_manager.specs.Sound as managed
+use Rattle.pipeline_manager.specs.declared.life.Life.{Life}
+use Rattle.pipeline_manager.specs.declared.life.Life.TheVariants as life
+use Rattle.pipeline_manager.specs.declared.life.QueryLife.{QueryLife}
+use Rattle.pipeline_manager.proofs.CallLemmas.{sound-after_abandon, sound-after_spoil}
+use Rattle.pipeline_manager.proofs.LifeLemmas.{life_in-other}
+use Rattle.core_state.specs.Admitting.{after_build_wants}
+use Rattle.core_state.specs.Cutting.{gets_rows}
+use Rattle.core_state.specs.Flown.{MayBeOnRoster}
+use Rattle.core_state.specs.Found.{accepted_at}
+use Rattle.core_state.specs.Sound.{AreSoundSeats, IsKept, IsSound, IsSoundSeat}
+use Rattle.core_state.specs.State.{Accepted, Seat, State}
+use Rattle.core_state.specs.Submitting.{after_abandoning, empty_seat, forgotten, seat_at, without_pending}
+use Rattle.core_state.specs.Tables.{tables_of, versions_in}
+use Rattle.core_state.proofs.AcceptedLemmas.{find-holds}
+use Rattle.core_state.proofs.FoundLemmas.{find-passes, life-written, some-at, with_life-found, with_life-numbers}
+use Rattle.core_state.proofs.LetGoLemmas.{LivesAs, batches-let-go, filters-let-go, hands-let-go, kept-let-go, let_go, queries-let-go}
+use Rattle.core_state.proofs.SeatLemmas.{Told, Wanted, awaited-there, seat-fewer, seat-let-go, seats-let-go}
+
+-- the life of a query that has no answer
+record IsLost (lost : Life) : Type 0 where
+  kept : (state : State) (accepted : Accepted) (extent : ℕ) → accepted.groups ≡ None → IsKept state accepted extent lost
+  rostered : MayBeOnRoster lost
+  gets : gets_rows lost ≡ false
+  closed : is_open lost ≡ false
+
+abandoned : IsLost life.Abandoned
+abandoned = record { kept = λ state accepted extent none. none; rostered = tt; gets = refl; closed = refl }
+
+spoiled : IsLost life.Spoiled
+spoiled = record { kept = λ state accepted extent none. none; rostered = tt; gets = refl; closed = refl }
+
+-- a core is sound where a query is let go, and its seats are
+sound-let-go : (query : ℕ) (old lost : Life) (state : State) (seats : List Seat) → IsLost lost → life_in state.lives.queries query ≡ Some old
+    → managed.IsSound (record state.lives { queries = with_life query lost state.lives.queries }) → length seats ≡ length state.seats
+    → AreSoundSeats (let_go state query (with_life query lost state.lives.queries) seats) → IsSound state
+    → IsSound (let_go state query (with_life query lost state.lives.queries) seats)
+sound-let-go query old lost state seats is_lost was lives count sound_seats sound = record {
+  filters = filters-let-go state query queries seats sound.filters;
+  batches = batches-let-go state query queries seats
+      (λ number on. life-written MayBeOnRoster query old lost state.lives.queries number was (λ h. is_lost.rostered) on) sound.batches;
+  hands = hands-let-go state query queries seats count sound.hands;
+  queries = queries-let-go state query queries seats (with_life-numbers query lost state.lives.queries)
+      (λ accepted of_query. with_life-found (LivesAs (let_go state query queries seats) accepted (forgotten query accepted)) query lost
+      state.lives.queries accepted.number
+      (λ entry found same. (
+        is_lost.kept (let_go state query queries seats) (forgotten query accepted) entry.extent
+            (ap (λ t. (cond {A = Accepted} t (record accepted { groups = None }) accepted).groups) (eq-eqb accepted.number query same)),
+        λ opens. absurd (let both : true ≡ false = sym opens ∙ is_lost.closed in cc),
+        some-at (λ e. e.extent ≤ versions_in state) (query_in state.lives.queries accepted.number) entry found of_query.within,
+      ))
+      (λ entry found apart.
+      subst (λ given. LivesAs (let_go state query queries seats) accepted given entry)
+      (sym (ap (λ t. cond {A = Accepted} t (record accepted { groups = None }) accepted) (ne_eqb accepted.number query apart))) (
+        kept-let-go state query queries seats accepted entry.extent entry.life
+            (some-at (λ e. IsKept state accepted e.extent e.life) (query_in state.lives.queries accepted.number) entry found of_query.kept),
+        some-at (λ e. IsTrue (is_open e.life) → (position : ℕ) → IfSome (slice_get (tables_of state).versions position)
+            (λ version. (version.begin ≤ accepted.snapshot) ↔ (position < e.extent)))
+            (query_in state.lives.queries accepted.number) entry found of_query.extent,
+        some-at (λ e. e.extent ≤ versions_in state) (query_in state.lives.queries accepted.number) entry found of_query.within,
+      ))) sound.queries;
+  slots = record {
+    lives = lives;
+    count = sound.slots.count;
+    built = λ slot holder built low held.
+        life-written (λ now. IsTrue (gets_rows now) → (dimension : ℕ) → Has state.lives.filters dimension → Has built dimension)
+        query old lost state.lives.queries holder was
+        (λ h gets. absurd (let both : true ≡ false = sym gets ∙ is_lost.gets in cc)) (sound.slots.built slot holder built low held);
+  };
+  store = sound.store;
+  quiet = λ none. (ap (map (forgotten query)) (sound.quiet none).0, (sound.quiet none).1, (sound.quiet none).2);
+  numbers = record { apart = sound.numbers.apart; given = sound.numbers.given };
+  scan = record { frames = sound.scan.frames; position = sound.scan.position };
+  order = record { tallies = sound.order.tallies; count = sound.order.count; order = sound.order.order };
+  seats = sound_seats;
+}
+  where
+    queries : List QueryLife
+    queries = with_life query lost state.lives.queries
+
+-- a query that may still be answered has no reply that was taken
+told-open : (query : ℕ) (old lost : Life) (state : State) → life_in state.lives.queries query ≡ Some old → is_open old ≡ true → (number : ℕ)
+    → IfSome (life_in state.lives.queries number) Told → IfSome (life_in (with_life query lost state.lives.queries) number) Told
+told-open query old lost state was opens number told =
+    life-written Told query old lost state.lives.queries number was
+    (λ h. absurd (⊎_elim (λ e. let both : true ≡ false = sym opens ∙ ap is_open e in cc) (λ e. let both : true ≡ false = sym opens ∙ ap is_open e in cc) h)) told
+
+open-life : (o : Option Life) → option_map_or is_open o false ≡ true → (old : Life) × (o ≡ Some old) × (is_open old ≡ true)
+open-life None e = absurd (let both : false ≡ true = e in cc)
+open-life (Some old) e = (old, refl, e)
+
+begun-open : (old : Life) → is_begun old ≡ true → is_open old ≡ true
+begun-open life.Waiting e = refl
+begun-open life.Building e = refl
+begun-open (life.Running start left) e = refl
+begun-open life.Ending e = refl
+begun-open life.Answered e = e
+begun-open life.Spoiled e = e
+begun-open life.Abandoned e = e
+
+-- a query that finds no memory as a filter is built for it
+pub sound-wanting : (query : ℕ) (state : State) → CanSpoil query state.lives → IsSound state → IsSound (after_build_wants query state)
+sound-wanting query state can sound = by_life (life_in state.lives.queries query) refl can
+  where
+    queries : List QueryLife
+    queries = with_life query life.Spoiled state.lives.queries
+
+    by_life : (o : Option Life) → life_in state.lives.queries query ≡ o → option_map_or is_begun o false ≡ true
+        → IsSound (let_go state query queries state.seats)
+    by_life None was e = absurd (let both : false ≡ true = e in cc)
+    by_life (Some old) was e =
+        sound-let-go query old life.Spoiled state state.seats spoiled was (sound-after_spoil query state.lives sound.slots.lives) refl
+        (seats-let-go state query queries state.seats refl (λ seat. refl)
+        (λ k d low. seat-let-go state query queries state.seats (get_or state.seats k d)
+        (λ j p inside. life-written Wanted query old life.Spoiled state.lives.queries (get_or (get_or state.seats k d).pending j p).statement was
+        (λ h is. cc))
+        (told-open query old life.Spoiled state was (begun-open old e)) (sound.seats.each k d low)) sound.seats) sound
+
+-- nobody waits for a query any more whose seat does not
+sound-unpending : (query seat : ℕ) (old : Life) (state : State) → life_in state.lives.queries query ≡ Some old → is_open old ≡ true
+    → Contains (seat_at state seat).submitted query → IsSound state
+    → IsSound (let_go state query (with_life query life.Abandoned state.lives.queries)
+    (set state.seats seat (without_pending query (get_or state.seats seat empty_seat))))
+sound-unpending query seat old state was opens submits sound =
+    sound-let-go query old life.Abandoned state seats abandoned was (sound-after_abandon query state.lives sound.slots.lives)
+    (length-set state.seats seat without)
+    (seats-let-go state query queries seats (length-set state.seats seat without)
+    (λ other. ⊎_elim
+    (λ same. subst (λ n. (get_or seats n empty_seat).submitted ≡ (get_or state.seats n empty_seat).submitted) (sym same)
+    (ap (λ (s : Seat). s.submitted) (get_or-set_same state.seats seat without empty_seat there)))
+    (λ apart. ap (λ (s : Seat). s.submitted) (get_or-set_other state.seats seat other without empty_seat apart))
+    (cases_eq other seat))
+    (λ k d low. each k d (subst (λ n. k < n) (length-set state.seats seat without) low) (cases_eq k seat)) sound.seats) sound
+  where
+    queries : List QueryLife
+    queries = with_life query life.Abandoned state.lives.queries
+
+    without : Seat
+    without = without_pending query (get_or state.seats seat empty_seat)
+
+    seats : List Seat
+    seats = set state.seats seat without
+
+    there : seat < length state.seats
+    there = ⊎_elim (λ low. low)
+        (λ past. absurd (let none : Contains [] query = subst (λ (s : Seat). Contains s.submitted query) (get_or_past state.seats seat empty_seat past) submits in
+        let low = none.1 in omega arith)) (cases_lt seat (length state.seats))
+
+    still : (number : ℕ) → number ≢ query → IfSome (life_in state.lives.queries number) Wanted → IfSome (life_in queries number) Wanted
+    still number apart = subst (λ o. IfSome o Wanted) (sym (life_in-other state.lives.queries query number life.Abandoned apart))
+
+    others : (k : ℕ) (d : Seat) → k < length state.seats → k ≢ seat → ¬ (Contains (get_or state.seats k d).submitted query)
+    others k d low apart has =
+        let at : get_or state.seats seat empty_seat ≡ get_or state.seats seat d = get_or_default state.seats seat empty_seat d there in
+        let submits_so : Contains (get_or state.seats seat d).submitted query = subst (λ (s : Seat). Contains s.submitted query) at submits in
+        ⊎_elim (λ before. sound.seats.apart k seat d before there query has submits_so)
+        (λ after. sound.seats.apart seat k d (omega arith) low query submits_so has) (cases_lt k seat)
+
+    each : (k : ℕ) (d : Seat) → k < length state.seats → (k ≡ seat) ⊎ (k ≢ seat)
+        → IsSoundSeat (let_go state query queries seats) (get_or seats k d)
+    each k d low (inl same) =
+        subst (λ n. IsSoundSeat (let_go state query queries seats) (get_or seats n d)) (sym same)
+        (subst (IsSoundSeat (let_go state query queries seats)) (sym (get_or-set_same state.seats seat without d there))
+        (seat-let-go state query queries seats without
+        (All-weaker (λ pending. not (eqb pending.statement query) ≡ true)
+        (λ pending. IfSome (life_in state.lives.queries pending.statement) Wanted → IfSome (life_in queries pending.statement) Wanted)
+        (λ pending other. still pending.statement
+        (λ same. let both : false ≡ true = sym (ap not (eq-eqb pending.statement query same)) ∙ other in cc))
+        without.pending (filter_passes (λ pending. not (eqb pending.statement query)) (get_or state.seats seat empty_seat).pending))
+        (told-open query old life.Abandoned state was opens)
+        (seat-fewer state (λ pending. not (eqb pending.statement query)) (get_or state.seats seat empty_seat) (sound.seats.each seat empty_seat there))))
+    each k d low (inr apart) =
+        let here = get_or state.seats k d in
+        let of_seat : IsSoundSeat state here = sound.seats.each k d low in
+        subst (IsSoundSeat (let_go state query queries seats)) (sym (get_or-set_other state.seats seat k without d apart))
+        (seat-let-go state query queries seats here
+        (All-weaker (λ pending. Contains here.submitted pending.statement)
+        (λ pending. IfSome (life_in state.lives.queries pending.statement) Wanted → IfSome (life_in queries pending.statement) Wanted)
+        (λ pending has. still pending.statement
+        (λ same. others k d low apart (subst (Contains here.submitted) same has)))
+        here.pending (awaited-there (Contains here.submitted) (map (λ taken. taken.statement) here.taken) here.pending of_seat.submitted))
+        (told-open query old life.Abandoned state was opens) of_seat)
+
+pub sound-abandoned : (query : ℕ) (state : State) → CanAbandon query state.lives → IsSound state → IsSound (after_abandoning query state)
+sound-abandoned query state can sound = by_accepted (accepted_at state.accepted query) refl
+  where
+    life_open : (old : Life) × (life_in state.lives.queries query ≡ Some old) × (is_open old ≡ true)
+    life_open = open-life (life_in state.lives.queries query) can
+
+    by_accepted : (o : Option Accepted) → accepted_at state.accepted query ≡ o
+        → IsSound (option_map_or (λ accepted. let_go state query (with_life query life.Abandoned state.lives.queries)
+        (set state.seats accepted.seat (without_pending query (get_or state.seats accepted.seat empty_seat)))) o state)
+    by_accepted None is = sound
+    by_accepted (Some accepted) is =
+        let same : accepted.number ≡ query = eqb-true accepted.number query (find-passes (λ a. eqb a.number query) state.accepted accepted is) in
+        let submits : Contains (seat_at state accepted.seat).submitted accepted.number =
+        find-holds (λ a. Contains (seat_at state a.seat).submitted a.number) (λ a. eqb a.number query) state.accepted accepted is sound.seats.queries in
+        sound-unpending query accepted.seat life_open.0 state life_open.1 life_open.2
+        (subst (Contains (seat_at state accepted.seat).submitted) same submits) sound

@@ -1,0 +1,160 @@
+-- A filter that is built for a query keeps a core sound.
+use Rattle.std.proofs.Common.{◌≡◌, ℕ, ◌<◌, ◌≤◌, true, false, List, [], length, Option, Some, None, slice_get, refl, sym, ap, ◌∙◌, subst, ⊎_elim, inl, inr}
+use Rattle.std.specs.Prelude.{IfSome, IsSome, IsTrue, ◌↔◌}
+use Rattle.std.specs.Option.{option_map_or}
+use Rattle.std.proofs.lemmas.Bool.{eqb-true}
+use Rattle.std.proofs.lemmas.List.Quantifiers.{position-Some}
+use Rattle.std.proofs.lemmas.Option.{slice_get_within}
+use Rattle.bit_words.specs.Sets.{Has, with_number}
+use Rattle.bit_words.proofs.SetLemmas.{Has-with}
+use Rattle.star_plan.specs.Joined.{takes}
+use Rattle.star_plan.specs.Test.{Query, Selection}
+use Rattle.star_history.specs.Store.{rows_in}
+use Rattle.dimension_rows.specs.declared.dimension_row.DimensionRow.{DimensionRow}
+use Rattle.dimension_filter.specs.Filter.{Filter, vector_of}
+use Rattle.dimension_filter.proofs.AddLemmas.{added-ascends, added-encoded, added-others, added-sound, added-stored}
+use Rattle.dimension_filter.proofs.SlotLemmas.{complement-here, complement-other}
+use Rattle.pipeline_manager.specs.Changes.{with_dimension, with_slot}
+use Rattle.pipeline_manager.specs.Conditions.{CanBuild, CanSpoil, is_begun}
+use Rattle.pipeline_manager.specs.Lives.{is_held_by, life_in, slot_at, slot_of}
+use Rattle.pipeline_manager.specs.Sound as managed
+use Rattle.pipeline_manager.specs.declared.life.Life.TheVariants as life
+use Rattle.pipeline_manager.specs.declared.life.SlotState.{SlotState}
+use Rattle.pipeline_manager.specs.declared.life.SlotState.TheVariants.{Free, Held, Clearing}
+use Rattle.pipeline_manager.proofs.HolderLemmas.{built_of-holder, slot_of-begun}
+use Rattle.pipeline_manager.proofs.LawLemmas.{sound-after_built}
+use Rattle.core_state.specs.Admitting.{after_build, filter_with, selection_in, versions_in_hands, with_version}
+use Rattle.core_state.specs.Cutting.{gets_rows}
+use Rattle.core_state.specs.Flown.{Encodes, FitsSlot, IsClearOf, IsSoundFilter, MayBeOnRoster}
+use Rattle.core_state.specs.Found.{accepted_at}
+use Rattle.core_state.specs.Numbered.{last_after, next_number}
+use Rattle.core_state.specs.Sound.{IsSound}
+use Rattle.core_state.specs.State.{Accepted, State}
+use Rattle.core_state.specs.Tables.{tables_of}
+use Rattle.core_state.proofs.FoundLemmas.{some-at}
+use Rattle.core_state.proofs.AcceptedLemmas.{held-accepted}
+use Rattle.core_state.proofs.VersionLemmas.{IsNextVersion, Versions, sound-versioned}
+
+-- a filter with a query in a slot that was clear has the query there
+built-encodes : (filter : Filter) (slot : ℕ) (query : Query) (snapshot : ℕ) (rows : List DimensionRow) → IsClearOf filter slot
+    → Encodes (filter_with slot (selection_in query filter.dimension) rows filter) slot query snapshot rows
+built-encodes filter slot query snapshot rows clear = record {
+  taken = λ key. by_row key (slice_get rows key) refl;
+  others = complement-here filter.complement slot selection clear.others;
+}
+  where
+    selection : Selection
+    selection = selection_in query filter.dimension
+
+    by_row : (key : ℕ) (o : Option DimensionRow) → slice_get rows key ≡ o
+        → IfSome o (λ entry. entry.commit ≤ snapshot → Has (vector_of (filter_with slot selection rows filter) key) slot ↔ IsTrue (takes selection entry.row))
+    by_row key None is = tt
+    by_row key (Some entry) is = λ came.
+        subst (λ row. Has (vector_of (filter_with slot selection rows filter) key) slot ↔ IsTrue (takes selection row))
+        (ap (λ o. option_map_or (λ e. e.row) o []) is)
+        (added-encoded filter slot selection rows key (slice_get_within rows key entry is) (clear.rows key))
+
+-- the filter with the query
+built-next : (state : State) (slot query built : ℕ) (accepted : Accepted) (filter : Filter) → slot < length state.lives.slots
+    → slot_at state.lives slot ≡ Held query built → accepted_at state.accepted query ≡ Some accepted → ¬ (Has built filter.dimension)
+    → IsSoundFilter state filter
+    → IsNextVersion state slot (Held query (with_number built filter.dimension)) filter
+    (filter_with slot (selection_in accepted.query filter.dimension) (rows_in (tables_of state).dimensions filter.dimension) filter)
+built-next state slot query built accepted filter there holds is not_built old =
+    let selection = selection_in accepted.query filter.dimension in
+    let rows = rows_in (tables_of state).dimensions filter.dimension in
+    let clear : IsClearOf filter slot = (subst (FitsSlot state filter slot) holds (old.slots slot there)).1 not_built in
+    record {
+      table = added-sound filter slot selection rows old.table;
+      ascending = added-ascends filter slot selection rows;
+      beside = record {
+        dimension = refl;
+        vectors = λ key other apart. added-others filter slot selection rows old.within key other apart;
+        complement = λ other apart. complement-other filter.complement slot selection other apart;
+      };
+      fits = (
+        λ has. subst (λ o. IfSome o (λ found. Encodes (filter_with slot selection rows filter) slot found.query found.snapshot rows)) (sym is)
+            (built-encodes filter slot accepted.query accepted.snapshot rows clear),
+        λ none. absurd (none ((Has-with built filter.dimension filter.dimension).1 (inr refl))),
+      );
+      within = added-stored filter slot selection rows;
+    }
+
+sound-with_built : (query dimension slot built : ℕ) (accepted : Accepted) (state : State) → CanBuild query dimension state.lives → IsSound state
+    → slot < length state.lives.slots → slot_of state.lives query ≡ Some slot
+    → slot_at state.lives slot ≡ Held query built → accepted_at state.accepted query ≡ Some accepted
+    → IsSound (record (with_version dimension (filter_with slot (selection_in accepted.query dimension) (rows_in (tables_of state).dimensions dimension)) state) {
+      lives = with_slot slot (Held query (with_number built dimension)) state.lives;
+    })
+sound-with_built query dimension slot built accepted state can sound there at holds is =
+    let now : SlotState = Held query (with_number built dimension) in
+    let not_built : ¬ (Has built dimension) = (λ has. can.not_built
+    (subst (λ set. Has set dimension) (sym (built_of-holder state.lives slot query built sound.slots.lives there holds)) has)) in
+    let change : Filter → Filter = filter_with slot (selection_in accepted.query dimension) (rows_in (tables_of state).dimensions dimension) in
+    let gives : Versions state slot dimension now change = record {
+      there = there;
+      used = λ free. let both : Held query built ≡ Free = sym holds ∙ free in cc;
+      off = λ entry on same.
+          let both : Held entry.number on.held.0 ≡ Held query built =
+          sym on.held.1 ∙ subst (λ s. slot_at state.lives s ≡ Held query built) (sym same) holds in
+          let number : query ≡ entry.number = cc in
+          some-at MayBeOnRoster (life_in state.lives.queries entry.number) life.Building
+          (subst (λ n. life_in state.lives.queries n ≡ Some life.Building) number can.building) on.life;
+      built = λ holder more held.
+          let number : query ≡ holder = cc in
+          subst (λ o. IfSome o (λ now. IsTrue (gets_rows now) → (other : ℕ) → Has state.lives.filters other → Has more other))
+          (sym (subst (λ n. life_in state.lives.queries n ≡ Some life.Building) number can.building)) (λ gets other has. cc);
+      lives = subst (λ s. managed.IsSound (with_slot slot (with_dimension dimension s) state.lives)) holds
+          (subst (λ o. managed.IsSound (option_map_or (λ s. with_slot s (with_dimension dimension (slot_at state.lives s)) state.lives) o state.lives)) at
+          (sound-after_built Has-with query dimension state.lives can sound.slots.lives));
+      keeps = λ filter. refl;
+      next = λ filter old same.
+          subst (λ d. IsNextVersion state slot (Held query (with_number built d)) filter
+          (filter_with slot (selection_in accepted.query d) (rows_in (tables_of state).dimensions d) filter)) same
+          (built-next state slot query built accepted filter there holds is (λ has. not_built (subst (Has built) same has)) old);
+      others = λ filter old apart.
+          let fits : FitsSlot state filter slot (Held query built) = subst (FitsSlot state filter slot) holds (old.slots slot there) in (
+            λ has. fits.0 (⊎_elim (λ h. h) (λ same. absurd (apart same)) ((Has-with built dimension filter.dimension).0 has)),
+            λ none. fits.1 (λ has. none ((Has-with built dimension filter.dimension).1 (inl has))),
+          );
+    } in
+    sound-versioned state slot dimension (next_number state.numbers.version (versions_in_hands state.scan.flights))
+    (last_after state.numbers.version) now change gives sound
+
+holds-it : (query : ℕ) (holder : SlotState) → is_held_by query holder ≡ true → (built : ℕ) × (holder ≡ Held query built)
+holds-it query Free e = absurd (let both : false ≡ true = e in cc)
+holds-it query (Held other built) e = (built, ap (λ n. Held n built) (eqb-true other query e))
+holds-it query (Clearing left) e = absurd (let both : false ≡ true = e in cc)
+
+pub sound-after_build : (query dimension : ℕ) (state : State) → CanBuild query dimension state.lives → IsSound state
+    → IsSound (after_build query dimension state)
+sound-after_build query dimension state can sound =
+    by_slot (slot_of state.lives query) refl (slot_of-begun state.lives query sound.slots.lives begun)
+  where
+    begun : CanSpoil query state.lives
+    begun = ap (λ o. option_map_or is_begun o false) can.building
+
+    After : Option ℕ → Option Accepted → State
+    After o a = record (option_map_or (λ slot. option_map_or
+        (λ accepted. with_version dimension (filter_with slot (selection_in accepted.query dimension) (rows_in (tables_of state).dimensions dimension)) state)
+        a state) o state) {
+          lives = option_map_or (λ slot. with_slot slot (with_dimension dimension (slot_at state.lives slot)) state.lives) o state.lives;
+        }
+
+    by_accepted : (slot : ℕ) → slot_of state.lives query ≡ Some slot → slot < length state.lives.slots → (built : ℕ) → slot_at state.lives slot ≡ Held query built
+        → (a : Option Accepted) → accepted_at state.accepted query ≡ a → IsSome a → IsSound (After (slot_of state.lives query) (accepted_at state.accepted query))
+    by_accepted slot at there built holds None is some = absurd (let both : false ≡ true = some in cc)
+    by_accepted slot at there built holds (Some accepted) is some =
+        subst (λ o. IsSound (After o (accepted_at state.accepted query))) (sym at)
+        (subst (λ a. IsSound (After (Some slot) a)) (sym is)
+        (subst (λ s. IsSound (record (with_version dimension (filter_with slot (selection_in accepted.query dimension) (rows_in (tables_of state).dimensions dimension)) state) {
+          lives = with_slot slot (with_dimension dimension s) state.lives;
+        })) (sym holds) (sound-with_built query dimension slot built accepted state can sound there at holds is)))
+
+    by_slot : (o : Option ℕ) → slot_of state.lives query ≡ o → IsSome o → IsSound (After (slot_of state.lives query) (accepted_at state.accepted query))
+    by_slot None at some = absurd (let both : false ≡ true = some in cc)
+    by_slot (Some slot) at some =
+        let found = position-Some (is_held_by query) state.lives.slots slot Free at in
+        let held = holds-it query (slot_at state.lives slot) found.1 in
+        by_accepted slot at found.0 held.0 held.1 (accepted_at state.accepted query) refl
+        (held-accepted state slot query held.0 sound found.0 held.1)

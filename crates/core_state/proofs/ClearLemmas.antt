@@ -1,0 +1,69 @@
+-- A filter that is cleared of a slot keeps a core sound.
+use Rattle.std.proofs.Common.{◌≡◌, ℕ, ◌<◌, ◌^◌, length, refl, sym, ◌∙◌, subst}
+use Rattle.bit_words.specs.Sets.{without}
+use Rattle.bit_words.proofs.SetLemmas.{Has-less}
+use Rattle.dimension_filter.specs.Filter.{Filter}
+use Rattle.dimension_filter.proofs.ClearLemmas.{left-ascends, left-clear, left-others, left-sound, left-stored}
+use Rattle.dimension_filter.proofs.SlotLemmas.{taken-here, taken-other}
+use Rattle.pipeline_manager.specs.Changes.{with_slot, without_dimension}
+use Rattle.pipeline_manager.specs.Conditions.{CanClear, IsToClear}
+use Rattle.pipeline_manager.specs.Lives.{slot_at}
+use Rattle.pipeline_manager.specs.Sound as managed
+use Rattle.pipeline_manager.specs.declared.life.SlotState.{SlotState}
+use Rattle.pipeline_manager.specs.declared.life.SlotState.TheVariants.{Free, Held, Clearing}
+use Rattle.pipeline_manager.proofs.LawLemmas.{sound-after_cleared}
+use Rattle.core_state.specs.Admitting.{after_clear, filter_without, versions_in_hands, with_version}
+use Rattle.core_state.specs.Flown.{FitsSlot, IsSoundFilter}
+use Rattle.core_state.specs.Numbered.{last_after, next_number}
+use Rattle.core_state.specs.Sound.{IsSound}
+use Rattle.core_state.specs.State.{State}
+use Rattle.core_state.proofs.HeldLemmas.{slot-there}
+use Rattle.core_state.proofs.VersionLemmas.{IsNextVersion, Versions, sound-versioned}
+
+-- the filter without the slot
+cleared-next : (state : State) (slot left : ℕ) (filter : Filter) → IsSoundFilter state filter
+    → IsNextVersion state slot (Clearing left) filter (filter_without slot filter)
+cleared-next state slot left filter old = record {
+  table = left-sound filter slot old.ascending old.table;
+  ascending = left-ascends filter slot old.ascending;
+  beside = record {
+    dimension = refl;
+    vectors = λ key other apart. left-others filter slot key other old.ascending apart;
+    complement = λ other apart. taken-other slot filter.complement other apart;
+  };
+  fits = λ none. record {
+    rows = λ key. left-clear filter slot key old.ascending;
+    others = taken-here slot filter.complement;
+  };
+  within = λ key stored. old.within key (left-stored filter slot key stored);
+}
+
+cleared-by : (slot dimension : ℕ) (state : State) → IsSound state → (holder : SlotState) → slot_at state.lives slot ≡ holder
+    → IsToClear dimension holder
+    → IsSound (record (with_version dimension (filter_without slot) state) { lives = with_slot slot (without_dimension dimension holder) state.lives })
+cleared-by slot dimension state sound Free holds can = absurd can
+cleared-by slot dimension state sound (Held query built) holds can = absurd can
+cleared-by slot dimension state sound (Clearing left) holds can =
+    let there : slot < length state.lives.slots = slot-there state.lives.slots slot (λ is. let both : Clearing left ≡ Free = sym holds ∙ is in cc) in
+    let now : SlotState = Clearing (without left (2 ^ dimension)) in
+    let gives : Versions state slot dimension now (filter_without slot) = record {
+      there = there;
+      used = λ is. let both : Clearing left ≡ Free = sym holds ∙ is in cc;
+      off = λ entry on same.
+          let both : Held entry.number on.held.0 ≡ Clearing left =
+          sym on.held.1 ∙ subst (λ at. slot_at state.lives at ≡ Clearing left) (sym same) holds in cc;
+      built = λ holder built is. absurd (let both : Clearing (without left (2 ^ dimension)) ≡ Held holder built = is in cc);
+      lives = subst (λ s. managed.IsSound (with_slot slot (without_dimension dimension s) state.lives)) holds
+          (sound-after_cleared Has-less slot dimension state.lives there sound.slots.lives);
+      keeps = λ filter. refl;
+      next = λ filter old same. cleared-next state slot (without left (2 ^ dimension)) filter old;
+      others = λ filter old apart none.
+          let fits : FitsSlot state filter slot (Clearing left) = subst (FitsSlot state filter slot) holds (old.slots slot there) in
+          fits (λ has. none ((Has-less left dimension filter.dimension).1 (has, apart)));
+    } in
+    sound-versioned state slot dimension (next_number state.numbers.version (versions_in_hands state.scan.flights))
+    (last_after state.numbers.version) now (filter_without slot) gives sound
+
+pub sound-cleared : (slot dimension : ℕ) (state : State) → CanClear slot dimension state.lives → IsSound state
+    → IsSound (after_clear slot dimension state)
+sound-cleared slot dimension state can sound = cleared-by slot dimension state sound (slot_at state.lives slot) refl can

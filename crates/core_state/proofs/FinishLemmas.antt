@@ -1,0 +1,198 @@
+-- A slot that is taken from its query keeps a core sound.
+use Rattle.std.proofs.Common.{◌≡◌, ◌≢◌, ℕ, ◌<◌, ◌≤◌, ◌++◌, Bool, true, false, cond, eqb, eq-eqb, List, [], ◌∷◌, length, get_or, set, Option, Some, None, find, slice_get, refl, sym, ap, ◌∙◌, subst, ⊎_elim, inr, append-nil, ◌||◌}
+use Rattle.std.specs.Prelude.{All, IfSome, IsTrue, flat_map, ◌↔◌}
+use Rattle.std.specs.List.{list_any, range_with_len}
+use Rattle.std.specs.List.Sorted.{IsPermutation}
+use Rattle.std.specs.Option.{option_map_or}
+use Rattle.std.proofs.lemmas.Bool.{eqb-true}
+use Rattle.std.proofs.lemmas.List.{get_or-set_same, get_or-set_other, length-set}
+use Rattle.std.proofs.lemmas.List.Elements.{All-cons, All-nil}
+use Rattle.bit_words.specs.Sets.{Has}
+use Rattle.pipeline_manager.specs.Changes.{given_up, is_ending, with_life}
+use Rattle.pipeline_manager.specs.Conditions.{IsOver, is_open}
+use Rattle.pipeline_manager.specs.Lives.{life_in, query_in, slot_at}
+use Rattle.pipeline_manager.specs.Sound as managed
+use Rattle.pipeline_manager.specs.declared.life.Life.{Life}
+use Rattle.pipeline_manager.specs.declared.life.Life.TheVariants as life
+use Rattle.pipeline_manager.specs.declared.life.QueryLife.{QueryLife}
+use Rattle.pipeline_manager.specs.declared.life.SlotState.{SlotState}
+use Rattle.pipeline_manager.specs.declared.life.SlotState.TheVariants.{Free, Held, Clearing}
+use Rattle.pipeline_manager.proofs.EndLemmas.{sound-ended}
+use Rattle.pipeline_manager.proofs.HolderLemmas.{slot_of-holder}
+use Rattle.pipeline_manager.proofs.LifeLemmas.{life_in-other}
+use Rattle.core_state.specs.Admitting.{after_finish}
+use Rattle.core_state.specs.Cutting.{gets_rows}
+use Rattle.core_state.specs.Events.{MayFinish}
+use Rattle.core_state.specs.Flown.{FitsSlot, IsOnRoster, IsSoundBatch, MayBeOnRoster}
+use Rattle.core_state.specs.Found.{is_on_roster}
+use Rattle.core_state.specs.Sound.{AreSoundQueries, IsKept, IsSound, kept_at, positions_for}
+use Rattle.core_state.specs.State.{Accepted, Flight, OnRoster, State}
+use Rattle.core_state.specs.Tables.{tables_of, versions_in}
+use Rattle.core_state.proofs.FoundLemmas.{find-passes, some-at}
+use Rattle.core_state.proofs.HeldLemmas.{entry-set, filters-held, fits-set, queries-stay, slot-there}
+use Rattle.core_state.proofs.MovedLemmas.{Holds, StaysWanted, held_now, order-held, sound-held}
+use Rattle.core_state.proofs.RowsLemmas.{whole-extent}
+use Rattle.core_state.proofs.StartLemmas.{none-in-flight}
+use Rattle.core_state.proofs.AcceptedLemmas.{find-holds}
+use Rattle.core_state.proofs.WrittenLemmas.{queries-written, wanted-written}
+
+-- where no element passes, each does not
+pub none-passes : {X : Type 0} (p : X → Bool) (xs : List X) → list_any p xs ≡ false → All (λ x. p x ≡ false) xs
+none-passes p [] none = All-nil (λ x. p x ≡ false)
+none-passes {X = X} p (x ∷ xs) none = by_test (p x) refl none (none-passes p xs)
+  where
+    by_test : (t : Bool) → p x ≡ t → (t || list_any p xs) ≡ false → (list_any p xs ≡ false → All (λ y. p y ≡ false) xs) → All (λ y. p y ≡ false) (x ∷ xs)
+    by_test true is e rest = absurd (let both : true ≡ false = e in cc)
+    by_test false is e rest = All-cons (λ y. p y ≡ false) x xs is (rest e)
+
+-- a slot that is on no roster is not that of an entry
+apart-landed : (slot : ℕ) (flight : Flight) → is_on_roster slot flight ≡ false → All (λ entry. entry.slot ≢ slot) flight.roster
+apart-landed slot flight landed = λ k d low same.
+    let none = none-passes (λ entry. eqb entry.slot slot) flight.roster landed k d low in
+    let both : true ≡ false = sym (eq-eqb (get_or flight.roster k d).slot slot same) ∙ none in cc
+
+-- two slots are not held by one query
+one-slot : (state : State) (slot other query built more : ℕ) → IsSound state → slot < length state.lives.slots → other < length state.lives.slots
+    → slot_at state.lives slot ≡ Held query built → slot_at state.lives other ≡ Held query more → other ≡ slot
+one-slot state slot other query built more sound there here holds holds_more =
+    let both : Some other ≡ Some slot =
+    sym (slot_of-holder state.lives other query more sound.slots.lives here holds_more)
+    ∙ slot_of-holder state.lives slot query built sound.slots.lives there holds in cc
+
+-- the query of a slot that is on no roster is on none
+none-landed : (slot query built : ℕ) (state : State) → IsSound state → slot < length state.lives.slots → slot_at state.lives slot ≡ Held query built
+    → All (λ flight. is_on_roster slot flight ≡ false) state.scan.flights
+    → All (λ flight. find (λ entry. eqb entry.number query) flight.roster ≡ None) state.scan.flights
+none-landed slot query built state sound there holds landed = λ k d low.
+    by_found (get_or state.scan.flights k d) (sound.batches k d low) (landed k d low)
+    (find (λ entry. eqb entry.number query) (get_or state.scan.flights k d).roster) refl
+  where
+    by_found : (flight : Flight) → IsSoundBatch state flight → is_on_roster slot flight ≡ false → (o : Option OnRoster)
+        → find (λ entry. eqb entry.number query) flight.roster ≡ o → o ≡ None
+    by_found flight of_batch off None is = refl
+    by_found flight of_batch off (Some entry) is =
+        let on : IsOnRoster state entry = find-holds (IsOnRoster state) (λ e. eqb e.number query) flight.roster entry is of_batch.roster in
+        let same : entry.number ≡ query = eqb-true entry.number query (find-passes (λ e. eqb e.number query) flight.roster entry is) in
+        absurd (find-holds (λ e. e.slot ≢ slot) (λ e. eqb e.number query) flight.roster entry is (apart-landed slot flight off)
+        (one-slot state slot entry.slot query built on.held.0 sound there on.there holds (on.held.1 ∙ ap (λ n. Held n on.held.0) same)))
+
+-- an ended query has what its rows give
+kept-finished : (slot query built : ℕ) (state : State) → IsSound state → slot < length state.lives.slots → slot_at state.lives slot ≡ Held query built
+    → All (λ flight. is_on_roster slot flight ≡ false) state.scan.flights
+    → (accepted : Accepted) (extent : ℕ) → accepted.number ≡ query → extent ≤ versions_in state
+    → ((position : ℕ) → IfSome (slice_get (tables_of state).versions position) (λ version. (version.begin ≤ accepted.snapshot) ↔ (position < extent)))
+    → IsKept state accepted extent life.Ending → IsKept state accepted extent life.Answered
+kept-finished slot query built state sound there holds landed accepted extent same within came covered =
+    let none : flat_map (positions_for accepted.number extent) state.scan.flights ≡ [] =
+    none-in-flight accepted.number extent state.scan.flights
+    (subst (λ n. All (λ flight. find (λ entry. eqb entry.number n) flight.roster ≡ None) state.scan.flights) (sym same)
+    (none-landed slot query built state sound there holds landed)) in
+    let all : IsPermutation covered.folded (range_with_len 0 extent) =
+    subst (λ positions. IsPermutation positions (range_with_len 0 extent)) (append-nil covered.folded)
+    (subst (λ positions. IsPermutation positions (range_with_len 0 extent)) (append-nil (covered.folded ++ []))
+    (subst (λ positions. IsPermutation (covered.folded ++ positions ++ []) (range_with_len 0 extent)) none covered.each_once)) in
+    inr (record {
+      rows = kept_at (tables_of state) accepted.query accepted.snapshot covered.folded;
+      all = whole-extent (tables_of state) accepted.query accepted.snapshot extent within came covered.folded all;
+      groups = covered.groups;
+    })
+
+sound-given_up : (slot query built : ℕ) (state : State) (queries : List QueryLife) → slot < length state.lives.slots
+    → slot_at state.lives slot ≡ Held query built → All (λ flight. is_on_roster slot flight ≡ false) state.scan.flights
+    → managed.IsSound (record state.lives { queries = queries; slots = set state.lives.slots slot (Clearing built) })
+    → AreSoundQueries (held_now state queries (set state.lives.slots slot (Clearing built)) state.filters state.numbers.version)
+    → StaysWanted state queries
+    → ((other : ℕ) → other ≢ query → life_in queries other ≡ life_in state.lives.queries other)
+    → IsSound state
+    → IsSound (held_now state queries (set state.lives.slots slot (Clearing built)) state.filters state.numbers.version)
+sound-given_up slot query built state queries there holds landed lives_now queries_now wanted others sound =
+    let slots = set state.lives.slots slot (Clearing built) in
+    let now : Holds state queries slots state.filters state.numbers.version = record {
+      filters_now = filters-held state queries slots state.numbers.version state.filters.order (length-set state.lives.slots slot (Clearing built))
+          (λ filter of_filter other low fits. fits-set state slot (Clearing built) there filter
+          (subst (FitsSlot state filter slot) holds (of_filter.slots slot there)).1 other fits) sound.filters;
+      rosters = λ k d low j e within.
+          let flight = get_or state.scan.flights k d in
+          let entry = get_or flight.roster j e in
+          let on = (sound.batches k d low).roster j e within in
+          let apart : entry.slot ≢ slot = apart-landed slot flight (landed k d low) j e within in
+          entry-set state queries slot (Clearing built) state.filters state.numbers.version entry apart
+          (subst (λ o. IfSome o MayBeOnRoster) (sym (others entry.number (λ same. apart
+          (one-slot state slot entry.slot query built on.held.0 sound there on.there holds (on.held.1 ∙ ap (λ n. Held n on.held.0) same)))))
+          on.life) on;
+      queries_now = queries_now;
+      slots_now = record {
+        lives = lives_now;
+        count = length-set state.lives.slots slot (Clearing built) ∙ sound.slots.count;
+        built = λ other holder more low held.
+            let inside : other < length state.lives.slots = subst (λ n. other < n) (length-set state.lives.slots slot (Clearing built)) low in
+            let apart : other ≢ slot = (λ same.
+            let both : Clearing built ≡ Held holder more = sym (get_or-set_same state.lives.slots slot (Clearing built) Free there)
+            ∙ subst (λ at. get_or slots at Free ≡ Held holder more) same held in cc) in
+            let old : slot_at state.lives other ≡ Held holder more = sym (get_or-set_other state.lives.slots slot other (Clearing built) Free apart) ∙ held in
+            subst (λ o. IfSome o (λ now. IsTrue (gets_rows now) → (dimension : ℕ) → Has state.lives.filters dimension → Has more dimension))
+            (sym (others holder (λ same. apart (one-slot state slot other query built more sound there inside holds (old ∙ ap (λ n. Held n more) same)))))
+            (sound.slots.built other holder more inside old);
+      };
+      quiet = λ none.
+          let free : slot_at state.lives slot ≡ Free = (sound.quiet none).2 slot Free there in
+          let both : Held query built ≡ Free = sym holds ∙ free in cc;
+      order = order-held state queries slots state.numbers.version sound.order;
+      wanted = wanted;
+    } in
+    sound-held state queries slots state.filters state.numbers.version now sound
+
+ending-life : (o : Option Life) → option_map_or is_ending o false ≡ true → o ≡ Some life.Ending
+ending-life None e = cc
+ending-life (Some life.Waiting) e = cc
+ending-life (Some life.Building) e = cc
+ending-life (Some (life.Running start left)) e = cc
+ending-life (Some life.Ending) e = refl
+ending-life (Some life.Answered) e = cc
+ending-life (Some life.Spoiled) e = cc
+ending-life (Some life.Abandoned) e = cc
+
+sound-by_state : (slot : ℕ) (state : State) → MayFinish slot state → IsSound state → (holder : SlotState) → slot_at state.lives slot ≡ holder
+    → IsOver holder state.lives → IsSound (record state { lives = given_up slot holder state.lives })
+sound-by_state slot state can sound Free holds over = absurd over
+sound-by_state slot state can sound (Clearing left) holds over = absurd over
+sound-by_state slot state can sound (Held query built) holds over =
+    by_test (option_map_or is_ending (life_in state.lives.queries query) false) refl
+  where
+    there : slot < length state.lives.slots
+    there = slot-there state.lives.slots slot (λ is. let both : Held query built ≡ Free = sym holds ∙ is in cc)
+
+    ended : managed.IsSound (given_up slot (Held query built) state.lives)
+    ended = sound-ended slot query built state.lives there holds over sound.slots.lives
+
+    queries_of : Bool → List QueryLife
+    queries_of t = cond {A = List QueryLife} t (with_life query life.Answered state.lives.queries) state.lives.queries
+
+    slots : List SlotState
+    slots = set state.lives.slots slot (Clearing built)
+
+    by_test : (t : Bool) → option_map_or is_ending (life_in state.lives.queries query) false ≡ t
+        → IsSound (record state { lives = record state.lives { queries = queries_of t; slots = slots } })
+    by_test true is =
+        let was : life_in state.lives.queries query ≡ Some life.Ending = ending-life (life_in state.lives.queries query) is in
+        sound-given_up slot query built state (with_life query life.Answered state.lives.queries) there holds can.landed
+        (subst (λ t. managed.IsSound (record state.lives { queries = queries_of t; slots = slots })) is ended)
+        (queries-written state query life.Ending life.Answered slots state.filters state.numbers.version was
+        (λ accepted extent same of_query found kept.
+        let at : query_in state.lives.queries accepted.number ≡ Some (record { query = query; extent = extent; life = life.Ending }) =
+        subst (λ n. query_in state.lives.queries n ≡ Some (record { query = query; extent = extent; life = life.Ending })) (sym same) found in
+        kept-finished slot query built state sound there holds can.landed accepted extent same
+        (some-at (λ e. e.extent ≤ versions_in state) (query_in state.lives.queries accepted.number) (record { query = query; extent = extent; life = life.Ending }) at of_query.within)
+        (some-at (λ e. IsTrue (is_open e.life) → (position : ℕ) → IfSome (slice_get (tables_of state).versions position)
+        (λ version. (version.begin ≤ accepted.snapshot) ↔ (position < e.extent)))
+        (query_in state.lives.queries accepted.number) (record { query = query; extent = extent; life = life.Ending }) at of_query.extent refl) kept)
+        (λ wanted. refl) sound.queries)
+        (wanted-written state query life.Ending life.Answered was (λ h e. cc) (λ h. ⊎_elim (λ e. cc) (λ e. cc) h))
+        (λ other apart. life_in-other state.lives.queries query other life.Answered apart) sound
+    by_test false is =
+        sound-given_up slot query built state state.lives.queries there holds can.landed
+        (subst (λ t. managed.IsSound (record state.lives { queries = queries_of t; slots = slots })) is ended)
+        (queries-stay state slots state.filters state.numbers.version sound.queries) (λ number. (λ h. h, λ h. h)) (λ other apart. refl) sound
+
+pub sound-finished : (slot : ℕ) (state : State) → MayFinish slot state → IsSound state → IsSound (after_finish slot state)
+sound-finished slot state can sound = sound-by_state slot state can sound (slot_at state.lives slot) refl can.over

@@ -1,0 +1,132 @@
+-- What stays sound where the batches in flight change, and not their positions.
+use Rattle.std.proofs.Common.{◌≡◌, ℕ, ◌+◌, ◌<◌, ◌≤◌, ◌++◌, List, [], ◌∷◌, length, get_or, map, refl, sym, ap, ◌∙◌, subst, arith}
+use Rattle.std.specs.Prelude.{flat_map}
+use Rattle.std.specs.Option.{option_map_or}
+use Rattle.std.specs.List.{filter, find, range_with_len}
+use Rattle.std.proofs.lemmas.List.{get_or-map, length-map}
+use Rattle.std.proofs.lemmas.List.Elements.{All-map}
+use Rattle.std.proofs.lemmas.Option.{IfSome_then}
+use Rattle.std.specs.Prelude.{nat_lt, ◌==◌}
+use Rattle.pipeline_manager.specs.Lives.{query_in}
+use Rattle.core_state.specs.Flown.{IsOnRoster}
+use Rattle.core_state.specs.Sound.{AreSoundBatches, AreSoundFilters, AreSoundHands, AreSoundNumbers, AreSoundQueries, AreSoundSeats, IsSound, IsSoundOrder, positions_for}
+use Rattle.core_state.specs.State.{Flight, OnRoster, State}
+use Rattle.core_state.proofs.FrameLemmas.{filter-moved, kept-moved, moved, query-moved}
+use Rattle.filter_order.specs.declared.tally.Tally.{Tally}
+
+-- the core with changed batches in flight, and other tallies
+abbrev pub flown : State → List Tally → (Flight → Flight) → State
+flown state tallies change =
+    moved state state.lives.queries state.lives.slots (record state.filters { tallies = tallies })
+    (record state.scan { flights = map change state.scan.flights }) state.numbers
+
+-- a batch stays where it is, with its roster
+pub record KeepsPlace (before after : Flight) : Type 0 where
+  pub number : after.rows.number ≡ before.rows.number
+  pub first : after.rows.first ≡ before.rows.first
+  pub count : after.rows.count ≡ before.rows.count
+  pub roster : after.roster ≡ before.roster
+
+positions-keep : (number extent : ℕ) (before after : Flight) → KeepsPlace before after
+    → positions_for number extent after ≡ positions_for number extent before
+positions-keep number extent before after keeps =
+    ap (λ roster. option_map_or (λ entry. filter (λ position. nat_lt position extent) (range_with_len after.rows.first after.rows.count))
+    (find (λ entry. entry.number == number) roster) []) keeps.roster
+    ∙ ap (λ first. option_map_or (λ entry. filter (λ position. nat_lt position extent) (range_with_len first after.rows.count))
+    (find (λ entry. entry.number == number) before.roster) []) keeps.first
+    ∙ ap (λ count. option_map_or (λ entry. filter (λ position. nat_lt position extent) (range_with_len before.rows.first count))
+    (find (λ entry. entry.number == number) before.roster) []) keeps.count
+
+all-positions-keep : (number extent : ℕ) (change : Flight → Flight) → ((flight : Flight) → KeepsPlace flight (change flight))
+    → (flights : List Flight)
+    → flat_map (positions_for number extent) (map change flights) ≡ flat_map (positions_for number extent) flights
+all-positions-keep number extent change keeps [] = refl
+all-positions-keep number extent change keeps (flight ∷ flights) =
+    ap (λ here. here ++ flat_map (positions_for number extent) (map change flights))
+    (positions-keep number extent flight (change flight) (keeps flight))
+    ∙ ap (λ rest. positions_for number extent flight ++ rest) (all-positions-keep number extent change keeps flights)
+
+-- the roster of a batch is as sound as it was
+pub entry-flown : (state : State) (tallies : List Tally) (change : Flight → Flight) (entry : OnRoster) → IsOnRoster state entry
+    → IsOnRoster (flown state tallies change) entry
+entry-flown state tallies change entry old =
+    record { there = old.there; held = old.held; life = old.life; same = old.same }
+
+filters-flown : (state : State) (tallies : List Tally) (change : Flight → Flight) → AreSoundFilters state
+    → AreSoundFilters (flown state tallies change)
+filters-flown state tallies change old = record {
+  each = λ k d low. filter-moved state state.lives.queries state.lives.slots (record state.filters { tallies = tallies })
+      (record state.scan { flights = map change state.scan.flights }) state.numbers
+      (get_or state.filters.versions k d).filter refl (λ slot there fits. fits) (old.each k d low);
+  dimensions = old.dimensions;
+  set = old.set;
+}
+
+queries-flown : (state : State) (tallies : List Tally) (change : Flight → Flight) → ((flight : Flight) → KeepsPlace flight (change flight))
+    → AreSoundQueries state → AreSoundQueries (flown state tallies change)
+queries-flown state tallies change keeps old = record {
+  same = old.same;
+  each = λ k d low.
+      let accepted = get_or state.accepted k d in
+      let sound = old.each k d low in
+      let scan = record state.scan { flights = map change state.scan.flights } in
+      query-moved state state.lives.queries state.lives.slots (record state.filters { tallies = tallies }) scan state.numbers accepted refl
+      (IfSome_then (query_in state.lives.queries accepted.number) sound.kept (λ entry kept.
+      kept-moved state state.lives.queries state.lives.slots (record state.filters { tallies = tallies }) scan state.numbers accepted entry.extent entry.life
+      (all-positions-keep accepted.number entry.extent change keeps state.scan.flights) refl kept))
+      sound.extent sound.within sound;
+}
+
+seats-flown : (state : State) (tallies : List Tally) (change : Flight → Flight) → AreSoundSeats state
+    → AreSoundSeats (flown state tallies change)
+seats-flown state tallies change old = record {
+  count = old.count;
+  each = λ k d low.
+      let seat = old.each k d low in
+      record { rising = seat.rising; given = seat.given; in_order = seat.in_order; submitted = seat.submitted; taken = seat.taken; awaited = seat.awaited };
+  apart = old.apart;
+  rising = old.rising;
+  entries = old.entries;
+  queries = old.queries;
+}
+
+numbers-flown : (state : State) (tallies : List Tally) (change : Flight → Flight) → ((flight : Flight) → KeepsPlace flight (change flight))
+    → AreSoundNumbers state → AreSoundNumbers (flown state tallies change)
+numbers-flown state tallies change keeps old = record {
+  apart = λ i j d before low same.
+      let flights = state.scan.flights in
+      let later : j < length flights = subst (λ n. j < n) (length-map flights change) low in
+      let earlier : i < length flights = omega arith in
+      old.apart i j d before later
+      (sym (keeps (get_or flights i d)).number ∙ ap (λ f. f.rows.number) (sym (get_or-map change flights i d d earlier))
+      ∙ same ∙ ap (λ f. f.rows.number) (get_or-map change flights j d d later) ∙ (keeps (get_or flights j d)).number);
+  given = λ more. All-map (λ flight. flight.rows.number ≤ state.numbers.batch) change state.scan.flights
+      (λ k d low. let flight = get_or state.scan.flights k d in
+      subst (λ number. number ≤ state.numbers.batch) (sym (keeps flight).number) (old.given more k d low));
+}
+
+-- what a change of batches in flight has to give
+pub record Flies (state : State) (tallies : List Tally) (change : Flight → Flight) : Type 0 where
+  pub place : (flight : Flight) → KeepsPlace flight (change flight)
+  pub batches : AreSoundBatches (flown state tallies change)
+  pub hands : AreSoundHands (flown state tallies change)
+  pub order : IsSoundOrder (flown state tallies change)
+
+pub sound-flown : (state : State) (tallies : List Tally) (change : Flight → Flight) → Flies state tallies change → IsSound state
+    → IsSound (flown state tallies change)
+sound-flown state tallies change flies old = record {
+  filters = filters-flown state tallies change old.filters;
+  batches = flies.batches;
+  hands = flies.hands;
+  queries = queries-flown state tallies change flies.place old.queries;
+  slots = record { lives = old.slots.lives; count = old.slots.count; built = old.slots.built };
+  store = old.store;
+  quiet = λ none. ((old.quiet none).0, ap (map change) (old.quiet none).1, (old.quiet none).2);
+  numbers = numbers-flown state tallies change flies.place old.numbers;
+  scan = record {
+    frames = ap (λ n. state.scan.free + n) (length-map state.scan.flights change) ∙ old.scan.frames;
+    position = old.scan.position;
+  };
+  order = flies.order;
+  seats = seats-flown state tallies change old.seats;
+}

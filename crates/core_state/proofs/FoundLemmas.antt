@@ -1,0 +1,93 @@
+-- What is found of queries whose lives change.
+use Rattle.std.proofs.Common.{◌≡◌, ◌≢◌, ℕ, Bool, true, false, cond, eqb, eq-eqb, List, [], ◌∷◌, map, find, Option, Some, None, option_map, refl, ap, sym, ◌∙◌, subst, ⊎_elim}
+use Rattle.std.specs.Prelude.{IfSome}
+use Rattle.std.proofs.lemmas.Bool.{cases_eq, eqb-true, ne_eqb}
+use Rattle.pipeline_manager.specs.Changes.{renewed, with_life}
+use Rattle.pipeline_manager.specs.Lives.{life_in, query_in}
+use Rattle.pipeline_manager.specs.declared.life.Life.{Life}
+use Rattle.pipeline_manager.specs.declared.life.QueryLife.{QueryLife}
+use Rattle.pipeline_manager.proofs.LifeLemmas.{query_in-map, renewed-number}
+
+-- what is found passes
+pub find-passes : {X : Type 0} (p : X → Bool) (xs : List X) (x : X) → find p xs ≡ Some x → p x ≡ true
+find-passes {X = X} p [] x found = cc
+find-passes {X = X} p (y ∷ xs) x found = by_test (p y) refl found (find-passes p xs x)
+  where
+    by_test : (t : Bool) → p y ≡ t → cond {A = Option X} t (Some y) (find p xs) ≡ Some x → (find p xs ≡ Some x → p x ≡ true) → p x ≡ true
+    by_test true is e rest = let same : y ≡ x = cc in ap p (sym same) ∙ is
+    by_test false is e rest = rest e
+
+-- what is found of this number has it
+pub query_in-number : (queries : List QueryLife) (query : ℕ) (entry : QueryLife) → query_in queries query ≡ Some entry → entry.query ≡ query
+query_in-number queries query entry found = eqb-true entry.query query (find-passes (λ e. eqb e.query query) queries entry found)
+
+-- what holds of what is found holds where there is nothing, too
+pub some-by : {X : Type 0} (P : X → Type 0) (o : Option X) → ((x : X) → o ≡ Some x → P x) → IfSome o P
+some-by P None all = tt
+some-by P (Some x) all = all x refl
+
+pub some-at : {X : Type 0} (P : X → Type 0) (o : Option X) (x : X) → o ≡ Some x → IfSome o P → P x
+some-at P o x is holds = subst (λ t. IfSome t P) is holds
+
+-- a query is found by its life as by its number
+pub some-life : (P : Life → Type 0) (queries : List QueryLife) (query : ℕ) → IfSome (query_in queries query) (λ e. P e.life) → IfSome (life_in queries query) P
+some-life P queries query holds = by_found (query_in queries query) holds
+  where
+    by_found : (o : Option QueryLife) → IfSome o (λ e. P e.life) → IfSome (option_map (λ e. e.life) o) P
+    by_found None h = tt
+    by_found (Some e) h = h
+
+pub life-found : (queries : List QueryLife) (query : ℕ) (entry : QueryLife) → query_in queries query ≡ Some entry → life_in queries query ≡ Some entry.life
+life-found queries query entry found = ap (λ o. option_map (λ e. e.life) o) found
+
+-- what holds of a query after another life is written: of the written one, and of the others as they were
+pub with_life-found : (P : QueryLife → Type 0) (query : ℕ) (life : Life) (queries : List QueryLife) (number : ℕ)
+    → ((entry : QueryLife) → query_in queries number ≡ Some entry → number ≡ query → P (record entry { life = life }))
+    → ((entry : QueryLife) → query_in queries number ≡ Some entry → number ≢ query → P entry)
+    → IfSome (query_in (with_life query life queries) number) P
+with_life-found P query life queries number written others =
+    subst (λ o. IfSome o P) (sym (query_in-map (renewed query life) (renewed-number query life) queries number))
+    (by_found (query_in queries number) refl)
+  where
+    by_number : (entry : QueryLife) → query_in queries number ≡ Some entry → P (renewed query life entry)
+    by_number entry found =
+        let same = query_in-number queries number entry found in
+        ⊎_elim
+        (λ is. subst (λ t. P (cond {A = QueryLife} t (record entry { life = life }) entry)) (sym (eq-eqb entry.query query (same ∙ is))) (written entry found is))
+        (λ other. subst (λ t. P (cond {A = QueryLife} t (record entry { life = life }) entry)) (sym (ne_eqb entry.query query (λ is. other (sym same ∙ is)))) (others entry found other))
+        (cases_eq number query)
+
+    by_found : (o : Option QueryLife) → query_in queries number ≡ o → IfSome (option_map (renewed query life) o) P
+    by_found None is = tt
+    by_found (Some entry) is = by_number entry is
+
+-- the numbers stay in their order
+pub with_life-numbers : (query : ℕ) (life : Life) (queries : List QueryLife)
+    → map (λ entry. entry.query) (with_life query life queries) ≡ map (λ entry. entry.query) queries
+with_life-numbers query life [] = refl
+with_life-numbers query life (entry ∷ queries) =
+    ap (λ number. number ∷ map (λ e. e.query) (with_life query life queries)) (renewed-number query life entry)
+    ∙ ap (λ rest. entry.query ∷ rest) (with_life-numbers query life queries)
+
+-- what held of the life that is written over, and holds of the new one for it, holds of each query as before
+pub life-written : (P : Life → Type 0) (query : ℕ) (old new : Life) (queries : List QueryLife) (number : ℕ)
+    → life_in queries query ≡ Some old → (P old → P new) → IfSome (life_in queries number) P
+    → IfSome (life_in (with_life query new queries) number) P
+life-written P query old new queries number was turns holds =
+    some-life P (with_life query new queries) number
+    (with_life-found (λ entry. P entry.life) query new queries number
+    (λ entry found same.
+    let here : life_in queries number ≡ Some old = subst (λ n. life_in queries n ≡ Some old) (sym same) was in
+    turns (some-at P (life_in queries number) old here holds))
+    (λ entry found apart. some-at P (life_in queries number) entry.life (life-found queries number entry found) holds))
+
+-- the life of the query that is found with this number
+pub same-life : (queries : List QueryLife) (query number : ℕ) (old : Life) (entry : QueryLife) → life_in queries query ≡ Some old
+    → query_in queries number ≡ Some entry → number ≡ query → entry.life ≡ old
+same-life queries query number old entry was found same =
+    let both : Some entry.life ≡ Some old = sym (life-found queries number entry found) ∙ subst (λ n. life_in queries n ≡ Some old) (sym same) was in cc
+
+-- where no number is there, no life is
+pub no-life : (queries : List QueryLife) → map (λ entry. entry.query) queries ≡ [] → (query : ℕ) → life_in queries query ≡ None
+no-life [] none query = refl
+no-life (entry ∷ queries) none query = cc

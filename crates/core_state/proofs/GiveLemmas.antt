@@ -1,0 +1,148 @@
+-- What becomes of the bits of a row, and of what a query keeps so far, where a batch passes a filter.
+use Rattle.std.proofs.Common.{◌≡◌, ℕ, ◌<◌, Bool, true, false, cond, eqb, eq-eqb, ◌&&◌, List, [], ◌∷◌, length, get_or, refl, sym, ap, ◌∙◌, subst, ⊎_elim, inl, inr, arith}
+use Rattle.std.specs.Prelude.{All, IsTrue, ◌↔◌}
+use Rattle.std.specs.List.{list_all, range_with_len}
+use Rattle.std.specs.Int.{bit_at}
+use Rattle.std.proofs.lemmas.Bool.{eqb-true}
+use Rattle.std.proofs.lemmas.List.Elements.{All-cons, All-head, All-nil, All-tail}
+use Rattle.std.proofs.lemmas.List.FromFn.{get_or-map-range_with_len, get_or-range_with_len, length-range_with_len}
+use Rattle.bit_words.specs.Sets.{Has, with_number}
+use Rattle.bit_words.proofs.SetLemmas.{Has-both, Has-with}
+use Rattle.batch_flow.specs.Rows.{key_place}
+use Rattle.dimension_filter.specs.Filter.{Filter, vector_of}
+use Rattle.dimension_filter.specs.Pass.{bits_left_at, filtered}
+use Rattle.std.specs.Prelude.{Contains}
+use Rattle.star_plan.specs.Joined.{takes_at}
+use Rattle.star_plan.specs.Truth.{passes}
+use Rattle.fact_versions.specs.Visible.{is_visible}
+use Rattle.star_history.specs.Alone.{joined}
+use Rattle.star_history.specs.Store.{PlainVersion}
+use Rattle.core_state.specs.Cutting.{passed_by}
+use Rattle.core_state.specs.Flown.{IsSoundRow, keeps_so_far}
+use Rattle.core_state.specs.State.{Flight, OnRoster, State}
+use Rattle.core_state.specs.Tables.{key_number, tables_of}
+
+-- a row keeps those of its bits that are in the vector of its key
+pub given-bits : (filter : Filter) (keys bits : List ℕ) (row slot : ℕ) → row < length bits
+    → Has (get_or (filtered filter keys bits) row 0) slot
+    ↔ (Has (get_or bits row 0) slot × Has (vector_of filter (get_or keys (key_place row filter.dimension) 0)) slot)
+given-bits filter keys bits row slot low =
+    subst (λ word. Has word slot ↔ (Has (get_or bits row 0) slot × Has (vector_of filter (get_or keys (key_place row filter.dimension) 0)) slot))
+    (sym (get_or-map-range_with_len (bits_left_at filter keys bits) 0 (length bits) row row 0 low (omega arith)))
+    (Has-both (get_or bits row 0) (vector_of filter (get_or keys (key_place row filter.dimension) 0)) slot)
+
+-- what is asked of a dimension that a batch may have passed
+abbrev pub asked : (takes : ℕ → Bool) (passed : ℕ) → ℕ → Bool
+asked takes passed dimension = cond {A = Bool} (eqb (bit_at passed dimension) 1) (takes dimension) true
+
+asked-fact : (takes : ℕ → Bool) (passed dimension : ℕ) → (IsTrue (asked takes passed dimension)) ↔ (Has passed dimension → IsTrue (takes dimension))
+asked-fact takes passed dimension = by_test (eqb (bit_at passed dimension) 1) refl
+  where
+    by_test : (t : Bool) → eqb (bit_at passed dimension) 1 ≡ t
+        → IsTrue (cond {A = Bool} t (takes dimension) true) ↔ (Has passed dimension → IsTrue (takes dimension))
+    by_test true is = ((λ holds has. holds), (λ says. says (eqb-true (bit_at passed dimension) 1 is)))
+    by_test false is =
+        ((λ holds has. absurd (let both : true ≡ false = sym (eq-eqb (bit_at passed dimension) 1 has) ∙ is in cc)), (λ says. refl))
+
+-- a test that computes whether each number passes
+all-pass : (p : ℕ → Bool) (xs : List ℕ) → list_all p xs ≡ true → All (λ x. p x ≡ true) xs
+all-pass p [] holds = All-nil (λ x. p x ≡ true)
+all-pass p (x ∷ xs) holds = by_test (p x) refl holds (all-pass p xs)
+  where
+    by_test : (t : Bool) → p x ≡ t → (t && list_all p xs) ≡ true → (list_all p xs ≡ true → All (λ y. p y ≡ true) xs) → All (λ y. p y ≡ true) (x ∷ xs)
+    by_test true is e rest = All-cons (λ y. p y ≡ true) x xs is (rest e)
+    by_test false is e rest = absurd (let both : false ≡ true = e in cc)
+
+pass-all : (p : ℕ → Bool) (xs : List ℕ) → All (λ x. p x ≡ true) xs → list_all p xs ≡ true
+pass-all p [] all = refl
+pass-all p (x ∷ xs) all =
+    ap (λ t. t && list_all p xs) (All-head (λ y. p y ≡ true) x xs all) ∙ pass-all p xs (All-tail (λ y. p y ≡ true) x xs all)
+
+all-asked : (takes : ℕ → Bool) (passed count : ℕ) → IsTrue (list_all (asked takes passed) (range_with_len 0 count))
+    ↔ ((dimension : ℕ) → dimension < count → Has passed dimension → IsTrue (takes dimension))
+all-asked takes passed count = (
+  (λ holds dimension low.
+      let at : get_or (range_with_len 0 count) dimension 0 ≡ dimension = get_or-range_with_len 0 count dimension 0 low ∙ (omega arith) in
+      let inside : dimension < length (range_with_len 0 count) = omega (arith, length-range_with_len 0 count) in
+      (asked-fact takes passed dimension).0 (subst (λ d. IsTrue (asked takes passed d)) at
+      (all-pass (asked takes passed) (range_with_len 0 count) holds dimension 0 inside))),
+  (λ says. pass-all (asked takes passed) (range_with_len 0 count) (λ k d low.
+      let inside : k < count = omega (arith, length-range_with_len 0 count) in
+      let at : get_or (range_with_len 0 count) k d ≡ k = get_or-range_with_len 0 count k d inside ∙ (omega arith) in
+      subst (λ n. IsTrue (asked takes passed n)) (sym at) ((asked-fact takes passed k).1 (says k inside)))),
+)
+
+-- one dimension more that is passed is one more whose row the query has to take
+pub asked-more : (takes : ℕ → Bool) (passed dimension count : ℕ) → dimension < count
+    → IsTrue (list_all (asked takes (with_number passed dimension)) (range_with_len 0 count))
+    ↔ (IsTrue (list_all (asked takes passed) (range_with_len 0 count)) × IsTrue (takes dimension))
+asked-more takes passed dimension count low =
+    let before = all-asked takes passed count in
+    let after = all-asked takes (with_number passed dimension) count in (
+      (λ holds. (
+        before.1 (λ other inside has. after.0 holds other inside ((Has-with passed dimension other).1 (inl has))),
+        after.0 holds dimension low ((Has-with passed dimension dimension).1 (inr refl)),
+      )),
+      (λ both. after.1 (λ other inside has. ⊎_elim (λ old. before.0 both.0 other inside old)
+          (λ same. subst (λ d. IsTrue (takes d)) (sym same) both.1) ((Has-with passed dimension other).0 has))),
+    )
+
+all-three : (a b c : Bool) → IsTrue (a && (b && c)) → IsTrue a × IsTrue b × IsTrue c
+all-three true true true h = (refl, refl, refl)
+all-three true true false h = absurd (let both : false ≡ true = h in cc)
+all-three true false c h = absurd (let both : false ≡ true = h in cc)
+all-three false b c h = absurd (let both : false ≡ true = h in cc)
+
+three-all : (a b c : Bool) → IsTrue a → IsTrue b → IsTrue c → IsTrue (a && (b && c))
+three-all a b c h i j = ap (λ t. t && (b && c)) h ∙ ap (λ t. t && c) i ∙ j
+
+-- the vector of a row's key says whether a query takes the row that is joined
+abbrev pub SaysByKey : State → Filter → OnRoster → PlainVersion → Type 0
+SaysByKey state filter entry version = IsTrue (is_visible version.begin version.end entry.snapshot)
+    → Has (vector_of filter (key_number (tables_of state) version.row filter.dimension)) entry.slot
+    ↔ IsTrue (takes_at entry.query (joined (tables_of state) entry.query entry.snapshot version.row) filter.dimension)
+
+-- where it says so, the bits of a row after a pass are those of what is kept with one dimension more that is passed
+pub bits-given : (state : State) (flight : Flight) (filter : Filter) (row : ℕ) (version : PlainVersion) (entry : OnRoster)
+    → row < length flight.rows.bits → filter.dimension < length (tables_of state).schema.dimensions
+    → Has state.lives.filters filter.dimension → Contains flight.roster entry → SaysByKey state filter entry version
+    → IsSoundRow state flight row version
+    → Has (get_or (passed_by filter flight.rows).bits row 0) entry.slot
+    ↔ IsTrue (keeps_so_far (tables_of state) (record flight { rows = passed_by filter flight.rows }) entry version)
+bits-given state flight filter row version entry low inside is_filter on says sound = (
+  (λ has.
+      let both = bits.0 has in
+      let parts = all-three seen fact (all flight.rows.passed) ((sound.bits entry on).0 both.0) in
+      three-all seen fact (all (with_number flight.rows.passed filter.dimension)) parts.0 parts.1
+      (more.1 (parts.2, (says parts.0).0 (subst (λ key. Has (vector_of filter key) entry.slot) keyed both.1)))),
+  (λ keeps.
+      let parts = all-three seen fact (all (with_number flight.rows.passed filter.dimension)) keeps in
+      let both = more.0 parts.2 in
+      bits.1 (
+        (sound.bits entry on).1 (three-all seen fact (all flight.rows.passed) parts.0 parts.1 both.0),
+        subst (λ key. Has (vector_of filter key) entry.slot) (sym keyed) ((says parts.0).1 both.1),
+      )),
+)
+  where
+    takes : ℕ → Bool
+    takes = takes_at entry.query (joined (tables_of state) entry.query entry.snapshot version.row)
+
+    seen : Bool
+    seen = is_visible version.begin version.end entry.snapshot
+
+    fact : Bool
+    fact = passes entry.query.fact version.row
+
+    all : ℕ → Bool
+    all passed = list_all (asked takes passed) (range_with_len 0 (length (tables_of state).schema.dimensions))
+
+    bits : Has (get_or (filtered filter flight.rows.keys flight.rows.bits) row 0) entry.slot
+        ↔ (Has (get_or flight.rows.bits row 0) entry.slot
+        × Has (vector_of filter (get_or flight.rows.keys (key_place row filter.dimension) 0)) entry.slot)
+    bits = given-bits filter flight.rows.keys flight.rows.bits row entry.slot low
+
+    keyed : get_or flight.rows.keys (key_place row filter.dimension) 0 ≡ key_number (tables_of state) version.row filter.dimension
+    keyed = sound.keys filter.dimension is_filter
+
+    more : IsTrue (all (with_number flight.rows.passed filter.dimension)) ↔ (IsTrue (all flight.rows.passed) × IsTrue (takes filter.dimension))
+    more = asked-more takes flight.rows.passed filter.dimension (length (tables_of state).schema.dimensions) inside

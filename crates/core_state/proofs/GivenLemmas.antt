@@ -1,0 +1,194 @@
+-- A batch that a worker gives back keeps a core sound.
+use Rattle.std.proofs.Common.{◌≡◌, ◌≢◌, ℕ, suc, zero, ◌+◌, ◌<◌, Bool, true, false, cond, eqb, List, [], ◌∷◌, length, get_or, map, Option, Some, None, option_map, slice_get, refl, ◌∙◌, subst, arith}
+use Rattle.std.specs.Prelude.{All, AllPairs, Contains, IfSome, IsSome, find}
+use Rattle.std.specs.List.{cons_option}
+use Rattle.std.specs.Option.{option_map_or}
+use Rattle.std.proofs.lemmas.List.Elements.{All-contains, All-map}
+use Rattle.std.proofs.lemmas.List.FromFn.{length-map-range_with_len}
+use Rattle.std.proofs.lemmas.List.Kept.{AllPairs-cons}
+use Rattle.star_plan.specs.Over.{IsOver}
+use Rattle.filter_order.specs.declared.tally.Tally.{Tally}
+use Rattle.dimension_filter.specs.Filter.{Filter}
+use Rattle.dimension_filter.specs.Pass.{bits_left_at}
+use Rattle.star_history.specs.Accepted.{AcceptsAll}
+use Rattle.star_history.specs.History.{Change, store_of}
+use Rattle.star_history.specs.Settled.{IsMatched, IsSettled}
+use Rattle.star_history.specs.Store.{PlainVersion, empty_store, rows_in}
+use Rattle.star_history.proofs.LoadedLemmas.{all_at}
+use Rattle.core_state.specs.Cutting.{after_give, given_back, passed_by, tallies_after}
+use Rattle.core_state.specs.Flown.{Encodes, IsOnRoster, IsSoundBatch, IsSoundHand, IsSoundRow}
+use Rattle.core_state.specs.Found.{accepted_at, held_by, is_held_by}
+use Rattle.core_state.specs.Sound.{IsSound, IsSoundQuery}
+use Rattle.core_state.specs.State.{Accepted, Flight, Hand, OnRoster, State}
+use Rattle.core_state.specs.Tables.{changes_of, tables_of}
+use Rattle.core_state.proofs.AcceptedLemmas.{find-holds, held-accepted}
+use Rattle.core_state.proofs.FlownLemmas.{Flies, KeepsPlace, entry-flown, flown, sound-flown}
+use Rattle.core_state.proofs.GiveLemmas.{SaysByKey, bits-given, given-bits}
+use Rattle.core_state.proofs.KeyedLemmas.{filter-there, says-by-key}
+use Rattle.core_state.proofs.TakeLemmas.{All-option, All-option_tail, batch-stays, cons-tail, hand-stays, workers}
+use Rattle.core_state.proofs.TallyLemmas.{tallied-after}
+
+-- the tables of each history whose changes were taken are settled
+abbrev pub Settles : Type 0
+Settles = (history : List Change) → AcceptsAll empty_store history → IsSettled (store_of history)
+
+-- a query on a roster is one over the schema
+entry-over : (state : State) → IsSound state → (entry : OnRoster) → IsOnRoster state entry → IsOver (tables_of state).schema entry.query
+entry-over state sound entry on =
+    by_accepted (accepted_at state.accepted entry.number) refl
+    (held-accepted state entry.slot entry.number on.held.0 sound on.there on.held.1) on.same
+  where
+    by_accepted : (o : Option Accepted) → accepted_at state.accepted entry.number ≡ o → IsSome o
+        → IfSome o (λ accepted. (accepted.query ≡ entry.query) × (accepted.snapshot ≡ entry.snapshot))
+        → IsOver (tables_of state).schema entry.query
+    by_accepted None is some same = absurd (let both : false ≡ true = some in cc)
+    by_accepted (Some accepted) is some same =
+        let of_query : IsSoundQuery state accepted =
+        find-holds (IsSoundQuery state) (λ a. eqb a.number entry.number) state.accepted accepted is sound.queries.each in
+        subst (IsOver (tables_of state).schema) same.0 of_query.over
+
+-- the vectors of a filter in a hand say what the queries of the batch take
+hand-says : Settles → (state : State) → IsSound state → (flight : Flight) → IsSoundBatch state flight → (hand : Hand) → IsSoundHand state flight hand
+    → (entry : OnRoster) → Contains flight.roster entry → (version : PlainVersion)
+    → IsMatched (tables_of state).schema (tables_of state).dimensions version.row version.begin
+    → SaysByKey state hand.version.filter entry version
+hand-says settles state sound flight of_batch hand of_hand entry on version matched =
+    let over : IsOver (tables_of state).schema entry.query =
+    entry-over state sound entry (All-contains (IsOnRoster state) flight.roster entry of_batch.roster on) in
+    says-by-key (tables_of state) hand.version.filter entry.slot entry.query entry.snapshot version
+    (All-contains (λ e. Encodes hand.version.filter e.slot e.query e.snapshot
+    (rows_in (tables_of state).dimensions hand.version.filter.dimension)) flight.roster entry of_hand.encodes on)
+    over.choices ((sound.filters.set hand.version.filter.dimension).0 of_hand.is_filter) matched
+
+both-some : {X : Type 0} (P Q R : X → Type 0) (o : Option X) → IfSome o P → IfSome o Q → ((x : X) → P x → Q x → R x) → IfSome o R
+both-some P Q R None p q all = tt
+both-some P Q R (Some x) p q all = all x p q
+
+-- a batch that has passed the version in its hand is sound
+batch-passed : Settles → (state : State) (tallies : List Tally) (change : Flight → Flight) → IsSound state → (flight : Flight) → IsSoundBatch state flight
+    → (hand : Hand) → IsSoundHand state flight hand
+    → IsSoundBatch (flown state tallies change) (record flight { rows = passed_by hand.version.filter flight.rows; hand = None })
+batch-passed settles state tallies change sound flight old hand of_hand = record {
+  within = old.within;
+  bits = length-map-range_with_len (bits_left_at filter flight.rows.keys flight.rows.bits) 0 (length flight.rows.bits) ∙ old.bits;
+  keys = old.keys;
+  room = old.room;
+  roster = λ k d low. entry-flown state tallies change (get_or flight.roster k d) (old.roster k d low);
+  slots = old.slots;
+  rows = λ row low.
+      let inside : row < length flight.rows.bits = let all = old.bits in omega arith in
+      both-some (IsSoundRow state flight row)
+      (λ version. IsMatched (tables_of state).schema (tables_of state).dimensions version.row version.begin)
+      (IsSoundRow (flown state tallies change) (record flight { rows = passed_by filter flight.rows; hand = None }) row)
+      (slice_get (tables_of state).versions (flight.rows.first + row)) (old.rows row low)
+      (all_at (λ version. IsMatched (tables_of state).schema (tables_of state).dimensions version.row version.begin) (tables_of state).versions
+      (flight.rows.first + row) settled.versions.matched)
+      (λ version of_row matched. record {
+        keys = of_row.keys;
+        bits = λ entry on. bits-given state flight filter row version entry inside there of_hand.is_filter on
+            (hand-says settles state sound flight old hand of_hand entry on version matched) of_row;
+        others = λ slot has. of_row.others slot ((given-bits filter flight.rows.keys flight.rows.bits row slot inside).0 has).0;
+      });
+}
+  where
+    filter : Filter
+    filter = hand.version.filter
+
+    settled : IsSettled (tables_of state)
+    settled = settles (changes_of state.entries) sound.store
+
+    there : filter.dimension < length (tables_of state).schema.dimensions
+    there = (filter-there (tables_of state).schema filter.dimension ((sound.filters.set filter.dimension).0 of_hand.is_filter)).0
+
+-- a batch is sound as it is given back, whether it was in a hand or not
+batch-given : Settles → (state : State) (tallies : List Tally) (change : Flight → Flight) → IsSound state → (flight : Flight) → IsSoundBatch state flight
+    → IfSome flight.hand (IsSoundHand state flight) → IsSoundBatch (flown state tallies change) (given_back flight)
+batch-given settles state tallies change sound flight old of_hand = by_hand flight.hand of_hand
+  where
+    by_hand : (o : Option Hand) → IfSome o (IsSoundHand state flight)
+        → IsSoundBatch (flown state tallies change)
+        (record flight { rows = option_map_or (λ hand. passed_by hand.version.filter flight.rows) o flight.rows; hand = None })
+    by_hand None h = batch-stays state tallies change flight None old
+    by_hand (Some hand) h = batch-passed settles state tallies change sound flight old hand h
+
+place-given : (flight : Flight) → KeepsPlace flight (given_back flight)
+place-given flight = by_hand flight.hand
+  where
+    by_hand : (o : Option Hand) → KeepsPlace flight
+        (record flight { rows = option_map_or (λ hand. passed_by hand.version.filter flight.rows) o flight.rows; hand = None })
+    by_hand None = record { number = refl; first = refl; count = refl; roster = refl }
+    by_hand (Some hand) = record { number = refl; first = refl; count = refl; roster = refl }
+
+abbrev given : (batch : ℕ) → Flight → Flight
+given batch flight = cond {A = Flight} (eqb flight.rows.number batch) (given_back flight) flight
+
+-- what holds of a batch whether it is given back or not
+by-number : (P : Flight → Type 0) (batch : ℕ) (flight : Flight) → P (given_back flight) → P flight → P (given batch flight)
+by-number P batch flight back other = by_test (eqb flight.rows.number batch)
+  where
+    by_test : (t : Bool) → P (cond {A = Flight} t (given_back flight) flight)
+    by_test true = back
+    by_test false = other
+
+-- the workers whose hands are full are some of those that were
+fewer-workers : (P : ℕ → Type 0) (batch : ℕ) (flights : List Flight) → All P (workers flights) → All P (workers (map (given batch) flights))
+fewer-workers P batch [] all = all
+fewer-workers P batch (flight ∷ flights) all =
+    let parts = All-option_tail P (option_map (λ hand. hand.worker) flight.hand) (workers flights) all in
+    All-option P (option_map (λ hand. hand.worker) (given batch flight).hand) (workers (map (given batch) flights))
+    (by-number (λ f. IfSome (option_map (λ hand. hand.worker) f.hand) P) batch flight tt parts.0)
+    (fewer-workers P batch flights parts.1)
+
+-- no worker has two batches
+one-each : (batch : ℕ) (flights : List Flight) → AllPairs (λ w other. w ≢ other) (workers flights)
+    → AllPairs (λ w other. w ≢ other) (workers (map (given batch) flights))
+one-each batch [] one = one
+one-each batch (flight ∷ flights) one =
+    by_rest (one-each batch flights (cons-tail (option_map (λ hand. hand.worker) flight.hand) (workers flights) one))
+  where
+    by_hand : (o : Option Hand) → AllPairs (λ w other. w ≢ other) (workers (map (given batch) flights))
+        → AllPairs (λ w other. w ≢ other) (cons_option (option_map (λ hand. hand.worker) o) (workers flights))
+        → AllPairs (λ w other. w ≢ other) (cons_option (option_map (λ hand. hand.worker) o) (workers (map (given batch) flights)))
+    by_hand None rest old = rest
+    by_hand (Some hand) rest old = AllPairs-cons (λ w other. w ≢ other) hand.worker (workers (map (given batch) flights))
+        (fewer-workers (λ other. hand.worker ≢ other) batch flights (λ k d low. old zero (suc k) d (omega arith) (omega arith))) rest
+
+    by_rest : AllPairs (λ w other. w ≢ other) (workers (map (given batch) flights))
+        → AllPairs (λ w other. w ≢ other) (workers (map (given batch) (flight ∷ flights)))
+    by_rest rest =
+        by-number (λ f. AllPairs (λ w other. w ≢ other) (cons_option (option_map (λ hand. hand.worker) f.hand) (workers (map (given batch) flights))))
+        batch flight rest (by_hand flight.hand rest one)
+
+pub sound-given : Settles → (worker : ℕ) (state : State) → IsSome (held_by state.scan.flights worker) → IsSound state
+    → IsSound (after_give worker state)
+sound-given settles worker state some sound = by_found (find (is_held_by worker) state.scan.flights) some
+  where
+    flies : (flight : Flight) → Flies state (tallies_after flight state.filters.versions state.filters.tallies) (given flight.rows.number)
+    flies flight =
+        let tallies : List Tally = tallies_after flight state.filters.versions state.filters.tallies in
+        let change : Flight → Flight = given flight.rows.number in
+        let after = tallied-after flight state.filters.versions state.filters.tallies sound.order.count sound.order.tallies in
+        record {
+          place = λ f. by-number (KeepsPlace f) flight.rows.number f (place-given f)
+              (record { number = refl; first = refl; count = refl; roster = refl });
+          batches = All-map (IsSoundBatch (flown state tallies change)) change state.scan.flights
+              (λ k d low. let f = get_or state.scan.flights k d in
+              by-number (IsSoundBatch (flown state tallies change)) flight.rows.number f
+              (batch-given settles state tallies change sound f (sound.batches k d low) (sound.hands.each k d low))
+              (batch-stays state tallies change f f.hand (sound.batches k d low)));
+          hands = record {
+            each = All-map (λ f. IfSome f.hand (IsSoundHand (flown state tallies change) f)) change state.scan.flights
+                (λ k d low. let f = get_or state.scan.flights k d in
+                by-number (λ g. IfSome g.hand (IsSoundHand (flown state tallies change) g)) flight.rows.number f tt
+                (hand-stays state tallies change f (sound.hands.each k d low)));
+            one = one-each flight.rows.number state.scan.flights sound.hands.one;
+          };
+          order = record { tallies = after.1; count = after.0; order = sound.order.order };
+        }
+
+    by_found : (o : Option Flight) → IsSome o
+        → IsSound (option_map_or (λ flight.
+        flown state (tallies_after flight state.filters.versions state.filters.tallies) (given flight.rows.number)) o state)
+    by_found None none = absurd (let both : false ≡ true = none in cc)
+    by_found (Some flight) there = sound-flown state (tallies_after flight state.filters.versions state.filters.tallies)
+        (given flight.rows.number) (flies flight) sound

@@ -1,0 +1,56 @@
+-- A slot that is given free keeps a core sound.
+use Rattle.std.proofs.Common.{◌≡◌, ◌≢◌, ℕ, ◌<◌, length, get_or, set, refl, sym, ◌∙◌, subst, arith}
+use Rattle.std.proofs.lemmas.List.{get_or-set_same, get_or-set_other, length-set}
+use Rattle.std.proofs.lemmas.List.Elements.{All-set}
+use Rattle.std.proofs.lemmas.Nat.Bits.{bit_at-zero}
+use Rattle.bit_words.specs.Sets.{Has}
+use Rattle.dimension_filter.specs.Filter.{Filter}
+use Rattle.pipeline_manager.specs.Conditions.{CanFree}
+use Rattle.pipeline_manager.specs.Lives.{slot_at}
+use Rattle.pipeline_manager.specs.declared.life.SlotState.TheVariants.{Free, Held, Clearing}
+use Rattle.pipeline_manager.proofs.LawLemmas.{sound-after_free}
+use Rattle.core_state.specs.Admitting.{after_release}
+use Rattle.core_state.specs.Flown.{FitsSlot}
+use Rattle.core_state.specs.Sound.{IsSound}
+use Rattle.core_state.specs.State.{State}
+use Rattle.core_state.proofs.HeldLemmas.{entry-set, filters-held, fits-set, queries-stay, slot-there}
+use Rattle.core_state.proofs.MovedLemmas.{Holds, order-held, sound-held}
+
+-- nothing is in the set without members
+pub none-in : (i : ℕ) → Has 0 i → ⊥
+none-in i has = let none = bit_at-zero i in absurd (omega arith)
+
+freed-fits : (state : State) (filter : Filter) (slot : ℕ) → slot_at state.lives slot ≡ Clearing 0
+    → FitsSlot state filter slot (slot_at state.lives slot) → FitsSlot state filter slot Free
+freed-fits state filter slot is fits =
+    let cleared : FitsSlot state filter slot (Clearing 0) = subst (FitsSlot state filter slot) is fits in
+    cleared (none-in filter.dimension)
+
+pub sound-released : (slot : ℕ) (state : State) → CanFree slot state.lives → IsSound state → IsSound (after_release slot state)
+sound-released slot state can old =
+    let there : slot < length state.lives.slots = slot-there state.lives.slots slot (λ is. let both : Free ≡ Clearing 0 = sym is ∙ can in cc) in
+    let slots = set state.lives.slots slot Free in
+    let now : Holds state state.lives.queries slots state.filters state.numbers.version = record {
+      filters_now = filters-held state state.lives.queries slots state.numbers.version state.filters.order (length-set state.lives.slots slot Free)
+          (λ filter sound other low fits. fits-set state slot Free there filter (freed-fits state filter slot can (sound.slots slot there)) other fits) old.filters;
+      rosters = λ k d low j e within.
+          let entry = (old.batches k d low).roster j e within in
+          entry-set state state.lives.queries slot Free state.filters state.numbers.version (get_or (get_or state.scan.flights k d).roster j e)
+          (λ same. let both : Held (get_or (get_or state.scan.flights k d).roster j e).number entry.held.0 ≡ Clearing 0 =
+          sym entry.held.1 ∙ subst (λ at. slot_at state.lives at ≡ Clearing 0) (sym same) can in cc) entry.life entry;
+      queries_now = queries-stay state slots state.filters state.numbers.version old.queries;
+      slots_now = record {
+        lives = sound-after_free slot state.lives there can old.slots.lives;
+        count = length-set state.lives.slots slot Free ∙ old.slots.count;
+        built = λ other query built low held.
+            let apart : other ≢ slot = (λ same.
+            let both : Free ≡ Held query built = sym (get_or-set_same state.lives.slots slot Free Free there)
+            ∙ subst (λ at. get_or slots at Free ≡ Held query built) same held in cc) in
+            old.slots.built other query built (subst (λ n. other < n) (length-set state.lives.slots slot Free) low)
+            (sym (get_or-set_other state.lives.slots slot other Free Free apart) ∙ held);
+      };
+      quiet = λ none. All-set (λ at. at ≡ Free) state.lives.slots slot Free refl (old.quiet none).2;
+      order = order-held state state.lives.queries slots state.numbers.version old.order;
+      wanted = λ query. (λ h. h, λ h. h);
+    } in
+    sound-held state state.lives.queries slots state.filters state.numbers.version now old

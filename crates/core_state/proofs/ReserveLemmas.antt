@@ -1,0 +1,102 @@
+-- A reservation keeps a core sound.
+use Rattle.std.proofs.Common.{◌≡◌, ◌≢◌, ◌⊎◌, ℕ, ◌<◌, [], length, get_or, set, map, Some, None, refl, sym, ap, ◌∙◌, subst, ⊎_elim, inl, inr}
+use Rattle.std.specs.Prelude.{IfSome, IsTrue}
+use Rattle.std.specs.Option.{option_map_or}
+use Rattle.std.proofs.lemmas.Bool.{cases_eq}
+use Rattle.std.proofs.lemmas.List.{get_or-set_same, get_or-set_other, length-set}
+use Rattle.bit_words.specs.Sets.{Has}
+use Rattle.dimension_filter.specs.Filter.{Filter}
+use Rattle.pipeline_manager.specs.Changes.{with_life}
+use Rattle.pipeline_manager.specs.Lives.{life_in, slot_at}
+use Rattle.pipeline_manager.specs.declared.life.Life.{Life}
+use Rattle.pipeline_manager.specs.declared.life.Life.TheVariants as life
+use Rattle.pipeline_manager.specs.declared.life.SlotState.TheVariants.{Free, Held}
+use Rattle.pipeline_manager.proofs.CallLemmas.{sound-reserved}
+use Rattle.pipeline_manager.proofs.LifeLemmas.{oldest-waits}
+use Rattle.core_state.specs.Admitting.{after_reserving}
+use Rattle.core_state.specs.Cutting.{gets_rows}
+use Rattle.core_state.specs.Events.{MayReserve}
+use Rattle.core_state.specs.Flown.{FitsSlot, MayBeOnRoster}
+use Rattle.core_state.specs.Sound.{IsSound}
+use Rattle.core_state.specs.State.{State}
+use Rattle.core_state.proofs.FoundLemmas.{life-written, no-life}
+use Rattle.core_state.proofs.HeldLemmas.{entry-set, filters-held, fits-set}
+use Rattle.core_state.proofs.MovedLemmas.{Holds, order-held, sound-held}
+use Rattle.core_state.proofs.ReleaseLemmas.{none-in}
+use Rattle.core_state.proofs.WrittenLemmas.{queries-written, wanted-written}
+
+-- nothing is built for a query that gets its slot
+reserved-fits : (state : State) (filter : Filter) (slot query : ℕ) → slot_at state.lives slot ≡ Free
+    → FitsSlot state filter slot (slot_at state.lives slot) → FitsSlot state filter slot (Held query 0)
+reserved-fits state filter slot query is fits =
+    (λ has. absurd (none-in filter.dimension has), λ none. subst (FitsSlot state filter slot) is fits)
+
+sound-with_reserved : (query slot : ℕ) (state : State) → MayReserve query slot state → IsSound state
+    → IsSound (record state {
+      lives = record state.lives {
+        queries = with_life query life.Building state.lives.queries;
+        slots = set state.lives.slots slot (Held query 0);
+      };
+    })
+sound-with_reserved query slot state can old =
+    let there = can.there in
+    let queries = with_life query life.Building state.lives.queries in
+    let slots = set state.lives.slots slot (Held query 0) in
+    let waits : life_in state.lives.queries query ≡ Some life.Waiting = oldest-waits state.lives.queries query old.slots.lives.rising can.oldest in
+    let now : Holds state queries slots state.filters state.numbers.version = record {
+      filters_now = filters-held state queries slots state.numbers.version state.filters.order (length-set state.lives.slots slot (Held query 0))
+          (λ filter sound other low fits. fits-set state slot (Held query 0) there filter (reserved-fits state filter slot query can.is_free (sound.slots slot there)) other fits) old.filters;
+      rosters = λ k d low j e within.
+          let entry = (old.batches k d low).roster j e within in
+          let on = get_or (get_or state.scan.flights k d).roster j e in
+          entry-set state queries slot (Held query 0) state.filters state.numbers.version on
+          (λ same. let both : Held on.number entry.held.0 ≡ Free =
+          sym entry.held.1 ∙ subst (λ at. slot_at state.lives at ≡ Free) (sym same) can.is_free in cc)
+          (life-written MayBeOnRoster query life.Waiting life.Building state.lives.queries on.number waits (λ never. never) entry.life) entry;
+      queries_now = queries-written state query life.Waiting life.Building slots state.filters state.numbers.version waits
+          (λ accepted extent same sound found kept. kept) (λ wanted. refl) old.queries;
+      slots_now = record {
+        lives = sound-reserved slot query state.lives there can.is_free can.oldest old.slots.lives;
+        count = length-set state.lives.slots slot (Held query 0) ∙ old.slots.count;
+        built = λ other holder built low held. by_slot other holder built low held (cases_eq other slot);
+      };
+      quiet = λ none.
+          let queries_none : map (λ entry. entry.query) state.lives.queries ≡ [] =
+          sym old.queries.same ∙ ap (map (λ accepted. accepted.number)) (old.quiet none).0 in
+          let both : None ≡ Some life.Waiting = sym (no-life state.lives.queries queries_none query) ∙ waits in cc;
+      order = order-held state queries slots state.numbers.version old.order;
+      wanted = wanted-written state query life.Waiting life.Building waits (λ h is. cc) (λ h. ⊎_elim (λ e. cc) (λ e. cc) h);
+    } in
+    sound-held state queries slots state.filters state.numbers.version now old
+  where
+    Built : (built : ℕ) → Life → Type 0
+    Built built now = IsTrue (gets_rows now) → (dimension : ℕ) → Has state.lives.filters dimension → Has built dimension
+
+    by_slot : (other holder built : ℕ) → other < length (set state.lives.slots slot (Held query 0))
+        → get_or (set state.lives.slots slot (Held query 0)) other Free ≡ Held holder built → (other ≡ slot) ⊎ (other ≢ slot)
+        → IfSome (life_in (with_life query life.Building state.lives.queries) holder) (Built built)
+    by_slot other holder built low held (inl same) =
+        let both : Held query 0 ≡ Held holder built =
+        sym (get_or-set_same state.lives.slots slot (Held query 0) Free can.there)
+        ∙ subst (λ at. get_or (set state.lives.slots slot (Held query 0)) at Free ≡ Held holder built) same held in
+        let is : query ≡ holder = cc in
+        let was : life_in state.lives.queries holder ≡ Some life.Waiting =
+        subst (λ number. life_in state.lives.queries number ≡ Some life.Waiting) is (oldest-waits state.lives.queries query old.slots.lives.rising can.oldest) in
+        life-written (Built built) query life.Waiting life.Building state.lives.queries holder
+        (oldest-waits state.lives.queries query old.slots.lives.rising can.oldest) (λ h gets dimension has. cc)
+        (subst (λ o. IfSome o (Built built)) (sym was) (λ gets dimension has. cc))
+    by_slot other holder built low held (inr apart) =
+        life-written (Built built) query life.Waiting life.Building state.lives.queries holder
+        (oldest-waits state.lives.queries query old.slots.lives.rising can.oldest) (λ h gets dimension has. cc)
+        (old.slots.built other holder built (subst (λ n. other < n) (length-set state.lives.slots slot (Held query 0)) low)
+        (sym (get_or-set_other state.lives.slots slot other (Held query 0) Free apart) ∙ held))
+
+pub sound-after_reserving : (query slot : ℕ) (state : State) → MayReserve query slot state → IsSound state → IsSound (after_reserving slot state)
+sound-after_reserving query slot state can old =
+    subst (λ oldest. IsSound (record state {
+      lives = option_map_or
+          (λ query. record state.lives {
+            queries = with_life query life.Building state.lives.queries;
+            slots = set state.lives.slots slot (Held query 0);
+          }) oldest state.lives;
+    })) (sym can.oldest) (sound-with_reserved query slot state can old)

@@ -1,0 +1,134 @@
+-- What stays sound of seats where nothing is kept any more of one query.
+use Rattle.std.proofs.Common.{◌≡◌, ◌≢◌, ◌⊎◌, ℕ, ◌<◌, Bool, true, false, cond, List, [], ◌∷◌, ◌++◌, length, get_or, map, Option, Some, None, option_map, sym, ap, ◌∙◌, subst, arith}
+use Rattle.std.specs.Prelude.{All, AllPairs, Contains, IfSome}
+use Rattle.std.specs.List.{filter}
+use Rattle.std.proofs.lemmas.List.{get_or_default}
+use Rattle.std.proofs.lemmas.List.Elements.{All-cons, All-filter, All-head, All-map, All-nil, All-tail}
+use Rattle.std.proofs.lemmas.List.Kept.{AllPairs-cons}
+use Rattle.star_plan.specs.Test.{Query}
+use Rattle.star_history.proofs.ListLemmas.{all_pairs_head, all_pairs_tail}
+use Rattle.pipeline_manager.specs.Lives.{life_in}
+use Rattle.pipeline_manager.specs.declared.life.Life.{Life}
+use Rattle.pipeline_manager.specs.declared.life.Life.TheVariants as life
+use Rattle.pipeline_manager.specs.declared.life.QueryLife.{QueryLife}
+use Rattle.core_state.specs.Sound.{AreSoundSeats, IsAwaited, IsSoundSeat, IsTaken}
+use Rattle.core_state.specs.State.{Asked, Awaited, Pending, Replied, Seat, State}
+use Rattle.core_state.specs.Submitting.{empty_seat, forgotten}
+use Rattle.core_state.proofs.LetGoLemmas.{by-query, found-let-go, has-let-go, let_go}
+
+-- a query that is waited for
+abbrev pub Wanted : Life → Type 0
+Wanted now = now ≢ life.Abandoned
+
+-- a query whose reply may have been taken
+abbrev pub Told : Life → Type 0
+Told now = (now ≡ life.Answered) ⊎ (now ≡ life.Spoiled)
+
+awaited-let-go : (state : State) (query : ℕ) (queries : List QueryLife) (seats : List Seat) (statement : ℕ) (awaited : Awaited)
+    → (IfSome (life_in state.lives.queries statement) Wanted → IfSome (life_in queries statement) Wanted)
+    → IsAwaited state statement awaited → IsAwaited (let_go state query queries seats) statement awaited
+awaited-let-go state query queries seats statement (Replied reply) wanted old =
+    found-let-go query statement state.accepted ∙ ap (option_map (forgotten query)) old
+awaited-let-go state query queries seats statement (Asked asked snapshot) wanted old =
+    (has-let-go state query queries seats statement asked snapshot old.0, wanted old.1)
+
+taken-let-go : (state : State) (query : ℕ) (queries : List QueryLife) (seats : List Seat) (statement : ℕ) (asked : Option (Query × ℕ))
+    → (IfSome (life_in state.lives.queries statement) Told → IfSome (life_in queries statement) Told)
+    → IsTaken state statement asked → IsTaken (let_go state query queries seats) statement asked
+taken-let-go state query queries seats statement None told old = tt
+taken-let-go state query queries seats statement (Some asked) told old =
+    (has-let-go state query queries seats statement asked.0 asked.1 old.0, told old.1)
+
+-- a seat is as sound as it was where what it waits for is still wanted
+pub seat-let-go : (state : State) (query : ℕ) (queries : List QueryLife) (seats : List Seat) (seat : Seat)
+    → All (λ pending. IfSome (life_in state.lives.queries pending.statement) Wanted → IfSome (life_in queries pending.statement) Wanted) seat.pending
+    → ((number : ℕ) → IfSome (life_in state.lives.queries number) Told → IfSome (life_in queries number) Told)
+    → IsSoundSeat state seat → IsSoundSeat (let_go state query queries seats) seat
+seat-let-go state query queries seats seat wanted told old = record {
+  rising = old.rising;
+  given = old.given;
+  in_order = old.in_order;
+  submitted = old.submitted;
+  taken = λ k d low. let taken = get_or seat.taken k d in
+      taken-let-go state query queries seats taken.statement taken.query (told taken.statement) (old.taken k d low);
+  awaited = λ k d low. let pending = get_or seat.pending k d in
+      awaited-let-go state query queries seats pending.statement pending.awaited (wanted k d low) (old.awaited k d low);
+}
+
+-- the seats and what was submitted by them stay
+pub seats-let-go : (state : State) (query : ℕ) (queries : List QueryLife) (seats : List Seat) → length seats ≡ length state.seats
+    → ((seat : ℕ) → (get_or seats seat empty_seat).submitted ≡ (get_or state.seats seat empty_seat).submitted)
+    → All (IsSoundSeat (let_go state query queries seats)) seats → AreSoundSeats state → AreSoundSeats (let_go state query queries seats)
+seats-let-go state query queries seats count keeps each old = record {
+  count = count ∙ old.count;
+  each = each;
+  apart = λ i j d before low statement has other.
+      let earlier : i < length seats = omega arith in
+      old.apart i j empty_seat before (subst (λ n. j < n) count low) statement
+      (subst (λ submitted. Contains submitted statement) (same i d earlier) has)
+      (subst (λ submitted. Contains submitted statement) (same j d low) other);
+  rising = old.rising;
+  entries = λ k d low. let entry = get_or state.entries k d in
+      subst (λ submitted. Contains submitted entry.statement) (sym (keeps entry.seat)) (old.entries k d low);
+  queries = All-map (λ accepted. Contains (get_or seats accepted.seat empty_seat).submitted accepted.number) (forgotten query) state.accepted
+      (λ k d low.
+      let accepted = get_or state.accepted k d in
+      let there : Contains (get_or seats accepted.seat empty_seat).submitted accepted.number =
+      subst (λ submitted. Contains submitted accepted.number) (sym (keeps accepted.seat)) (old.queries k d low) in
+      by-query (λ a. Contains (get_or seats a.seat empty_seat).submitted a.number) query accepted there there);
+}
+  where
+    same : (seat : ℕ) (d : Seat) → seat < length seats → (get_or seats seat d).submitted ≡ (get_or state.seats seat empty_seat).submitted
+    same seat d low = ap (λ (s : Seat). s.submitted) (get_or_default seats seat d empty_seat low) ∙ keeps seat
+
+-- what holds of a list holds without some of its end
+all-fewer : {X : Type 0} (P : ℕ → Type 0) (number_of : X → ℕ) (p : X → Bool) (front : List ℕ) (ys : List X)
+    → All P (front ++ map number_of ys) → All P (front ++ map number_of (filter p ys))
+all-fewer P number_of p [] [] all = all
+all-fewer P number_of p [] (y ∷ ys) all =
+    by_test (p y) (all-fewer P number_of p [] ys (All-tail P (number_of y) (map number_of ys) all))
+  where
+    by_test : (t : Bool) → All P (map number_of (filter p ys)) → All P (map number_of (cond t (y ∷ filter p ys) (filter p ys)))
+    by_test true rest = All-cons P (number_of y) (map number_of (filter p ys)) (All-head P (number_of y) (map number_of ys) all) rest
+    by_test false rest = rest
+all-fewer P number_of p (x ∷ front) ys all =
+    All-cons P x (front ++ map number_of (filter p ys)) (All-head P x (front ++ map number_of ys) all)
+    (all-fewer P number_of p front ys (All-tail P x (front ++ map number_of ys) all))
+
+pairs-fewer : {X : Type 0} (R : ℕ → ℕ → Type 0) (number_of : X → ℕ) (p : X → Bool) (front : List ℕ) (ys : List X)
+    → AllPairs R (front ++ map number_of ys) → AllPairs R (front ++ map number_of (filter p ys))
+pairs-fewer R number_of p [] [] pairs = pairs
+pairs-fewer R number_of p [] (y ∷ ys) pairs =
+    by_test (p y) (pairs-fewer R number_of p [] ys (all_pairs_tail R (number_of y) (map number_of ys) pairs))
+  where
+    by_test : (t : Bool) → AllPairs R (map number_of (filter p ys)) → AllPairs R (map number_of (cond t (y ∷ filter p ys) (filter p ys)))
+    by_test true rest = AllPairs-cons R (number_of y) (map number_of (filter p ys))
+        (all-fewer (R (number_of y)) number_of p [] ys (all_pairs_head R (number_of y) (map number_of ys) pairs)) rest
+    by_test false rest = rest
+pairs-fewer R number_of p (x ∷ front) ys pairs =
+    AllPairs-cons R x (front ++ map number_of (filter p ys))
+    (all-fewer (R x) number_of p front ys (all_pairs_head R x (front ++ map number_of ys) pairs))
+    (pairs-fewer R number_of p front ys (all_pairs_tail R x (front ++ map number_of ys) pairs))
+
+-- a seat that waits for less is sound
+pub seat-fewer : (state : State) (p : Pending → Bool) (seat : Seat) → IsSoundSeat state seat
+    → IsSoundSeat state (record seat { pending = filter p seat.pending })
+seat-fewer state p seat old = record {
+  rising = old.rising;
+  given = old.given;
+  in_order = pairs-fewer (λ statement later. statement < later) (λ pending. pending.statement) p (map (λ taken. taken.statement) seat.taken)
+      seat.pending old.in_order;
+  submitted = all-fewer (Contains seat.submitted) (λ pending. pending.statement) p (map (λ taken. taken.statement) seat.taken)
+      seat.pending old.submitted;
+  taken = old.taken;
+  awaited = All-filter p (λ pending. IsAwaited state pending.statement pending.awaited) seat.pending old.awaited;
+}
+
+-- what a seat waits for it submitted
+pub awaited-there : (P : ℕ → Type 0) (front : List ℕ) (pending : List Pending) → All P (front ++ map (λ p. p.statement) pending)
+    → All (λ p. P p.statement) pending
+awaited-there P [] [] all = All-nil (λ p. P p.statement)
+awaited-there P [] (first ∷ pending) all =
+    All-cons (λ p. P p.statement) first pending (All-head P first.statement (map (λ p. p.statement) pending) all)
+    (awaited-there P [] pending (All-tail P first.statement (map (λ p. p.statement) pending) all))
+awaited-there P (x ∷ front) pending all = awaited-there P front pending (All-tail P x (front ++ map (λ p. p.statement) pending) all)

@@ -1,0 +1,230 @@
+-- A batch that is taken into a hand keeps a core sound.
+use Rattle.std.proofs.Common.{◌≡◌, ◌≢◌, ℕ, zero, suc, ◌+◌, ◌<◌, Bool, true, false, cond, eqb, eq-eqb, List, [], ◌∷◌, length, get_or, map, Option, Some, None, option_map, refl, sym, ap, ◌∙◌, subst, arith, slice_get}
+use Rattle.std.specs.Prelude.{All, AllPairs, IfSome, IsSome, find, not}
+use Rattle.std.specs.List.{filter_map, cons_option}
+use Rattle.std.specs.Option.{option_map_or}
+use Rattle.std.proofs.lemmas.Bool.{eqb-true, ne_eqb}
+use Rattle.std.proofs.lemmas.List.Elements.{All-cons, All-head, All-map, All-nil, All-tail}
+use Rattle.std.proofs.lemmas.List.Kept.{AllPairs-cons}
+use Rattle.std.proofs.lemmas.Option.{IfSome_then, option_and_then_some}
+use Rattle.dimension_filter.specs.Filter.{Filter}
+use Rattle.star_history.specs.Store.{rows_in}
+use Rattle.filter_order.specs.declared.tally.Tally.{Tally}
+use Rattle.core_state.specs.Cutting.{after_take}
+use Rattle.core_state.specs.Events.{MayTake}
+use Rattle.core_state.specs.Flown.{Encodes, FitsSlot, IsOnRoster, IsSoundBatch, IsSoundFilter, IsSoundHand}
+use Rattle.core_state.specs.Found as found
+use Rattle.core_state.specs.Found.{accepted_at, has_passed, held_by, next_filter, version_at}
+use Rattle.core_state.specs.Sound.{IsSound}
+use Rattle.core_state.specs.State.{Accepted, FilterVersion, Filters, Flight, Hand, OnRoster, State}
+use Rattle.core_state.specs.Tables.{tables_of}
+use Rattle.core_state.proofs.FlownLemmas.{Flies, KeepsPlace, entry-flown, flown, sound-flown}
+use Rattle.core_state.proofs.FoundLemmas.{find-passes}
+use Rattle.core_state.proofs.AcceptedLemmas.{find-holds, find-none, held-accepted}
+
+-- the present version of a filter has the queries of a roster
+encodes-there : (state : State) → IsSound state → (filter : Filter) → IsSoundFilter state filter → (entry : OnRoster) → IsOnRoster state entry
+    → Encodes filter entry.slot entry.query entry.snapshot (rows_in (tables_of state).dimensions filter.dimension)
+encodes-there state sound filter of_filter entry on =
+    by_accepted (accepted_at state.accepted entry.number)
+    (held-accepted state entry.slot entry.number on.held.0 sound on.there on.held.1)
+    ((subst (FitsSlot state filter entry.slot) on.held.1 (of_filter.slots entry.slot on.there)).0 (on.held.2 filter.dimension of_filter.is_filter))
+    on.same
+  where
+    by_accepted : (o : Option Accepted) → IsSome o
+        → IfSome o (λ accepted. Encodes filter entry.slot accepted.query accepted.snapshot (rows_in (tables_of state).dimensions filter.dimension))
+        → IfSome o (λ accepted. (accepted.query ≡ entry.query) × (accepted.snapshot ≡ entry.snapshot))
+        → Encodes filter entry.slot entry.query entry.snapshot (rows_in (tables_of state).dimensions filter.dimension)
+    by_accepted None some encodes same = cc
+    by_accepted (Some accepted) some encodes same =
+        subst (λ query. Encodes filter entry.slot query entry.snapshot (rows_in (tables_of state).dimensions filter.dimension)) same.0
+        (subst (λ snapshot. Encodes filter entry.slot accepted.query snapshot (rows_in (tables_of state).dimensions filter.dimension)) same.1 encodes)
+
+not-true : (b : Bool) → not b ≡ true → b ≡ false
+not-true true e = cc
+not-true false e = refl
+
+-- the change of a batch that is taken
+abbrev taken_by : (worker : ℕ) → Filters → Flight → Flight
+taken_by worker filters flight = record flight {
+  hand = option_map (λ version. record { worker = worker; version = version }) (next_filter filters flight);
+}
+
+abbrev changed : (worker batch : ℕ) → Filters → Flight → Flight
+changed worker batch filters flight = cond {A = Flight} (eqb flight.rows.number batch) (taken_by worker filters flight) flight
+
+-- what holds of a batch whether it is the taken one or not
+by-number : (P : Flight → Type 0) (worker batch : ℕ) (filters : Filters) (flight : Flight) → P (taken_by worker filters flight) → P flight
+    → P (changed worker batch filters flight)
+by-number P worker batch filters flight taken other = by_test (eqb flight.rows.number batch)
+  where
+    by_test : (t : Bool) → P (cond {A = Flight} t (taken_by worker filters flight) flight)
+    by_test true = taken
+    by_test false = other
+
+-- the hand of a taken batch is sound
+hand-taken : (worker batch : ℕ) (state : State) → worker < length state.seats → IsSound state → (flight : Flight) → IsSoundBatch state flight
+    → IfSome (taken_by worker state.filters flight).hand
+    (IsSoundHand (flown state state.filters.tallies (changed worker batch state.filters)) (taken_by worker state.filters flight))
+hand-taken worker batch state seat sound flight of_batch = by_next (next_filter state.filters flight) refl
+  where
+    by_next : (o : Option FilterVersion) → next_filter state.filters flight ≡ o
+        → IfSome (option_map (λ version. record { worker = worker; version = version }) o)
+        (IsSoundHand (flown state state.filters.tallies (changed worker batch state.filters)) (taken_by worker state.filters flight))
+    by_next None is = tt
+    by_next (Some version) is =
+        option_and_then_some (version_at state.filters.versions) (find (λ dimension. not (has_passed flight dimension)) state.filters.order) version is
+        (λ dimension wants at.
+        let of_filter : IsSoundFilter state version.filter =
+        find-holds (λ v. IsSoundFilter state v.filter) (λ v. eqb v.filter.dimension dimension) state.filters.versions version at sound.filters.each in
+        let same : version.filter.dimension ≡ dimension =
+        eqb-true version.filter.dimension dimension (find-passes (λ v. eqb v.filter.dimension dimension) state.filters.versions version at) in
+        record {
+          seat = seat;
+          table = of_filter.table;
+          is_filter = of_filter.is_filter;
+          not_passed = ap (has_passed flight) same
+              ∙ not-true (has_passed flight dimension) (find-passes (λ d. not (has_passed flight d)) state.filters.order dimension wants);
+          encodes = λ k d low. encodes-there state sound version.filter of_filter (get_or flight.roster k d) (of_batch.roster k d low);
+        })
+
+-- the hand of another batch is as sound as it was
+pub hand-stays : (state : State) (tallies : List Tally) (change : Flight → Flight) (flight : Flight) → IfSome flight.hand (IsSoundHand state flight)
+    → IfSome flight.hand (IsSoundHand (flown state tallies change) flight)
+hand-stays state tallies change flight old = IfSome_then flight.hand old
+    (λ hand h. record { seat = h.seat; table = h.table; is_filter = h.is_filter; not_passed = h.not_passed; encodes = h.encodes })
+
+-- a batch is as sound as it was, whose hand it may be in
+pub batch-stays : (state : State) (tallies : List Tally) (change : Flight → Flight) (flight : Flight) (hand : Option Hand) → IsSoundBatch state flight
+    → IsSoundBatch (flown state tallies change) (record flight { hand = hand })
+batch-stays state tallies change flight hand old = record {
+  within = old.within;
+  bits = old.bits;
+  keys = old.keys;
+  room = old.room;
+  roster = λ k d low. entry-flown state tallies change (get_or flight.roster k d) (old.roster k d low);
+  slots = old.slots;
+  rows = λ row low. IfSome_then (slice_get (tables_of state).versions (flight.rows.first + row)) (old.rows row low)
+      (λ version r. record { keys = r.keys; bits = r.bits; others = r.others });
+}
+
+-- the workers whose hands are full
+abbrev pub workers : List Flight → List ℕ
+workers flights = filter_map (λ flight. option_map (λ hand. hand.worker) flight.hand) flights
+
+pub cons-tail : (o : Option ℕ) (xs : List ℕ) → AllPairs (λ w other. w ≢ other) (cons_option o xs) → AllPairs (λ w other. w ≢ other) xs
+cons-tail None xs h = h
+cons-tail (Some x) xs h = λ i j d before low. h (suc i) (suc j) d (omega arith) (omega arith)
+
+pub All-option : (P : ℕ → Type 0) (o : Option ℕ) (xs : List ℕ) → IfSome o P → All P xs → All P (cons_option o xs)
+All-option P None xs first rest = rest
+All-option P (Some x) xs first rest = All-cons P x xs first rest
+
+pub All-option_tail : (P : ℕ → Type 0) (o : Option ℕ) (xs : List ℕ) → All P (cons_option o xs) → IfSome o P × All P xs
+All-option_tail P None xs all = (tt, all)
+All-option_tail P (Some x) xs all = (All-head P x xs all, All-tail P x xs all)
+
+-- a worker with an empty hand is none of them
+not-among : (worker : ℕ) (flights : List Flight) → All (λ flight. found.is_held_by worker flight ≡ false) flights
+    → All (λ other. worker ≢ other) (workers flights)
+not-among worker [] free = All-nil (λ other. worker ≢ other)
+not-among worker (flight ∷ flights) free =
+    All-option (λ other. worker ≢ other) (option_map (λ hand. hand.worker) flight.hand) (workers flights)
+    (by_hand flight.hand (All-head (λ f. found.is_held_by worker f ≡ false) flight flights free))
+    (not-among worker flights (All-tail (λ f. found.is_held_by worker f ≡ false) flight flights free))
+  where
+    by_hand : (o : Option Hand) → option_map_or (λ hand. eqb hand.worker worker) o false ≡ false
+        → IfSome (option_map (λ hand. hand.worker) o) (λ other. worker ≢ other)
+    by_hand None e = tt
+    by_hand (Some hand) e = λ same. let both : true ≡ false = sym (eq-eqb hand.worker worker (sym same)) ∙ e in cc
+
+-- a taken batch is in the worker's hand or in none
+among-changed : (P : ℕ → Type 0) (worker batch : ℕ) (filters : Filters) → P worker → (flights : List Flight) → All P (workers flights)
+    → All P (workers (map (changed worker batch filters) flights))
+among-changed P worker batch filters its [] all = all
+among-changed P worker batch filters its (flight ∷ flights) all =
+    let parts = All-option_tail P (option_map (λ hand. hand.worker) flight.hand) (workers flights) all in
+    All-option P (option_map (λ hand. hand.worker) (changed worker batch filters flight).hand) (workers (map (changed worker batch filters) flights))
+    (by-number (λ f. IfSome (option_map (λ hand. hand.worker) f.hand) P) worker batch filters flight (by_next (next_filter filters flight)) parts.0)
+    (among-changed P worker batch filters its flights parts.1)
+  where
+    by_next : (o : Option FilterVersion)
+        → IfSome (option_map (λ hand. hand.worker) (option_map {U = Hand} (λ version. record { worker = worker; version = version }) o)) P
+    by_next None = tt
+    by_next (Some version) = its
+
+-- no other batch has the number of the taken one
+others-stay : (worker batch : ℕ) (filters : Filters) (flights : List Flight) → All (λ flight. flight.rows.number ≢ batch) flights
+    → map (changed worker batch filters) flights ≡ flights
+others-stay worker batch filters [] apart = refl
+others-stay worker batch filters (flight ∷ flights) apart =
+    ap (λ t. cond {A = Flight} t (taken_by worker filters flight) flight ∷ map (changed worker batch filters) flights)
+    (ne_eqb flight.rows.number batch (All-head (λ f. f.rows.number ≢ batch) flight flights apart))
+    ∙ ap (λ rest. flight ∷ rest) (others-stay worker batch filters flights (All-tail (λ f. f.rows.number ≢ batch) flight flights apart))
+
+-- no worker has two batches
+one-each : (worker batch : ℕ) (filters : Filters) (flights : List Flight) → All (λ flight. found.is_held_by worker flight ≡ false) flights
+    → AllPairs (λ flight other. flight.rows.number ≢ other.rows.number) flights
+    → AllPairs (λ w other. w ≢ other) (workers flights)
+    → AllPairs (λ w other. w ≢ other) (workers (map (changed worker batch filters) flights))
+one-each worker batch filters [] free apart one = one
+one-each worker batch filters (flight ∷ flights) free apart one =
+    by_test (eqb flight.rows.number batch) refl
+    (one-each worker batch filters flights rest_free (λ i j d before low. apart (suc i) (suc j) d (omega arith) (omega arith))
+    (cons-tail (option_map (λ hand. hand.worker) flight.hand) (workers flights) one))
+  where
+    rest_free : All (λ f. found.is_held_by worker f ≡ false) flights
+    rest_free = All-tail (λ f. found.is_held_by worker f ≡ false) flight flights free
+
+    by_next : (o : Option FilterVersion)
+        → AllPairs (λ w other. w ≢ other)
+        (cons_option (option_map (λ hand. hand.worker) (option_map {U = Hand} (λ version. record { worker = worker; version = version }) o)) (workers flights))
+    by_next None = cons-tail (option_map (λ hand. hand.worker) flight.hand) (workers flights) one
+    by_next (Some version) = AllPairs-cons (λ w other. w ≢ other) worker (workers flights) (not-among worker flights rest_free)
+        (cons-tail (option_map (λ hand. hand.worker) flight.hand) (workers flights) one)
+
+    by_hand : (o : Option Hand) → option_map_or (λ hand. eqb hand.worker worker) o false ≡ false
+        → AllPairs (λ w other. w ≢ other) (cons_option (option_map (λ hand. hand.worker) o) (workers flights))
+        → AllPairs (λ w other. w ≢ other) (workers (map (changed worker batch filters) flights))
+        → AllPairs (λ w other. w ≢ other) (cons_option (option_map (λ hand. hand.worker) o) (workers (map (changed worker batch filters) flights)))
+    by_hand None e old rest = rest
+    by_hand (Some hand) e old rest =
+        AllPairs-cons (λ w other. w ≢ other) hand.worker (workers (map (changed worker batch filters) flights))
+        (among-changed (λ other. hand.worker ≢ other) worker batch filters
+        (λ same. let both : true ≡ false = sym (eq-eqb hand.worker worker same) ∙ e in cc) flights
+        (λ k d low. old zero (suc k) d (omega arith) (omega arith))) rest
+
+    by_test : (t : Bool) → eqb flight.rows.number batch ≡ t
+        → AllPairs (λ w other. w ≢ other) (workers (map (changed worker batch filters) flights))
+        → AllPairs (λ w other. w ≢ other) (workers (cond {A = Flight} t (taken_by worker filters flight) flight ∷ map (changed worker batch filters) flights))
+    by_test true is rest =
+        let here : flight.rows.number ≡ batch = eqb-true flight.rows.number batch is in
+        subst (λ fs. AllPairs (λ w other. w ≢ other) (workers (taken_by worker filters flight ∷ fs)))
+        (sym (others-stay worker batch filters flights (λ k d low same. apart zero (suc k) d (omega arith) (omega arith) (here ∙ sym same))))
+        (by_next (next_filter filters flight))
+    by_test false is rest = by_hand flight.hand (All-head (λ f. found.is_held_by worker f ≡ false) flight flights free) one rest
+
+pub sound-taken : (worker batch : ℕ) (state : State) → MayTake worker batch state → IsSound state → IsSound (after_take worker batch state)
+sound-taken worker batch state can sound =
+    let change : Flight → Flight = changed worker batch state.filters in
+    let flights = state.scan.flights in
+    let flies : Flies state state.filters.tallies change = record {
+      place = λ flight. by-number (KeepsPlace flight) worker batch state.filters flight
+          (record { number = refl; first = refl; count = refl; roster = refl })
+          (record { number = refl; first = refl; count = refl; roster = refl });
+      batches = All-map (IsSoundBatch (flown state state.filters.tallies change)) change flights
+          (λ k d low. let flight = get_or flights k d in
+          by-number (IsSoundBatch (flown state state.filters.tallies change)) worker batch state.filters flight
+          (batch-stays state state.filters.tallies change flight (taken_by worker state.filters flight).hand (sound.batches k d low))
+          (batch-stays state state.filters.tallies change flight flight.hand (sound.batches k d low)));
+      hands = record {
+        each = All-map (λ flight. IfSome flight.hand (IsSoundHand (flown state state.filters.tallies change) flight)) change flights
+            (λ k d low. let flight = get_or flights k d in
+            by-number (λ f. IfSome f.hand (IsSoundHand (flown state state.filters.tallies change) f)) worker batch state.filters flight
+            (hand-taken worker batch state can.seat sound flight (sound.batches k d low))
+            (hand-stays state state.filters.tallies change flight (sound.hands.each k d low)));
+        one = one-each worker batch state.filters flights (find-none (found.is_held_by worker) flights can.empty) sound.numbers.apart sound.hands.one;
+      };
+      order = record { tallies = sound.order.tallies; count = sound.order.count; order = sound.order.order };
+    } in
+    sound-flown state state.filters.tallies change flies sound

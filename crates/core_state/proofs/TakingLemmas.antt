@@ -1,0 +1,178 @@
+-- A reply that is taken keeps a core sound.
+use Rattle.std.proofs.Common.{◌≡◌, ◌≢◌, ◌⊎◌, ℕ, ◌<◌, ◌≤◌, ◌++◌, true, false, cond, eqb, eq-eqb, List, [], ◌∷◌, length, get_or, map, set, take, drop, Option, Some, None, option_map, slice_get, refl, sym, ap, ◌∙◌, subst, ⊎_elim, inl, inr, append_assoc}
+use Rattle.std.specs.Prelude.{All, AllPairs, Contains, IfSome, IsSome, IsTrue, is_some, ◌↔◌}
+use Rattle.std.specs.List.{list_any}
+use Rattle.std.specs.Option.{option_and_then}
+use Rattle.std.proofs.lemmas.Bool.{cases_eq, cases_lt, ne_eqb}
+use Rattle.std.proofs.lemmas.List.{get_or-set_other, get_or-set_same, get_or_past, length-set, map-append}
+use Rattle.std.proofs.lemmas.List.Elements.{All-head, All-push, All-tail}
+use Rattle.pipeline_manager.specs.Conditions.{is_open}
+use Rattle.pipeline_manager.specs.Lives.{life_in, query_in}
+use Rattle.pipeline_manager.specs.declared.life.Life.{Life}
+use Rattle.pipeline_manager.specs.declared.life.Life.TheVariants as life
+use Rattle.pipeline_manager.specs.declared.life.QueryLife.{QueryLife}
+use Rattle.core_state.specs.Sound.{AreSoundQueries, IsAwaited, IsKept, IsSound, IsSoundQuery, IsSoundSeat, IsTaken}
+use Rattle.core_state.specs.State.{Accepted, Asked, Awaited, Pending, Replied, Seat, State, Taken}
+use Rattle.core_state.specs.Submitting.{after_taking, asked_by, empty_seat, forgotten, next_ready, ready_by, ready_to, taken_by, without_groups}
+use Rattle.core_state.specs.Tables.{tables_of, versions_in}
+use Rattle.core_state.proofs.AcceptedLemmas.{number-found}
+use Rattle.core_state.proofs.FoundLemmas.{life-found, some-at, some-by}
+use Rattle.core_state.proofs.LetGoLemmas.{LivesAs, batches-let-go, filters-let-go, hands-let-go, kept-let-go, let_go, queries-let-go}
+use Rattle.core_state.proofs.SeatLemmas.{Told, seat-let-go, seats-let-go}
+
+-- what is ready is no query, or one that is over
+ready-told : (state : State) (statement : ℕ) (awaited : Awaited) → AreSoundQueries state → IsAwaited state statement awaited
+    → IsSome (ready_to state statement awaited) → IfSome (life_in state.lives.queries statement) Told
+ready-told state statement (Replied reply) queries none ready = by_found (query_in state.lives.queries statement)
+    (number-found (λ entry. entry.query) state.lives.queries statement ∙ ap (list_any (λ n. eqb n statement)) (sym queries.same)
+    ∙ sym (number-found (λ accepted. accepted.number) state.accepted statement) ∙ ap is_some none)
+  where
+    by_found : (o : Option QueryLife) → is_some o ≡ false → IfSome (option_map (λ entry. entry.life) o) Told
+    by_found None e = tt
+    by_found (Some entry) e = absurd (let both : true ≡ false = e in cc)
+ready-told state statement (Asked query snapshot) queries awaited ready = by_life (life_in state.lives.queries statement) ready
+  where
+    by_life : (o : Option Life) → IsSome (option_and_then (ready_by state statement snapshot) o) → IfSome o Told
+    by_life None e = tt
+    by_life (Some life.Waiting) e = absurd (let both : false ≡ true = e in cc)
+    by_life (Some life.Building) e = absurd (let both : false ≡ true = e in cc)
+    by_life (Some (life.Running start left)) e = absurd (let both : false ≡ true = e in cc)
+    by_life (Some life.Ending) e = absurd (let both : false ≡ true = e in cc)
+    by_life (Some life.Answered) e = inl refl
+    by_life (Some life.Spoiled) e = inr refl
+    by_life (Some life.Abandoned) e = absurd (let both : false ≡ true = e in cc)
+
+told-closed : (now : Life) → Told now → is_open now ≡ false
+told-closed now told = ⊎_elim (λ e. ap is_open e) (λ e. ap is_open e) told
+
+-- nothing has to be kept of a query that is over
+told-kept : (state : State) (accepted : Accepted) (extent : ℕ) (now : Life) → Told now → accepted.groups ≡ None → IsKept state accepted extent now
+told-kept state accepted extent now told none =
+    ⊎_elim (λ e. subst (IsKept state accepted extent) (sym e) (inl none)) (λ e. subst (IsKept state accepted extent) (sym e) none) told
+
+-- a seat that has taken the reply to its first statement
+abbrev with_first : Pending → List Pending → Seat → Seat
+with_first first rest seat = record seat { pending = rest; taken = seat.taken ++ taken_by first ∷ [] }
+
+seat-taken : (state : State) (first : Pending) (rest : List Pending) (seat : Seat) → IfSome (life_in state.lives.queries first.statement) Told
+    → IsSoundSeat state (record seat { pending = first ∷ rest }) → IsSoundSeat state (with_first first rest seat)
+seat-taken state first rest seat told old = record {
+  rising = old.rising;
+  given = old.given;
+  in_order = subst (AllPairs (λ statement later. statement < later)) (sym same) old.in_order;
+  submitted = subst (All (Contains seat.submitted)) (sym same) old.submitted;
+  taken = All-push (λ taken. IsTaken state taken.statement taken.query) seat.taken (taken_by first) old.taken
+      (by_awaited first.awaited (All-head (λ pending. IsAwaited state pending.statement pending.awaited) first rest old.awaited));
+  awaited = All-tail (λ pending. IsAwaited state pending.statement pending.awaited) first rest old.awaited;
+}
+  where
+    same : map (λ taken. taken.statement) (seat.taken ++ taken_by first ∷ []) ++ map (λ pending. pending.statement) rest
+        ≡ map (λ taken. taken.statement) seat.taken ++ (first.statement ∷ map (λ pending. pending.statement) rest)
+    same =
+        ap (λ front. front ++ map (λ pending. pending.statement) rest)
+        (map-append (λ (taken : Taken). taken.statement) seat.taken (taken_by first ∷ []))
+        ∙ append_assoc (map (λ taken. taken.statement) seat.taken) (first.statement ∷ []) (map (λ pending. pending.statement) rest)
+
+    by_awaited : (awaited : Awaited) → IsAwaited state first.statement awaited → IsTaken state first.statement (asked_by awaited)
+    by_awaited (Replied reply) none = tt
+    by_awaited (Asked query snapshot) is = (is.0, told)
+
+sound-with_first : (seat : ℕ) (first : Pending) (rest : List Pending) (state : State)
+    → (get_or state.seats seat empty_seat).pending ≡ first ∷ rest → IfSome (life_in state.lives.queries first.statement) Told → IsSound state
+    → IsSound (let_go state first.statement state.lives.queries (set state.seats seat (with_first first rest (get_or state.seats seat empty_seat))))
+sound-with_first seat first rest state is told sound = record {
+  filters = filters-let-go state first.statement queries seats sound.filters;
+  batches = batches-let-go state first.statement queries seats (λ number on. on) sound.batches;
+  hands = hands-let-go state first.statement queries seats (length-set state.seats seat with) sound.hands;
+  queries = queries-let-go state first.statement queries seats refl
+      (λ accepted of_query. some-by (LivesAs now accepted (forgotten first.statement accepted)) (query_in queries accepted.number)
+      (λ entry found. lives accepted of_query entry found (cases_eq accepted.number first.statement))) sound.queries;
+  slots = record { lives = sound.slots.lives; count = sound.slots.count; built = sound.slots.built };
+  store = sound.store;
+  quiet = λ none. (ap (map (forgotten first.statement)) (sound.quiet none).0, (sound.quiet none).1, (sound.quiet none).2);
+  numbers = record { apart = sound.numbers.apart; given = sound.numbers.given };
+  scan = record { frames = sound.scan.frames; position = sound.scan.position };
+  order = record { tallies = sound.order.tallies; count = sound.order.count; order = sound.order.order };
+  seats = seats-let-go state first.statement queries seats (length-set state.seats seat with)
+      (λ other. ⊎_elim
+      (λ same. subst (λ n. (get_or seats n empty_seat).submitted ≡ (get_or state.seats n empty_seat).submitted) (sym same)
+      (ap (λ (s : Seat). s.submitted) (get_or-set_same state.seats seat with empty_seat there)))
+      (λ apart. ap (λ (s : Seat). s.submitted) (get_or-set_other state.seats seat other with empty_seat apart))
+      (cases_eq other seat))
+      (λ k d low. each k d (subst (λ n. k < n) (length-set state.seats seat with) low) (cases_eq k seat)) sound.seats;
+}
+  where
+    queries : List QueryLife
+    queries = state.lives.queries
+
+    with : Seat
+    with = with_first first rest (get_or state.seats seat empty_seat)
+
+    seats : List Seat
+    seats = set state.seats seat with
+
+    now : State
+    now = let_go state first.statement queries seats
+
+    there : seat < length state.seats
+    there = ⊎_elim (λ low. low)
+        (λ past. let both : [] ≡ first ∷ rest = sym (ap (λ (s : Seat). s.pending) (get_or_past state.seats seat empty_seat past)) ∙ is in cc)
+        (cases_lt seat (length state.seats))
+
+    each : (k : ℕ) (d : Seat) → k < length state.seats → (k ≡ seat) ⊎ (k ≢ seat) → IsSoundSeat now (get_or seats k d)
+    each k d low (inl same) =
+        subst (λ n. IsSoundSeat now (get_or seats n d)) (sym same)
+        (subst (IsSoundSeat now) (sym (get_or-set_same state.seats seat with d there))
+        (seat-let-go state first.statement queries seats with (λ j p inside h. h) (λ number h. h)
+        (seat-taken state first rest (get_or state.seats seat empty_seat) told
+        (subst (λ ps. IsSoundSeat state (record (get_or state.seats seat empty_seat) { pending = ps })) is (sound.seats.each seat empty_seat there)))))
+    each k d low (inr apart) =
+        subst (IsSoundSeat now) (sym (get_or-set_other state.seats seat k with d apart))
+        (seat-let-go state first.statement queries seats (get_or state.seats k d) (λ j p inside h. h) (λ number h. h) (sound.seats.each k d low))
+
+    lives : (accepted : Accepted) → IsSoundQuery state accepted → (entry : QueryLife) → query_in queries accepted.number ≡ Some entry
+        → (accepted.number ≡ first.statement) ⊎ (accepted.number ≢ first.statement)
+        → LivesAs now accepted (forgotten first.statement accepted) entry
+    lives accepted of_query entry found (inl same) =
+        let over : Told entry.life = some-at Told (life_in queries first.statement) entry.life
+        (subst (λ n. life_in queries n ≡ Some entry.life) same (life-found queries accepted.number entry found)) told in (
+          told-kept now (forgotten first.statement accepted) entry.extent entry.life over
+              (ap (λ t. (cond {A = Accepted} t (record accepted { groups = None }) accepted).groups) (eq-eqb accepted.number first.statement same)),
+          λ opens. absurd (let both : true ≡ false = sym opens ∙ told-closed entry.life over in cc),
+          some-at (λ e. e.extent ≤ versions_in state) (query_in queries accepted.number) entry found of_query.within,
+        )
+    lives accepted of_query entry found (inr apart) =
+        subst (λ given. LivesAs now accepted given entry)
+        (sym (ap (λ t. cond {A = Accepted} t (record accepted { groups = None }) accepted) (ne_eqb accepted.number first.statement apart))) (
+          kept-let-go state first.statement queries seats accepted entry.extent entry.life
+              (some-at (λ e. IsKept state accepted e.extent e.life) (query_in queries accepted.number) entry found of_query.kept),
+          some-at (λ e. IsTrue (is_open e.life) → (position : ℕ) → IfSome (slice_get (tables_of state).versions position)
+              (λ version. (version.begin ≤ accepted.snapshot) ↔ (position < e.extent)))
+              (query_in queries accepted.number) entry found of_query.extent,
+          some-at (λ e. e.extent ≤ versions_in state) (query_in queries accepted.number) entry found of_query.within,
+        )
+
+pub sound-replied : (seat : ℕ) (state : State) → IsSome (next_ready state seat) → IsSound state → IsSound (after_taking seat state)
+sound-replied seat state ready sound = by_pending here.pending refl ready
+  where
+    here : Seat
+    here = get_or state.seats seat empty_seat
+
+    there : (first : Pending) (rest : List Pending) → here.pending ≡ first ∷ rest → seat < length state.seats
+    there first rest is = ⊎_elim (λ low. low)
+        (λ past. let both : [] ≡ first ∷ rest = sym (ap (λ (s : Seat). s.pending) (get_or_past state.seats seat empty_seat past)) ∙ is in cc)
+        (cases_lt seat (length state.seats))
+
+    by_pending : (pending : List Pending) → here.pending ≡ pending
+        → IsSome (option_and_then (λ first. ready_to state first.statement first.awaited) (slice_get pending 0))
+        → IsSound (record state {
+          accepted = without_groups (take 1 pending) state.accepted;
+          seats = set state.seats seat (record here { pending = drop 1 pending; taken = here.taken ++ map taken_by (take 1 pending) });
+        })
+    by_pending [] is some = absurd (let both : false ≡ true = some in cc)
+    by_pending (first ∷ rest) is some =
+        sound-with_first seat first rest state is
+        (ready-told state first.statement first.awaited sound.queries
+        (All-head (λ pending. IsAwaited state pending.statement pending.awaited) first rest
+        (subst (All (λ pending. IsAwaited state pending.statement pending.awaited)) is
+        (sound.seats.each seat empty_seat (there first rest is)).awaited)) some) sound

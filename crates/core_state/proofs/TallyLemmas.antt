@@ -1,0 +1,72 @@
+-- What a batch that is given back makes of the tallies.
+use Rattle.std.proofs.Common.{◌≡◌, ℕ, suc, ◌+◌, ◌≤◌, Bool, true, false, cond, eqb, ◌&&◌, List, [], ◌∷◌, length, Option, Some, None, ap, arith}
+use Rattle.std.specs.Prelude.{All, fold, slice_index_or}
+use Rattle.std.specs.List.{range_with_len}
+use Rattle.std.specs.Option.{option_map_or}
+use Rattle.std.proofs.lemmas.List.Elements.{All-cons, All-head, All-tail}
+use Rattle.filter_order.specs.declared.tally.Tally.{Tally}
+use Rattle.batch_flow.specs.Rows.{Rows}
+use Rattle.dimension_filter.specs.Filter.{Filter}
+use Rattle.dimension_filter.specs.Pass.{bits_left, drops_below, is_asked_at, key_in, probes_below}
+use Rattle.core_state.specs.Cutting.{tallies_after, with_batch, with_tally}
+use Rattle.core_state.specs.Numbered.{counted}
+use Rattle.core_state.specs.State.{FilterVersion, Flight, Hand}
+
+-- of those that pass a test no more pass another one, too
+fewer-from : (p q : ℕ → Bool) (few many : ℕ) (xs : List ℕ) → few ≤ many
+    → fold (λ n x. n + cond {A = ℕ} (p x && q x) 1 0) few xs ≤ fold (λ n x. n + cond {A = ℕ} (p x) 1 0) many xs
+fewer-from p q few many [] le = le
+fewer-from p q few many (x ∷ xs) le =
+    fewer-from p q (few + cond {A = ℕ} (p x && q x) 1 0) (many + cond {A = ℕ} (p x) 1 0) xs (by_tests (p x) (q x))
+  where
+    by_tests : (a b : Bool) → few + cond {A = ℕ} (a && b) 1 0 ≤ many + cond {A = ℕ} a 1 0
+    by_tests true true = omega arith
+    by_tests true false = omega arith
+    by_tests false b = omega arith
+
+counted-more : (drops probes dropped probed : ℕ) → drops ≤ probes → dropped ≤ probed → counted drops dropped ≤ counted probes probed
+counted-more drops probes dropped probed few more = omega arith
+
+-- a batch drops no more rows than those for which the filter is asked
+tally-batch : (filter : Filter) (rows : Rows) (tally : Tally) → tally.drops ≤ tally.probes
+    → (with_batch filter rows tally).drops ≤ (with_batch filter rows tally).probes
+tally-batch filter rows tally few =
+    counted-more tally.drops tally.probes (drops_below filter rows.keys rows.bits (length rows.bits)) (probes_below filter rows.bits (length rows.bits)) few
+    (fewer-from (is_asked_at filter rows.bits)
+    (λ row. eqb (bits_left filter (key_in filter rows.keys row) (slice_index_or rows.bits row 0)) 0) 0 0
+    (range_with_len 0 (length rows.bits)) (omega arith))
+
+-- each tally has at most as many drops as probes where that of one dimension has
+tallied : (dimension : ℕ) (change : Tally → Tally) → ((tally : Tally) → tally.drops ≤ tally.probes → (change tally).drops ≤ (change tally).probes)
+    → (versions : List FilterVersion) (tallies : List Tally) → length tallies ≡ length versions → All (λ tally. tally.drops ≤ tally.probes) tallies
+    → (length (with_tally dimension change versions tallies) ≡ length versions)
+    × All (λ tally. tally.drops ≤ tally.probes) (with_tally dimension change versions tallies)
+tallied dimension change keeps [] tallies count all = (count, all)
+tallied dimension change keeps (version ∷ versions) [] count all = absurd (omega arith)
+tallied dimension change keeps (version ∷ versions) (tally ∷ tallies) count all =
+    let few : Tally → Type 0 = λ t. t.drops ≤ t.probes in
+    let rest = tallied dimension change keeps versions tallies (omega arith) (All-tail few tally tallies all) in (
+      ap suc rest.0,
+      All-cons few (cond {A = Tally} (eqb version.filter.dimension dimension) (change tally) tally) (with_tally dimension change versions tallies)
+          (by_test (eqb version.filter.dimension dimension) (All-head few tally tallies all)) rest.1,
+    )
+  where
+    by_test : (t : Bool) → tally.drops ≤ tally.probes
+        → (cond {A = Tally} t (change tally) tally).drops ≤ (cond {A = Tally} t (change tally) tally).probes
+    by_test true few = keeps tally few
+    by_test false few = few
+
+-- the tallies after a batch is given back
+pub tallied-after : (flight : Flight) (versions : List FilterVersion) (tallies : List Tally) → length tallies ≡ length versions
+    → All (λ tally. tally.drops ≤ tally.probes) tallies
+    → (length (tallies_after flight versions tallies) ≡ length versions)
+    × All (λ tally. tally.drops ≤ tally.probes) (tallies_after flight versions tallies)
+tallied-after flight versions tallies count all = by_hand flight.hand
+  where
+    After : Option Hand → List Tally
+    After o = option_map_or (λ hand. with_tally hand.version.filter.dimension (with_batch hand.version.filter flight.rows) versions tallies) o tallies
+
+    by_hand : (o : Option Hand) → (length (After o) ≡ length versions) × All (λ tally. tally.drops ≤ tally.probes) (After o)
+    by_hand None = (count, all)
+    by_hand (Some hand) = tallied hand.version.filter.dimension (with_batch hand.version.filter flight.rows)
+        (tally-batch hand.version.filter flight.rows) versions tallies count all

@@ -1,0 +1,194 @@
+-- A core in which a filter has a next version, and a slot another state.
+use Rattle.std.proofs.Common.{◌≡◌, ◌≢◌, ◌⊎◌, ℕ, ◌<◌, ◌≤◌, Bool, true, false, cond, eqb, List, [], ◌∷◌, length, get_or, set, map, Option, Some, None, slice_get, refl, sym, ap, ◌∙◌, subst, inl, inr, arith}
+use Rattle.std.specs.Prelude.{IfSome, IsTrue, ◌↔◌}
+use Rattle.std.specs.List.Sorted.{IsPermutation}
+use Rattle.std.proofs.lemmas.Bool.{cases_eq, eqb-true, eqb-false}
+use Rattle.std.proofs.lemmas.List.{get_or-set_same, get_or-set_other, length-map, length-set}
+use Rattle.std.proofs.lemmas.List.Elements.{All-map}
+use Rattle.bit_words.specs.Sets.{Has}
+use Rattle.star_plan.specs.Joined.{takes}
+use Rattle.star_plan.specs.Test.{Query}
+use Rattle.dimension_rows.specs.declared.dimension_row.DimensionRow.{DimensionRow}
+use Rattle.dimension_filter.specs.Filter as table
+use Rattle.dimension_filter.specs.Filter.{AreAscending, Filter, is_stored, vector_of}
+use Rattle.pipeline_manager.specs.Lives.{life_in, slot_at}
+use Rattle.pipeline_manager.specs.Sound as managed
+use Rattle.pipeline_manager.specs.declared.life.SlotState.{SlotState}
+use Rattle.pipeline_manager.specs.declared.life.SlotState.TheVariants.{Free, Held, Clearing}
+use Rattle.star_history.specs.Store.{rows_in}
+use Rattle.core_state.specs.Admitting.{selection_in}
+use Rattle.core_state.specs.Cutting.{gets_rows}
+use Rattle.core_state.specs.Flown.{Encodes, FitsSlot, IsClearOf, IsOnRoster, IsSoundFilter}
+use Rattle.core_state.specs.Found.{accepted_at}
+use Rattle.core_state.specs.Sound.{IsSound}
+use Rattle.core_state.specs.State.{FilterVersion, Filters, OnRoster, State}
+use Rattle.core_state.specs.Tables.{tables_of}
+use Rattle.std.proofs.lemmas.Option.{IfSome_then}
+use Rattle.core_state.proofs.FrameLemmas.{filter-moved}
+use Rattle.core_state.proofs.HeldLemmas.{entry-set, fits-set, queries-stay}
+use Rattle.core_state.proofs.MovedLemmas.{Holds, held_now, sound-held}
+
+-- the next version of a filter of this dimension
+abbrev pub versioned : (dimension number : ℕ) → (Filter → Filter) → FilterVersion → FilterVersion
+versioned dimension number change version = cond {A = FilterVersion} (eqb version.filter.dimension dimension)
+    (record { number = number; filter = change version.filter }) version
+
+-- a filter with the same slots but one
+pub record IsBeside (slot : ℕ) (before after : Filter) : Type 0 where
+  pub dimension : after.dimension ≡ before.dimension
+  pub vectors : (key other : ℕ) → other ≢ slot → Has (vector_of after key) other ↔ Has (vector_of before key) other
+  pub complement : (other : ℕ) → other ≢ slot → Has after.complement other ↔ Has before.complement other
+
+clear-beside : (slot other : ℕ) (before after : Filter) → IsBeside slot before after → other ≢ slot → IsClearOf before other → IsClearOf after other
+clear-beside slot other before after beside apart clear = record {
+  rows = λ key has. clear.rows key ((beside.vectors key other apart).0 has);
+  others = λ has. clear.others ((beside.complement other apart).0 has);
+}
+
+encodes-beside : (slot other : ℕ) (before after : Filter) (state : State) (query : Query) (snapshot : ℕ) → IsBeside slot before after → other ≢ slot
+    → Encodes before other query snapshot (rows_in (tables_of state).dimensions before.dimension)
+    → Encodes after other query snapshot (rows_in (tables_of state).dimensions after.dimension)
+encodes-beside slot other before after state query snapshot beside apart old =
+    subst (λ dimension. Encodes (record after { dimension = dimension }) other query snapshot (rows_in (tables_of state).dimensions dimension))
+    (sym beside.dimension) here
+  where
+    Says : Filter → (key : ℕ) → DimensionRow → Type 0
+    Says filter key entry = entry.commit ≤ snapshot → Has (vector_of filter key) other ↔ IsTrue (takes (selection_in query before.dimension) entry.row)
+
+    by_row : (key : ℕ) (o : Option DimensionRow) → IfSome o (Says before key) → IfSome o (Says after key)
+    by_row key None says = tt
+    by_row key (Some entry) says = λ came.
+        ((λ has. (says came).0 ((beside.vectors key other apart).0 has)), (λ takes. (beside.vectors key other apart).1 ((says came).1 takes)))
+
+    here : Encodes (record after { dimension = before.dimension }) other query snapshot (rows_in (tables_of state).dimensions before.dimension)
+    here = record {
+      taken = λ key. by_row key (slice_get (rows_in (tables_of state).dimensions before.dimension) key) (old.taken key);
+      others = ((λ has. old.others.0 ((beside.complement other apart).0 has)), (λ unnamed. (beside.complement other apart).1 (old.others.1 unnamed)));
+    }
+
+-- what a slot has in a filter it has in one that differs in another slot
+fits-beside : (state : State) (slot other : ℕ) (before after : Filter) → IsBeside slot before after → other ≢ slot → (now : SlotState)
+    → FitsSlot state before other now → FitsSlot state after other now
+fits-beside state slot other before after beside apart Free fits = clear-beside slot other before after beside apart fits
+fits-beside state slot other before after beside apart (Held query built) fits = (
+  λ has. IfSome_then (accepted_at state.accepted query) (fits.0 (subst (Has built) beside.dimension has))
+      (λ accepted. encodes-beside slot other before after state accepted.query accepted.snapshot beside apart),
+  λ none. clear-beside slot other before after beside apart (fits.1 (λ has. none (subst (Has built) (sym beside.dimension) has))),
+)
+fits-beside state slot other before after beside apart (Clearing left) fits = λ none.
+    clear-beside slot other before after beside apart (fits (λ has. none (subst (Has left) (sym beside.dimension) has)))
+
+-- what the next version of a filter has to give
+pub record IsNextVersion (state : State) (slot : ℕ) (now : SlotState) (before after : Filter) : Type 0 where
+  pub table : table.IsSound after
+  pub ascending : AreAscending after.stored
+  pub beside : IsBeside slot before after
+  pub fits : FitsSlot state after slot now
+  pub within : (key : ℕ) → IsTrue (is_stored after key) → key < length (rows_in (tables_of state).dimensions before.dimension)
+
+next-sound : (state : State) (slot : ℕ) (now : SlotState) (filters : Filters) (version : ℕ) (before after : Filter) → slot < length state.lives.slots
+    → IsNextVersion state slot now before after → IsSoundFilter state before
+    → IsSoundFilter (held_now state state.lives.queries (set state.lives.slots slot now) filters version) after
+next-sound state slot now filters version before after there next old = record {
+  table = next.table;
+  ascending = next.ascending;
+  is_filter = subst (Has state.lives.filters) (sym next.beside.dimension) old.is_filter;
+  slots = λ other low. by_slot other (subst (λ n. other < n) (length-set state.lives.slots slot now) low) (cases_eq other slot);
+  beyond = λ other past.
+      let outside : length state.lives.slots ≤ other = subst (λ n. n ≤ other) (length-set state.lives.slots slot now) past in
+      clear-beside slot other before after next.beside (λ same. absurd (omega arith)) (old.beyond other outside);
+  within = λ key stored. subst (λ d. key < length (rows_in (tables_of state).dimensions d)) (sym next.beside.dimension) (next.within key stored);
+}
+  where
+    by_slot : (other : ℕ) → other < length state.lives.slots → (other ≡ slot) ⊎ (other ≢ slot)
+        → FitsSlot state after other (get_or (set state.lives.slots slot now) other Free)
+    by_slot other low (inl same) =
+        subst (λ at. FitsSlot state after at (get_or (set state.lives.slots slot now) at Free)) (sym same)
+        (subst (FitsSlot state after slot) (sym (get_or-set_same state.lives.slots slot now Free there)) next.fits)
+    by_slot other low (inr apart) =
+        subst (FitsSlot state after other) (sym (get_or-set_other state.lives.slots slot other now Free apart))
+        (fits-beside state slot other before after next.beside apart (slot_at state.lives other) (old.slots other low))
+
+-- what the change of a slot and of a filter has to give
+pub record Versions (state : State) (slot dimension : ℕ) (now : SlotState) (change : Filter → Filter) : Type 0 where
+  pub there : slot < length state.lives.slots
+  pub used : slot_at state.lives slot ≢ Free
+  pub off : (entry : OnRoster) → IsOnRoster state entry → entry.slot ≢ slot
+  pub built : (holder built : ℕ) → now ≡ Held holder built → IfSome (life_in state.lives.queries holder)
+      (λ life. IsTrue (gets_rows life) → (other : ℕ) → Has state.lives.filters other → Has built other)
+  pub lives : managed.IsSound (record state.lives { slots = set state.lives.slots slot now })
+  pub keeps : (filter : Filter) → (change filter).dimension ≡ filter.dimension
+  pub next : (filter : Filter) → IsSoundFilter state filter → filter.dimension ≡ dimension → IsNextVersion state slot now filter (change filter)
+  pub others : (filter : Filter) → IsSoundFilter state filter → filter.dimension ≢ dimension → FitsSlot state filter slot now
+
+same-dimensions : (dimension number : ℕ) (change : Filter → Filter) → ((filter : Filter) → (change filter).dimension ≡ filter.dimension)
+    → (versions : List FilterVersion)
+    → map (λ version. version.filter.dimension) (map (versioned dimension number change) versions) ≡ map (λ version. version.filter.dimension) versions
+same-dimensions dimension number change keeps [] = refl
+same-dimensions dimension number change keeps (version ∷ versions) =
+    ap (λ d. d ∷ map (λ v. v.filter.dimension) (map (versioned dimension number change) versions)) (by_test (eqb version.filter.dimension dimension))
+    ∙ ap (λ rest. version.filter.dimension ∷ rest) (same-dimensions dimension number change keeps versions)
+  where
+    by_test : (t : Bool) → (cond {A = FilterVersion} t (record { number = number; filter = change version.filter }) version).filter.dimension ≡ version.filter.dimension
+    by_test true = keeps version.filter
+    by_test false = refl
+
+pub sound-versioned : (state : State) (slot dimension number version : ℕ) (now : SlotState) (change : Filter → Filter)
+    → Versions state slot dimension now change → IsSound state
+    → IsSound (held_now state state.lives.queries (set state.lives.slots slot now)
+    (record state.filters { versions = map (versioned dimension number change) state.filters.versions }) version)
+sound-versioned state slot dimension number version now change gives sound =
+    let dimensions = same-dimensions dimension number change gives.keeps state.filters.versions in
+    let holds : Holds state state.lives.queries slots filters version = record {
+      filters_now = record {
+        each = All-map (λ v. IsSoundFilter (held_now state state.lives.queries slots filters version) v.filter) (versioned dimension number change) state.filters.versions
+            (λ k d low. each (get_or state.filters.versions k d) (sound.filters.each k d low));
+        dimensions = dimensions ∙ sound.filters.dimensions;
+        set = sound.filters.set;
+      };
+      rosters = λ k d low j e within.
+          let on = (sound.batches k d low).roster j e within in
+          let entry = get_or (get_or state.scan.flights k d).roster j e in
+          entry-set state state.lives.queries slot now filters version entry (gives.off entry on) on.life on;
+      queries_now = queries-stay state slots filters version sound.queries;
+      slots_now = record {
+        lives = gives.lives;
+        count = length-set state.lives.slots slot now ∙ sound.slots.count;
+        built = λ other holder built low held. by_slot other holder built (subst (λ n. other < n) (length-set state.lives.slots slot now) low) held (cases_eq other slot);
+      };
+      quiet = λ none. absurd (gives.used ((sound.quiet none).2 slot Free gives.there));
+      order = record {
+        tallies = sound.order.tallies;
+        count = sound.order.count ∙ sym (length-map state.filters.versions (versioned dimension number change));
+        order = subst (λ list. IsPermutation list state.filters.order) (sym dimensions) sound.order.order;
+      };
+      wanted = λ query. (λ h. h, λ h. h);
+    } in
+    sound-held state state.lives.queries slots filters version holds sound
+  where
+    slots : List SlotState
+    slots = set state.lives.slots slot now
+
+    filters : Filters
+    filters = record state.filters { versions = map (versioned dimension number change) state.filters.versions }
+
+    each : (v : FilterVersion) → IsSoundFilter state v.filter
+        → IsSoundFilter (held_now state state.lives.queries slots filters version) (versioned dimension number change v).filter
+    each v old = by_test (eqb v.filter.dimension dimension) refl
+      where
+        by_test : (t : Bool) → eqb v.filter.dimension dimension ≡ t
+            → IsSoundFilter (held_now state state.lives.queries slots filters version)
+            (cond {A = FilterVersion} t (record { number = number; filter = change v.filter }) v).filter
+        by_test true is = next-sound state slot now filters version v.filter (change v.filter) gives.there
+            (gives.next v.filter old (eqb-true v.filter.dimension dimension is)) old
+        by_test false is = filter-moved state state.lives.queries slots filters state.scan (record state.numbers { version = version }) v.filter
+            (length-set state.lives.slots slot now)
+            (λ other low fits. fits-set state slot now gives.there v.filter (gives.others v.filter old (eqb-false v.filter.dimension dimension is)) other fits) old
+
+    by_slot : (other holder built : ℕ) → other < length state.lives.slots → get_or slots other Free ≡ Held holder built → (other ≡ slot) ⊎ (other ≢ slot)
+        → IfSome (life_in state.lives.queries holder) (λ life. IsTrue (gets_rows life) → (d : ℕ) → Has state.lives.filters d → Has built d)
+    by_slot other holder built low held (inl same) =
+        gives.built holder built (sym (get_or-set_same state.lives.slots slot now Free gives.there)
+        ∙ subst (λ at. get_or slots at Free ≡ Held holder built) same held)
+    by_slot other holder built low held (inr apart) =
+        sound.slots.built other holder built low (sym (get_or-set_other state.lives.slots slot other now Free apart) ∙ held)

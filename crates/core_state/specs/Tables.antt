@@ -1,0 +1,45 @@
+-- The tables of the core, by its history, and the key numbers of fact rows.
+use Rattle.std.specs.Prelude.{ℕ, List, filter, length, map}
+use Rattle.std.specs.List.{list_any, range_with_len}
+use Rattle.std.specs.Option.{option_map_or}
+use Rattle.star_values.specs.declared.value.Value as cell
+use Rattle.star_plan.specs.declared.schema.Schema.{Schema}
+use Rattle.star_plan.specs.Columns.{fact_columns}
+use Rattle.star_schema.specs.Declaration.{references}
+use Rattle.dimension_rows.specs.Keys.{index_of}
+use Rattle.batch_flow.specs.declared.batch.TheConstants.{KEYS_IN_A_ROW}
+use Rattle.star_history.specs.Alone.{foreign_key}
+use Rattle.star_history.specs.History.{Change, store_of}
+use Rattle.star_history.specs.Store.{Store, rows_in}
+use Rattle.core_state.specs.State.{Entry, State}
+
+-- the changes of entries, in their order
+abbrev pub changes_of : List Entry → List Change
+changes_of entries = map (λ entry. entry.change) entries
+
+-- the tables of a list of entries
+abbrev pub tables_by : List Entry → Store
+tables_by entries = store_of (changes_of entries)
+
+-- the tables of the core
+abbrev pub tables_of : State → Store
+tables_of state = tables_by state.entries
+
+-- how many versions the fact table has
+abbrev pub versions_in : State → ℕ
+versions_in state = length (tables_of state).versions
+
+-- the key number of a fact row for a dimension: the place of the row with its foreign key, and 0 where it has none
+abbrev pub key_number : Store → List cell.Value → (dimension : ℕ) → ℕ
+key_number store row dimension =
+    option_map_or (λ key. option_map_or (λ place. place) (index_of (rows_in store.dimensions dimension) key) 0)
+    (foreign_key store.schema dimension row) 0
+
+-- the key numbers of a fact row, one for each dimension that there may be
+abbrev pub key_numbers : Store → List cell.Value → List ℕ
+key_numbers store row = map (key_number store row) (range_with_len 0 KEYS_IN_A_ROW)
+
+-- the dimensions that the fact table references, ascending: each has a filter
+abbrev pub filter_dimensions : Schema → List ℕ
+filter_dimensions schema =
+    filter (λ dimension. list_any (references dimension) (fact_columns schema)) (range_with_len 0 (length schema.dimensions))
