@@ -94,7 +94,7 @@ same_row store query snapshot dimension version over keyed low named =
     let key = value_in version.row (position_or_len (references dimension) (fact_columns store.schema)) in
     let there = key_there store.schema dimension version.row (over.referenced dimension named) in
     let is : IsPlaceOf rows key version.begin (key_number version dimension) =
-    subst (λ (found : Option cell.Value). IfSome found (λ k. IsPlaceOf rows k version.begin (key_number version dimension))) there (keyed dimension) in
+    subst (λ (found : Option cell.Value). IfSome found (λ k. IsPlaceOf rows k version.begin (key_number version dimension))) there (keyed.places dimension) in
     ap (λ found. option_map_or (row_of_key rows snapshot) found []) there
     ∙ row_at_place rows key version.begin (key_number version dimension) snapshot low is
 

@@ -4,5 +4,6 @@ pub mod KeyLemmas
 pub mod LaterLemmas
 pub mod ListLemmas
 pub mod LoadedLemmas
+pub mod NumberLemmas
 pub mod ReadLemmas
 pub mod SettledLemmas

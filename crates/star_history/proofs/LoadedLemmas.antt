@@ -149,13 +149,17 @@ matched_in_grown keeps schema dimensions grown more row commit is dimension =
 -- key numbers are the places of their keys also where the rows of a dimension have grown
 pub key_numbers_in_grown : KeepsPlaces → (schema : Schema) (dimensions : List (List DimensionRow)) (grown : ℕ) (more : List DimensionRow)
     (version : Version) → HasKeyNumbers schema dimensions version → HasKeyNumbers schema (grown_at grown more dimensions) version
-key_numbers_in_grown keeps schema dimensions grown more version has dimension =
-    if_some_weaker (λ key. IsPlaceOf (rows_in dimensions dimension) key version.begin (key_number version dimension))
-    (λ key. IsPlaceOf (rows_in (grown_at grown more dimensions) dimension) key version.begin (key_number version dimension))
-    (foreign_key schema dimension version.row)
-    (λ key is. in_grown (λ rows. IsPlaceOf rows key version.begin (key_number version dimension)) dimensions grown dimension more is
-    (λ _. place_with_more keeps (rows_in dimensions dimension) more key version.begin (key_number version dimension) is))
-    (has dimension)
+key_numbers_in_grown keeps schema dimensions grown more version has = record {
+  count = has.count;
+  places = λ dimension.
+      if_some_weaker (λ key. IsPlaceOf (rows_in dimensions dimension) key version.begin (key_number version dimension))
+      (λ key. IsPlaceOf (rows_in (grown_at grown more dimensions) dimension) key version.begin (key_number version dimension))
+      (foreign_key schema dimension version.row)
+      (λ key is. in_grown (λ rows. IsPlaceOf rows key version.begin (key_number version dimension)) dimensions grown dimension more is
+      (λ _. place_with_more keeps (rows_in dimensions dimension) more key version.begin (key_number version dimension) is))
+      (has.places dimension);
+  others = has.others;
+}
 
 -- Rows of a dimension.
 

@@ -1,5 +1,6 @@
 //! What holds of histories and of queries alone.
 ghost use Rattle.std.specs.Prelude.{◌≡◌, ℕ, ◌≤◌, List, map, All, Contains, Some, count_by};
+ghost use Rattle.std.specs.List.{range_with_len};
 ghost use Rattle.star_values.specs.declared.value.Value.{Value};
 ghost use Rattle.star_plan.specs.declared.schema.Schema.{Schema};
 ghost use Rattle.star_lists.specs.Roomy.{Roomy};
@@ -7,13 +8,14 @@ ghost use Rattle.star_plan.specs.Groups.{key_of};
 ghost use Rattle.star_plan.specs.Joined.{value_at};
 ghost use Rattle.star_plan.specs.Over.{IsOver, places_in};
 ghost use Rattle.star_plan.specs.Test.{Query};
+ghost use Rattle.fact_versions.specs.declared.version.TheConstants.{KEYS_IN_A_VERSION};
 ghost use Rattle.fact_versions.specs.declared.version.Version.{Version};
 ghost use Rattle.dimension_rows.specs.declared.dimension_row.DimensionRow.{DimensionRow};
 ghost use Rattle.star_history.specs.Accepted.{Accepts, AcceptsAll};
 ghost use Rattle.star_history.specs.Alone.{alone, foreign_key, is_matched, kept, visible, visible_rows};
 ghost use Rattle.star_history.specs.History.{Change, after_change, commits_of, grown_at, store_of};
 ghost use Rattle.star_history.specs.Kept.{rows_of_all};
-ghost use Rattle.star_history.specs.Keyed.{HasKeyNumbers, IsKeyed, KeyedStore, joined_by_keys, kept_by_keys, plain};
+ghost use Rattle.star_history.specs.Keyed.{HasKeyNumbers, IsKeyed, KeyedStore, joined_by_keys, kept_by_keys, number_by_key, plain};
 ghost use Rattle.star_history.specs.Read.{NamesItsPlaces, item_value_by_key, item_value_of, value_by_key};
 ghost use Rattle.star_history.specs.Settled.{IsSettled};
 ghost use Rattle.star_history.specs.Store.{PlainVersion, Store, empty_store, rows_in};
@@ -76,6 +78,14 @@ pub fn key_numbers_stand_for_keys()
     ensures { (store : KeyedStore) (query : Query) (snapshot : ℕ) →
         IsOver store.schema query → IsKeyed store →
         kept_by_keys store query snapshot ≡ kept (plain store) query snapshot }
+{}
+
+/// The key numbers of a version are those that its foreign keys give, one for each dimension that there
+/// may be, and 0 for one that no column references.
+pub fn key_numbers_are_found_by_keys()
+    ensures { (schema : Schema) (dimensions : List (List DimensionRow)) (version : Version) →
+        HasKeyNumbers schema dimensions version →
+        version.keys ≡ map (number_by_key schema dimensions version.row) (range_with_len 0 KEYS_IN_A_VERSION) }
 {}
 
 /// A version joined by its key numbers has the values that are read by them: at each place of a query's

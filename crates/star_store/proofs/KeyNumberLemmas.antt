@@ -1,9 +1,9 @@
 -- The key numbers of a row, dimension by dimension.
-use Rattle.std.proofs.Common.{◌≡◌, ℕ, suc, ◌+◌, ◌-◌, ◌<◌, ◌≤◌, Bool, true, false, ◌||◌, ◌==◌, List, [], ◌∷◌, length, map, get_or, set, Option, Some, None, is_none, IfSome, option_map, refl, ap, sym, subst, ◌∙◌, arith, ⊎_elim}
+use Rattle.std.proofs.Common.{◌≡◌, ℕ, zero, suc, ◌+◌, ◌-◌, ◌<◌, ◌≤◌, Bool, true, false, ◌||◌, ◌==◌, List, [], ◌∷◌, length, map, get_or, replicate, set, Option, Some, None, is_none, IfSome, option_map, refl, ap, sym, subst, ◌∙◌, arith, ⊎_elim}
 use Rattle.std.specs.Prelude.{IsTrue, position}
 use Rattle.std.specs.List.{All, list_any, range_with_len}
 use Rattle.std.specs.Option.{option_map_or}
-use Rattle.std.proofs.lemmas.Bool.{cases_lt}
+use Rattle.std.proofs.lemmas.Bool.{cases_eq, cases_lt}
 use Rattle.std.proofs.lemmas.Bool.Decides.{Decides-eqb}
 use Rattle.std.proofs.lemmas.List.{get_or-map, get_or-set_same, get_or-set_other, length-set}
 use Rattle.std.proofs.lemmas.List.Quantifiers.{position-Some}
@@ -22,19 +22,28 @@ use Rattle.star_history.specs.Store.{rows_in}
 use Rattle.star_store.specs.Loads.{dangles, dangles_at}
 use Rattle.star_store.specs.Parts.{AreKeyNumbers, AreReferences}
 
--- the key numbers for the dimensions before one are found, and a foreign key dangles where it is one for those that are left
+-- the key numbers for the dimensions before one are found, those of dimensions that no column references are 0, and a
+-- foreign key dangles where it is one for those that are left
 pub record IsKeyedTo (schema : Schema) (dimensions : List (List DimensionRow)) (row : List cell.Value) (keys : List ℕ) (dimension count : ℕ) : Type 0 where
   pub all : count ≡ length schema.dimensions
   pub full : length keys ≡ 8
   pub found : (k : ℕ) → k < dimension → IfSome (foreign_key schema k row) (λ key. index_of (rows_in dimensions k) key ≡ Some (get_or keys k 0))
+  pub others : (k : ℕ) → foreign_key schema k row ≡ None → get_or keys k 0 ≡ 0
   pub left : list_any (dangles_at schema dimensions row) (range_with_len dimension (count - dimension)) ≡ dangles schema dimensions row
 
-pub IsKeyedTo-start : (schema : Schema) (dimensions : List (List DimensionRow)) (row : List cell.Value) (keys : List ℕ) (count : ℕ)
-    → count ≡ length schema.dimensions → length keys ≡ 8 → IsKeyedTo schema dimensions row keys 0 count
-IsKeyedTo-start schema dimensions row keys count all full = record {
+-- a list of zeros has 0 at each place, and past its end
+all_zero : (n k : ℕ) → get_or {A = ℕ} (replicate n 0) k 0 ≡ 0
+all_zero zero k = refl
+all_zero (suc n) zero = refl
+all_zero (suc n) (suc k) = all_zero n k
+
+pub IsKeyedTo-start : (schema : Schema) (dimensions : List (List DimensionRow)) (row : List cell.Value) (count : ℕ)
+    → count ≡ length schema.dimensions → IsKeyedTo schema dimensions row (replicate 8 0) 0 count
+IsKeyedTo-start schema dimensions row count all = record {
   all = all;
-  full = full;
+  full = refl;
   found = λ k low. absurd (omega arith);
+  others = λ k none. all_zero 8 k;
   left = let same : count - 0 ≡ length schema.dimensions = omega arith in ap (λ n. list_any (dangles_at schema dimensions row) (range_with_len 0 n)) same;
 }
 
@@ -66,15 +75,20 @@ IsKeyedTo-dangles schema dims row keys dimension count entry columns is low many
     sym (ap (λ t. t || list_any (dangles_at schema (map (λ d. d.items) dims) row) (range_with_len (dimension + 1) (count - (dimension + 1)))) dangling)
     ∙ sym (next (dangles_at schema (map (λ d. d.items) dims) row) dimension count low) ∙ is.left
 
+no_position : (row : List cell.Value) (found : Option ℕ) → option_map (value_in row) found ≡ None → found ≡ None
+no_position row None none = refl
+no_position row (Some place) none = cc
+
 -- one dimension more
 pub IsKeyedTo-next : (schema : Schema) (dims : List (Roomy DimensionRow)) (row : List cell.Value) (keys : List ℕ) (dimension count place : ℕ)
     (entry : Roomy DimensionRow) (columns : List (Option ℕ))
     → IsKeyedTo schema (map (λ d. d.items) dims) row keys dimension count → dimension < count → count ≤ 8 → length dims ≡ length schema.dimensions
     → AreReferences schema columns → entry ≡ get_or dims dimension entry
     → IfSome (option_map (value_in row) (get_or columns dimension None)) (λ key. index_of entry.items key ≡ Some place)
+    → (get_or columns dimension None ≡ None → place ≡ 0)
     → false ≡ option_map_or (λ key. is_none (index_of entry.items key)) (option_map (value_in row) (get_or columns dimension None)) false
     → IsKeyedTo schema (map (λ d. d.items) dims) row (set keys dimension place) (dimension + 1) count
-IsKeyedTo-next schema dims row keys dimension count place entry columns is low few many references at there missing =
+IsKeyedTo-next schema dims row keys dimension count place entry columns is low few many references at there other missing =
     let all = is.all in
     let full = is.full in
     let rows = rows_at dims dimension entry (omega arith) at in
@@ -98,6 +112,14 @@ IsKeyedTo-next schema dims row keys dimension count place entry columns is low f
           (subst (λ p. IfSome (foreign_key schema dimension row) (λ key. index_of (rows_in (map (λ d. d.items) dims) dimension) key ≡ Some p))
           (sym (get_or-set_same keys dimension place 0 (omega arith))) own))
           (cases_lt k dimension);
+      others = λ k none.
+          ⊎_elim
+          (λ same.
+          subst (λ j. get_or (set keys dimension place) j 0 ≡ 0) same
+          (get_or-set_same keys dimension place 0 (omega arith)
+          ∙ other (column ∙ no_position row _ (subst (λ j. foreign_key schema j row ≡ None) (sym same) none))))
+          (λ apart. get_or-set_other keys dimension k place 0 (λ same. apart (sym same)) ∙ is.others k none)
+          (cases_eq dimension k);
       left = ap (λ t. t || list_any (dangles_at schema (map (λ d. d.items) dims) row) (range_with_len (dimension + 1) (count - (dimension + 1)))) (sym kept)
           ∙ sym (next (dangles_at schema (map (λ d. d.items) dims) row) dimension count low) ∙ is.left;
     }
@@ -127,11 +149,15 @@ pub IsKeyedTo-all : (schema : Schema) (dimensions : List (List DimensionRow)) (r
 IsKeyedTo-all schema dimensions row keys dimension count is over declared =
     let none : count - dimension ≡ 0 = omega arith in
     let all = is.all in (
-      λ k.
-          ⊎_elim (λ low. is.found k (omega arith))
-          (λ high.
-          let nothing : foreign_key schema k row ≡ None = ap (option_map (value_in row)) (unreferenced schema k (fact_columns schema) _ refl declared.references (omega arith)) in
-          subst (λ key. IfSome key (λ key. index_of (rows_in dimensions k) key ≡ Some (get_or keys k 0))) (sym nothing) tt)
-          (cases_lt k count),
+      record {
+        count = is.full;
+        places = λ k.
+            ⊎_elim (λ low. is.found k (omega arith))
+            (λ high.
+            let nothing : foreign_key schema k row ≡ None = ap (option_map (value_in row)) (unreferenced schema k (fact_columns schema) _ refl declared.references (omega arith)) in
+            subst (λ key. IfSome key (λ key. index_of (rows_in dimensions k) key ≡ Some (get_or keys k 0))) (sym nothing) tt)
+            (cases_lt k count);
+        others = is.others;
+      },
       ap (λ n. list_any (dangles_at schema dimensions row) (range_with_len dimension n)) (sym none) ∙ is.left,
     )

@@ -106,8 +106,13 @@ AreMadeOf-next schema dimensions commit rows left more row versions version len 
       ∙ ap (λ xs. map plain_version versions ++ versions_by commit xs) (sym next) ∙ is.made;
   keyed =
       All-push (HasKeyNumbers schema dimensions) versions version is.keyed
-      (λ dimension. placed (rows_in dimensions dimension) (foreign_key schema dimension version.row) version.begin (get_or version.keys dimension 0)
-      (subst (λ c. All (λ entry. entry.commit ≤ c) (rows_in dimensions dimension)) (sym begun) (loaded dimension)) (numbers dimension));
+      (record {
+        count = numbers.count;
+        places = λ dimension.
+            placed (rows_in dimensions dimension) (foreign_key schema dimension version.row) version.begin (get_or version.keys dimension 0)
+            (subst (λ c. All (λ entry. entry.commit ≤ c) (rows_in dimensions dimension)) (sym begun) (loaded dimension)) (numbers.places dimension);
+        others = numbers.others;
+      });
   taken =
       ap (λ t. t || list_any (dangles schema dimensions) more) kept
       ∙ sym (ap (list_any (dangles schema dimensions)) next) ∙ is.taken;
