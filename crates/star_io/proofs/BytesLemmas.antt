@@ -1,18 +1,10 @@
--- What pieces that were read or written one after another come to.
+-- What pieces that were written one after another come to.
 use Rattle.std.proofs.Common.{◌≡◌, ℕ, ◌-◌, ◌<◌, List, [], ◌++◌, Option, length, take, drop, refl, sym, ap, ◌∙◌, subst, arith, append_assoc, take-append-drop, length-append}
 use Rattle.std.proofs.lemmas.List.{take_rest}
 use Rattle.std.proofs.Math.Seq.{take-append_seam}
-use Rattle.std.specs.Io.KnownBytes.{Appends, Consumes, Keeps}
-use Rattle.std.proofs.KnownBytes.{Consumes-nil, Consumes-trans, Appends-nil, Appends-trans, Appends-kept}
-use Rattle.star_io.specs.Transfer.{AppendsFront, TakesPiece}
-
--- nothing was read, and nothing is kept
-pub Consumes-none : (left : Option (List ℕ)) (kept : List ℕ) → kept ≡ [] → Consumes left left kept
-Consumes-none left kept e = subst (Consumes left left) (sym e) (Consumes-nil left)
-
--- what was kept is what was read, and stays so when a piece comes
-pub Consumes-piece : (a b c : Option (List ℕ)) (old new : List ℕ) → Consumes a b old → TakesPiece b c old new → Consumes a c new
-Consumes-piece a b c old new kept (piece, grown, read) = subst (Consumes a c) (sym grown) (Consumes-trans a b c old piece kept read)
+use Rattle.std.specs.Io.KnownBytes.{Appends, Keeps}
+use Rattle.std.proofs.KnownBytes.{Appends-nil, Appends-trans, Appends-kept}
+use Rattle.star_io.specs.Transfer.{AppendsFront}
 
 -- all of the text but the rest was appended
 pub record Written (a b : Option (List ℕ)) (text rest : List ℕ) : Type 0 where

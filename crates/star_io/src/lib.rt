@@ -6,7 +6,6 @@ mod failed;
 mod laws;
 mod list_sink;
 mod piece_source;
-mod read_end;
 mod run_end;
 mod sink;
 mod source;
@@ -18,13 +17,12 @@ pub use failed::Failed;
 pub use laws::one_more_is_a_rise;
 pub use list_sink::ListSink;
 pub use piece_source::PieceSource;
-pub use read_end::{ReadAll, ReadEnd};
 pub use run_end::RunEnd;
 pub use sink::Sink;
 pub use source::Source;
 pub use std_sink::StdSink;
 pub use std_source::StdSource;
-pub use transfer::{read_all, write_all};
+pub use transfer::write_all;
 
 #[cfg(test)]
 mod fault_tests;

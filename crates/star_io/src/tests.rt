@@ -1,58 +1,48 @@
 //! What no clause says: that calls succeed while there is memory, and what the generic functions
 //! do at the sources and sinks of this crate.
-ghost use Rattle.std.specs.Prelude.{◌<◌};
-
-use crate::{
-    Failed, ListSink, PieceSource, ReadEnd, Sink, Source, StdSink, StdSource, read_all, write_all,
-};
-use std::alloc::{AllocError, Global};
+use crate::{Failed, ListSink, PieceSource, Sink, Source, StdSink, StdSource, write_all};
 use std::test::Fail;
 
-/// A source of the nine bytes `starquery`.
-fn nine_bytes(alloc: Global, piece: usize, fails: &[u64]) -> Result<PieceSource, AllocError>
-    requires { 0 < piece }
-{
-    let bytes = b"starquery".to_vec(alloc)?;
-    Ok(PieceSource::new(bytes, piece, fails.to_vec(alloc)?))
-}
-
-#[test]
-fn a_source_is_read_to_its_end_in_any_pieces(rt: HostRuntime) -> Result<(), Fail> {
-    for piece in [1, 7, 9] {
-        let mut source = nine_bytes(rt.alloc(), piece, &[])?;
-        let all = read_all(rt.alloc(), &mut source, 100);
-        assert_eq!(rt; all.end, ReadEnd::Ended);
-        assert_eq!(rt; all.bytes.as_slice(), b"starquery".as_slice());
+/// Whether a read into four bytes gives these.
+fn gives<S: Source>(source: &mut S, given: Result<&str, Failed>) -> bool {
+    let mut into = [0; 4];
+    match (source.read(&mut into), given) {
+        (Ok(n), Ok(text)) => &into[..n] == text.as_bytes(),
+        (Err(Failed), Err(Failed)) => true,
+        _ => false,
     }
-    Ok(())
 }
 
 #[test]
-fn the_limit_is_met_exactly_and_passed_by_one_byte(rt: HostRuntime) -> Result<(), Fail> {
-    let cases = [
-        (9, ReadEnd::Ended, b"starquery".as_slice()),
-        (8, ReadEnd::Limit, b"starquery".as_slice()),
-        (4, ReadEnd::Limit, b"starq".as_slice()),
-        (0, ReadEnd::Limit, b"s".as_slice()),
-    ];
-    for (limit, end, bytes) in cases {
-        let mut source = nine_bytes(rt.alloc(), 7, &[])?;
-        let all = read_all(rt.alloc(), &mut source, limit);
-        assert_eq!(rt; all.end, end, "at {limit}");
-        assert_eq!(rt; all.bytes.as_slice(), bytes, "at {limit}");
+fn a_source_gives_its_bytes_in_pieces_and_fails_where_it_is_told_to(
+    rt: HostRuntime,
+) -> Result<(), Fail> {
+    for (piece, fails, reads) in [
+        (
+            3,
+            [].as_slice(),
+            [Ok("sta"), Ok("rqu"), Ok("ery"), Ok("")].as_slice(),
+        ),
+        (
+            9,
+            [0, 2].as_slice(),
+            [
+                Err(Failed),
+                Ok("star"),
+                Err(Failed),
+                Ok("quer"),
+                Ok("y"),
+                Ok(""),
+            ]
+            .as_slice(),
+        ),
+    ] {
+        let bytes = b"starquery".to_vec(rt.alloc())?;
+        let mut source = PieceSource::new(bytes, piece, fails.to_vec(rt.alloc())?);
+        for given in reads {
+            assert!(rt; gives(&mut source, *given), "{given:?} at {piece}");
+        }
     }
-    Ok(())
-}
-
-#[test]
-fn a_fault_in_mid_stream_keeps_the_bytes_before_it(rt: HostRuntime) -> Result<(), Fail> {
-    let mut source = nine_bytes(rt.alloc(), 2, &[2])?;
-    let before = read_all(rt.alloc(), &mut source, 100);
-    assert_eq!(rt; before.end, ReadEnd::Fault);
-    assert_eq!(rt; before.bytes.as_slice(), b"star".as_slice());
-    let after = read_all(rt.alloc(), &mut source, 100);
-    assert_eq!(rt; after.end, ReadEnd::Ended);
-    assert_eq!(rt; after.bytes.as_slice(), b"query".as_slice());
     Ok(())
 }
 
@@ -76,12 +66,9 @@ fn a_text_is_written_up_to_the_first_fault(rt: HostRuntime) -> Result<(), Fail> 
 #[test]
 fn a_reader_and_a_writer_of_std_serve(rt: HostRuntime) -> Result<(), Fail> {
     let mut source = StdSource::new(b"starquery".as_slice());
-    let mut into = [0; 4];
-    assert_eq!(rt; source.read(&mut into), Ok(4));
-    assert_eq!(rt; into.as_slice(), b"star".as_slice());
-    let all = read_all(rt.alloc(), &mut source, 100);
-    assert_eq!(rt; all.end, ReadEnd::Ended);
-    assert_eq!(rt; all.bytes.as_slice(), b"query".as_slice());
+    for given in ["star", "quer", "y", ""] {
+        assert!(rt; gives(&mut source, Ok(given)), "at {given}");
+    }
     let mut kept = Vec::new(rt.alloc());
     let mut sink = StdSink::new(&mut kept);
     assert_eq!(rt; write_all(&mut sink, b"star"), Ok(()));
