@@ -43,10 +43,10 @@ fn tokens_of(alloc: Global, line: &str) -> Result<Tokens, Fail> {
 }
 
 #[test]
-fn lines_have_these_tokens(rt: HostRuntime) -> Result<(), Fail> {
-    let cases: [(&str, &[Token], Option<u32>); 12] = [
-        ("", &[], None),
-        (" \t ", &[], None),
+fn words_and_signs_have_these_tokens(rt: HostRuntime) -> Result<(), Fail> {
+    let cases: [(&str, &[Token]); 5] = [
+        ("", &[]),
+        (" \t ", &[]),
         (
             "select Count(*)",
             &[
@@ -56,7 +56,6 @@ fn lines_have_these_tokens(rt: HostRuntime) -> Result<(), Fail> {
                 sign(5, 13, 13),
                 sign(1, 14, 14),
             ],
-            None,
         ),
         (
             "a<>b<=_c1",
@@ -67,7 +66,6 @@ fn lines_have_these_tokens(rt: HostRuntime) -> Result<(), Fail> {
                 sign(10, 4, 5),
                 word(6, 8),
             ],
-            None,
         ),
         (
             ",.;=!=<\t<=>>= = ",
@@ -83,8 +81,19 @@ fn lines_have_these_tokens(rt: HostRuntime) -> Result<(), Fail> {
                 sign(12, 11, 12),
                 sign(6, 14, 14),
             ],
-            None,
         ),
+    ];
+    for (line, wanted) in cases {
+        let tokens = tokens_of(rt.alloc(), line)?;
+        assert_eq!(rt; tokens.as_slice(), wanted, "at {line}");
+        assert!(rt; tokens.bad().is_none(), "at {line}");
+    }
+    Ok(())
+}
+
+#[test]
+fn literals_have_these_tokens_up_to_a_bad_place(rt: HostRuntime) -> Result<(), Fail> {
+    let cases: [(&str, &[Token], Option<u32>); 7] = [
         (
             "-12,007",
             &[integer(-12, 0, 2), sign(2, 3, 3), integer(7, 4, 6)],
