@@ -25,8 +25,8 @@ use Rattle.core_state.specs.Submitting.{after_abandoning, empty_seat, forgotten,
 use Rattle.core_state.specs.Tables.{tables_of, versions_in}
 use Rattle.core_state.proofs.AcceptedLemmas.{find-holds}
 use Rattle.core_state.proofs.FoundLemmas.{find-passes, life-written, some-at, with_life-found, with_life-numbers}
-use Rattle.core_state.proofs.LetGoLemmas.{LivesAs, batches-let-go, filters-let-go, hands-let-go, kept-let-go, let_go, queries-let-go}
-use Rattle.core_state.proofs.SeatLemmas.{Told, Wanted, awaited-there, seat-fewer, seat-let-go, seats-let-go}
+use Rattle.core_state.proofs.AnewLemmas.{LivesAs, StayTaken, batches-anew, filters-anew, forgets, hands-anew, kept-anew, kept_anew, queries-anew}
+use Rattle.core_state.proofs.SeatLemmas.{Told, Wanted, awaited-there, part-stays, seat-anew, seat-fewer, seats-anew}
 
 -- the life of a query that has no answer
 record IsLost (lost : Life) : Type 0 where
@@ -41,29 +41,31 @@ abandoned = record { kept = λ state accepted extent none. none; rostered = tt; 
 spoiled : IsLost life.Spoiled
 spoiled = record { kept = λ state accepted extent none. none; rostered = tt; gets = refl; closed = refl }
 
--- a core is sound where a query is let go, and its seats are
-sound-let-go : (query : ℕ) (old lost : Life) (state : State) (seats : List Seat) → IsLost lost → life_in state.lives.queries query ≡ Some old
+-- a core is sound where a query has no answer, and its seats are
+sound-lost : (query : ℕ) (old lost : Life) (state : State) (seats : List Seat) → IsLost lost → life_in state.lives.queries query ≡ Some old
     → managed.IsSound (record state.lives { queries = with_life query lost state.lives.queries }) → length seats ≡ length state.seats
-    → AreSoundSeats (let_go state query (with_life query lost state.lives.queries) seats) → IsSound state
-    → IsSound (let_go state query (with_life query lost state.lives.queries) seats)
-sound-let-go query old lost state seats is_lost was lives count sound_seats sound = record {
-  filters = filters-let-go state query queries seats sound.filters;
-  batches = batches-let-go state query queries seats
+    → StayTaken state.seats seats
+    → AreSoundSeats (kept_anew state (forgotten query) (with_life query lost state.lives.queries) seats state.scan) → IsSound state
+    → IsSound (kept_anew state (forgotten query) (with_life query lost state.lives.queries) seats state.scan)
+sound-lost query old lost state seats is_lost was lives count stay sound_seats sound = record {
+  settings = sound.settings;
+  filters = filters-anew state (forgotten query) (forgets query) queries seats state.scan sound.filters;
+  batches = batches-anew state (forgotten query) (forgets query) queries seats state.scan
       (λ number on. life-written MayBeOnRoster query old lost state.lives.queries number was (λ h. is_lost.rostered) on) sound.batches;
-  hands = hands-let-go state query queries seats count sound.hands;
-  queries = queries-let-go state query queries seats (with_life-numbers query lost state.lives.queries)
-      (λ accepted of_query. with_life-found (LivesAs (let_go state query queries seats) accepted (forgotten query accepted)) query lost
+  hands = hands-anew state (forgotten query) (forgets query) queries seats state.scan count sound.hands;
+  queries = queries-anew state (forgotten query) (forgets query) queries seats state.scan (with_life-numbers query lost state.lives.queries)
+      (λ accepted there of_query. with_life-found (LivesAs (kept_anew state (forgotten query) queries seats state.scan) accepted (forgotten query accepted)) query lost
       state.lives.queries accepted.number
       (λ entry found same. (
-        is_lost.kept (let_go state query queries seats) (forgotten query accepted) entry.extent
+        is_lost.kept (kept_anew state (forgotten query) queries seats state.scan) (forgotten query accepted) entry.extent
             (ap (λ t. (cond {A = Accepted} t (record accepted { groups = None }) accepted).groups) (eq-eqb accepted.number query same)),
         λ opens. absurd (let both : true ≡ false = sym opens ∙ is_lost.closed in cc),
         some-at (λ e. e.extent ≤ versions_in state) (query_in state.lives.queries accepted.number) entry found of_query.within,
       ))
       (λ entry found apart.
-      subst (λ given. LivesAs (let_go state query queries seats) accepted given entry)
+      subst (λ given. LivesAs (kept_anew state (forgotten query) queries seats state.scan) accepted given entry)
       (sym (ap (λ t. cond {A = Accepted} t (record accepted { groups = None }) accepted) (ne_eqb accepted.number query apart))) (
-        kept-let-go state query queries seats accepted entry.extent entry.life
+        kept-anew state (forgotten query) queries seats stay accepted entry.extent entry.life
             (some-at (λ e. IsKept state accepted e.extent e.life) (query_in state.lives.queries accepted.number) entry found of_query.kept),
         some-at (λ e. IsTrue (is_open e.life) → (position : ℕ) → IfSome (slice_get (tables_of state).versions position)
             (λ version. (version.begin ≤ accepted.snapshot) ↔ (position < e.extent)))
@@ -117,12 +119,13 @@ sound-wanting query state can sound = by_life (life_in state.lives.queries query
     queries = with_life query life.Spoiled state.lives.queries
 
     by_life : (o : Option Life) → life_in state.lives.queries query ≡ o → option_map_or is_begun o false ≡ true
-        → IsSound (let_go state query queries state.seats)
+        → IsSound (kept_anew state (forgotten query) queries state.seats state.scan)
     by_life None was e = absurd (let both : false ≡ true = e in cc)
     by_life (Some old) was e =
-        sound-let-go query old life.Spoiled state state.seats spoiled was (sound-after_spoil query state.lives sound.slots.lives) refl
-        (seats-let-go state query queries state.seats refl (λ seat. refl)
-        (λ k d low. seat-let-go state query queries state.seats (get_or state.seats k d)
+        sound-lost query old life.Spoiled state state.seats spoiled was (sound-after_spoil query state.lives sound.slots.lives) refl
+        (λ seat number has. has)
+        (seats-anew state (forgotten query) (forgets query) queries state.seats state.scan refl (λ seat. refl)
+        (λ k d low. seat-anew state (forgotten query) (forgets query) queries state.seats state.scan (get_or state.seats k d)
         (λ j p inside. life-written Wanted query old life.Spoiled state.lives.queries (get_or (get_or state.seats k d).pending j p).statement was
         (λ h is. cc))
         (told-open query old life.Spoiled state was (begun-open old e)) (sound.seats.each k d low)) sound.seats) sound
@@ -130,17 +133,15 @@ sound-wanting query state can sound = by_life (life_in state.lives.queries query
 -- nobody waits for a query any more whose seat does not
 sound-unpending : (query seat : ℕ) (old : Life) (state : State) → life_in state.lives.queries query ≡ Some old → is_open old ≡ true
     → Contains (seat_at state seat).submitted query → IsSound state
-    → IsSound (let_go state query (with_life query life.Abandoned state.lives.queries)
-    (set state.seats seat (without_pending query (get_or state.seats seat empty_seat))))
+    → IsSound (kept_anew state (forgotten query) (with_life query life.Abandoned state.lives.queries)
+    (set state.seats seat (without_pending query (get_or state.seats seat empty_seat))) state.scan)
 sound-unpending query seat old state was opens submits sound =
-    sound-let-go query old life.Abandoned state seats abandoned was (sound-after_abandon query state.lives sound.slots.lives)
+    sound-lost query old life.Abandoned state seats abandoned was (sound-after_abandon query state.lives sound.slots.lives)
     (length-set state.seats seat without)
-    (seats-let-go state query queries seats (length-set state.seats seat without)
-    (λ other. ⊎_elim
-    (λ same. subst (λ n. (get_or seats n empty_seat).submitted ≡ (get_or state.seats n empty_seat).submitted) (sym same)
-    (ap (λ (s : Seat). s.submitted) (get_or-set_same state.seats seat without empty_seat there)))
-    (λ apart. ap (λ (s : Seat). s.submitted) (get_or-set_other state.seats seat other without empty_seat apart))
-    (cases_eq other seat))
+    (λ other number. subst (λ taken. Contains (map (λ t. t.statement) taken) number)
+    (sym (part-stays (λ (s : Seat). s.taken) state.seats seat without there refl other)))
+    (seats-anew state (forgotten query) (forgets query) queries seats state.scan (length-set state.seats seat without)
+    (part-stays (λ (s : Seat). s.submitted) state.seats seat without there refl)
     (λ k d low. each k d (subst (λ n. k < n) (length-set state.seats seat without) low) (cases_eq k seat)) sound.seats) sound
   where
     queries : List QueryLife
@@ -168,11 +169,11 @@ sound-unpending query seat old state was opens submits sound =
         (λ after. sound.seats.apart seat k d (omega arith) low query submits_so has) (cases_lt k seat)
 
     each : (k : ℕ) (d : Seat) → k < length state.seats → (k ≡ seat) ⊎ (k ≢ seat)
-        → IsSoundSeat (let_go state query queries seats) (get_or seats k d)
+        → IsSoundSeat (kept_anew state (forgotten query) queries seats state.scan) (get_or seats k d)
     each k d low (inl same) =
-        subst (λ n. IsSoundSeat (let_go state query queries seats) (get_or seats n d)) (sym same)
-        (subst (IsSoundSeat (let_go state query queries seats)) (sym (get_or-set_same state.seats seat without d there))
-        (seat-let-go state query queries seats without
+        subst (λ n. IsSoundSeat (kept_anew state (forgotten query) queries seats state.scan) (get_or seats n d)) (sym same)
+        (subst (IsSoundSeat (kept_anew state (forgotten query) queries seats state.scan)) (sym (get_or-set_same state.seats seat without d there))
+        (seat-anew state (forgotten query) (forgets query) queries seats state.scan without
         (All-weaker (λ pending. not (eqb pending.statement query) ≡ true)
         (λ pending. IfSome (life_in state.lives.queries pending.statement) Wanted → IfSome (life_in queries pending.statement) Wanted)
         (λ pending other. still pending.statement
@@ -183,8 +184,8 @@ sound-unpending query seat old state was opens submits sound =
     each k d low (inr apart) =
         let here = get_or state.seats k d in
         let of_seat : IsSoundSeat state here = sound.seats.each k d low in
-        subst (IsSoundSeat (let_go state query queries seats)) (sym (get_or-set_other state.seats seat k without d apart))
-        (seat-let-go state query queries seats here
+        subst (IsSoundSeat (kept_anew state (forgotten query) queries seats state.scan)) (sym (get_or-set_other state.seats seat k without d apart))
+        (seat-anew state (forgotten query) (forgets query) queries seats state.scan here
         (All-weaker (λ pending. Contains here.submitted pending.statement)
         (λ pending. IfSome (life_in state.lives.queries pending.statement) Wanted → IfSome (life_in queries pending.statement) Wanted)
         (λ pending has. still pending.statement
@@ -199,8 +200,8 @@ sound-abandoned query state can sound = by_accepted (accepted_at state.accepted 
     life_open = open-life (life_in state.lives.queries query) can
 
     by_accepted : (o : Option Accepted) → accepted_at state.accepted query ≡ o
-        → IsSound (option_map_or (λ accepted. let_go state query (with_life query life.Abandoned state.lives.queries)
-        (set state.seats accepted.seat (without_pending query (get_or state.seats accepted.seat empty_seat)))) o state)
+        → IsSound (option_map_or (λ accepted. kept_anew state (forgotten query) (with_life query life.Abandoned state.lives.queries)
+        (set state.seats accepted.seat (without_pending query (get_or state.seats accepted.seat empty_seat))) state.scan) o state)
     by_accepted None is = sound
     by_accepted (Some accepted) is =
         let same : accepted.number ≡ query = eqb-true accepted.number query (find-passes (λ a. eqb a.number query) state.accepted accepted is) in

@@ -46,7 +46,7 @@ number-found {X = X} number_of (x ∷ xs) number = by_test (eqb (number_of x) nu
     by_test false rest = rest
 
 -- who holds a slot has a life
-held-life : (lives : Lives) (slot query built : ℕ) → managed.IsSound lives → slot < length lives.slots
+pub held-life : (lives : Lives) (slot query built : ℕ) → managed.IsSound lives → slot < length lives.slots
     → slot_at lives slot ≡ Held query built → IsSome (query_in lives.queries query)
 held-life lives slot query built sound there holds = by_found (query_in lives.queries query) (sound.held query)
   where

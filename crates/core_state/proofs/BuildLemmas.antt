@@ -11,6 +11,7 @@ use Rattle.star_plan.specs.Joined.{takes}
 use Rattle.star_plan.specs.Test.{Query, Selection}
 use Rattle.star_history.specs.Store.{rows_in}
 use Rattle.dimension_rows.specs.declared.dimension_row.DimensionRow.{DimensionRow}
+use Rattle.dimension_filter.specs.Changes.{filter_with}
 use Rattle.dimension_filter.specs.Filter.{Filter, vector_of}
 use Rattle.dimension_filter.proofs.AddLemmas.{added-ascends, added-encoded, added-others, added-sound, added-stored}
 use Rattle.dimension_filter.proofs.SlotLemmas.{complement-here, complement-other}
@@ -23,7 +24,7 @@ use Rattle.pipeline_manager.specs.declared.life.SlotState.{SlotState}
 use Rattle.pipeline_manager.specs.declared.life.SlotState.TheVariants.{Free, Held, Clearing}
 use Rattle.pipeline_manager.proofs.HolderLemmas.{built_of-holder, slot_of-begun}
 use Rattle.pipeline_manager.proofs.LawLemmas.{sound-after_built}
-use Rattle.core_state.specs.Admitting.{after_build, filter_with, selection_in, versions_in_hands, with_version}
+use Rattle.core_state.specs.Admitting.{after_build, selection_in, versions_in_hands, with_version}
 use Rattle.core_state.specs.Cutting.{gets_rows}
 use Rattle.core_state.specs.Flown.{Encodes, FitsSlot, IsClearOf, IsSoundFilter, MayBeOnRoster}
 use Rattle.core_state.specs.Found.{accepted_at}

@@ -2,6 +2,7 @@
 use Rattle.std.proofs.Common.{◌≡◌, ℕ, ◌<◌, ◌^◌, length, refl, sym, ◌∙◌, subst}
 use Rattle.bit_words.specs.Sets.{without}
 use Rattle.bit_words.proofs.SetLemmas.{Has-less}
+use Rattle.dimension_filter.specs.Changes.{filter_without}
 use Rattle.dimension_filter.specs.Filter.{Filter}
 use Rattle.dimension_filter.proofs.ClearLemmas.{left-ascends, left-clear, left-others, left-sound, left-stored}
 use Rattle.dimension_filter.proofs.SlotLemmas.{taken-here, taken-other}
@@ -12,7 +13,7 @@ use Rattle.pipeline_manager.specs.Sound as managed
 use Rattle.pipeline_manager.specs.declared.life.SlotState.{SlotState}
 use Rattle.pipeline_manager.specs.declared.life.SlotState.TheVariants.{Free, Held, Clearing}
 use Rattle.pipeline_manager.proofs.LawLemmas.{sound-after_cleared}
-use Rattle.core_state.specs.Admitting.{after_clear, filter_without, versions_in_hands, with_version}
+use Rattle.core_state.specs.Admitting.{after_clear, versions_in_hands, with_version}
 use Rattle.core_state.specs.Flown.{FitsSlot, IsSoundFilter}
 use Rattle.core_state.specs.Numbered.{last_after, next_number}
 use Rattle.core_state.specs.Sound.{IsSound}

@@ -1,5 +1,5 @@
 -- What becomes of positions and of what is kept where a batch is distributed.
-use Rattle.std.proofs.Common.{◌≡◌, ◌≢◌, ℕ, ◌++◌, Bool, true, false, cond, eqb, not, List, [], ◌∷◌, map, Option, Some, refl, sym, ap, ◌∙◌, subst, append_assoc, append-nil}
+use Rattle.std.proofs.Common.{◌≡◌, ◌≢◌, ℕ, suc, ◌+◌, ◌++◌, Bool, true, false, cond, eqb, not, List, [], ◌∷◌, length, map, Option, Some, refl, sym, ap, ◌∙◌, subst, append_assoc, append-nil, arith}
 use Rattle.std.specs.Prelude.{All, AllPairs, flat_map, slice_get}
 use Rattle.std.specs.List.{filter}
 use Rattle.std.specs.List.Sorted.{IsPermutation}
@@ -99,3 +99,23 @@ landed-permutes positions_of batch landed (flight ∷ flights) is apart =
         (IsPermutation-refl (positions_of flight ++ flat_map positions_of flights)))
     by_test false at found rest =
         to-front (positions_of flight) (positions_of landed) (flat_map positions_of (without_flight batch flights)) (flat_map positions_of flights) (rest found)
+
+-- one batch less is in flight
+pub length-landed : (batch : ℕ) (landed : Flight) (flights : List Flight) → flight_at flights batch ≡ Some landed
+    → AllPairs (λ flight other. flight.rows.number ≢ other.rows.number) flights
+    → length flights ≡ length (without_flight batch flights) + 1
+length-landed batch landed [] is apart = cc
+length-landed batch landed (flight ∷ flights) is apart =
+    by_test (eqb flight.rows.number batch) refl is
+    (λ rest. length-landed batch landed flights rest
+    (all_pairs_tail (λ f other. f.rows.number ≢ other.rows.number) flight flights apart))
+  where
+    by_test : (t : Bool) → eqb flight.rows.number batch ≡ t → cond {A = Option Flight} t (Some flight) (flight_at flights batch) ≡ Some landed
+        → (flight_at flights batch ≡ Some landed → length flights ≡ length (without_flight batch flights) + 1)
+        → length (flight ∷ flights)
+        ≡ length (cond {A = List Flight} (not t) (flight ∷ without_flight batch flights) (without_flight batch flights)) + 1
+    by_test true at found rest =
+        let here : flight.rows.number ≡ batch = eqb-true flight.rows.number batch at in
+        (omega arith) ∙ ap (λ (fs : List Flight). length fs + 1) (sym (others-fly batch flights (λ k d low number.
+        all_pairs_head (λ f other. f.rows.number ≢ other.rows.number) flight flights apart k d low (here ∙ sym number))))
+    by_test false at found rest = ap suc (rest found) ∙ (omega arith)

@@ -115,6 +115,7 @@ pub record Flies (state : State) (tallies : List Tally) (change : Flight → Fli
 pub sound-flown : (state : State) (tallies : List Tally) (change : Flight → Flight) → Flies state tallies change → IsSound state
     → IsSound (flown state tallies change)
 sound-flown state tallies change flies old = record {
+  settings = old.settings;
   filters = filters-flown state tallies change old.filters;
   batches = flies.batches;
   hands = flies.hands;

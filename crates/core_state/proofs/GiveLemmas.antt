@@ -45,7 +45,7 @@ asked-fact takes passed dimension = by_test (eqb (bit_at passed dimension) 1) re
         ((λ holds has. absurd (let both : true ≡ false = sym (eq-eqb (bit_at passed dimension) 1 has) ∙ is in cc)), (λ says. refl))
 
 -- a test that computes whether each number passes
-all-pass : (p : ℕ → Bool) (xs : List ℕ) → list_all p xs ≡ true → All (λ x. p x ≡ true) xs
+pub all-pass : (p : ℕ → Bool) (xs : List ℕ) → list_all p xs ≡ true → All (λ x. p x ≡ true) xs
 all-pass p [] holds = All-nil (λ x. p x ≡ true)
 all-pass p (x ∷ xs) holds = by_test (p x) refl holds (all-pass p xs)
   where
@@ -53,12 +53,12 @@ all-pass p (x ∷ xs) holds = by_test (p x) refl holds (all-pass p xs)
     by_test true is e rest = All-cons (λ y. p y ≡ true) x xs is (rest e)
     by_test false is e rest = absurd (let both : false ≡ true = e in cc)
 
-pass-all : (p : ℕ → Bool) (xs : List ℕ) → All (λ x. p x ≡ true) xs → list_all p xs ≡ true
+pub pass-all : (p : ℕ → Bool) (xs : List ℕ) → All (λ x. p x ≡ true) xs → list_all p xs ≡ true
 pass-all p [] all = refl
 pass-all p (x ∷ xs) all =
     ap (λ t. t && list_all p xs) (All-head (λ y. p y ≡ true) x xs all) ∙ pass-all p xs (All-tail (λ y. p y ≡ true) x xs all)
 
-all-asked : (takes : ℕ → Bool) (passed count : ℕ) → IsTrue (list_all (asked takes passed) (range_with_len 0 count))
+pub all-asked : (takes : ℕ → Bool) (passed count : ℕ) → IsTrue (list_all (asked takes passed) (range_with_len 0 count))
     ↔ ((dimension : ℕ) → dimension < count → Has passed dimension → IsTrue (takes dimension))
 all-asked takes passed count = (
   (λ holds dimension low.
@@ -87,13 +87,13 @@ asked-more takes passed dimension count low =
           (λ same. subst (λ d. IsTrue (takes d)) (sym same) both.1) ((Has-with passed dimension other).0 has))),
     )
 
-all-three : (a b c : Bool) → IsTrue (a && (b && c)) → IsTrue a × IsTrue b × IsTrue c
+pub all-three : (a b c : Bool) → IsTrue (a && (b && c)) → IsTrue a × IsTrue b × IsTrue c
 all-three true true true h = (refl, refl, refl)
 all-three true true false h = absurd (let both : false ≡ true = h in cc)
 all-three true false c h = absurd (let both : false ≡ true = h in cc)
 all-three false b c h = absurd (let both : false ≡ true = h in cc)
 
-three-all : (a b c : Bool) → IsTrue a → IsTrue b → IsTrue c → IsTrue (a && (b && c))
+pub three-all : (a b c : Bool) → IsTrue a → IsTrue b → IsTrue c → IsTrue (a && (b && c))
 three-all a b c h i j = ap (λ t. t && (b && c)) h ∙ ap (λ t. t && c) i ∙ j
 
 -- the vector of a row's key says whether a query takes the row that is joined

@@ -33,7 +33,7 @@ abbrev pub Settles : Type 0
 Settles = (history : List Change) → AcceptsAll empty_store history → IsSettled (store_of history)
 
 -- a query on a roster is one over the schema
-entry-over : (state : State) → IsSound state → (entry : OnRoster) → IsOnRoster state entry → IsOver (tables_of state).schema entry.query
+pub entry-over : (state : State) → IsSound state → (entry : OnRoster) → IsOnRoster state entry → IsOver (tables_of state).schema entry.query
 entry-over state sound entry on =
     by_accepted (accepted_at state.accepted entry.number) refl
     (held-accepted state entry.slot entry.number on.held.0 sound on.there on.held.1) on.same

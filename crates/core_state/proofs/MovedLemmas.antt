@@ -92,6 +92,7 @@ pub record Holds (state : State) (queries : List QueryLife) (slots : List SlotSt
 pub sound-held : (state : State) (queries : List QueryLife) (slots : List SlotState) (filters : Filters) (version : ℕ)
     → Holds state queries slots filters version → IsSound state → IsSound (held_now state queries slots filters version)
 sound-held state queries slots filters version now old = record {
+  settings = old.settings;
   filters = now.filters_now;
   batches = batches-held state queries slots filters version now.rosters old.batches;
   hands = hands-held state queries slots filters version old.hands;

@@ -1,8 +1,9 @@
--- What stays sound of seats where nothing is kept any more of one query.
-use Rattle.std.proofs.Common.{◌≡◌, ◌≢◌, ◌⊎◌, ℕ, ◌<◌, Bool, true, false, cond, List, [], ◌∷◌, ◌++◌, length, get_or, map, Option, Some, None, option_map, sym, ap, ◌∙◌, subst, arith}
+-- What stays sound of seats where other groups are kept of accepted queries.
+use Rattle.std.proofs.Common.{◌≡◌, ◌≢◌, ◌⊎◌, ℕ, ◌<◌, ◌≤◌, Bool, true, false, cond, List, [], ◌∷◌, ◌++◌, length, get_or, map, set, Option, Some, None, option_map, sym, ap, ◌∙◌, subst, ⊎_elim, inl, inr, arith}
 use Rattle.std.specs.Prelude.{All, AllPairs, Contains, IfSome}
 use Rattle.std.specs.List.{filter}
-use Rattle.std.proofs.lemmas.List.{get_or_default}
+use Rattle.std.proofs.lemmas.Bool.{cases_eq, cases_lt}
+use Rattle.std.proofs.lemmas.List.{get_or-set_other, get_or-set_same, get_or_default, get_or_past}
 use Rattle.std.proofs.lemmas.List.Elements.{All-cons, All-filter, All-head, All-map, All-nil, All-tail}
 use Rattle.std.proofs.lemmas.List.Kept.{AllPairs-cons}
 use Rattle.star_plan.specs.Test.{Query}
@@ -12,9 +13,9 @@ use Rattle.pipeline_manager.specs.declared.life.Life.{Life}
 use Rattle.pipeline_manager.specs.declared.life.Life.TheVariants as life
 use Rattle.pipeline_manager.specs.declared.life.QueryLife.{QueryLife}
 use Rattle.core_state.specs.Sound.{AreSoundSeats, IsAwaited, IsSoundSeat, IsTaken}
-use Rattle.core_state.specs.State.{Asked, Awaited, Pending, Replied, Seat, State}
-use Rattle.core_state.specs.Submitting.{empty_seat, forgotten}
-use Rattle.core_state.proofs.LetGoLemmas.{by-query, found-let-go, has-let-go, let_go}
+use Rattle.core_state.specs.State.{Accepted, Asked, Awaited, Pending, Replied, Scan, Seat, State}
+use Rattle.core_state.specs.Submitting.{empty_seat}
+use Rattle.core_state.proofs.AnewLemmas.{KeepsAsked, by-change, found-anew, has-anew, kept_anew}
 
 -- a query that is waited for
 abbrev pub Wanted : Life → Type 0
@@ -24,42 +25,53 @@ Wanted now = now ≢ life.Abandoned
 abbrev pub Told : Life → Type 0
 Told now = (now ≡ life.Answered) ⊎ (now ≡ life.Spoiled)
 
-awaited-let-go : (state : State) (query : ℕ) (queries : List QueryLife) (seats : List Seat) (statement : ℕ) (awaited : Awaited)
+awaited-anew : (state : State) (change : Accepted → Accepted) → KeepsAsked change → (queries : List QueryLife) (seats : List Seat) (scan : Scan) (statement : ℕ) (awaited : Awaited)
     → (IfSome (life_in state.lives.queries statement) Wanted → IfSome (life_in queries statement) Wanted)
-    → IsAwaited state statement awaited → IsAwaited (let_go state query queries seats) statement awaited
-awaited-let-go state query queries seats statement (Replied reply) wanted old =
-    found-let-go query statement state.accepted ∙ ap (option_map (forgotten query)) old
-awaited-let-go state query queries seats statement (Asked asked snapshot) wanted old =
-    (has-let-go state query queries seats statement asked snapshot old.0, wanted old.1)
+    → IsAwaited state statement awaited → IsAwaited (kept_anew state change queries seats scan) statement awaited
+awaited-anew state change keeps queries seats scan statement (Replied reply) wanted old =
+    found-anew change keeps statement state.accepted ∙ ap (option_map change) old
+awaited-anew state change keeps queries seats scan statement (Asked asked snapshot) wanted old =
+    (has-anew state change keeps queries seats scan statement asked snapshot old.0, wanted old.1)
 
-taken-let-go : (state : State) (query : ℕ) (queries : List QueryLife) (seats : List Seat) (statement : ℕ) (asked : Option (Query × ℕ))
+taken-anew : (state : State) (change : Accepted → Accepted) → KeepsAsked change → (queries : List QueryLife) (seats : List Seat) (scan : Scan) (statement : ℕ) (asked : Option (Query × ℕ))
     → (IfSome (life_in state.lives.queries statement) Told → IfSome (life_in queries statement) Told)
-    → IsTaken state statement asked → IsTaken (let_go state query queries seats) statement asked
-taken-let-go state query queries seats statement None told old = tt
-taken-let-go state query queries seats statement (Some asked) told old =
-    (has-let-go state query queries seats statement asked.0 asked.1 old.0, told old.1)
+    → IsTaken state statement asked → IsTaken (kept_anew state change queries seats scan) statement asked
+taken-anew state change keeps queries seats scan statement None told old = tt
+taken-anew state change keeps queries seats scan statement (Some asked) told old =
+    (has-anew state change keeps queries seats scan statement asked.0 asked.1 old.0, told old.1)
 
 -- a seat is as sound as it was where what it waits for is still wanted
-pub seat-let-go : (state : State) (query : ℕ) (queries : List QueryLife) (seats : List Seat) (seat : Seat)
+pub seat-anew : (state : State) (change : Accepted → Accepted) → KeepsAsked change → (queries : List QueryLife) (seats : List Seat) (scan : Scan) (seat : Seat)
     → All (λ pending. IfSome (life_in state.lives.queries pending.statement) Wanted → IfSome (life_in queries pending.statement) Wanted) seat.pending
     → ((number : ℕ) → IfSome (life_in state.lives.queries number) Told → IfSome (life_in queries number) Told)
-    → IsSoundSeat state seat → IsSoundSeat (let_go state query queries seats) seat
-seat-let-go state query queries seats seat wanted told old = record {
+    → IsSoundSeat state seat → IsSoundSeat (kept_anew state change queries seats scan) seat
+seat-anew state change keeps queries seats scan seat wanted told old = record {
   rising = old.rising;
   given = old.given;
   in_order = old.in_order;
   submitted = old.submitted;
   taken = λ k d low. let taken = get_or seat.taken k d in
-      taken-let-go state query queries seats taken.statement taken.query (told taken.statement) (old.taken k d low);
+      taken-anew state change keeps queries seats scan taken.statement taken.query (told taken.statement) (old.taken k d low);
   awaited = λ k d low. let pending = get_or seat.pending k d in
-      awaited-let-go state query queries seats pending.statement pending.awaited (wanted k d low) (old.awaited k d low);
+      awaited-anew state change keeps queries seats scan pending.statement pending.awaited (wanted k d low) (old.awaited k d low);
 }
 
+-- a part of seats that is the same in a seat that is changed is the same in all
+pub part-stays : {X : Type 0} (part : Seat → X) (seats : List Seat) (seat : ℕ) (now : Seat) → seat < length seats
+    → part now ≡ part (get_or seats seat empty_seat) → (other : ℕ)
+    → part (get_or (set seats seat now) other empty_seat) ≡ part (get_or seats other empty_seat)
+part-stays part seats seat now there same other =
+    ⊎_elim
+    (λ here. subst (λ n. part (get_or (set seats seat now) n empty_seat) ≡ part (get_or seats n empty_seat)) (sym here)
+    (ap part (get_or-set_same seats seat now empty_seat there) ∙ same))
+    (λ apart. ap part (get_or-set_other seats seat other now empty_seat apart))
+    (cases_eq other seat)
+
 -- the seats and what was submitted by them stay
-pub seats-let-go : (state : State) (query : ℕ) (queries : List QueryLife) (seats : List Seat) → length seats ≡ length state.seats
+pub seats-anew : (state : State) (change : Accepted → Accepted) → KeepsAsked change → (queries : List QueryLife) (seats : List Seat) (scan : Scan) → length seats ≡ length state.seats
     → ((seat : ℕ) → (get_or seats seat empty_seat).submitted ≡ (get_or state.seats seat empty_seat).submitted)
-    → All (IsSoundSeat (let_go state query queries seats)) seats → AreSoundSeats state → AreSoundSeats (let_go state query queries seats)
-seats-let-go state query queries seats count keeps each old = record {
+    → All (IsSoundSeat (kept_anew state change queries seats scan)) seats → AreSoundSeats state → AreSoundSeats (kept_anew state change queries seats scan)
+seats-anew state change keeps queries seats scan count stays each old = record {
   count = count ∙ old.count;
   each = each;
   apart = λ i j d before low statement has other.
@@ -69,17 +81,46 @@ seats-let-go state query queries seats count keeps each old = record {
       (subst (λ submitted. Contains submitted statement) (same j d low) other);
   rising = old.rising;
   entries = λ k d low. let entry = get_or state.entries k d in
-      subst (λ submitted. Contains submitted entry.statement) (sym (keeps entry.seat)) (old.entries k d low);
-  queries = All-map (λ accepted. Contains (get_or seats accepted.seat empty_seat).submitted accepted.number) (forgotten query) state.accepted
+      subst (λ submitted. Contains submitted entry.statement) (sym (stays entry.seat)) (old.entries k d low);
+  queries = All-map (λ accepted. Contains (get_or seats accepted.seat empty_seat).submitted accepted.number) change state.accepted
       (λ k d low.
       let accepted = get_or state.accepted k d in
       let there : Contains (get_or seats accepted.seat empty_seat).submitted accepted.number =
-      subst (λ submitted. Contains submitted accepted.number) (sym (keeps accepted.seat)) (old.queries k d low) in
-      by-query (λ a. Contains (get_or seats a.seat empty_seat).submitted a.number) query accepted there there);
+      subst (λ submitted. Contains submitted accepted.number) (sym (stays accepted.seat)) (old.queries k d low) in
+      by-change (λ a. Contains (get_or seats a.seat empty_seat).submitted a.number) change keeps accepted (λ groups. there));
 }
   where
     same : (seat : ℕ) (d : Seat) → seat < length seats → (get_or seats seat d).submitted ≡ (get_or state.seats seat empty_seat).submitted
-    same seat d low = ap (λ (s : Seat). s.submitted) (get_or_default seats seat d empty_seat low) ∙ keeps seat
+    same seat d low = ap (λ (s : Seat). s.submitted) (get_or_default seats seat d empty_seat low) ∙ stays seat
+
+-- what holds of all that was taken and is waited for holds of what is waited for
+pub awaited-there : (P : ℕ → Type 0) (front : List ℕ) (pending : List Pending) → All P (front ++ map (λ p. p.statement) pending)
+    → All (λ p. P p.statement) pending
+awaited-there P [] [] all = All-nil (λ p. P p.statement)
+awaited-there P [] (first ∷ pending) all =
+    All-cons (λ p. P p.statement) first pending (All-head P first.statement (map (λ p. p.statement) pending) all)
+    (awaited-there P [] pending (All-tail P first.statement (map (λ p. p.statement) pending) all))
+awaited-there P (x ∷ front) pending all = awaited-there P front pending (All-tail P x (front ++ map (λ p. p.statement) pending) all)
+
+seat-there : (seats : List Seat) (seat number : ℕ) → Contains (get_or seats seat empty_seat).submitted number → seat < length seats
+seat-there seats seat number has = ⊎_elim (λ inside. inside)
+    (λ past. absurd (let none : Contains [] number =
+    subst (λ (s : Seat). Contains s.submitted number) (get_or_past seats seat empty_seat past) has in
+    let less = none.1 in omega arith)) (cases_lt seat (length seats))
+
+-- a number stands in one seat
+pub one-seat : (state : State) → AreSoundSeats state → (seat other number : ℕ) → Contains (get_or state.seats seat empty_seat).submitted number
+    → Contains (get_or state.seats other empty_seat).submitted number → seat ≡ other
+one-seat state sound seat other number here there = ⊎_elim (λ same. same) (λ apart. absurd (by_order apart (cases_lt seat other))) (cases_eq seat other)
+  where
+    by_order : seat ≢ other → (seat < other) ⊎ (other ≤ seat) → ⊥
+    by_order apart (inl before) = sound.apart seat other empty_seat before (seat-there state.seats other number there) number here there
+    by_order apart (inr after) = sound.apart other seat empty_seat (omega arith) (seat-there state.seats seat number here) number there here
+
+-- what a seat waits for it submitted
+pub pending-submitted : (state : State) (seat : Seat) → IsSoundSeat state seat → All (λ pending. Contains seat.submitted pending.statement) seat.pending
+pending-submitted state seat sound =
+    awaited-there (Contains seat.submitted) (map (λ taken. taken.statement) seat.taken) seat.pending sound.submitted
 
 -- what holds of a list holds without some of its end
 all-fewer : {X : Type 0} (P : ℕ → Type 0) (number_of : X → ℕ) (p : X → Bool) (front : List ℕ) (ys : List X)
@@ -123,12 +164,3 @@ seat-fewer state p seat old = record {
   taken = old.taken;
   awaited = All-filter p (λ pending. IsAwaited state pending.statement pending.awaited) seat.pending old.awaited;
 }
-
--- what a seat waits for it submitted
-pub awaited-there : (P : ℕ → Type 0) (front : List ℕ) (pending : List Pending) → All P (front ++ map (λ p. p.statement) pending)
-    → All (λ p. P p.statement) pending
-awaited-there P [] [] all = All-nil (λ p. P p.statement)
-awaited-there P [] (first ∷ pending) all =
-    All-cons (λ p. P p.statement) first pending (All-head P first.statement (map (λ p. p.statement) pending) all)
-    (awaited-there P [] pending (All-tail P first.statement (map (λ p. p.statement) pending) all))
-awaited-there P (x ∷ front) pending all = awaited-there P front pending (All-tail P x (front ++ map (λ p. p.statement) pending) all)

@@ -23,7 +23,7 @@ use Rattle.core_state.proofs.FoundLemmas.{find-passes}
 use Rattle.core_state.proofs.AcceptedLemmas.{find-holds, find-none, held-accepted}
 
 -- the present version of a filter has the queries of a roster
-encodes-there : (state : State) → IsSound state → (filter : Filter) → IsSoundFilter state filter → (entry : OnRoster) → IsOnRoster state entry
+pub encodes-there : (state : State) → IsSound state → (filter : Filter) → IsSoundFilter state filter → (entry : OnRoster) → IsOnRoster state entry
     → Encodes filter entry.slot entry.query entry.snapshot (rows_in (tables_of state).dimensions filter.dimension)
 encodes-there state sound filter of_filter entry on =
     by_accepted (accepted_at state.accepted entry.number)

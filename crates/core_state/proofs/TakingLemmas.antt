@@ -5,20 +5,20 @@ use Rattle.std.specs.List.{list_any}
 use Rattle.std.specs.Option.{option_and_then}
 use Rattle.std.proofs.lemmas.Bool.{cases_eq, cases_lt, ne_eqb}
 use Rattle.std.proofs.lemmas.List.{get_or-set_other, get_or-set_same, get_or_past, length-set, map-append}
-use Rattle.std.proofs.lemmas.List.Elements.{All-head, All-push, All-tail}
+use Rattle.std.proofs.lemmas.List.Elements.{All-contains, All-head, All-push, All-tail, Contains-append_left, Contains-push}
 use Rattle.pipeline_manager.specs.Conditions.{is_open}
 use Rattle.pipeline_manager.specs.Lives.{life_in, query_in}
 use Rattle.pipeline_manager.specs.declared.life.Life.{Life}
 use Rattle.pipeline_manager.specs.declared.life.Life.TheVariants as life
 use Rattle.pipeline_manager.specs.declared.life.QueryLife.{QueryLife}
-use Rattle.core_state.specs.Sound.{AreSoundQueries, IsAwaited, IsKept, IsSound, IsSoundQuery, IsSoundSeat, IsTaken}
+use Rattle.core_state.specs.Sound.{AreSoundQueries, HasTaken, IsAwaited, IsKept, IsSound, IsSoundQuery, IsSoundSeat, IsTaken}
 use Rattle.core_state.specs.State.{Accepted, Asked, Awaited, Pending, Replied, Seat, State, Taken}
 use Rattle.core_state.specs.Submitting.{after_taking, asked_by, empty_seat, forgotten, next_ready, ready_by, ready_to, taken_by, without_groups}
 use Rattle.core_state.specs.Tables.{tables_of, versions_in}
 use Rattle.core_state.proofs.AcceptedLemmas.{number-found}
 use Rattle.core_state.proofs.FoundLemmas.{life-found, some-at, some-by}
-use Rattle.core_state.proofs.LetGoLemmas.{LivesAs, batches-let-go, filters-let-go, hands-let-go, kept-let-go, let_go, queries-let-go}
-use Rattle.core_state.proofs.SeatLemmas.{Told, seat-let-go, seats-let-go}
+use Rattle.core_state.proofs.AnewLemmas.{LivesAs, StayTaken, by-change, batches-anew, filters-anew, forgets, hands-anew, kept-anew, kept_anew, queries-anew}
+use Rattle.core_state.proofs.SeatLemmas.{Told, one-seat, part-stays, pending-submitted, seat-anew, seats-anew}
 
 -- what is ready is no query, or one that is over
 ready-told : (state : State) (statement : ℕ) (awaited : Awaited) → AreSoundQueries state → IsAwaited state statement awaited
@@ -45,10 +45,11 @@ ready-told state statement (Asked query snapshot) queries awaited ready = by_lif
 told-closed : (now : Life) → Told now → is_open now ≡ false
 told-closed now told = ⊎_elim (λ e. ap is_open e) (λ e. ap is_open e) told
 
--- nothing has to be kept of a query that is over
-told-kept : (state : State) (accepted : Accepted) (extent : ℕ) (now : Life) → Told now → accepted.groups ≡ None → IsKept state accepted extent now
-told-kept state accepted extent now told none =
-    ⊎_elim (λ e. subst (IsKept state accepted extent) (sym e) (inl none)) (λ e. subst (IsKept state accepted extent) (sym e) none) told
+-- nothing has to be kept of a query that is over once its seat took the reply
+told-kept : (state : State) (accepted : Accepted) (extent : ℕ) (now : Life) → Told now → accepted.groups ≡ None → HasTaken state accepted
+    → IsKept state accepted extent now
+told-kept state accepted extent now told none taken =
+    ⊎_elim (λ e. subst (IsKept state accepted extent) (sym e) (inl (none, taken))) (λ e. subst (IsKept state accepted extent) (sym e) none) told
 
 -- a seat that has taken the reply to its first statement
 abbrev with_first : Pending → List Pending → Seat → Seat
@@ -79,26 +80,24 @@ seat-taken state first rest seat told old = record {
 
 sound-with_first : (seat : ℕ) (first : Pending) (rest : List Pending) (state : State)
     → (get_or state.seats seat empty_seat).pending ≡ first ∷ rest → IfSome (life_in state.lives.queries first.statement) Told → IsSound state
-    → IsSound (let_go state first.statement state.lives.queries (set state.seats seat (with_first first rest (get_or state.seats seat empty_seat))))
+    → IsSound (kept_anew state (forgotten first.statement) state.lives.queries
+    (set state.seats seat (with_first first rest (get_or state.seats seat empty_seat))) state.scan)
 sound-with_first seat first rest state is told sound = record {
-  filters = filters-let-go state first.statement queries seats sound.filters;
-  batches = batches-let-go state first.statement queries seats (λ number on. on) sound.batches;
-  hands = hands-let-go state first.statement queries seats (length-set state.seats seat with) sound.hands;
-  queries = queries-let-go state first.statement queries seats refl
-      (λ accepted of_query. some-by (LivesAs now accepted (forgotten first.statement accepted)) (query_in queries accepted.number)
-      (λ entry found. lives accepted of_query entry found (cases_eq accepted.number first.statement))) sound.queries;
+  settings = sound.settings;
+  filters = filters-anew state (forgotten first.statement) (forgets first.statement) queries seats state.scan sound.filters;
+  batches = batches-anew state (forgotten first.statement) (forgets first.statement) queries seats state.scan (λ number on. on) sound.batches;
+  hands = hands-anew state (forgotten first.statement) (forgets first.statement) queries seats state.scan (length-set state.seats seat with) sound.hands;
+  queries = queries-anew state (forgotten first.statement) (forgets first.statement) queries seats state.scan refl
+      (λ accepted among of_query. some-by (LivesAs now accepted (forgotten first.statement accepted)) (query_in queries accepted.number)
+      (λ entry found. lives accepted among of_query entry found (cases_eq accepted.number first.statement))) sound.queries;
   slots = record { lives = sound.slots.lives; count = sound.slots.count; built = sound.slots.built };
   store = sound.store;
   quiet = λ none. (ap (map (forgotten first.statement)) (sound.quiet none).0, (sound.quiet none).1, (sound.quiet none).2);
   numbers = record { apart = sound.numbers.apart; given = sound.numbers.given };
   scan = record { frames = sound.scan.frames; position = sound.scan.position };
   order = record { tallies = sound.order.tallies; count = sound.order.count; order = sound.order.order };
-  seats = seats-let-go state first.statement queries seats (length-set state.seats seat with)
-      (λ other. ⊎_elim
-      (λ same. subst (λ n. (get_or seats n empty_seat).submitted ≡ (get_or state.seats n empty_seat).submitted) (sym same)
-      (ap (λ (s : Seat). s.submitted) (get_or-set_same state.seats seat with empty_seat there)))
-      (λ apart. ap (λ (s : Seat). s.submitted) (get_or-set_other state.seats seat other with empty_seat apart))
-      (cases_eq other seat))
+  seats = seats-anew state (forgotten first.statement) (forgets first.statement) queries seats state.scan (length-set state.seats seat with)
+      (part-stays (λ (s : Seat). s.submitted) state.seats seat with there refl)
       (λ k d low. each k d (subst (λ n. k < n) (length-set state.seats seat with) low) (cases_eq k seat)) sound.seats;
 }
   where
@@ -112,7 +111,7 @@ sound-with_first seat first rest state is told sound = record {
     seats = set state.seats seat with
 
     now : State
-    now = let_go state first.statement queries seats
+    now = kept_anew state (forgotten first.statement) queries seats state.scan
 
     there : seat < length state.seats
     there = ⊎_elim (λ low. low)
@@ -123,28 +122,61 @@ sound-with_first seat first rest state is told sound = record {
     each k d low (inl same) =
         subst (λ n. IsSoundSeat now (get_or seats n d)) (sym same)
         (subst (IsSoundSeat now) (sym (get_or-set_same state.seats seat with d there))
-        (seat-let-go state first.statement queries seats with (λ j p inside h. h) (λ number h. h)
+        (seat-anew state (forgotten first.statement) (forgets first.statement) queries seats state.scan with (λ j p inside h. h) (λ number h. h)
         (seat-taken state first rest (get_or state.seats seat empty_seat) told
         (subst (λ ps. IsSoundSeat state (record (get_or state.seats seat empty_seat) { pending = ps })) is (sound.seats.each seat empty_seat there)))))
     each k d low (inr apart) =
         subst (IsSoundSeat now) (sym (get_or-set_other state.seats seat k with d apart))
-        (seat-let-go state first.statement queries seats (get_or state.seats k d) (λ j p inside h. h) (λ number h. h) (sound.seats.each k d low))
+        (seat-anew state (forgotten first.statement) (forgets first.statement) queries seats state.scan (get_or state.seats k d) (λ j p inside h. h) (λ number h. h) (sound.seats.each k d low))
 
-    lives : (accepted : Accepted) → IsSoundQuery state accepted → (entry : QueryLife) → query_in queries accepted.number ≡ Some entry
+    -- the number of a statement stands in one seat
+    one_seat : (accepted : Accepted) → Contains state.accepted accepted → accepted.number ≡ first.statement → accepted.seat ≡ seat
+    one_seat accepted among same =
+        one-seat state sound.seats accepted.seat seat first.statement
+        (subst (Contains (get_or state.seats accepted.seat empty_seat).submitted) same
+        (All-contains (λ a. Contains (get_or state.seats a.seat empty_seat).submitted a.number) state.accepted accepted sound.seats.queries among))
+        (All-head (λ pending. Contains (get_or state.seats seat empty_seat).submitted pending.statement) first rest
+        (subst (All (λ pending. Contains (get_or state.seats seat empty_seat).submitted pending.statement)) is
+        (pending-submitted state (get_or state.seats seat empty_seat) (sound.seats.each seat empty_seat there))))
+
+    -- what was taken stays taken, and the reply is
+    stay : StayTaken state.seats seats
+    stay other number has = ⊎_elim
+        (λ same. subst (λ n. Contains (map (λ taken. taken.statement) (get_or seats n empty_seat).taken) number) (sym same)
+        (subst (λ (s : Seat). Contains (map (λ taken. taken.statement) s.taken) number) (sym (get_or-set_same state.seats seat with empty_seat there))
+        (subst (λ numbers. Contains numbers number)
+        (sym (map-append (λ (taken : Taken). taken.statement) (get_or state.seats seat empty_seat).taken (taken_by first ∷ [])))
+        (Contains-append_left (map (λ taken. taken.statement) (get_or state.seats seat empty_seat).taken) (first.statement ∷ []) number
+        (subst (λ n. Contains (map (λ taken. taken.statement) (get_or state.seats n empty_seat).taken) number) same has)))))
+        (λ apart. subst (λ (s : Seat). Contains (map (λ taken. taken.statement) s.taken) number)
+        (sym (get_or-set_other state.seats seat other with empty_seat apart)) has)
+        (cases_eq other seat)
+
+    taken : (accepted : Accepted) → Contains state.accepted accepted → accepted.number ≡ first.statement → HasTaken now (forgotten first.statement accepted)
+    taken accepted among same = by-change (HasTaken now) (forgotten first.statement) (forgets first.statement) accepted (λ groups.
+        subst (λ n. Contains (map (λ t. t.statement) (get_or seats n empty_seat).taken) accepted.number) (sym (one_seat accepted among same))
+        (subst (λ (s : Seat). Contains (map (λ t. t.statement) s.taken) accepted.number) (sym (get_or-set_same state.seats seat with empty_seat there))
+        (subst (Contains (map (λ t. t.statement) with.taken)) (sym same)
+        (subst (λ numbers. Contains numbers first.statement)
+        (sym (map-append (λ (t : Taken). t.statement) (get_or state.seats seat empty_seat).taken (taken_by first ∷ [])))
+        (Contains-push (map (λ t. t.statement) (get_or state.seats seat empty_seat).taken) first.statement)))))
+
+    lives : (accepted : Accepted) → Contains state.accepted accepted → IsSoundQuery state accepted → (entry : QueryLife) → query_in queries accepted.number ≡ Some entry
         → (accepted.number ≡ first.statement) ⊎ (accepted.number ≢ first.statement)
         → LivesAs now accepted (forgotten first.statement accepted) entry
-    lives accepted of_query entry found (inl same) =
+    lives accepted among of_query entry found (inl same) =
         let over : Told entry.life = some-at Told (life_in queries first.statement) entry.life
         (subst (λ n. life_in queries n ≡ Some entry.life) same (life-found queries accepted.number entry found)) told in (
           told-kept now (forgotten first.statement accepted) entry.extent entry.life over
-              (ap (λ t. (cond {A = Accepted} t (record accepted { groups = None }) accepted).groups) (eq-eqb accepted.number first.statement same)),
+              (ap (λ t. (cond {A = Accepted} t (record accepted { groups = None }) accepted).groups) (eq-eqb accepted.number first.statement same))
+              (taken accepted among same),
           λ opens. absurd (let both : true ≡ false = sym opens ∙ told-closed entry.life over in cc),
           some-at (λ e. e.extent ≤ versions_in state) (query_in queries accepted.number) entry found of_query.within,
         )
-    lives accepted of_query entry found (inr apart) =
+    lives accepted among of_query entry found (inr apart) =
         subst (λ given. LivesAs now accepted given entry)
         (sym (ap (λ t. cond {A = Accepted} t (record accepted { groups = None }) accepted) (ne_eqb accepted.number first.statement apart))) (
-          kept-let-go state first.statement queries seats accepted entry.extent entry.life
+          kept-anew state (forgotten first.statement) queries seats stay accepted entry.extent entry.life
               (some-at (λ e. IsKept state accepted e.extent e.life) (query_in queries accepted.number) entry found of_query.kept),
           some-at (λ e. IsTrue (is_open e.life) → (position : ℕ) → IfSome (slice_get (tables_of state).versions position)
               (λ version. (version.begin ≤ accepted.snapshot) ↔ (position < e.extent)))

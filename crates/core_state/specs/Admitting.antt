@@ -1,14 +1,12 @@
 -- What becomes of the core where a query gets a slot, its filters and its start, and where it leaves them.
-use Rattle.std.specs.Prelude.{ℕ, ◌==◌, List, length, map, filter_map, option_map, slice_index_or, if◌then◌else◌}
+use Rattle.std.specs.Prelude.{ℕ, ◌==◌, List, map, filter_map, option_map, slice_index_or, if◌then◌else◌}
 use Rattle.std.specs.Option.{option_map_or}
 use Rattle.star_plan.specs.Test.{Query, Selection, Unnamed}
-use Rattle.dimension_rows.specs.declared.dimension_row.DimensionRow.{DimensionRow}
 use Rattle.star_history.specs.Store.{rows_in}
 use Rattle.pipeline_manager.specs.Changes.{after_built, after_cleared, after_end, after_free, after_reserve, after_run, after_spoil}
 use Rattle.pipeline_manager.specs.Lives.{slot_of}
-use Rattle.dimension_filter.specs.Changes.{complement_with, vector_with, without_slot}
+use Rattle.dimension_filter.specs.Changes.{filter_with, filter_without}
 use Rattle.dimension_filter.specs.Filter.{Filter}
-use Rattle.dimension_filter.specs.Kept.{cleared_row, kept_rows, rows_below}
 use Rattle.continuous_scan.specs.Range.{first_of}
 use Rattle.core_state.specs.Found.{accepted_at}
 use Rattle.core_state.specs.Numbered.{last_after, next_number}
@@ -19,24 +17,6 @@ use Rattle.core_state.specs.Tables.{tables_of, versions_in}
 -- `reserve`: the query that waits the longest holds the slot
 abbrev pub after_reserving : (slot : ℕ) → State → State
 after_reserving slot state = record state { lives = after_reserve slot state.lives }
-
--- a filter with a query in a slot. What differs from the complement is stored, by the places of the rows
-abbrev pub filter_with : (slot : ℕ) → Selection → List DimensionRow → Filter → Filter
-filter_with slot selection rows filter =
-    let complement = complement_with filter.complement slot selection in
-    record filter {
-      complement = complement;
-      stored = kept_rows complement (rows_below (vector_with filter slot selection rows) (length rows));
-    }
-
--- a filter of which no row has a slot
-abbrev pub filter_without : (slot : ℕ) → Filter → Filter
-filter_without slot filter =
-    let complement = without_slot slot filter.complement in
-    record filter {
-      complement = complement;
-      stored = kept_rows complement (map (cleared_row slot) filter.stored);
-    }
 
 -- the numbers of the versions in hands
 abbrev pub versions_in_hands : List Flight → List ℕ

@@ -1,12 +1,13 @@
 -- When an event may come, and what it changes.
-use Rattle.std.specs.Prelude.{◌≡◌, ℕ, ◌<◌, ◌⊎◌, List, [], length, All, Any, Some, None, IsSome, IfSome, IsTrue, false}
+use Rattle.std.specs.Prelude.{◌≡◌, ◌≢◌, ℕ, ◌<◌, ◌⊎◌, List, [], length, All, AllPairs, Any, Some, None, IsSome, IsSomeAnd, IfSome, IsTrue, false}
+use Rattle.std.specs.Option.{option_map_or}
 use Rattle.pipeline_manager.specs.Conditions.{CanAbandon, CanBuild, CanClear, CanEnd, CanFree, CanRun, IsRunning}
-use Rattle.pipeline_manager.specs.Lives.{oldest_waiting, slot_at}
+use Rattle.pipeline_manager.specs.Lives.{life_of, oldest_waiting, slot_at}
 use Rattle.pipeline_manager.specs.declared.life.SlotState.TheVariants.{Free}
 use Rattle.core_state.specs.declared.event.Event.{Event}
 use Rattle.core_state.specs.declared.event.Event.TheVariants.{Submit, Reserve, Build, Start, Cut, Take, Give, Distribute, Finish, Clear, Release, Reorder, Abandon}
 use Rattle.core_state.specs.Admitting.{after_build, after_build_wants, after_clear, after_finish, after_release, after_reserving, after_start}
-use Rattle.core_state.specs.Cutting.{after_cutting, after_distribute, after_give, after_reorder, after_take}
+use Rattle.core_state.specs.Cutting.{after_cutting, after_distribute, after_give, after_reorder, after_take, gets_rows}
 use Rattle.core_state.specs.Found.{flight_at, has_passed_all, held_by, is_empty, is_on_roster, next_filter}
 use Rattle.core_state.specs.State.{Filters, Flight, State}
 use Rattle.core_state.specs.Submitting.{after_abandoning, after_submitting}
@@ -45,6 +46,16 @@ pub record IsThrough (filters : Filters) (flight : Flight) : Type 0 where
 pub record MayDistribute (batch : ℕ) (state : State) : Type 0 where
   pub there : IsSome (flight_at state.scan.flights batch)
   pub through : IfSome (flight_at state.scan.flights batch) (IsThrough state.filters)
+
+-- a query gets rows of a batch: it is on its roster, and Running or Ending
+pub record IsFed (batch query : ℕ) (state : State) : Type 0 where
+  pub on : IsSomeAnd (flight_at state.scan.flights batch) (λ flight. Any (λ entry. entry.number ≡ query) flight.roster)
+  pub gets : IsTrue (option_map_or gets_rows (life_of state.lives query) false)
+
+-- queries that may find no memory for the rows of a batch: each once, and each gets rows of it
+pub record AreFed (batch : ℕ) (queries : List ℕ) (state : State) : Type 0 where
+  pub apart : AllPairs (λ query other. query ≢ other) queries
+  pub each : All (λ query. IsFed batch query state) queries
 
 -- the slot is held by a query that is to be answered or has no answer, and no batch in flight has it on its roster
 pub record MayFinish (slot : ℕ) (state : State) : Type 0 where

@@ -1,11 +1,17 @@
 -- Which states the core can be in, and what each event does.
 pub mod State
 pub mod Events
+pub mod Steps
+pub mod Answers
+pub mod Whole
 pub mod Submitting
 pub mod Admitting
 pub mod Cutting
 pub mod Sound
+pub mod Beside
+pub mod Fitting
 pub mod Flown
+pub mod Hands
 pub mod Settings
 pub mod Tables
 pub mod Found

@@ -23,7 +23,7 @@ use Rattle.core_state.specs.Cutting.{gets_rows}
 use Rattle.core_state.specs.Flown.{IsSoundBatch, IsSoundFilter, IsSoundHand}
 use Rattle.core_state.specs.Found.{accepted_at}
 use Rattle.core_state.specs.Numbered.{last_number}
-use Rattle.core_state.specs.Settings.{frames_of}
+use Rattle.core_state.specs.Settings.{AreWithin, frames_of}
 use Rattle.core_state.specs.State.{Accepted, Asked, Awaited, Flight, Replied, Seat, State}
 use Rattle.core_state.specs.Submitting.{empty_seat, seat_at}
 use Rattle.core_state.specs.declared.settings.RunSettings.{RunSettings}
@@ -99,14 +99,18 @@ pub record IsAnswer (state : State) (accepted : Accepted) : Type 0 where
   pub all : IsPermutation rows (kept (tables_of state) accepted.query accepted.snapshot)
   pub groups : accepted.groups ≡ Some (grouped_of accepted.query rows)
 
+-- the seat of an accepted query took the reply to it
+abbrev pub HasTaken : State → Accepted → Type 0
+HasTaken state accepted = Contains (map (λ taken. taken.statement) (seat_at state accepted.seat).taken) accepted.number
+
 -- what is kept for an accepted query with this life: nothing folded before it starts, what is folded of its lap, the whole
--- of it once it is answered or its reply was taken, and nothing where it has no answer
+-- of it once it is answered until its seat took the reply, and nothing where it has no answer
 abbrev pub IsKept : State → Accepted → (extent : ℕ) → Life → Type 0
 IsKept state accepted extent life.Waiting = accepted.groups ≡ Some (grouped_of accepted.query [])
 IsKept state accepted extent life.Building = accepted.groups ≡ Some (grouped_of accepted.query [])
 IsKept state accepted extent (life.Running start left) = IsCovered state accepted extent (life.Running start left)
 IsKept state accepted extent life.Ending = IsCovered state accepted extent life.Ending
-IsKept state accepted extent life.Answered = (accepted.groups ≡ None) ⊎ IsAnswer state accepted
+IsKept state accepted extent life.Answered = ((accepted.groups ≡ None) × HasTaken state accepted) ⊎ IsAnswer state accepted
 IsKept state accepted extent life.Spoiled = accepted.groups ≡ None
 IsKept state accepted extent life.Abandoned = accepted.groups ≡ None
 
@@ -202,8 +206,9 @@ pub record AreSoundSeats (state : State) : Type 0 where
   pub entries : All (λ entry. Contains (seat_at state entry.seat).submitted entry.statement) state.entries
   pub queries : All (λ accepted. Contains (seat_at state accepted.seat).submitted accepted.number) state.accepted
 
--- all of it
+-- all of it, in a core whose settings are within their limits
 pub record IsSound (state : State) : Type 0 where
+  pub settings : AreWithin state.settings
   pub filters : AreSoundFilters state
   pub batches : AreSoundBatches state
   pub hands : AreSoundHands state

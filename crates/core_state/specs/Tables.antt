@@ -1,16 +1,14 @@
 -- The tables of the core, by its history, and the key numbers of fact rows.
 use Rattle.std.specs.Prelude.{ℕ, List, filter, length, map}
 use Rattle.std.specs.List.{list_any, range_with_len}
-use Rattle.std.specs.Option.{option_map_or}
 use Rattle.star_values.specs.declared.value.Value as cell
 use Rattle.star_plan.specs.declared.schema.Schema.{Schema}
 use Rattle.star_plan.specs.Columns.{fact_columns}
 use Rattle.star_schema.specs.Declaration.{references}
-use Rattle.dimension_rows.specs.Keys.{index_of}
 use Rattle.batch_flow.specs.declared.batch.TheConstants.{KEYS_IN_A_ROW}
-use Rattle.star_history.specs.Alone.{foreign_key}
 use Rattle.star_history.specs.History.{Change, store_of}
-use Rattle.star_history.specs.Store.{Store, rows_in}
+use Rattle.star_history.specs.Keyed.{number_by_key}
+use Rattle.star_history.specs.Store.{Store}
 use Rattle.core_state.specs.State.{Entry, State}
 
 -- the changes of entries, in their order
@@ -31,9 +29,7 @@ versions_in state = length (tables_of state).versions
 
 -- the key number of a fact row for a dimension: the place of the row with its foreign key, and 0 where it has none
 abbrev pub key_number : Store → List cell.Value → (dimension : ℕ) → ℕ
-key_number store row dimension =
-    option_map_or (λ key. option_map_or (λ place. place) (index_of (rows_in store.dimensions dimension) key) 0)
-    (foreign_key store.schema dimension row) 0
+key_number store = number_by_key store.schema store.dimensions
 
 -- the key numbers of a fact row, one for each dimension that there may be
 abbrev pub key_numbers : Store → List cell.Value → List ℕ

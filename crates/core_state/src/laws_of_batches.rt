@@ -1,11 +1,12 @@
 //! What holds of every core still holds after an event of a batch.
-ghost use Rattle.std.specs.Prelude.{ℕ, IsSome};
-ghost use Rattle.core_state.specs.Cutting.{after_give, after_take};
-ghost use Rattle.core_state.specs.Events.{MayTake};
+ghost use Rattle.std.specs.Prelude.{ℕ, List, IsSome};
+ghost use Rattle.core_state.specs.Cutting.{after_distribute, after_give, after_take};
+ghost use Rattle.core_state.specs.Events.{AreFed, MayDistribute, MayTake};
 ghost use Rattle.core_state.specs.Found.{held_by};
 ghost use Rattle.core_state.specs.Sound.{IsSound};
 ghost use Rattle.core_state.specs.State.{State};
 
+use aggregations::one_row_more_is_folded;
 use star_history::accepted_histories_are_settled;
 
 /// A batch that a worker takes keeps a core sound.
@@ -21,4 +22,13 @@ pub fn a_given_batch_keeps_a_core_sound()
         IsSound (after_give worker state) }
 {
     accepted_histories_are_settled();
+}
+
+/// A batch that is distributed keeps a core sound, whichever of the queries that get its rows find no
+/// memory for them: what is kept of each other query is what it keeps of the rows that were folded.
+pub fn a_distributed_batch_keeps_a_core_sound()
+    ensures { (batch : ℕ) (spoiled : List ℕ) (state : State) → MayDistribute batch state → AreFed batch spoiled state →
+        IsSound state → IsSound (after_distribute batch spoiled state) }
+{
+    one_row_more_is_folded();
 }

@@ -3,26 +3,55 @@
 
 mod event;
 mod laws;
+mod laws_of_answers;
 mod laws_of_batches;
 mod laws_of_filters;
+mod laws_of_hands;
 mod laws_of_order;
 mod laws_of_queries;
+mod laws_of_replies;
+mod laws_of_runs;
 mod laws_of_slots;
+mod laws_of_statements;
+mod laws_of_tables;
+mod laws_of_the_scan;
+mod laws_of_the_whole;
 mod settings;
 mod story;
 
 pub use event::Event;
 pub use laws::an_empty_core_is_sound;
-pub use laws_of_batches::{a_given_batch_keeps_a_core_sound, a_taken_batch_keeps_a_core_sound};
+pub use laws_of_answers::{a_reply_that_may_be_taken_is_right, later_steps_change_no_answer};
+pub use laws_of_batches::{
+    a_distributed_batch_keeps_a_core_sound, a_given_batch_keeps_a_core_sound,
+    a_taken_batch_keeps_a_core_sound,
+};
 pub use laws_of_filters::{a_build_keeps_a_core_sound, a_clearing_keeps_a_core_sound};
+pub use laws_of_hands::{
+    a_version_in_a_hand_passes_as_the_present_one, what_a_worker_took_stays_right,
+};
 pub use laws_of_order::a_new_order_keeps_a_core_sound;
 pub use laws_of_queries::{
     a_query_without_memory_keeps_a_core_sound, a_taken_reply_keeps_a_core_sound,
     an_abandoned_query_keeps_a_core_sound,
 };
+pub use laws_of_replies::{
+    a_statement_is_told_at_its_submission, a_step_leaves_what_is_told,
+    replies_come_in_the_order_of_statements, the_reply_to_a_statement_is_that_of_its_effect,
+};
+pub use laws_of_runs::{every_core_is_sound, every_step_keeps_a_core_sound};
 pub use laws_of_slots::{
     a_finish_keeps_a_core_sound, a_release_keeps_a_core_sound, a_reservation_keeps_a_core_sound,
     a_start_keeps_a_core_sound,
+};
+pub use laws_of_statements::{
+    a_declaration_keeps_what_is_kept, a_statement_keeps_a_core_sound, outcomes_fit_the_tables,
+};
+pub use laws_of_tables::a_change_of_rows_keeps_what_is_kept;
+pub use laws_of_the_scan::a_cut_keeps_a_core_sound;
+pub use laws_of_the_whole::{
+    no_core_has_lost_a_statement, no_step_changes_what_is_asked, no_step_loses_a_statement,
+    no_step_takes_a_statement_back, only_abandon_abandons,
 };
 pub use settings::RunSettings;
 pub use story::two_queries_share_a_scan;

@@ -1,0 +1,159 @@
+-- Every step but the event that abandons a query leaves it as it is: whoever is abandoned after it was so before.
+use Rattle.std.proofs.Common.{◌≡◌, ◌⊎◌, ◌-◌, ◌+◌, ℕ, List, [], Option, Some, None, map, not, eqb, set, find, inl, inr, sym, ap, ⊎_elim}
+use Rattle.std.specs.List.{filter, fold}
+use Rattle.std.specs.Option.{option_map_or}
+use Rattle.std.proofs.lemmas.Bool.{cases_eq}
+use Rattle.star_history.specs.History.{Change, DimensionDeclared, FactDeclared, Loaded, Ended}
+use Rattle.star_statement.specs.Outcome as outcome
+use Rattle.star_statement.specs.Outcome.{Told, outcome_of}
+use Rattle.continuous_scan.specs.Range.{first_of}
+use Rattle.pipeline_manager.specs.Changes.{after_abandon, after_spoil, started, with_dimension, with_life, with_slot}
+use Rattle.pipeline_manager.specs.Lives.{extent_in, life_of, oldest_waiting, slot_at, slot_of}
+use Rattle.pipeline_manager.specs.declared.life.Life.TheVariants as life
+use Rattle.pipeline_manager.specs.declared.life.SlotState.TheVariants.{Held}
+use Rattle.core_state.specs.Admitting.{after_build, after_reserving, after_start}
+use Rattle.core_state.specs.Cutting.{after_distribute, after_give, end_in, fed, first_in, given_back, tallies_after, unkept, with_flight}
+use Rattle.core_state.specs.Events.{after_event, after_want}
+use Rattle.core_state.specs.Found.{accepted_at, flight_at, is_held_by}
+use Rattle.core_state.specs.State.{State}
+use Rattle.core_state.specs.Steps.{Done, Replying, Step, Wanting, after_step}
+use Rattle.core_state.specs.Submitting.{after_abandoning, after_outcome, forgotten, with_change, with_query, with_seat, without_pending}
+use Rattle.core_state.specs.Tables.{tables_of, versions_in}
+use Rattle.core_state.specs.declared.event.Event.{Event}
+use Rattle.core_state.specs.declared.event.Event.TheVariants.{Submit, Reserve, Build, Start, Cut, Take, Give, Distribute, Finish, Clear, Release, Reorder, Abandon}
+use Rattle.core_state.proofs.AbandonedLivesLemmas.{WereLost, started-never, were-behind, were-cut, were-ended, were-others, were-spoiled, were-written}
+use Rattle.core_state.proofs.WholeFrameLemmas.{by-option}
+use Rattle.core_state.proofs.WholeToldLemmas.{seated}
+
+-- whoever is abandoned in a core was so in another
+abbrev pub Abandons : State → State → Type 0
+Abandons old new = WereLost old.lives.queries new.lives.queries
+
+-- nobody is where nothing changes
+were-all : (state : State) → Abandons state state
+were-all state number is = is
+
+were-reserving : (slot : ℕ) (state : State) → Abandons state (after_reserving slot state)
+were-reserving slot state = by_oldest (oldest_waiting state.lives)
+  where
+    by_oldest : (o : Option ℕ) → WereLost state.lives.queries (option_map_or (λ number. record state.lives {
+      queries = with_life number life.Building state.lives.queries;
+      slots = set state.lives.slots slot (Held number 0);
+    }) o state.lives).queries
+    by_oldest None = λ number is. is
+    by_oldest (Some query) = were-written query life.Building state.lives.queries (λ e. cc)
+
+were-build : (query dimension : ℕ) (state : State) → Abandons state (after_build query dimension state)
+were-build query dimension state = by_slot (slot_of state.lives query)
+  where
+    by_slot : (o : Option ℕ) → WereLost state.lives.queries
+        (option_map_or (λ slot. with_slot slot (with_dimension dimension (slot_at state.lives slot)) state.lives) o state.lives).queries
+    by_slot None = λ number is. is
+    by_slot (Some slot) = λ number is. is
+
+were-start : (query : ℕ) (state : State) → Abandons state (after_start query state)
+were-start query state =
+    were-written query (started (first_of state.scan.position (versions_in state)) (extent_in state.lives.queries query)) state.lives.queries
+    (started-never (first_of state.scan.position (versions_in state)) (extent_in state.lives.queries query))
+
+were-give : (worker : ℕ) (state : State) → Abandons state (after_give worker state)
+were-give worker state =
+    by-option (Abandons state) (find (is_held_by worker) state.scan.flights)
+    (λ flight. record state {
+      filters = record state.filters { tallies = tallies_after flight state.filters.versions state.filters.tallies };
+      scan = record state.scan { flights = with_flight flight.rows.number given_back state.scan.flights };
+    }) state (were-all state) (λ flight found number is. is)
+
+were-distribute : (batch : ℕ) (spoiled : List ℕ) (state : State) → Abandons state (after_distribute batch spoiled state)
+were-distribute batch spoiled state =
+    by-option (Abandons state) (flight_at state.scan.flights batch)
+    (λ flight. record state {
+      accepted = map (unkept spoiled) (map (fed (tables_of state) state.lives flight.rows flight.roster) state.accepted);
+      lives = fold (λ lives query. after_spoil query lives) state.lives spoiled;
+      scan = record state.scan {
+        flights = filter (λ other. not (eqb other.rows.number batch)) state.scan.flights;
+        free = state.scan.free + 1;
+      };
+    }) state (were-all state) (λ flight found. were-spoiled spoiled state.lives)
+
+-- the change of a statement
+were-change : (seat statement : ℕ) (change : Change) (state : State) → Abandons state (with_change seat statement change state)
+were-change seat statement (DimensionDeclared table) state number is = is
+were-change seat statement (FactDeclared table) state number is = is
+were-change seat statement (Loaded table rows) state number is = is
+were-change seat statement (Ended positions) state number is = is
+
+-- the query of a statement
+were-query : (seat statement : ℕ) (told : Told) (state : State) → Abandons state (with_query seat statement told state)
+were-query seat statement (outcome.Replied reply) state number is = is
+were-query seat statement (outcome.Accepted query snapshot) state number is =
+    were-behind state.lives.queries (record { query = statement; extent = versions_in state; life = life.Waiting }) (λ e. cc) number is
+
+-- all of a statement
+were-outcome : (seat : ℕ) (found : outcome.Outcome) (state : State) → Abandons state (after_outcome seat found state)
+were-outcome seat found state number is =
+    by-option (Abandons seated_so) found.change (λ change. with_change seat statement change seated_so) seated_so (were-all seated_so)
+    (λ change found. were-change seat statement change seated_so) number
+    (were-query seat statement found.told changed number is)
+  where
+    statement : ℕ
+    statement = state.numbers.statement + 1
+
+    seated_so : State
+    seated_so = seated seat found.told state
+
+    changed : State
+    changed = option_map_or (λ change. with_change seat statement change seated_so) found.change seated_so
+
+-- a query that is abandoned, and no other
+were-abandoning : (query number : ℕ) (state : State) → life_of (after_abandoning query state).lives number ≡ Some life.Abandoned
+    → (life_of state.lives number ≡ Some life.Abandoned) ⊎ (query ≡ number)
+were-abandoning query number state =
+    by-option (λ now. life_of now.lives number ≡ Some life.Abandoned → (life_of state.lives number ≡ Some life.Abandoned) ⊎ (query ≡ number))
+    (accepted_at state.accepted query)
+    (λ accepted. with_seat accepted.seat (without_pending query) (record state {
+      accepted = map (forgotten query) state.accepted;
+      lives = after_abandon query state.lives;
+    })) state (λ is. inl is)
+    (λ accepted found is. ⊎_elim (λ same. inr (sym same))
+    (λ apart. inl (were-others query state.lives.queries number apart is)) (cases_eq number query))
+
+abandons-event : (event : Event) (state : State) (number : ℕ) → life_of (after_event event state).lives number ≡ Some life.Abandoned
+    → (life_of state.lives number ≡ Some life.Abandoned) ⊎ (Done event ≡ Done (Abandon number))
+unfolding after_event
+abandons-event (Submit seat statement) state number is = inl (were-outcome seat (outcome_of (tables_of state) statement) state number is)
+abandons-event (Reserve query slot) state number is = inl (were-reserving slot state number is)
+abandons-event (Build query dimension) state number is = inl (were-build query dimension state number is)
+abandons-event (Start query) state number is = inl (were-start query state number is)
+abandons-event Cut state number is = inl (were-cut (first_in state) (end_in state - 1) state.lives.queries number is)
+abandons-event (Take worker batch) state number is = inl is
+abandons-event (Give worker) state number is = inl (were-give worker state number is)
+abandons-event (Distribute batch) state number is = inl (were-distribute batch [] state number is)
+abandons-event (Finish slot) state number is = inl (were-ended slot state.lives number is)
+abandons-event (Clear slot dimension) state number is = inl is
+abandons-event (Release slot) state number is = inl is
+abandons-event Reorder state number is = inl is
+abandons-event (Abandon query) state number is =
+    ⊎_elim (λ was. inl was) (λ same. inr (ap (λ n. Done (Abandon n)) same)) (were-abandoning query number state is)
+
+were-want : (event : Event) (spoiled : List ℕ) (state : State) → Abandons state (after_want event spoiled state)
+unfolding after_want
+were-want (Submit seat statement) spoiled state = were-all state
+were-want (Reserve query slot) spoiled state = were-all state
+were-want (Build query dimension) spoiled state = were-written query life.Spoiled state.lives.queries (λ e. cc)
+were-want (Start query) spoiled state = were-all state
+were-want Cut spoiled state = were-all state
+were-want (Take worker batch) spoiled state = were-all state
+were-want (Give worker) spoiled state = were-all state
+were-want (Distribute batch) spoiled state = were-distribute batch spoiled state
+were-want (Finish slot) spoiled state = were-all state
+were-want (Clear slot dimension) spoiled state = were-all state
+were-want (Release slot) spoiled state = were-all state
+were-want Reorder spoiled state = were-all state
+were-want (Abandon query) spoiled state = were-all state
+
+pub abandons-step : (step : Step) (state : State) (number : ℕ) → life_of (after_step step state).lives number ≡ Some life.Abandoned
+    → (life_of state.lives number ≡ Some life.Abandoned) ⊎ (step ≡ Done (Abandon number))
+abandons-step (Done event) state number is = abandons-event event state number is
+abandons-step (Wanting event spoiled) state number is = inl (were-want event spoiled state number is)
+abandons-step (Replying seat) state number is = inl is

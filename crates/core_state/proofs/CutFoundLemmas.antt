@@ -1,0 +1,95 @@
+-- What is found in lists, which numbers are in a set that a list gives, and which number no list has.
+use Rattle.std.proofs.Common.{◌≡◌, ℕ, zero, suc, ◌<◌, ◌⊎◌, inl, inr, Bool, true, false, cond, List, [], ◌∷◌, length, get_or, Option, Some, None, refl, ap, sym, ◌∙◌, subst, arith}
+use Rattle.std.specs.Prelude.{All, Any, Contains, IsSome, find, fold}
+use Rattle.std.specs.List.{cons_option, filter_map, range_with_len}
+use Rattle.std.proofs.lemmas.List.Elements.{All-cons, All-head, All-nil, All-tail}
+use Rattle.std.proofs.lemmas.List.FromFn.{get_or-range_with_len, length-range_with_len}
+use Rattle.std.proofs.lemmas.Nat.Bits.{bit_at-zero}
+use Rattle.bit_words.specs.Sets.{Has, with_number}
+use Rattle.bit_words.proofs.SetLemmas.{Has-with}
+
+-- what is found of an element is among what is found
+pub found-in : {X Y : Type 0} (h : X → Option Y) (xs : List X) (y : Y) (k : ℕ) (d : X) → k < length xs → h (get_or xs k d) ≡ Some y
+    → Contains (filter_map h xs) y
+found-in h [] y k d low is = absurd (omega arith)
+found-in {X = X} {Y = Y} h (x ∷ xs) y zero d low is = subst (λ o. Contains (cons_option o (filter_map h xs)) y) (sym is) (zero, omega arith, refl)
+found-in {X = X} {Y = Y} h (x ∷ xs) y (suc k) d low is = by_found (h x) (found-in h xs y k d (omega arith) is)
+  where
+    by_found : (o : Option Y) → Contains (filter_map h xs) y → Contains (cons_option o (filter_map h xs)) y
+    by_found None rest = rest
+    by_found (Some z) rest = (suc rest.0, (let low_rest = rest.1 in omega arith), rest.2)
+
+-- what holds of all that is found of the elements
+pub all-found : {X Y : Type 0} (h : X → Option Y) (P : Y → Type 0) (xs : List X) → All (λ x. (y : Y) → h x ≡ Some y → P y) xs
+    → All P (filter_map h xs)
+all-found {X = X} {Y = Y} h P [] each = All-nil P
+all-found {X = X} {Y = Y} h P (x ∷ xs) each =
+    by_found (h x) refl (all-found h P xs (All-tail (λ z. (y : Y) → h z ≡ Some y → P y) x xs each))
+  where
+    by_found : (o : Option Y) → h x ≡ o → All P (filter_map h xs) → All P (cons_option o (filter_map h xs))
+    by_found None is rest = rest
+    by_found (Some y) is rest = All-cons P y (filter_map h xs) (All-head (λ z. (y : Y) → h z ≡ Some y → P y) x xs each y is) rest
+
+-- what holds of the numbers below n holds of the range of them
+pub all-below : (P : ℕ → Type 0) (n : ℕ) → ((k : ℕ) → k < n → P k) → All P (range_with_len 0 n)
+all-below P n each = λ k d low.
+    let inside : k < n = let long = length-range_with_len 0 n in omega arith in
+    let at : get_or (range_with_len 0 n) k d ≡ k = get_or-range_with_len 0 n k d inside ∙ (omega arith) in
+    subst P (sym at) (each k inside)
+
+-- what is found of a number below n is among what is found of the range of them
+pub found-below : {Y : Type 0} (h : ℕ → Option Y) (n k : ℕ) (y : Y) → k < n → h k ≡ Some y → Contains (filter_map h (range_with_len 0 n)) y
+found-below h n k y low is =
+    let at : get_or (range_with_len 0 n) k 0 ≡ k = get_or-range_with_len 0 n k 0 low ∙ (omega arith) in
+    found-in h (range_with_len 0 n) y k 0 (let long = length-range_with_len 0 n in omega arith) (ap h at ∙ is)
+
+-- where an element passes, one is found
+pub find-there : {X : Type 0} (p : X → Bool) (xs : List X) (k : ℕ) (d : X) → k < length xs → p (get_or xs k d) ≡ true → IsSome (find p xs)
+find-there p [] k d low passes = absurd (omega arith)
+find-there {X = X} p (x ∷ xs) zero d low passes = subst (λ t. IsSome (cond {A = Option X} t (Some x) (find p xs))) (sym passes) refl
+find-there {X = X} p (x ∷ xs) (suc k) d low passes = by_test (p x) (find-there p xs k d (omega arith) passes)
+  where
+    by_test : (t : Bool) → IsSome (find p xs) → IsSome (cond {A = Option X} t (Some x) (find p xs))
+    by_test true rest = refl
+    by_test false rest = rest
+
+-- where none passes, none is found
+pub none-found : {X : Type 0} (p : X → Bool) (xs : List X) → All (λ x. p x ≡ false) xs → find p xs ≡ None
+none-found {X = X} p [] none = refl
+none-found {X = X} p (x ∷ xs) none =
+    ap (λ t. cond {A = Option X} t (Some x) (find p xs)) (All-head (λ z. p z ≡ false) x xs none)
+    ∙ none-found p xs (All-tail (λ z. p z ≡ false) x xs none)
+
+-- the numbers of some elements, put into a set
+abbrev pub numbers_in : {X : Type 0} → (X → ℕ) → (set : ℕ) → List X → ℕ
+numbers_in number_of set xs = fold (λ before x. with_number before (number_of x)) set xs
+
+pub has-either : {X : Type 0} (number_of : X → ℕ) (set : ℕ) (xs : List X) (j : ℕ) → Has (numbers_in number_of set xs) j
+    → Has set j ⊎ Any (λ x. number_of x ≡ j) xs
+has-either number_of set [] j has = inl has
+has-either {X = X} number_of set (x ∷ xs) j has = elim (has-either number_of (with_number set (number_of x)) xs j has) [
+  | inl first ↦ elim ((Has-with set (number_of x) j).0 first) [
+    | inl before ↦ inl before
+    | inr same ↦ inr (zero, x, omega arith, refl, sym same)
+  ]
+  | inr later ↦ inr (suc later.0, later.1, (let low = later.2 in omega arith), later.3, later.4)
+]
+
+pub has-before : {X : Type 0} (number_of : X → ℕ) (set : ℕ) (xs : List X) (j : ℕ) → Has set j → Has (numbers_in number_of set xs) j
+has-before number_of set [] j has = has
+has-before number_of set (x ∷ xs) j has =
+    has-before number_of (with_number set (number_of x)) xs j ((Has-with set (number_of x) j).1 (inl has))
+
+pub has-at : {X : Type 0} (number_of : X → ℕ) (set : ℕ) (xs : List X) (k : ℕ) (d : X) → k < length xs
+    → Has (numbers_in number_of set xs) (number_of (get_or xs k d))
+has-at number_of set [] k d low = absurd (omega arith)
+has-at number_of set (x ∷ xs) zero d low =
+    has-before number_of (with_number set (number_of x)) xs (number_of x) ((Has-with set (number_of x) (number_of x)).1 (inr refl))
+has-at number_of set (x ∷ xs) (suc k) d low = has-at number_of (with_number set (number_of x)) xs k d (omega arith)
+
+-- a number is in the set of some elements where it is that of one
+pub has-any : {X : Type 0} (number_of : X → ℕ) (xs : List X) (j : ℕ) → Has (numbers_in number_of 0 xs) j → Any (λ x. number_of x ≡ j) xs
+has-any number_of xs j has = elim (has-either number_of 0 xs j has) [
+  | inl none ↦ absurd (let both : 0 ≡ 1 = sym (bit_at-zero j) ∙ none in cc)
+  | inr any ↦ any
+]

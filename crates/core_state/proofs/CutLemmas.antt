@@ -1,0 +1,209 @@
+-- A batch that the scan cuts keeps a core sound.
+use Rattle.std.proofs.Common.{◌≡◌, ◌≢◌, ◌⊎◌, ℕ, ◌<◌, ◌≤◌, ◌-◌, List, [], ◌∷◌, length, map, get_or, Some, option_map, slice_get, refl, ap, sym, ◌∙◌, subst, ⊎_elim, arith, append-nil}
+use Rattle.std.specs.Prelude.{AllPairs, IfSome, IsTrue, ◌↔◌}
+use Rattle.std.specs.List.{filter_map}
+use Rattle.std.proofs.lemmas.List.{get_or-map, length-map, length_push}
+use Rattle.std.proofs.lemmas.List.Elements.{All-map, All-push, filter_map-append}
+use Rattle.std.proofs.lemmas.List.Quantifiers.{all_pairs_push}
+use Rattle.std.proofs.lemmas.Option.{IfSome_then}
+use Rattle.bit_words.specs.Sets.{Has}
+use Rattle.pipeline_manager.specs.Changes.{cut_query}
+use Rattle.pipeline_manager.specs.Conditions.{is_open}
+use Rattle.pipeline_manager.specs.Lives.{query_in}
+use Rattle.pipeline_manager.specs.declared.life.Life.TheVariants as life
+use Rattle.pipeline_manager.specs.declared.life.QueryLife.{QueryLife}
+use Rattle.pipeline_manager.proofs.CallLemmas.{sound-after_cut}
+use Rattle.core_state.specs.Cutting.{after_cutting, end_in, first_in, gets_rows}
+use Rattle.core_state.specs.Events.{MayCut}
+use Rattle.core_state.specs.Flown.{IsOnRoster, IsSoundBatch, IsSoundHand, MayBeOnRoster}
+use Rattle.core_state.specs.Numbered.{counted, last_after, last_number}
+use Rattle.core_state.specs.Sound.{AreSoundBatches, AreSoundFilters, AreSoundHands, AreSoundNumbers, AreSoundQueries, AreSoundSeats, AreSoundSlots, IsKept, IsSound, IsSoundQuery}
+use Rattle.core_state.specs.State.{Accepted, Flight, Numbers, Scan, State}
+use Rattle.core_state.specs.Tables.{changes_of, tables_of, versions_in}
+use Rattle.core_state.proofs.CutKeptLemmas.{covered_of, flights_after, kept-cut}
+use Rattle.core_state.proofs.CutLifeLemmas.{cut-cases, cut-found, gets-stays, life-cut, may-stay, open-stays, same-numbers}
+use Rattle.core_state.proofs.CutNumberLemmas.{next-apart, next-given, still-given}
+use Rattle.core_state.proofs.CutRosterLemmas.{entry-cut, roster-each}
+use Rattle.core_state.proofs.CutRowsLemmas.{batch-cut, cut_flight}
+use Rattle.core_state.proofs.CutRunsLemmas.{Cuts, cuts}
+use Rattle.core_state.proofs.FoundLemmas.{query_in-number, some-at}
+use Rattle.core_state.proofs.FrameLemmas.{batch-moved, entry-moved, filter-moved, hand-moved, moved, query-moved}
+use Rattle.core_state.proofs.GivenLemmas.{Settles}
+use Rattle.core_state.proofs.MovedLemmas.{StaysWanted, seats-held}
+
+-- the lives after a cut, the scan behind it, and the numbers with one batch more
+abbrev queries_after : State → List QueryLife
+queries_after state = map (cut_query (first_in state) (end_in state - 1)) state.lives.queries
+
+abbrev scan_after : State → Scan
+scan_after state = record {
+  position = end_in state;
+  flights = flights_after state;
+  free = state.scan.free - 1;
+  cut = counted state.scan.cut (end_in state - first_in state);
+}
+
+abbrev numbers_after : State → Numbers
+numbers_after state = record state.numbers { batch = last_after state.numbers.batch }
+
+abbrev state_after : State → State
+state_after state = moved state (queries_after state) state.lives.slots state.filters (scan_after state) (numbers_after state)
+
+-- the filters are what they were
+filters-cut : (state : State) → AreSoundFilters state → AreSoundFilters (state_after state)
+filters-cut state old = record {
+  each = λ k d low. filter-moved state (queries_after state) state.lives.slots state.filters (scan_after state) (numbers_after state)
+      (get_or state.filters.versions k d).filter refl (λ slot there fits. fits) (old.each k d low);
+  dimensions = old.dimensions;
+  set = old.set;
+}
+
+-- the batches in flight keep their rosters, and the one that is cut has its own
+batches-cut : Settles → (state : State) → Cuts state → IsSound state → AreSoundBatches (state_after state)
+batches-cut settles state range sound =
+    let ordered : first_in state ≤ end_in state = let after = range.after in omega arith in
+    All-push (IsSoundBatch (state_after state)) state.scan.flights (cut_flight state)
+    (λ k d low. batch-moved state (queries_after state) state.lives.slots state.filters (scan_after state) (numbers_after state)
+    (get_or state.scan.flights k d)
+    (λ j e within.
+    let entry = (sound.batches k d low).roster j e within in
+    entry-moved state (queries_after state) state.lives.slots state.filters (scan_after state) (numbers_after state)
+    (get_or (get_or state.scan.flights k d).roster j e) refl entry.held
+    (life-cut MayBeOnRoster (first_in state) (end_in state - 1) state.lives.queries (get_or (get_or state.scan.flights k d).roster j e).number
+    may-stay entry.life)
+    entry) (sound.batches k d low))
+    (batch-cut state (queries_after state) state.lives.slots state.filters (scan_after state) (numbers_after state)
+    (settles (changes_of state.entries) sound.store) sound ordered range.last
+    (roster-each (IsOnRoster (state_after state)) state
+    (entry-cut state (first_in state) (end_in state - 1) state.filters (scan_after state) (numbers_after state) sound)))
+
+-- the batch that is cut is in no hand
+hands-cut : (state : State) → AreSoundHands state → AreSoundHands (state_after state)
+hands-cut state old = record {
+  each = All-push (λ flight. IfSome flight.hand (IsSoundHand (state_after state) flight)) state.scan.flights (cut_flight state)
+      (λ k d low. IfSome_then (get_or state.scan.flights k d).hand (old.each k d low)
+      (λ hand. hand-moved state (queries_after state) state.lives.slots state.filters (scan_after state) (numbers_after state)
+      (get_or state.scan.flights k d) hand))
+      tt;
+  one = subst (AllPairs (λ worker other. worker ≢ other))
+      (sym (filter_map-append (λ (flight : Flight). option_map (λ hand. hand.worker) flight.hand) state.scan.flights (cut_flight state ∷ [])
+      ∙ append-nil (filter_map (λ (flight : Flight). option_map (λ hand. hand.worker) flight.hand) state.scan.flights))) old.one;
+}
+
+query-cut : (state : State) → Cuts state → IsSound state → (accepted : Accepted) → IsSoundQuery state accepted
+    → IsSoundQuery (state_after state) accepted
+query-cut state range sound accepted old =
+    query-moved state (queries_after state) state.lives.slots state.filters (scan_after state) (numbers_after state) accepted refl
+    (cut-found (λ e. IsKept (state_after state) accepted e.extent e.life) (first_in state) (end_in state - 1) state.lives.queries accepted.number
+    (λ entry found. kept-cut state (queries_after state) state.lives.slots state.filters (scan_after state) (numbers_after state) refl refl sound range
+    accepted entry.extent entry.life
+    (found ∙ ap (λ n. Some (record { query = n; extent = entry.extent; life = entry.life }))
+    (query_in-number state.lives.queries accepted.number entry found))
+    (some-at (λ e. e.extent ≤ versions_in state) (query_in state.lives.queries accepted.number) entry found old.within)
+    (some-at (λ e. IsKept state accepted e.extent e.life) (query_in state.lives.queries accepted.number) entry found old.kept)))
+    (cut-found (λ e. IsTrue (is_open e.life) → (position : ℕ) → IfSome (slice_get (tables_of state).versions position)
+    (λ version. (version.begin ≤ accepted.snapshot) ↔ (position < e.extent))) (first_in state) (end_in state - 1) state.lives.queries accepted.number
+    (λ entry found opens.
+    some-at (λ e. IsTrue (is_open e.life) → (position : ℕ) → IfSome (slice_get (tables_of state).versions position)
+    (λ version. (version.begin ≤ accepted.snapshot) ↔ (position < e.extent)))
+    (query_in state.lives.queries accepted.number) entry found old.extent
+    (open-stays (covered_of state entry.extent) entry.life opens)))
+    (cut-found (λ e. e.extent ≤ versions_in state) (first_in state) (end_in state - 1) state.lives.queries accepted.number
+    (λ entry found. some-at (λ e. e.extent ≤ versions_in state) (query_in state.lives.queries accepted.number) entry found old.within))
+    old
+
+queries-cut : (state : State) → Cuts state → IsSound state → AreSoundQueries (state_after state)
+queries-cut state range sound = record {
+  same = sound.queries.same ∙ sym (same-numbers (first_in state) (end_in state - 1) state.lives.queries);
+  each = λ k d low. query-cut state range sound (get_or state.accepted k d) (sound.queries.each k d low);
+}
+
+slots-cut : (state : State) → AreSoundSlots state → AreSoundSlots (state_after state)
+slots-cut state old = record {
+  lives = sound-after_cut (first_in state) (end_in state - 1) state.lives old.lives;
+  count = old.count;
+  built = λ slot query built low held.
+      life-cut (λ now. IsTrue (gets_rows now) → (dimension : ℕ) → Has state.lives.filters dimension → Has built dimension)
+      (first_in state) (end_in state - 1) state.lives.queries query
+      (λ positions now all gets. all (gets-stays positions now gets)) (old.built slot query built low held);
+}
+
+-- the number of the batch that is cut is none of those in flight
+numbers-cut : (state : State) → AreSoundNumbers state → AreSoundNumbers (state_after state)
+numbers-cut state old = record {
+  apart = all_pairs_push (λ flight other. flight.rows.number ≢ other.rows.number) state.scan.flights (cut_flight state) old.apart
+      (λ k d low.
+      let used : List ℕ = map (λ (flight : Flight). flight.rows.number) state.scan.flights in
+      let apart = next-apart state.numbers.batch used (λ more.
+      All-map (λ number. number ≤ state.numbers.batch) (λ (flight : Flight). flight.rows.number) state.scan.flights (old.given more)) in
+      λ same. apart k 0 (subst (λ n. k < n) (sym (length-map state.scan.flights (λ (flight : Flight). flight.rows.number))) low)
+      (get_or-map (λ (flight : Flight). flight.rows.number) state.scan.flights k d 0 low ∙ same));
+  given = λ more.
+      let above = still-given state.numbers.batch last_number more in
+      All-push (λ flight. flight.rows.number ≤ last_after state.numbers.batch) state.scan.flights (cut_flight state)
+      (λ k d low. let below = old.given above.0 k d low in let is = above.1 in omega arith)
+      (let is = above.1 in
+      let next = next-given state.numbers.batch (map (λ (flight : Flight). flight.rows.number) state.scan.flights) above.0 in omega arith);
+}
+
+-- who is waited for stays so, and what is told stays so
+wanted-cut : (state : State) → StaysWanted state (queries_after state)
+wanted-cut state = λ query. (
+  life-cut (λ now. now ≢ life.Abandoned) (first_in state) (end_in state - 1) state.lives.queries query
+      (cut-cases (λ now later. now ≢ life.Abandoned → later ≢ life.Abandoned) (λ now h. h) (λ start left h e. cc) (λ start left less h e. cc)),
+  life-cut (λ now. (now ≡ life.Answered) ⊎ (now ≡ life.Spoiled)) (first_in state) (end_in state - 1) state.lives.queries query
+      (cut-cases (λ now later. (now ≡ life.Answered) ⊎ (now ≡ life.Spoiled) → (later ≡ life.Answered) ⊎ (later ≡ life.Spoiled))
+      (λ now h. h) (λ start left h. absurd (⊎_elim (λ e. cc) (λ e. cc) h)) (λ start left less h. absurd (⊎_elim (λ e. cc) (λ e. cc) h))),
+)
+
+seats-cut : (state : State) → AreSoundSeats state → AreSoundSeats (state_after state)
+seats-cut state sound =
+    let old = seats-held state (queries_after state) state.lives.slots state.filters state.numbers.version (wanted-cut state) sound in
+    record {
+      count = old.count;
+      each = λ k d low.
+          let seat = old.each k d low in
+          record {
+            rising = seat.rising;
+            given = seat.given;
+            in_order = seat.in_order;
+            submitted = seat.submitted;
+            taken = seat.taken;
+            awaited = seat.awaited;
+          };
+      apart = old.apart;
+      rising = old.rising;
+      entries = old.entries;
+      queries = old.queries;
+    }
+
+pub sound-cut : Settles → (state : State) → MayCut state → IsSound state → IsSound (after_cutting state)
+sound-cut settles state can sound = record {
+  settings = sound.settings;
+  filters = filters-cut state sound.filters;
+  batches = batches-cut settles state range sound;
+  hands = hands-cut state sound.hands;
+  queries = queries-cut state range sound;
+  slots = slots-cut state sound.slots;
+  store = sound.store;
+  quiet = λ none. absurd (asked (sound.quiet none).0);
+  numbers = numbers-cut state sound.numbers;
+  scan = record {
+    frames = let some = can.frame in let old = sound.scan.frames in let more = length_push state.scan.flights (cut_flight state) in omega arith;
+    position = range.last;
+  };
+  order = record { tallies = sound.order.tallies; count = sound.order.count; order = sound.order.order };
+  seats = seats-cut state sound.seats;
+}
+  where
+    range : Cuts state
+    range = cuts state can sound
+
+    -- where a query runs, some query was asked
+    asked : state.accepted ≢ []
+    asked none =
+        let same : map (λ entry. entry.query) state.lives.queries ≡ [] = sym sound.queries.same ∙ ap (map (λ accepted. accepted.number)) none in
+        let many = length-map state.lives.queries (λ (entry : QueryLife). entry.query) in
+        let zero_long : length (map (λ (entry : QueryLife). entry.query) state.lives.queries) ≡ 0 = ap length same in
+        let low = can.running.2 in
+        omega arith

@@ -1,0 +1,99 @@
+-- Where a query runs, the scan cuts some versions of the table.
+use Rattle.std.proofs.Common.{◌≡◌, ℕ, ◌<◌, ◌≤◌, true, false, eqb, length, Option, Some, None, refl, ap, ◌∙◌, subst, arith}
+use Rattle.std.specs.Prelude.{IsSome}
+use Rattle.std.proofs.lemmas.Bool.{eqb-true}
+use Rattle.pipeline_manager.specs.Conditions.{IsRunning}
+use Rattle.pipeline_manager.specs.Lives.{life_of, query_in, slot_at}
+use Rattle.pipeline_manager.specs.Sound.{IsLeft}
+use Rattle.pipeline_manager.specs.declared.life.Life.{Life}
+use Rattle.pipeline_manager.specs.declared.life.Life.TheVariants as life
+use Rattle.pipeline_manager.specs.declared.life.QueryLife.{QueryLife}
+use Rattle.pipeline_manager.specs.declared.life.SlotState.TheVariants.{Held}
+use Rattle.pipeline_manager.proofs.QueryLemmas.{query_in-found}
+use Rattle.core_state.specs.Cutting.{end_in, first_in, starts_of}
+use Rattle.core_state.specs.Events.{MayCut}
+use Rattle.core_state.specs.Found.{accepted_at}
+use Rattle.core_state.specs.Sound.{IsSound, IsSoundQuery}
+use Rattle.core_state.specs.State.{Accepted, State}
+use Rattle.core_state.specs.Tables.{versions_in}
+use Rattle.core_state.proofs.AcceptedLemmas.{find-holds, held-accepted}
+use Rattle.core_state.proofs.CutRangeLemmas.{end-after, end-last, first-below}
+use Rattle.core_state.proofs.CutRosterLemmas.{runs-here}
+use Rattle.core_state.proofs.FoundLemmas.{find-passes, life-found, some-at}
+
+-- a query that runs, as it is found among the lives and the accepted queries
+pub record Runs (state : State) : Type 0 where
+  pub entry : QueryLife
+  pub start : ℕ
+  pub left : ℕ
+  pub found : query_in state.lives.queries entry.query ≡ Some entry
+  pub runs : entry.life ≡ life.Running start left
+
+some-runs : (state : State) → MayCut state → IsSound state → Runs state
+some-runs state can sound = by_life entry.life refl can.running.4
+  where
+    entry : QueryLife
+    entry = can.running.1
+
+    found : query_in state.lives.queries entry.query ≡ Some entry
+    found =
+        query_in-found state.lives.queries can.running.0 entry.query entry sound.slots.lives.rising can.running.2
+        (ap (λ (e : QueryLife). e.query) can.running.3)
+        ∙ ap Some can.running.3
+
+    by_life : (now : Life) → entry.life ≡ now → IsRunning now → Runs state
+    by_life life.Waiting is runs = absurd runs
+    by_life life.Building is runs = absurd runs
+    by_life (life.Running start left) is runs = record { entry = entry; start = start; left = left; found = found; runs = is }
+    by_life life.Ending is runs = absurd runs
+    by_life life.Answered is runs = absurd runs
+    by_life life.Spoiled is runs = absurd runs
+    by_life life.Abandoned is runs = absurd runs
+
+life-runs : (state : State) (some : Runs state) → life_of state.lives some.entry.query ≡ Some (life.Running some.start some.left)
+life-runs state some = life-found state.lives.queries some.entry.query some.entry some.found ∙ ap Some some.runs
+
+-- something is left of a query that runs, and no more than its extent
+pub left-of : (state : State) → IsSound state → (query : ℕ) (entry : QueryLife) → query_in state.lives.queries query ≡ Some entry
+    → IsLeft entry.extent entry.life
+left-of state sound query entry found =
+    find-holds (λ e. IsLeft e.extent e.life) (λ e. eqb e.query query) state.lives.queries entry found sound.slots.lives.left
+
+-- where a query runs, the table has a version
+pub some-versions : (state : State) → MayCut state → IsSound state → 1 ≤ versions_in state
+some-versions state can sound =
+    by_accepted (accepted_at state.accepted some.entry.query) refl (held-accepted state here.0 some.entry.query here.1 sound here.2 here.3)
+  where
+    some : Runs state
+    some = some-runs state can sound
+
+    here : (slot : ℕ) × (built : ℕ) × (slot < length state.lives.slots) × (slot_at state.lives slot ≡ Held some.entry.query built)
+    here = runs-here state sound some.entry.query some.start some.left (life-runs state some)
+
+    by_accepted : (o : Option Accepted) → accepted_at state.accepted some.entry.query ≡ o → IsSome o → 1 ≤ versions_in state
+    by_accepted None found there = absurd (let both : false ≡ true = there in cc)
+    by_accepted (Some accepted) found there =
+        let number : accepted.number ≡ some.entry.query =
+        eqb-true accepted.number some.entry.query (find-passes (λ a. eqb a.number some.entry.query) state.accepted accepted found) in
+        let of_query : IsSoundQuery state accepted =
+        find-holds (IsSoundQuery state) (λ a. eqb a.number some.entry.query) state.accepted accepted found sound.queries.each in
+        let within : some.entry.extent ≤ versions_in state =
+        some-at (λ e. e.extent ≤ versions_in state) (query_in state.lives.queries accepted.number) some.entry
+        (ap (query_in state.lives.queries) number ∙ some.found) of_query.within in
+        let left : IsLeft some.entry.extent (life.Running some.start some.left) =
+        subst (IsLeft some.entry.extent) some.runs (left-of state sound some.entry.query some.entry some.found) in
+        let one = left.0 in
+        let most = left.1 in
+        omega arith
+
+-- a cut begins before it ends, and ends within the table
+pub record Cuts (state : State) : Type 0 where
+  pub after : first_in state < end_in state
+  pub last : end_in state ≤ versions_in state
+
+pub cuts : (state : State) → MayCut state → IsSound state → Cuts state
+cuts state can sound = record {
+  after = end-after (first_in state) (versions_in state) state.settings.batch (starts_of state) sound.settings.batch
+      (first-below state.scan.position (versions_in state) (some-versions state can sound) sound.scan.position);
+  last = end-last (first_in state) (versions_in state) state.settings.batch (starts_of state);
+}

@@ -1,0 +1,126 @@
+-- Each declaration that the tables take leaves everything sound beside the seats.
+use Rattle.std.proofs.Common.{◌≡◌, ℕ, ◌+◌, ◌≤◌, List, [], ◌∷◌, ◌++◌, length, get_or, replicate, Some, None, sym, ap, ◌∙◌, subst, arith}
+use Rattle.std.specs.Prelude.{All, Contains, fold, ◌↔◌}
+use Rattle.std.specs.List.Sorted.{IsPermutation}
+use Rattle.std.proofs.lemmas.List.{length-map, length-replicate}
+use Rattle.std.proofs.lemmas.List.Elements.{All-nil, All-replicate, Contains-get_or}
+use Rattle.std.proofs.lemmas.List.Sorted.{IsPermutation-refl}
+use Rattle.std.proofs.lemmas.Option.{none-some}
+use Rattle.bit_words.specs.Sets.{Has, with_number}
+use Rattle.star_plan.specs.declared.table_def.TableDef.{TableDef}
+use Rattle.filter_order.specs.declared.tally.Tally.{Tally}
+use Rattle.star_history.specs.Accepted.{Accepts}
+use Rattle.star_history.specs.History.{Change, DimensionDeclared, FactDeclared, Loaded, Ended}
+use Rattle.star_history.specs.Settled.{IsSettled}
+use Rattle.star_history.specs.Store.{Store}
+use Rattle.core_state.specs.Beside.{IsOfRows, IsSoundBeside}
+use Rattle.core_state.specs.Flown.{IsSoundFilter}
+use Rattle.core_state.specs.Numbered.{counted}
+use Rattle.core_state.specs.Sound.{IsSound, IsSoundStore}
+use Rattle.core_state.specs.State.{Entry, FilterVersion, Filters, State}
+use Rattle.core_state.specs.Submitting.{first_versions, with_change}
+use Rattle.core_state.specs.Tables.{changes_of, filter_dimensions, tables_by, tables_of, versions_in}
+use Rattle.core_state.proofs.DeclareLemmas.{declared-quiet, declared_now, empty-sound, filters-low, first-dimensions, first-each, has-set, nil-by-map, no-filters, store-push, undeclared-by}
+use Rattle.core_state.proofs.GivenLemmas.{Settles}
+use Rattle.core_state.proofs.GrownLemmas.{tables-with}
+
+dimension-declared : (seat statement : ℕ) (table : TableDef) (state : State) → (tables_of state).schema.fact ≡ None
+    → Accepts (tables_of state) (DimensionDeclared table) → IsSound state → IsSoundBeside (with_change seat statement (DimensionDeclared table) state)
+dimension-declared seat statement table state none accepts old =
+    declared-quiet state entry state.lives.filters state.filters state.numbers.version none old
+    (record {
+      each = subst (All (λ (version : FilterVersion). IsSoundFilter now version.filter)) (sym empty)
+          (All-nil (λ (version : FilterVersion). IsSoundFilter now version.filter));
+      dimensions = old.filters.dimensions ∙ same;
+      set = subst (λ dimensions. (dimension : ℕ) → Has state.lives.filters dimension ↔ Contains dimensions dimension) same old.filters.set;
+    })
+    (store-push state.entries entry old.store accepts) (λ none_now. old.quiet none)
+    (let stands = old.scan.position in let many = as_many in omega arith)
+    (record { tallies = old.order.tallies; count = old.order.count; order = old.order.order })
+  where
+    entry : Entry
+    entry = record { seat = seat; statement = statement; change = DimensionDeclared table }
+
+    now : State
+    now = declared_now state entry state.lives.filters state.filters state.numbers.version
+
+    as_many : versions_in now ≡ versions_in state
+    as_many = ap (λ (s : Store). length s.versions) (tables-with state.entries entry)
+
+    none_now : (tables_of now).schema.fact ≡ None
+    none_now = ap (λ (s : Store). s.schema.fact) (tables-with state.entries entry) ∙ none
+
+    same : filter_dimensions (tables_of state).schema ≡ filter_dimensions (tables_of now).schema
+    same = no-filters (tables_of state).schema none ∙ sym (no-filters (tables_of now).schema none_now)
+
+    empty : state.filters.versions ≡ []
+    empty = nil-by-map (λ (version : FilterVersion). version.filter.dimension) state.filters.versions
+        (old.filters.dimensions ∙ no-filters (tables_of state).schema none)
+
+fact-declared : Settles → (seat statement : ℕ) (table : TableDef) (state : State) → (tables_of state).schema.fact ≡ None
+    → Accepts (tables_of state) (FactDeclared table) → IsSound state → IsSoundBeside (with_change seat statement (FactDeclared table) state)
+fact-declared settles seat statement table state none accepts old =
+    declared-quiet state entry set filters version none old
+    (record {
+      each = first-each (IsSoundFilter now) dimensions (state.numbers.version + 1)
+          (λ k d low.
+          let few = filters-low (tables_of now).schema k d low in
+          let most = settled.declared.limits.dimensions in
+          empty-sound now (get_or dimensions k d) (omega arith) ((has-set dimensions (get_or dimensions k d)).1 (Contains-get_or dimensions k d low))
+          (old.quiet none).2);
+      dimensions = first-dimensions dimensions (state.numbers.version + 1);
+      set = has-set dimensions;
+    })
+    store (λ none_now. absurd (none-some table (sym none_now ∙ fact)))
+    (let stands = old.scan.position in let many = as_many in omega arith)
+    (record {
+      tallies = All-replicate (λ (tally : Tally). tally.drops ≤ tally.probes) (length dimensions) (record { probes = 0; drops = 0 }) (omega arith);
+      count = length-replicate (length dimensions) (record { probes = 0; drops = 0 })
+          ∙ sym (sym (length-map filters.versions (λ (v : FilterVersion). v.filter.dimension))
+          ∙ ap length (first-dimensions dimensions (state.numbers.version + 1)));
+      order = subst (λ all. IsPermutation all dimensions) (sym (first-dimensions dimensions (state.numbers.version + 1)))
+          (IsPermutation-refl dimensions);
+    })
+  where
+    entry : Entry
+    entry = record { seat = seat; statement = statement; change = FactDeclared table }
+
+    dimensions : List ℕ
+    dimensions = filter_dimensions (tables_by (state.entries ++ entry ∷ [])).schema
+
+    set : ℕ
+    set = fold with_number 0 dimensions
+
+    filters : Filters
+    filters = record {
+      versions = first_versions dimensions (state.numbers.version + 1);
+      tallies = replicate (length dimensions) (record { probes = 0; drops = 0 });
+      order = dimensions;
+    }
+
+    version : ℕ
+    version = counted state.numbers.version (length dimensions)
+
+    now : State
+    now = declared_now state entry set filters version
+
+    store : IsSoundStore now
+    store = store-push state.entries entry old.store accepts
+
+    settled : IsSettled (tables_of now)
+    settled = settles (changes_of (state.entries ++ entry ∷ [])) store
+
+    as_many : versions_in now ≡ versions_in state
+    as_many = ap (λ (s : Store). length s.versions) (tables-with state.entries entry)
+
+    fact : (tables_of now).schema.fact ≡ Some table
+    fact = ap (λ (s : Store). s.schema.fact) (tables-with state.entries entry)
+
+pub declared-beside : Settles → (seat statement : ℕ) (change : Change) (state : State) → (IsOfRows change → ⊥)
+    → Accepts (tables_of state) change → IsSound state → IsSoundBeside (with_change seat statement change state)
+declared-beside settles seat statement (DimensionDeclared table) state declares accepts old =
+    dimension-declared seat statement table state (undeclared-by (tables_of state).schema.fact _ table accepts.0) accepts old
+declared-beside settles seat statement (FactDeclared table) state declares accepts old =
+    fact-declared settles seat statement table state (undeclared-by (tables_of state).schema.fact _ table accepts.0) accepts old
+declared-beside settles seat statement (Loaded table rows) state declares accepts old = absurd (declares tt)
+declared-beside settles seat statement (Ended positions) state declares accepts old = absurd (declares tt)

@@ -1,0 +1,176 @@
+-- A batch that is distributed keeps a core sound.
+use Rattle.std.proofs.Common.{◌≡◌, ◌≢◌, ℕ, ◌+◌, ◌<◌, ◌≤◌, Bool, true, false, cond, eqb, eq-eqb, not, List, [], ◌∷◌, length, get_or, map, Option, Some, None, option_map, slice_get, refl, sym, ap, ◌∙◌, subst, arith}
+use Rattle.std.specs.Prelude.{All, AllPairs, Contains, IfSome, IsTrue, ◌↔◌}
+use Rattle.std.specs.List.{cons_option, filter}
+use Rattle.std.proofs.lemmas.Bool.{ne_eqb}
+use Rattle.std.proofs.lemmas.List.{get_or-map, length-map}
+use Rattle.std.proofs.lemmas.List.Elements.{All-cons, All-contains, All-filter, All-nil}
+use Rattle.std.proofs.lemmas.List.Kept.{AllPairs-cons, AllPairs-filter}
+use Rattle.std.proofs.lemmas.Option.{IfSome_then}
+use Rattle.star_history.proofs.ListLemmas.{all_pairs_head, all_pairs_tail}
+use Rattle.pipeline_manager.specs.Conditions.{is_open}
+use Rattle.pipeline_manager.specs.Lives.{query_in}
+use Rattle.pipeline_manager.specs.Sound.{AreRising}
+use Rattle.pipeline_manager.specs.declared.life.Life.TheVariants as life
+use Rattle.pipeline_manager.specs.declared.life.QueryLife.{QueryLife}
+use Rattle.core_state.specs.Events.{IsThrough}
+use Rattle.core_state.specs.Flown.{IsSoundBatch, IsSoundHand}
+use Rattle.core_state.specs.Found.{accepted_at, flight_at}
+use Rattle.core_state.specs.Sound.{AreSoundHands, AreSoundQueries, IsKept, IsSound, IsSoundQuery}
+use Rattle.core_state.specs.State.{Accepted, Flight, Hand, Scan, State}
+use Rattle.core_state.specs.Tables.{tables_of, versions_in}
+use Rattle.core_state.proofs.AnewLemmas.{LivesAs, batches-anew, filters-anew, hands-anew, queries-anew}
+use Rattle.core_state.proofs.DistributeLemmas.{FoldsOne, length-landed, without_flight}
+use Rattle.core_state.proofs.FoundLemmas.{life-found, some-at, some-by}
+use Rattle.core_state.proofs.LandedLemmas.{batch-brings, fed_by, feeds, gets-open, kept-landed, landed}
+use Rattle.core_state.proofs.SeatLemmas.{seat-anew, seats-anew}
+use Rattle.core_state.proofs.TakeLemmas.{All-option, All-option_tail, cons-tail, workers}
+
+-- the accepted queries have different numbers, since those that have lives rise
+accepted-apart : (state : State) → AreSoundQueries state → AreRising state.lives.queries
+    → AllPairs (λ accepted other. accepted.number ≢ other.number) state.accepted
+accepted-apart state queries rising i j d before low same =
+    let lives : List QueryLife = state.lives.queries in
+    let count : length state.accepted ≡ length lives =
+    sym (length-map state.accepted (λ a. a.number)) ∙ ap (λ (ns : List ℕ). length ns) queries.same ∙ length-map lives (λ e. e.query) in
+    let here : i < length lives = omega arith in
+    let there : j < length lives = omega arith in
+    let one = at i (omega arith) here in
+    let other = at j low there in
+    let rises = rising i j none before there in
+    absurd (omega arith)
+  where
+    none : QueryLife
+    none = record { query = 0; extent = 0; life = life.Waiting }
+
+    at : (k : ℕ) → k < length state.accepted → k < length state.lives.queries
+        → (get_or state.accepted k d).number ≡ (get_or state.lives.queries k none).query
+    at k low_accepted low_lives =
+        sym (get_or-map (λ a. a.number) state.accepted k d 0 low_accepted)
+        ∙ ap (λ ns. get_or ns k 0) queries.same
+        ∙ get_or-map (λ e. e.query) state.lives.queries k none 0 low_lives
+
+-- so each is the one that is found by its number
+found-each : (accepted : List Accepted) → AllPairs (λ a other. a.number ≢ other.number) accepted
+    → All (λ a. accepted_at accepted a.number ≡ Some a) accepted
+found-each [] apart = All-nil (λ a. accepted_at [] a.number ≡ Some a)
+found-each (first ∷ accepted) apart =
+    All-cons (λ a. accepted_at (first ∷ accepted) a.number ≡ Some a) first accepted
+    (ap (λ t. cond {A = Option Accepted} t (Some first) (accepted_at accepted first.number)) (eq-eqb first.number first.number refl))
+    (λ k d low.
+    let a = get_or accepted k d in
+    ap (λ t. cond {A = Option Accepted} t (Some first) (accepted_at accepted a.number))
+    (ne_eqb first.number a.number (all_pairs_head (λ x y. x.number ≢ y.number) first accepted apart k d low))
+    ∙ found-each accepted (all_pairs_tail (λ x y. x.number ≢ y.number) first accepted apart) k d low)
+
+pub found-itself : (state : State) → AreSoundQueries state → AreRising state.lives.queries → (accepted : Accepted)
+    → Contains state.accepted accepted → accepted_at state.accepted accepted.number ≡ Some accepted
+found-itself state queries rising accepted there =
+    All-contains (λ a. accepted_at state.accepted a.number ≡ Some a) state.accepted accepted
+    (found-each state.accepted (accepted-apart state queries rising)) there
+
+-- the workers that hold some of the batches are some of those that hold them all
+fewer-workers : (P : ℕ → Type 0) (p : Flight → Bool) (flights : List Flight) → All P (workers flights) → All P (workers (filter p flights))
+fewer-workers P p [] all = all
+fewer-workers P p (flight ∷ flights) all =
+    let parts = All-option_tail P (option_map (λ hand. hand.worker) flight.hand) (workers flights) all in
+    by_test (p flight) parts.0 (fewer-workers P p flights parts.1)
+  where
+    by_test : (t : Bool) → IfSome (option_map (λ hand. hand.worker) flight.hand) P → All P (workers (filter p flights))
+        → All P (workers (cond {A = List Flight} t (flight ∷ filter p flights) (filter p flights)))
+    by_test true first rest = All-option P (option_map (λ hand. hand.worker) flight.hand) (workers (filter p flights)) first rest
+    by_test false first rest = rest
+
+fewer-apart : (p : Flight → Bool) (flights : List Flight) → AllPairs (λ w other. w ≢ other) (workers flights)
+    → AllPairs (λ w other. w ≢ other) (workers (filter p flights))
+fewer-apart p [] apart = apart
+fewer-apart p (flight ∷ flights) apart =
+    by_test (p flight) (fewer-apart p flights (cons-tail (option_map (λ hand. hand.worker) flight.hand) (workers flights) apart))
+  where
+    by_hand : (o : Option Hand) → AllPairs (λ w other. w ≢ other) (cons_option (option_map (λ hand. hand.worker) o) (workers flights))
+        → AllPairs (λ w other. w ≢ other) (workers (filter p flights))
+        → AllPairs (λ w other. w ≢ other) (cons_option (option_map (λ hand. hand.worker) o) (workers (filter p flights)))
+    by_hand None old rest = rest
+    by_hand (Some hand) old rest =
+        AllPairs-cons (λ w other. w ≢ other) hand.worker (workers (filter p flights))
+        (fewer-workers (λ other. hand.worker ≢ other) p flights (all_pairs_head (λ w other. w ≢ other) hand.worker (workers flights) old)) rest
+
+    by_test : (t : Bool) → AllPairs (λ w other. w ≢ other) (workers (filter p flights))
+        → AllPairs (λ w other. w ≢ other) (workers (cond {A = List Flight} t (flight ∷ filter p flights) (filter p flights)))
+    by_test true rest = by_hand flight.hand apart rest
+    by_test false rest = rest
+
+-- the hands that are left are sound
+hands-left : (state : State) (p : Flight → Bool) (scan : Scan) → scan.flights ≡ filter p state.scan.flights → AreSoundHands state
+    → AreSoundHands (record state { scan = scan })
+hands-left state p scan left old = record {
+  each = subst (All (λ f. IfSome f.hand (IsSoundHand (record state { scan = scan }) f))) (sym left)
+      (All-filter p (λ f. IfSome f.hand (IsSoundHand (record state { scan = scan }) f)) state.scan.flights
+      (λ k d low. IfSome_then (get_or state.scan.flights k d).hand (old.each k d low)
+      (λ hand h. record { seat = h.seat; table = h.table; is_filter = h.is_filter; not_passed = h.not_passed; encodes = h.encodes })));
+  one = subst (λ flights. AllPairs (λ w other. w ≢ other) (workers flights)) (sym left) (fewer-apart p state.scan.flights old.one);
+}
+
+-- the core as a batch has left it is sound
+pub sound-landed : FoldsOne → (batch : ℕ) (flight : Flight) (state : State) → flight_at state.scan.flights batch ≡ Some flight
+    → IsSoundBatch state flight → IsThrough state.filters flight → IsSound state → IsSound (landed batch flight state)
+sound-landed folds batch flight state there of_batch through sound = record {
+  settings = sound.settings;
+  filters = filters-anew state change keeps queries state.seats scan sound.filters;
+  batches = batches-anew state change keeps queries state.seats scan (λ number on. on)
+      (All-filter left (IsSoundBatch state) state.scan.flights sound.batches);
+  hands = hands-anew state change keeps queries state.seats scan refl (hands-left state left scan refl sound.hands);
+  queries = queries-anew state change keeps queries state.seats scan refl
+      (λ accepted among of_query. some-by (LivesAs (landed batch flight state) accepted (change accepted)) (query_in queries accepted.number)
+      (λ entry found. lives accepted among of_query entry found)) sound.queries;
+  slots = record { lives = sound.slots.lives; count = sound.slots.count; built = sound.slots.built };
+  store = sound.store;
+  quiet = λ none. (ap (map change) (sound.quiet none).0, ap (without_flight batch) (sound.quiet none).1, (sound.quiet none).2);
+  numbers = record {
+    apart = AllPairs-filter (λ f other. f.rows.number ≢ other.rows.number) left state.scan.flights sound.numbers.apart;
+    given = λ more. All-filter left (λ f. f.rows.number ≤ state.numbers.batch) state.scan.flights (sound.numbers.given more);
+  };
+  scan = record {
+    frames =
+        let count = length-landed batch flight state.scan.flights there sound.numbers.apart in
+        let frames = sound.scan.frames in
+        omega arith;
+    position = sound.scan.position;
+  };
+  order = record { tallies = sound.order.tallies; count = sound.order.count; order = sound.order.order };
+  seats = seats-anew state change keeps queries state.seats scan refl (λ seat. refl)
+      (λ k d low. seat-anew state change keeps queries state.seats scan (get_or state.seats k d) (λ j p inside h. h) (λ number h. h)
+      (sound.seats.each k d low)) sound.seats;
+}
+  where
+    change : Accepted → Accepted
+    change = fed_by state flight
+
+    keeps : (accepted : Accepted) → (groups : _) × (change accepted ≡ record accepted { groups = groups })
+    keeps = feeds state flight
+
+    queries : List QueryLife
+    queries = state.lives.queries
+
+    left : Flight → Bool
+    left other = not (eqb other.rows.number batch)
+
+    scan : Scan
+    scan = record state.scan { flights = without_flight batch state.scan.flights; free = state.scan.free + 1 }
+
+    lives : (accepted : Accepted) → Contains state.accepted accepted → IsSoundQuery state accepted → (entry : QueryLife)
+        → query_in queries accepted.number ≡ Some entry → LivesAs (landed batch flight state) accepted (change accepted) entry
+    lives accepted among of_query entry found = (
+      kept-landed folds state batch flight there sound.numbers.apart accepted entry.extent entry.life
+          (life-found queries accepted.number entry found)
+          (λ gets. batch-brings state flight accepted entry.extent sound.filters sound.order through.through of_batch
+          (found-itself state sound.queries sound.slots.lives.rising accepted among) of_query.over (extent (gets-open entry.life gets)))
+          (some-at (λ e. IsKept state accepted e.extent e.life) (query_in queries accepted.number) entry found of_query.kept),
+      extent,
+      some-at (λ e. e.extent ≤ versions_in state) (query_in queries accepted.number) entry found of_query.within,
+    )
+      where
+        extent : IsTrue (is_open entry.life) → (position : ℕ) → IfSome (slice_get (tables_of state).versions position)
+            (λ version. (version.begin ≤ accepted.snapshot) ↔ (position < entry.extent))
+        extent = some-at (λ e. IsTrue (is_open e.life) → (position : ℕ) → IfSome (slice_get (tables_of state).versions position)
+            (λ version. (version.begin ≤ accepted.snapshot) ↔ (position < e.extent))) (query_in queries accepted.number) entry found of_query.extent

@@ -1,0 +1,131 @@
+-- Filters and hands stay sound where the tables grow.
+use Rattle.std.proofs.Common.{◌≡◌, ℕ, ◌<◌, ◌≤◌, eqb, false, true, List, length, length-append, get_or, Option, Some, None, refl, sym, ap, ◌∙◌, subst, arith}
+use Rattle.std.specs.Prelude.{Contains, IfSome, IsSome, IsTrue, ◌↔◌}
+use Rattle.std.proofs.lemmas.Option.{IfSome_then}
+use Rattle.bit_words.specs.Sets.{Has}
+use Rattle.star_plan.specs.Joined.{takes}
+use Rattle.star_plan.specs.Test.{Query}
+use Rattle.dimension_rows.specs.declared.dimension_row.DimensionRow.{DimensionRow}
+use Rattle.pipeline_manager.specs.Lives.{slot_at}
+use Rattle.pipeline_manager.specs.declared.life.SlotState.{SlotState}
+use Rattle.pipeline_manager.specs.declared.life.SlotState.TheVariants.{Free, Held, Clearing}
+use Rattle.dimension_filter.specs.Filter.{Filter, vector_of}
+use Rattle.star_history.specs.Store.{Store, rows_in}
+use Rattle.core_state.specs.Admitting.{selection_in}
+use Rattle.core_state.specs.Flown.{Encodes, FitsSlot, IsOnRoster, IsSoundFilter, IsSoundHand}
+use Rattle.core_state.specs.Found.{accepted_at}
+use Rattle.core_state.specs.Sound.{AreSoundFilters, AreSoundHands, IsSound, IsSoundQuery}
+use Rattle.core_state.specs.State.{Accepted, Entry, Flight, Hand, OnRoster, State}
+use Rattle.core_state.specs.Tables.{filter_dimensions, tables_by, tables_of}
+use Rattle.core_state.proofs.AcceptedLemmas.{find-holds, held-accepted}
+use Rattle.core_state.proofs.FoundLemmas.{some-at, some-by}
+use Rattle.core_state.proofs.GrownRowsLemmas.{Behind, Grows, some-behind}
+
+-- the core with other entries
+abbrev pub entered : State → List Entry → State
+entered state entries = record state { entries = entries }
+
+-- an accepted query that is found has a snapshot so far
+snapshot-found : (state : State) → IsSound state → (number : ℕ) (accepted : Accepted) → accepted_at state.accepted number ≡ Some accepted
+    → accepted.snapshot ≤ (tables_of state).commits
+snapshot-found state sound number accepted found =
+    let of_query : IsSoundQuery state accepted =
+    find-holds (IsSoundQuery state) (λ a. eqb a.number number) state.accepted accepted found sound.queries.each in
+    of_query.snapshot
+
+-- a query on a roster has a snapshot so far
+pub snapshot-on : (state : State) → IsSound state → (entry : OnRoster) → IsOnRoster state entry → entry.snapshot ≤ (tables_of state).commits
+snapshot-on state sound entry on =
+    by_accepted (accepted_at state.accepted entry.number) refl
+    (held-accepted state entry.slot entry.number on.held.0 sound on.there on.held.1) on.same
+  where
+    by_accepted : (o : Option Accepted) → accepted_at state.accepted entry.number ≡ o → IsSome o
+        → IfSome o (λ accepted. (accepted.query ≡ entry.query) × (accepted.snapshot ≡ entry.snapshot))
+        → entry.snapshot ≤ (tables_of state).commits
+    by_accepted None is some same = absurd (let both : false ≡ true = some in cc)
+    by_accepted (Some accepted) is some same =
+        subst (λ snapshot. snapshot ≤ (tables_of state).commits) same.1 (snapshot-found state sound entry.number accepted is)
+
+-- a filter has a query in a slot also where rows came that the query does not see
+encodes-behind : (commits : ℕ) (filter : Filter) (slot : ℕ) (query : Query) (snapshot : ℕ) (rows others : List DimensionRow)
+    → snapshot ≤ commits → Behind commits rows others → Encodes filter slot query snapshot rows → Encodes filter slot query snapshot others
+encodes-behind commits filter slot query snapshot rows others low behind old =
+    subst (Encodes filter slot query snapshot) (sym behind.1) (record {
+      taken = λ key. some-behind (Says key) rows behind.0 key (old.taken key)
+          (λ k d within came. absurd (let later = behind.2 k d within in omega arith));
+      others = old.others;
+    })
+  where
+    Says : (key : ℕ) → DimensionRow → Type 0
+    Says key entry = entry.commit ≤ snapshot → Has (vector_of filter key) slot ↔ IsTrue (takes (selection_in query filter.dimension) entry.row)
+
+pub encodes-grown : (before after : Store) (filter : Filter) (slot : ℕ) (query : Query) (snapshot : ℕ) → Grows before after
+    → snapshot ≤ before.commits → Encodes filter slot query snapshot (rows_in before.dimensions filter.dimension)
+    → Encodes filter slot query snapshot (rows_in after.dimensions filter.dimension)
+encodes-grown before after filter slot query snapshot grows low =
+    encodes-behind before.commits filter slot query snapshot (rows_in before.dimensions filter.dimension)
+    (rows_in after.dimensions filter.dimension) low (grows.rows filter.dimension)
+
+fits-grown : (state : State) (entries : List Entry) → IsSound state → Grows (tables_of state) (tables_by entries) → (filter : Filter) (slot : ℕ)
+    (holder : SlotState) → FitsSlot state filter slot holder → FitsSlot (entered state entries) filter slot holder
+fits-grown state entries sound grows filter slot Free fits = fits
+fits-grown state entries sound grows filter slot (Held query built) fits = (
+  λ has. some-by
+      (λ accepted. Encodes filter slot accepted.query accepted.snapshot (rows_in (tables_by entries).dimensions filter.dimension))
+      (accepted_at state.accepted query)
+      (λ accepted found. encodes-grown (tables_of state) (tables_by entries) filter slot accepted.query accepted.snapshot grows
+      (snapshot-found state sound query accepted found)
+      (some-at (λ a. Encodes filter slot a.query a.snapshot (rows_in (tables_of state).dimensions filter.dimension))
+      (accepted_at state.accepted query) accepted found (fits.0 has))),
+  fits.1,
+)
+fits-grown state entries sound grows filter slot (Clearing left) fits = fits
+
+filter-grown : (state : State) (entries : List Entry) → IsSound state → Grows (tables_of state) (tables_by entries) → (filter : Filter)
+    → IsSoundFilter state filter → IsSoundFilter (entered state entries) filter
+filter-grown state entries sound grows filter old = record {
+  table = old.table;
+  ascending = old.ascending;
+  is_filter = old.is_filter;
+  slots = λ slot there. fits-grown state entries sound grows filter slot (slot_at state.lives slot) (old.slots slot there);
+  beyond = old.beyond;
+  within = λ key stored.
+      let behind = grows.rows filter.dimension in
+      let rows = rows_in (tables_of state).dimensions filter.dimension in
+      let low = old.within key stored in
+      subst (λ (all : List DimensionRow). key < length all) (sym behind.1) (omega (arith, length-append rows behind.0));
+}
+
+pub filters-grown : (state : State) (entries : List Entry) → IsSound state → Grows (tables_of state) (tables_by entries)
+    → AreSoundFilters (entered state entries)
+filters-grown state entries sound grows = record {
+  each = λ k d low.
+      filter-grown state entries sound grows (get_or state.filters.versions k d).filter (sound.filters.each k d low);
+  dimensions = sound.filters.dimensions ∙ ap filter_dimensions (sym grows.schema);
+  set = λ dimension. subst (λ schema. Has state.lives.filters dimension ↔ Contains (filter_dimensions schema) dimension) (sym grows.schema)
+      (sound.filters.set dimension);
+}
+
+hand-grown : (state : State) (entries : List Entry) → IsSound state → Grows (tables_of state) (tables_by entries) → (flight : Flight) (hand : Hand)
+    → ((k : ℕ) (d : OnRoster) → k < length flight.roster → IsOnRoster state (get_or flight.roster k d))
+    → IsSoundHand state flight hand → IsSoundHand (entered state entries) flight hand
+hand-grown state entries sound grows flight hand roster old = record {
+  seat = old.seat;
+  table = old.table;
+  is_filter = old.is_filter;
+  not_passed = old.not_passed;
+  encodes = λ k d low.
+      let entry = get_or flight.roster k d in
+      encodes-grown (tables_of state) (tables_by entries) hand.version.filter entry.slot entry.query entry.snapshot grows
+      (snapshot-on state sound entry (roster k d low)) (old.encodes k d low);
+}
+
+pub hands-grown : (state : State) (entries : List Entry) → IsSound state → Grows (tables_of state) (tables_by entries)
+    → AreSoundHands (entered state entries)
+hands-grown state entries sound grows = record {
+  each = λ k d low.
+      let flight = get_or state.scan.flights k d in
+      IfSome_then flight.hand (sound.hands.each k d low)
+      (λ hand. hand-grown state entries sound grows flight hand (sound.batches k d low).roster);
+  one = sound.hands.one;
+}

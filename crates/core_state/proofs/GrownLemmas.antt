@@ -1,0 +1,72 @@
+-- Rows that are loaded, and versions that are ended, leave everything sound that a core keeps beside its seats.
+use Rattle.std.proofs.Common.{◌≡◌, ℕ, ◌≤◌, List, [], ◌∷◌, ◌++◌, sym, ap, ◌∙◌, subst, arith}
+use Rattle.std.specs.List.{fold}
+use Rattle.std.proofs.lemmas.List.{map-append}
+use Rattle.std.proofs.lemmas.List.Sums.{fold-append}
+use Rattle.star_plan.specs.Test.{Query}
+use Rattle.star_history.specs.Accepted.{Accepts, AcceptsAll}
+use Rattle.star_history.specs.Alone.{kept}
+use Rattle.star_history.specs.History.{Change, after_change, store_of}
+use Rattle.star_history.specs.Settled.{IsSettled}
+use Rattle.star_history.specs.Store.{Store, empty_store}
+use Rattle.core_state.specs.Beside.{IsOfRows, IsSoundBeside, with_entry}
+use Rattle.core_state.specs.Sound.{IsSound}
+use Rattle.core_state.specs.State.{Entry, State}
+use Rattle.core_state.specs.Tables.{changes_of, tables_by, tables_of}
+use Rattle.core_state.proofs.GivenLemmas.{Settles}
+use Rattle.core_state.proofs.GrownBatchLemmas.{batches-grown}
+use Rattle.core_state.proofs.GrownFilterLemmas.{filters-grown, hands-grown}
+use Rattle.core_state.proofs.GrownQueryLemmas.{KeepsKept, queries-grown}
+use Rattle.core_state.proofs.GrownRowsLemmas.{Grows, grows-by}
+
+-- a query keeps the same rows after a change that comes after its snapshot
+abbrev pub AreNotSeen : Type 0
+AreNotSeen = (store : Store) (change : Change) (query : Query) (snapshot : ℕ) → IsSettled store → Accepts store change
+    → snapshot ≤ store.commits → kept (after_change store change) query snapshot ≡ kept store query snapshot
+
+-- the changes of entries, and one more
+pub changes-with : (entries : List Entry) (entry : Entry) → changes_of (entries ++ entry ∷ []) ≡ changes_of entries ++ entry.change ∷ []
+changes-with entries entry = map-append (λ (e : Entry). e.change) entries (entry ∷ [])
+
+-- the tables after an entry are those after its change
+pub tables-with : (entries : List Entry) (entry : Entry) → tables_by (entries ++ entry ∷ []) ≡ after_change (tables_by entries) entry.change
+tables-with entries entry =
+    ap store_of (changes-with entries entry) ∙ fold-append after_change empty_store (changes_of entries) (entry.change ∷ [])
+
+-- a history takes a change more, which its tables take
+pub accepts-more : (store : Store) (history : List Change) (change : Change) → AcceptsAll store history
+    → Accepts (fold after_change store history) change → AcceptsAll store (history ++ change ∷ [])
+accepts-more store [] change all accepted = (accepted, tt)
+accepts-more store (first ∷ history) change all accepted = (all.0, accepts-more (after_change store first) history change all.1 accepted)
+
+pub sound-grown : Settles → AreNotSeen → (seat statement : ℕ) (change : Change) (state : State) → IsOfRows change
+    → Accepts (tables_of state) change → IsSound state → IsSoundBeside (with_entry seat statement change state)
+sound-grown settles not_seen seat statement change state of_rows accepted sound = record {
+  filters = filters-grown state entries sound grows;
+  batches = batches-grown state entries sound settled grows;
+  hands = hands-grown state entries sound grows;
+  queries = queries-grown state entries grows keeps sound.queries;
+  slots = record { lives = sound.slots.lives; count = sound.slots.count; built = sound.slots.built };
+  store = subst (AcceptsAll empty_store) (sym (changes-with state.entries entry))
+      (accepts-more empty_store (changes_of state.entries) change sound.store accepted);
+  quiet = λ none. sound.quiet (ap (λ schema. schema.fact) (sym grows.schema) ∙ none);
+  scan = record { frames = sound.scan.frames; position = let low = sound.scan.position in let longer = grows.longer in omega arith };
+  order = record { tallies = sound.order.tallies; count = sound.order.count; order = sound.order.order };
+}
+  where
+    entry : Entry
+    entry = record { seat = seat; statement = statement; change = change }
+
+    entries : List Entry
+    entries = state.entries ++ entry ∷ []
+
+    settled : IsSettled (tables_of state)
+    settled = settles (changes_of state.entries) sound.store
+
+    grows : Grows (tables_of state) (tables_by entries)
+    grows = subst (Grows (tables_of state)) (sym (tables-with state.entries entry)) (grows-by (tables_of state) change of_rows accepted)
+
+    keeps : KeepsKept (tables_of state) (tables_by entries)
+    keeps query snapshot low =
+        ap (λ store. kept store query snapshot) (tables-with state.entries entry)
+        ∙ not_seen (tables_of state) change query snapshot settled accepted low

@@ -1,0 +1,188 @@
+-- What is kept of the accepted queries stays sound where the tables grow.
+use Rattle.std.proofs.Common.{◌≡◌, ℕ, ◌<◌, ◌≤◌, Bool, true, false, cond, List, [], ◌∷◌, ◌++◌, length, get_or, map, Option, Some, None, slice_get, refl, sym, ap, ◌∙◌, subst, ⊎_elim, inl, inr, append_assoc, arith}
+use Rattle.std.specs.Prelude.{All, IfSome, IsTrue, ◌↔◌, flat_map}
+use Rattle.std.specs.List.{cons_option, filter, range_with_len}
+use Rattle.std.specs.List.Sorted.{IsPermutation}
+use Rattle.std.proofs.lemmas.Bool.{cases_lt}
+use Rattle.std.proofs.lemmas.Option.{IfSome_then}
+use Rattle.std.proofs.lemmas.List.Elements.{All-head, All-tail}
+use Rattle.std.proofs.lemmas.List.FromFn.{get_or-range_with_len, length-range_with_len}
+use Rattle.std.proofs.lemmas.List.Sorted.{All-permutation, IsPermutation-sym}
+use Rattle.star_plan.specs.Joined.{Joined, kept_of}
+use Rattle.star_plan.specs.Over.{IsOver}
+use Rattle.star_plan.specs.Test.{Query}
+use Rattle.fact_versions.specs.Visible.{is_visible}
+use Rattle.pipeline_manager.specs.Conditions.{is_open}
+use Rattle.pipeline_manager.specs.Lives.{query_in}
+use Rattle.pipeline_manager.specs.declared.life.Life.{Life}
+use Rattle.pipeline_manager.specs.declared.life.Life.TheVariants as life
+use Rattle.aggregations.specs.Grouped.{grouped_of}
+use Rattle.star_history.specs.Alone.{joined, kept}
+use Rattle.star_history.specs.Store.{PlainVersion, Store}
+use Rattle.star_history.proofs.LoadedLemmas.{all_front}
+use Rattle.core_state.specs.Sound.{AreSoundQueries, IsAnswer, IsCovered, IsKept, IsSoundQuery, kept_at, positions_for, to_come, versions_at}
+use Rattle.core_state.specs.State.{Accepted, Entry, State}
+use Rattle.core_state.specs.Tables.{tables_by, tables_of, versions_in}
+use Rattle.core_state.proofs.GrownFilterLemmas.{entered}
+use Rattle.core_state.proofs.GrownKeyLemmas.{version-joined}
+use Rattle.core_state.proofs.GrownRowsLemmas.{Grows, StaysThere}
+
+-- What positions give.
+
+-- the joined rows of versions that a snapshot sees
+abbrev rows_seen : Store → Query → (snapshot : ℕ) → List PlainVersion → List Joined
+rows_seen store query snapshot versions =
+    map (λ version. joined store query snapshot version.row) (filter (λ version. is_visible version.begin version.end snapshot) versions)
+
+-- one version more, which stays, is seen or is not, and joins the same row
+seen-more : (before after : Store) (query : Query) (snapshot : ℕ) → Grows before after → snapshot ≤ before.commits
+    → (old new : Option PlainVersion) (versions others : List PlainVersion) → StaysThere before.commits old new
+    → rows_seen after query snapshot others ≡ rows_seen before query snapshot versions
+    → rows_seen after query snapshot (cons_option new others) ≡ rows_seen before query snapshot (cons_option old versions)
+seen-more before after query snapshot grows low None None versions others stays rest = rest
+seen-more before after query snapshot grows low None (Some now) versions others stays rest = absurd stays
+seen-more before after query snapshot grows low (Some version) None versions others stays rest = absurd stays
+seen-more before after query snapshot grows low (Some version) (Some now) versions others stays rest =
+    ap (λ t. map (λ v. joined after query snapshot v.row) (cond {A = List PlainVersion} t (now ∷ filter seen others) (filter seen others)))
+    (stays.seen snapshot low)
+    ∙ by_test (seen version)
+  where
+    seen : PlainVersion → Bool
+    seen v = is_visible v.begin v.end snapshot
+
+    by_test : (t : Bool)
+        → map (λ v. joined after query snapshot v.row) (cond {A = List PlainVersion} t (now ∷ filter seen others) (filter seen others))
+        ≡ map (λ v. joined before query snapshot v.row) (cond {A = List PlainVersion} t (version ∷ filter seen versions) (filter seen versions))
+    by_test true = λ i. version-joined before after query snapshot version now grows low stays i ∷ rest i
+    by_test false = rest
+
+positions-seen : (before after : Store) (query : Query) (snapshot : ℕ) → Grows before after → snapshot ≤ before.commits → (positions : List ℕ)
+    → All (λ position. position < length before.versions) positions
+    → rows_seen after query snapshot (versions_at positions after.versions) ≡ rows_seen before query snapshot (versions_at positions before.versions)
+positions-seen before after query snapshot grows low [] all = refl
+positions-seen before after query snapshot grows low (position ∷ positions) all =
+    seen-more before after query snapshot grows low (slice_get before.versions position) (slice_get after.versions position)
+    (versions_at positions before.versions) (versions_at positions after.versions)
+    (grows.old position (All-head (λ p. p < length before.versions) position positions all))
+    (positions-seen before after query snapshot grows low positions (All-tail (λ p. p < length before.versions) position positions all))
+
+-- positions of the table as it was give at a snapshot so far what they gave
+pub kept_at-stays : (before after : Store) (query : Query) (snapshot : ℕ) → Grows before after → snapshot ≤ before.commits → (positions : List ℕ)
+    → All (λ position. position < length before.versions) positions
+    → kept_at after query snapshot positions ≡ kept_at before query snapshot positions
+kept_at-stays before after query snapshot grows low positions all =
+    ap (kept_of query) (positions-seen before after query snapshot grows low positions all)
+
+-- Accepted queries.
+
+-- the positions below an extent are below it
+range-low : (extent count : ℕ) → extent ≤ count → All (λ position. position < count) (range_with_len 0 extent)
+range-low extent count low = λ k d within.
+    let inside : k < extent = omega (arith, length-range_with_len 0 extent) in
+    let at = get_or-range_with_len 0 extent k d inside in
+    omega arith
+
+folded-low : (folded rest : List ℕ) (extent count : ℕ) → extent ≤ count → IsPermutation (folded ++ rest) (range_with_len 0 extent)
+    → All (λ position. position < count) folded
+folded-low folded rest extent count low same =
+    all_front (λ position. position < count) folded rest
+    (All-permutation (λ position. position < count) (range_with_len 0 extent) (folded ++ rest)
+    (IsPermutation-sym (folded ++ rest) (range_with_len 0 extent) same) (range-low extent count low))
+
+-- what is kept at the snapshot of an accepted query is kept where the tables grow
+abbrev pub KeepsKept : Store → Store → Type 0
+KeepsKept before after = (query : Query) (snapshot : ℕ) → snapshot ≤ before.commits → kept after query snapshot ≡ kept before query snapshot
+
+covered-grown : (state : State) (entries : List Entry) → Grows (tables_of state) (tables_by entries) → (accepted : Accepted) (extent : ℕ) (now : Life)
+    → accepted.snapshot ≤ (tables_of state).commits → extent ≤ versions_in state → IsCovered state accepted extent now
+    → IsCovered (entered state entries) accepted extent now
+covered-grown state entries grows accepted extent now low within old = record {
+  folded = old.folded;
+  each_once = old.each_once;
+  next = old.next;
+  groups = old.groups ∙ ap (λ rows. Some (grouped_of accepted.query rows))
+      (sym (kept_at-stays (tables_of state) (tables_by entries) accepted.query accepted.snapshot grows low old.folded
+      (folded-low old.folded (flat_map (positions_for accepted.number extent) state.scan.flights ++ to_come extent now) extent
+      (versions_in state) within (subst (λ all. IsPermutation all (range_with_len 0 extent)) bracket old.each_once))));
+}
+  where
+    bracket : (old.folded ++ flat_map (positions_for accepted.number extent) state.scan.flights) ++ to_come extent now
+        ≡ old.folded ++ (flat_map (positions_for accepted.number extent) state.scan.flights ++ to_come extent now)
+    bracket = append_assoc old.folded (flat_map (positions_for accepted.number extent) state.scan.flights) (to_come extent now)
+
+answer-grown : (state : State) (entries : List Entry) → KeepsKept (tables_of state) (tables_by entries) → (accepted : Accepted)
+    → accepted.snapshot ≤ (tables_of state).commits → IsAnswer state accepted → IsAnswer (entered state entries) accepted
+answer-grown state entries keeps accepted low old = record {
+  rows = old.rows;
+  all = subst (IsPermutation old.rows) (sym (keeps accepted.query accepted.snapshot low)) old.all;
+  groups = old.groups;
+}
+
+kept-grown : (state : State) (entries : List Entry) → Grows (tables_of state) (tables_by entries) → KeepsKept (tables_of state) (tables_by entries)
+    → (accepted : Accepted) (extent : ℕ) (now : Life) → accepted.snapshot ≤ (tables_of state).commits → extent ≤ versions_in state
+    → IsKept state accepted extent now → IsKept (entered state entries) accepted extent now
+kept-grown state entries grows keeps accepted extent life.Waiting low within old = old
+kept-grown state entries grows keeps accepted extent life.Building low within old = old
+kept-grown state entries grows keeps accepted extent (life.Running start left) low within old =
+    covered-grown state entries grows accepted extent (life.Running start left) low within old
+kept-grown state entries grows keeps accepted extent life.Ending low within old =
+    covered-grown state entries grows accepted extent life.Ending low within old
+kept-grown state entries grows keeps accepted extent life.Answered low within old =
+    ⊎_elim (λ none. inl none) (λ answer. inr (answer-grown state entries keeps accepted low answer)) old
+kept-grown state entries grows keeps accepted extent life.Spoiled low within old = old
+kept-grown state entries grows keeps accepted extent life.Abandoned low within old = old
+
+-- a version came by a snapshot where it stands in the extent
+abbrev CameBy : (snapshot extent position : ℕ) → PlainVersion → Type 0
+CameBy snapshot extent position version = (version.begin ≤ snapshot) ↔ (position < extent)
+
+came-there : (commits snapshot extent position : ℕ) (old new : Option PlainVersion) → StaysThere commits old new
+    → IfSome old (CameBy snapshot extent position) → IfSome new (CameBy snapshot extent position)
+came-there commits snapshot extent position None None stays came = tt
+came-there commits snapshot extent position None (Some now) stays came = absurd stays
+came-there commits snapshot extent position (Some version) None stays came = tt
+came-there commits snapshot extent position (Some version) (Some now) stays came =
+    subst (λ begin. (begin ≤ snapshot) ↔ (position < extent)) (sym stays.begin) came
+
+came-grown : (before after : Store) (snapshot extent : ℕ) → Grows before after → snapshot ≤ before.commits → extent ≤ length before.versions
+    → ((position : ℕ) → IfSome (slice_get before.versions position) (CameBy snapshot extent position))
+    → (position : ℕ) → IfSome (slice_get after.versions position) (CameBy snapshot extent position)
+came-grown before after snapshot extent grows low within came position = ⊎_elim
+    (λ inside. came-there before.commits snapshot extent position (slice_get before.versions position) (slice_get after.versions position)
+    (grows.old position inside) (came position))
+    (λ past. IfSome_then (slice_get after.versions position) (grows.new position past)
+    (λ version later. (λ early. absurd (omega arith), λ inside. absurd (omega arith))))
+    (cases_lt position (length before.versions))
+
+both-some : {X : Type 0} (P Q R : X → Type 0) (o : Option X) → ((x : X) → P x → Q x → R x) → IfSome o P → IfSome o Q → IfSome o R
+both-some P Q R None all p q = tt
+both-some P Q R (Some x) all p q = all x p q
+
+query-grown : (state : State) (entries : List Entry) → Grows (tables_of state) (tables_by entries) → KeepsKept (tables_of state) (tables_by entries)
+    → (accepted : Accepted) → IsSoundQuery state accepted → IsSoundQuery (entered state entries) accepted
+query-grown state entries grows keeps accepted old = record {
+  number = old.number;
+  over = subst (λ schema. IsOver schema accepted.query) (sym grows.schema) old.over;
+  snapshot = let low = old.snapshot in let more = grows.commits in omega arith;
+  within = IfSome_then (query_in state.lives.queries accepted.number) old.within
+      (λ entry within. let longer = grows.longer in omega arith);
+  kept = both-some (λ entry. entry.extent ≤ versions_in state) (λ entry. IsKept state accepted entry.extent entry.life)
+      (λ entry. IsKept (entered state entries) accepted entry.extent entry.life) (query_in state.lives.queries accepted.number)
+      (λ entry. kept-grown state entries grows keeps accepted entry.extent entry.life old.snapshot) old.within old.kept;
+  extent = both-some (λ entry. entry.extent ≤ versions_in state)
+      (λ entry. IsTrue (is_open entry.life) → (position : ℕ)
+      → IfSome (slice_get (tables_of state).versions position) (CameBy accepted.snapshot entry.extent position))
+      (λ entry. IsTrue (is_open entry.life) → (position : ℕ)
+      → IfSome (slice_get (tables_by entries).versions position) (CameBy accepted.snapshot entry.extent position))
+      (query_in state.lives.queries accepted.number)
+      (λ entry within came open_now.
+      came-grown (tables_of state) (tables_by entries) accepted.snapshot entry.extent grows old.snapshot within (came open_now))
+      old.within old.extent;
+}
+
+pub queries-grown : (state : State) (entries : List Entry) → Grows (tables_of state) (tables_by entries)
+    → KeepsKept (tables_of state) (tables_by entries) → AreSoundQueries state → AreSoundQueries (entered state entries)
+queries-grown state entries grows keeps old = record {
+  same = old.same;
+  each = λ k d low. query-grown state entries grows keeps (get_or state.accepted k d) (old.each k d low);
+}

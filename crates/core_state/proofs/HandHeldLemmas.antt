@@ -1,0 +1,93 @@
+-- What a worker took stays right while it holds it, whatever is committed meanwhile.
+use Rattle.std.proofs.Common.{◌≡◌, ℕ, ◌+◌, ◌*◌, List, ◌++◌, length, Option, Some, None, slice_get, refl, sym, ap, ◌∙◌, subst, arith}
+use Rattle.std.specs.Prelude.{◌==◌, All, Contains, IfSome, IsSome}
+use Rattle.std.specs.Int.{bit_at}
+use Rattle.std.proofs.lemmas.List.Elements.{All-contains}
+use Rattle.std.proofs.lemmas.Option.{IfSome_then}
+use Rattle.bit_words.specs.Sets.{Has}
+use Rattle.star_plan.specs.declared.table_def.TableDef.{TableDef}
+use Rattle.star_history.specs.Accepted.{AcceptsAll}
+use Rattle.star_history.specs.Store.{empty_store, rows_in}
+use Rattle.core_state.specs.Flown.{Encodes, IsOnRoster, IsSoundBatch, IsSoundHand}
+use Rattle.core_state.specs.Hands.{IsInHandAs}
+use Rattle.core_state.specs.Sound.{IsSound}
+use Rattle.core_state.specs.State.{Entry, Flight, Hand, OnRoster, State}
+use Rattle.core_state.specs.Tables.{changes_of, filter_dimensions, tables_by, tables_of}
+use Rattle.core_state.proofs.FoundLemmas.{some-at}
+use Rattle.core_state.proofs.GivenLemmas.{Settles}
+use Rattle.core_state.proofs.GrownBatchLemmas.{batch-grown}
+use Rattle.core_state.proofs.GrownFilterLemmas.{entered}
+use Rattle.core_state.proofs.GrownRowsLemmas.{Grows}
+use Rattle.core_state.proofs.HandTablesLemmas.{tables-grown}
+
+-- while a batch is in flight, the fact table is declared
+fact-there : (state : State) (flight : Flight) → IsSound state → Contains state.scan.flights flight → IsSome (tables_of state).schema.fact
+fact-there state flight sound flies = by_fact (tables_of state).schema.fact refl
+  where
+    by_fact : (o : Option TableDef) → (tables_of state).schema.fact ≡ o → IsSome o
+    by_fact None none =
+        let empty : length state.scan.flights ≡ 0 = ap length (sound.quiet none).1 in
+        let low = flies.1 in absurd (omega arith)
+    by_fact (Some table) some = refl
+
+-- the tables of a later core are those of an earlier one, grown
+later-grown : (before after : State) (flight : Flight) (more : List Entry) → IsSound before → IsSound after
+    → after.entries ≡ before.entries ++ more → Contains before.scan.flights flight → Grows (tables_of before) (tables_of after)
+later-grown before after flight more sound later entries flies =
+    subst (λ all. Grows (tables_of before) (tables_by all)) (sym entries)
+    (tables-grown before.entries more (fact-there before flight sound flies)
+    (subst (λ all. AcceptsAll empty_store (changes_of all)) entries later.store))
+
+-- the filters of a later core are those of an earlier one
+same-filters : (before after : State) → IsSound before → IsSound after → Grows (tables_of before) (tables_of after)
+    → (dimension : ℕ) → Has after.lives.filters dimension → Has before.lives.filters dimension
+same-filters before after sound later grows dimension has =
+    (sound.filters.set dimension).1
+    (subst (λ schema. Contains (filter_dimensions schema) dimension) grows.schema ((later.filters.set dimension).0 has))
+
+-- a batch that a worker took is sound in a later core
+batch-held : Settles → (before after : State) (flight home : Flight) → IsSound before → IsSound after → after.settings ≡ before.settings
+    → Grows (tables_of before) (tables_of after) → IsSoundBatch before flight → IsSoundBatch after home → IsInHandAs flight home
+    → IsSoundBatch after flight
+batch-held settles before after flight home sound later settings grows old now alike = record {
+  within = let low = now.within in let first = alike.first in let count = alike.count in omega arith;
+  bits = old.bits;
+  keys = old.keys;
+  room = old.room ∙ ap (λ settings. 16 + settings.batch * 16) (sym settings);
+  roster = subst (λ roster. All (IsOnRoster after) roster) alike.roster now.roster;
+  slots = old.slots;
+  rows = λ row low. IfSome_then (slice_get (tables_of after).versions (flight.rows.first + row)) (grown.rows row low)
+      (λ version r. record {
+        keys = λ dimension has. r.keys dimension (same-filters before after sound later grows dimension has);
+        bits = r.bits;
+        others = r.others;
+      });
+}
+  where
+    grown : IsSoundBatch (entered before after.entries) flight
+    grown = batch-grown before after.entries sound (settles (changes_of before.entries) sound.store) grows flight old
+
+-- a version that a worker took is sound in a later core
+hand-held : (after : State) (flight home : Flight) (hand : Hand) → IsSoundHand after home hand → IsInHandAs flight home
+    → IsSoundHand after flight hand
+hand-held after flight home hand now alike = record {
+  seat = now.seat;
+  table = now.table;
+  is_filter = now.is_filter;
+  not_passed = ap (λ passed. bit_at passed hand.version.filter.dimension == 1) (sym alike.passed) ∙ now.not_passed;
+  encodes = subst (λ roster. All (λ (entry : OnRoster). Encodes hand.version.filter entry.slot entry.query entry.snapshot
+      (rows_in (tables_of after).dimensions hand.version.filter.dimension)) roster) alike.roster now.encodes;
+}
+
+pub took-stays : Settles → (before after : State) (flight home : Flight) (hand : Hand) (more : List Entry) → IsSound before → IsSound after
+    → after.settings ≡ before.settings → after.entries ≡ before.entries ++ more
+    → Contains before.scan.flights flight → flight.hand ≡ Some hand
+    → Contains after.scan.flights home → IsInHandAs flight home → IsSoundBatch after flight × IsSoundHand after flight hand
+took-stays settles before after flight home hand more sound later settings entries flies held at_home alike = (
+  batch-held settles before after flight home sound later settings (later-grown before after flight more sound later entries flies)
+      (All-contains (IsSoundBatch before) before.scan.flights flight sound.batches flies)
+      (All-contains (IsSoundBatch after) after.scan.flights home later.batches at_home) alike,
+  hand-held after flight home hand
+      (some-at (IsSoundHand after home) home.hand hand (alike.hand ∙ held)
+      (All-contains (λ f. IfSome f.hand (IsSoundHand after f)) after.scan.flights home later.hands.each at_home)) alike,
+)

@@ -1,0 +1,141 @@
+-- No later step changes an answer.
+use Rattle.std.proofs.Common.{◌≡◌, ◌⊎◌, ℕ, ◌+◌, ◌≤◌, List, [], ◌∷◌, Option, Some, None, refl, sym, ap, ◌∙◌, subst, inl, inr, arith}
+use Rattle.std.specs.Prelude.{find}
+use Rattle.std.specs.Option.{option_map_or}
+use Rattle.pipeline_manager.specs.Lives.{slot_of}
+use Rattle.star_plan.specs.Test.{Query}
+use Rattle.star_history.specs.Accepted.{Accepts}
+use Rattle.star_history.specs.Alone.{alone}
+use Rattle.star_history.specs.History.{Change, DimensionDeclared, FactDeclared, Loaded, Ended, after_change}
+use Rattle.star_history.specs.Settled.{IsSettled}
+use Rattle.star_history.specs.Store.{Store}
+use Rattle.star_plan.specs.declared.table.Table.TheVariants.{Fact, Dimension}
+use Rattle.script_reader.specs.declared.statement.Statement.{Statement}
+use Rattle.star_statement.specs.Outcome as outcome
+use Rattle.star_statement.specs.Outcome.{Told, outcome_of}
+use Rattle.core_state.specs.Events.{after_event, after_want}
+use Rattle.core_state.specs.Found.{accepted_at, flight_at, is_held_by}
+use Rattle.core_state.specs.Fitting.{FitsTables}
+use Rattle.core_state.specs.Sound.{IsSound}
+use Rattle.core_state.specs.State.{State}
+use Rattle.core_state.specs.Steps.{Done, MayStepAll, Replying, Step, Wanting, after_step, after_steps}
+use Rattle.core_state.specs.Submitting.{after_outcome, after_submitting, filters_by}
+use Rattle.core_state.specs.Tables.{changes_of, tables_by, tables_of}
+use Rattle.core_state.specs.declared.event.Event.{Event}
+use Rattle.core_state.specs.declared.event.Event.TheVariants.{Submit, Reserve, Build, Start, Cut, Take, Give, Distribute, Finish, Clear, Release, Reorder, Abandon}
+use Rattle.core_state.proofs.GivenLemmas.{Settles}
+use Rattle.core_state.proofs.GrownLemmas.{tables-with}
+use Rattle.core_state.proofs.StepLemmas.{StepsKeep}
+use Rattle.core_state.proofs.SubmitLemmas.{Outcomes}
+
+-- a change that comes after a snapshot changes no answer
+abbrev pub AnswersStay : Type 0
+AnswersStay = (store : Store) (change : Change) (query : Query) (snapshot : ℕ) → IsSettled store → Accepts store change
+    → snapshot ≤ store.commits → alone (after_change store change) query snapshot ≡ alone store query snapshot
+
+-- the tables stay as they are, or take one change
+abbrev NextTables : Store → (next : Store) → Type 0
+NextTables store next = (next ≡ store) ⊎ ((change : Change) × (next ≡ after_change store change) × Accepts store change)
+
+-- commits are never taken back
+commits-rise : (store : Store) (change : Change) → store.commits ≤ (after_change store change).commits
+commits-rise store (DimensionDeclared table) = omega arith
+commits-rise store (FactDeclared table) = omega arith
+commits-rise store (Loaded Fact rows) = omega arith
+commits-rise store (Loaded (Dimension dimension) rows) = omega arith
+commits-rise store (Ended positions) = omega arith
+
+-- the entries of a change
+entries-by : (change : Change) (state : State) → (filters_by change state).entries ≡ state.entries
+entries-by (DimensionDeclared table) state = refl
+entries-by (FactDeclared table) state = refl
+entries-by (Loaded table rows) state = refl
+entries-by (Ended positions) state = refl
+
+submit-tables : Outcomes → (seat : ℕ) (statement : Statement) (state : State) → IsSettled (tables_of state)
+    → NextTables (tables_of state) (tables_of (after_submitting seat statement state))
+submit-tables outcomes seat statement state settled =
+    by_outcome (outcome_of (tables_of state) statement).change (outcome_of (tables_of state) statement).told
+    (outcomes (tables_of state) statement settled)
+  where
+    by_outcome : (change : Option Change) (told : Told) → FitsTables (tables_of state) change told
+        → NextTables (tables_of state) (tables_of (after_outcome seat (record { change = change; told = told }) state))
+    by_outcome None (outcome.Replied reply) follows = inl refl
+    by_outcome None (outcome.Accepted query snapshot) follows = inl refl
+    by_outcome (Some change) (outcome.Replied reply) follows = inr (
+      change,
+      ap tables_by (entries-by change _)
+          ∙ tables-with state.entries (record { seat = seat; statement = state.numbers.statement + 1; change = change }),
+      follows,
+    )
+    by_outcome (Some change) (outcome.Accepted query snapshot) follows = absurd follows
+
+-- what hangs on an option leaves the entries where each of its cases does
+by-option : {A : Type 0} (f : A → State) (state : State) (o : Option A) → ((a : A) → (f a).entries ≡ state.entries)
+    → (option_map_or f o state).entries ≡ state.entries
+by-option f state None each = refl
+by-option f state (Some a) each = each a
+
+-- an event makes one change of the tables, or none
+event-tables : Outcomes → (event : Event) (state : State) → IsSettled (tables_of state) → NextTables (tables_of state) (tables_of (after_event event state))
+unfolding after_event
+event-tables outcomes (Submit seat statement) state settled = submit-tables outcomes seat statement state settled
+event-tables outcomes (Reserve query slot) state settled = inl refl
+event-tables outcomes (Build query dimension) state settled =
+    inl (ap tables_by (by-option _ state (slot_of state.lives query) (λ slot. by-option _ state (accepted_at state.accepted query) (λ accepted. refl))))
+event-tables outcomes (Start query) state settled = inl refl
+event-tables outcomes Cut state settled = inl refl
+event-tables outcomes (Take worker batch) state settled = inl refl
+event-tables outcomes (Give worker) state settled =
+    inl (ap tables_by (by-option _ state (find (is_held_by worker) state.scan.flights) (λ flight. refl)))
+event-tables outcomes (Distribute batch) state settled =
+    inl (ap tables_by (by-option _ state (flight_at state.scan.flights batch) (λ flight. refl)))
+event-tables outcomes (Finish slot) state settled = inl refl
+event-tables outcomes (Clear slot dimension) state settled = inl refl
+event-tables outcomes (Release slot) state settled = inl refl
+event-tables outcomes Reorder state settled = inl refl
+event-tables outcomes (Abandon query) state settled =
+    inl (ap tables_by (by-option _ state (accepted_at state.accepted query) (λ accepted. refl)))
+
+-- where memory is wanted the tables stay
+want-tables : (event : Event) (spoiled : List ℕ) (state : State) → tables_of (after_want event spoiled state) ≡ tables_of state
+unfolding after_want
+want-tables (Submit seat statement) spoiled state = refl
+want-tables (Reserve query slot) spoiled state = refl
+want-tables (Build query dimension) spoiled state = refl
+want-tables (Start query) spoiled state = refl
+want-tables Cut spoiled state = refl
+want-tables (Take worker batch) spoiled state = refl
+want-tables (Give worker) spoiled state = refl
+want-tables (Distribute batch) spoiled state = ap tables_by (by-option _ state (flight_at state.scan.flights batch) (λ flight. refl))
+want-tables (Finish slot) spoiled state = refl
+want-tables (Clear slot dimension) spoiled state = refl
+want-tables (Release slot) spoiled state = refl
+want-tables Reorder spoiled state = refl
+want-tables (Abandon query) spoiled state = refl
+
+step-tables : Outcomes → (step : Step) (state : State) → IsSettled (tables_of state) → NextTables (tables_of state) (tables_of (after_step step state))
+step-tables outcomes (Done event) state settled = event-tables outcomes event state settled
+step-tables outcomes (Wanting event spoiled) state settled = inl (want-tables event spoiled state)
+step-tables outcomes (Replying seat) state settled = inl refl
+
+-- an answer at a snapshot so far is that after the next step, and the snapshot is still one so far
+one-later : AnswersStay → (query : Query) (snapshot : ℕ) (store next : Store) → IsSettled store → snapshot ≤ store.commits → NextTables store next
+    → (snapshot ≤ next.commits) × (alone next query snapshot ≡ alone store query snapshot)
+one-later stays query snapshot store next settled low (inl same) =
+    (subst (λ s. snapshot ≤ s.commits) (sym same) low, ap (λ s. alone s query snapshot) same)
+one-later stays query snapshot store next settled low (inr made) =
+    let rise = commits-rise store made.0 in (
+      subst (λ s. snapshot ≤ s.commits) (sym made.1) (omega arith),
+      ap (λ s. alone s query snapshot) made.1 ∙ stays store made.0 query snapshot settled made.2 low,
+    )
+
+pub answers-later : AnswersStay → Settles → Outcomes → StepsKeep → (steps : List Step) (state : State) (query : Query) (snapshot : ℕ)
+    → MayStepAll state steps → IsSound state → snapshot ≤ (tables_of state).commits
+    → alone (tables_of (after_steps steps state)) query snapshot ≡ alone (tables_of state) query snapshot
+answers-later stays settles outcomes keep [] state query snapshot may sound low = refl
+answers-later stays settles outcomes keep (step ∷ steps) state query snapshot may sound low =
+    let settled : IsSettled (tables_of state) = settles (changes_of state.entries) sound.store in
+    let next = one-later stays query snapshot (tables_of state) (tables_of (after_step step state)) settled low
+    (step-tables outcomes step state settled) in
+    answers-later stays settles outcomes keep steps (after_step step state) query snapshot may.1 (keep step state may.0 sound) next.0 ∙ next.1

@@ -1,0 +1,175 @@
+-- What a written seat, an outcome and a reply leave of what the seats wait for, and of the last number of a statement.
+use Rattle.std.proofs.Common.{◌≡◌, ◌≢◌, ◌⊎◌, ℕ, ◌+◌, ◌<◌, ◌≤◌, true, false, [], ◌∷◌, ◌++◌, length, get_or, map, set, Option, Some, None, refl, sym, ap, ◌∙◌, subst, ⊎_elim, inl, inr, arith}
+use Rattle.std.specs.Prelude.{All, Contains, IsSome}
+use Rattle.std.specs.Option.{option_map_or}
+use Rattle.std.proofs.lemmas.Bool.{cases_eq, cases_lt}
+use Rattle.std.proofs.lemmas.List.{get_or-set_other, get_or_past}
+use Rattle.std.proofs.lemmas.List.Elements.{All-contains, All-nil, All-weaker}
+use Rattle.std.proofs.lemmas.Option.{none-some}
+use Rattle.star_history.specs.History.{Change, DimensionDeclared, FactDeclared, Loaded, Ended}
+use Rattle.star_statement.specs.Outcome as outcome
+use Rattle.star_statement.specs.Outcome.{Outcome, Told}
+use Rattle.pipeline_manager.specs.Changes.{after_abandon}
+use Rattle.core_state.specs.Found.{accepted_at}
+use Rattle.core_state.specs.Sound.{IsSound}
+use Rattle.core_state.specs.State.{Accepted, Awaited, Pending, Seat, State}
+use Rattle.core_state.specs.Steps.{awaited_at}
+use Rattle.core_state.specs.Submitting.{after_abandoning, after_outcome, after_taking, awaited_by, empty_seat, forgotten, seat_at, with_change, with_query, with_seat, with_statement, with_taken, without_pending}
+use Rattle.core_state.proofs.PendingLemmas.{Stays, pairs-back, stays-dropped, stays-filtered, stays-same, stays-set, waited, waited-before, waited-none}
+use Rattle.core_state.proofs.ReplyLemmas.{in-order}
+use Rattle.core_state.proofs.SeatLemmas.{pending-submitted}
+
+-- the seats and the last number of a statement stay
+pub record IsAside (before after : State) : Type 0 where
+  pub seats : after.seats ≡ before.seats
+  pub number : after.numbers.statement ≡ before.numbers.statement
+
+-- what a seat waits for has numbers that were given
+pub waiting-low : (state : State) (seat statement : ℕ) → IsSound state → state.numbers.statement < statement
+    → All (λ pending. pending.statement ≢ statement) (get_or state.seats seat empty_seat).pending
+waiting-low state seat statement sound above = ⊎_elim
+    (λ low. let here = get_or state.seats seat empty_seat in
+    let is = sound.seats.each seat empty_seat low in
+    All-weaker (λ (p : Pending). Contains here.submitted p.statement) (λ p. p.statement ≢ statement)
+    (λ p has same. let given = All-contains (λ s. s ≤ state.numbers.statement) here.submitted p.statement is.given has in omega arith)
+    here.pending (pending-submitted state here is))
+    (λ past. subst (λ (s : Seat). All (λ pending. pending.statement ≢ statement) s.pending)
+    (sym (get_or_past state.seats seat empty_seat past)) (All-nil (λ (p : Pending). p.statement ≢ statement)))
+    (cases_lt seat (length state.seats))
+
+-- what is waited for by the numbers that were given stays, what is waited for by another is added, and no number falls
+pub record Tells (adds : (seat statement : ℕ) → Type 0) (before after : State) : Type 0 where
+  pub awaited : (seat statement : ℕ) → statement ≤ before.numbers.statement
+      → Stays (awaited_at before seat statement) (awaited_at after seat statement)
+  pub added : (seat statement : ℕ) → before.numbers.statement < statement → IsSome (awaited_at after seat statement) → adds seat statement
+  pub number : before.numbers.statement ≤ after.numbers.statement
+
+-- where nothing was waited for and what is waited for stays, nothing is
+none-stays : (before after : Option Awaited) → before ≡ None → Stays before after → IsSome after → ⊥
+none-stays before None none stays some = let both : false ≡ true = some in cc
+none-stays before (Some awaited) none stays some = none-some awaited (sym none ∙ stays)
+
+-- where all that is waited for stays, nothing is added
+tells-all : (adds : (seat statement : ℕ) → Type 0) (before after : State) → IsSound before → before.numbers.statement ≤ after.numbers.statement
+    → ((seat statement : ℕ) → Stays (awaited_at before seat statement) (awaited_at after seat statement)) → Tells adds before after
+tells-all adds before after sound number stays = record {
+  awaited = λ seat statement low. stays seat statement;
+  added = λ seat statement above some. absurd (none-stays (awaited_at before seat statement) (awaited_at after seat statement)
+      (waited-none (get_or before.seats seat empty_seat).pending statement (waiting-low before seat statement sound above))
+      (stays seat statement) some);
+  number = number;
+}
+
+pub tells-aside : (adds : (seat statement : ℕ) → Type 0) (before after : State) → IsSound before → IsAside before after → Tells adds before after
+tells-aside adds before after sound aside =
+    tells-all adds before after sound (let same = aside.number in omega arith)
+    (λ seat statement. stays-same (awaited_at before seat statement) (awaited_at after seat statement)
+    (ap (λ seats. waited (get_or seats seat empty_seat).pending statement) aside.seats))
+
+-- where one seat is written and no number falls, and what that seat waits for stays
+tells-written : (adds : (seat statement : ℕ) → Type 0) (before after : State) (seat : ℕ) (now : Seat) → IsSound before
+    → after.seats ≡ set before.seats seat now → before.numbers.statement ≤ after.numbers.statement
+    → ((statement : ℕ) → Stays (waited (get_or before.seats seat empty_seat).pending statement) (waited now.pending statement))
+    → Tells adds before after
+tells-written adds before after seat now sound seats number stays =
+    tells-all adds before after sound number
+    (λ other statement. subst (λ ss. Stays (awaited_at before other statement) (waited (get_or ss other empty_seat).pending statement)) (sym seats)
+    (stays-set before.seats seat now statement (stays statement) other))
+
+-- what an outcome changes beside the seats, and beside the last number
+aside-query : (seat statement : ℕ) (told : Told) (state : State) → IsAside state (with_query seat statement told state)
+aside-query seat statement (outcome.Replied reply) state = record { seats = refl; number = refl }
+aside-query seat statement (outcome.Accepted query snapshot) state = record { seats = refl; number = refl }
+
+aside-change : (seat statement : ℕ) (change : Option Change) (state : State)
+    → IsAside state (option_map_or (λ change. with_change seat statement change state) change state)
+aside-change seat statement None state = record { seats = refl; number = refl }
+aside-change seat statement (Some (DimensionDeclared table)) state = record { seats = refl; number = refl }
+aside-change seat statement (Some (FactDeclared table)) state = record { seats = refl; number = refl }
+aside-change seat statement (Some (Loaded table rows)) state = record { seats = refl; number = refl }
+aside-change seat statement (Some (Ended positions)) state = record { seats = refl; number = refl }
+
+-- the core in which the seat has the statement, before its outcome changes anything
+abbrev submitted_to : (seat : ℕ) → Told → State → State
+submitted_to seat told state = record state {
+  seats = set state.seats seat (with_statement (state.numbers.statement + 1) told (get_or state.seats seat empty_seat));
+  numbers = record state.numbers { statement = state.numbers.statement + 1 };
+}
+
+-- a submission writes its seat and its number alone
+pub aside-outcome : (seat : ℕ) (found : Outcome) (state : State) → IsAside (submitted_to seat found.told state) (after_outcome seat found state)
+aside-outcome seat found state =
+    let number = state.numbers.statement + 1 in
+    let first = aside-change seat number found.change (submitted_to seat found.told state) in
+    let changed : State =
+    option_map_or (λ change. with_change seat number change (submitted_to seat found.told state)) found.change (submitted_to seat found.told state) in
+    let second = aside-query seat number found.told changed in
+    record { seats = second.seats ∙ first.seats; number = second.number ∙ first.number }
+
+-- what is waited for by another number stays, and by its own number in another seat
+stays-outcome : (seat : ℕ) (found : Outcome) (state : State) (other statement : ℕ)
+    → (statement ≢ state.numbers.statement + 1) ⊎ (other ≢ seat)
+    → Stays (awaited_at state other statement) (awaited_at (after_outcome seat found state) other statement)
+stays-outcome seat found state other statement apart =
+    subst (λ ss. Stays (awaited_at state other statement) (waited (get_or ss other empty_seat).pending statement))
+    (sym (aside-outcome seat found state).seats) (by_cases apart)
+  where
+    here : Seat
+    here = get_or state.seats seat empty_seat
+
+    now : Seat
+    now = with_statement (state.numbers.statement + 1) found.told here
+
+    last : Pending
+    last = record { statement = state.numbers.statement + 1; awaited = awaited_by found.told }
+
+    by_cases : (statement ≢ state.numbers.statement + 1) ⊎ (other ≢ seat)
+        → Stays (awaited_at state other statement) (waited (get_or (set state.seats seat now) other empty_seat).pending statement)
+    by_cases (inl number) =
+        stays-set state.seats seat now statement
+        (stays-same (waited here.pending statement) (waited (here.pending ++ last ∷ []) statement)
+        (waited-before here.pending last statement (λ same. number (sym same)))) other
+    by_cases (inr place) =
+        stays-same (awaited_at state other statement) (waited (get_or (set state.seats seat now) other empty_seat).pending statement)
+        (ap (λ (s : Seat). waited s.pending statement) (get_or-set_other state.seats seat other now empty_seat place))
+
+-- a submission adds by its own number alone, and in its own seat
+pub tells-outcome : (adds : (seat statement : ℕ) → Type 0) (seat : ℕ) (found : Outcome) (state : State) → IsSound state
+    → adds seat (state.numbers.statement + 1) → Tells adds state (after_outcome seat found state)
+tells-outcome adds seat found state sound own = record {
+  awaited = λ other statement low. stays-outcome seat found state other statement (inl (λ same. omega arith));
+  added = λ other statement above some.
+      let new : (statement ≢ state.numbers.statement + 1) ⊎ (other ≢ seat) → adds other statement = λ apart.
+      absurd (none-stays (awaited_at state other statement) (awaited_at (after_outcome seat found state) other statement)
+      (waited-none (get_or state.seats other empty_seat).pending statement (waiting-low state other statement sound above))
+      (stays-outcome seat found state other statement apart) some) in
+      ⊎_elim
+      (λ number. ⊎_elim
+      (λ place. subst (λ n. adds other n) (sym number) (subst (λ k. adds k (state.numbers.statement + 1)) (sym place) own))
+      (λ apart. new (inr apart)) (cases_eq other seat))
+      (λ apart. new (inl apart)) (cases_eq statement (state.numbers.statement + 1));
+  number = let same = (aside-outcome seat found state).number in omega arith;
+}
+
+-- nobody waits for a query any more
+pub tells-abandoned : (adds : (seat statement : ℕ) → Type 0) (query : ℕ) (state : State) → IsSound state → Tells adds state (after_abandoning query state)
+tells-abandoned adds query state sound = by_accepted (accepted_at state.accepted query)
+  where
+    lost : Accepted → State
+    lost accepted = with_seat accepted.seat (without_pending query)
+        (record state { accepted = map (forgotten query) state.accepted; lives = after_abandon query state.lives })
+
+    by_accepted : (o : Option Accepted) → Tells adds state (option_map_or lost o state)
+    by_accepted None = tells-aside adds state state sound (record { seats = refl; number = refl })
+    by_accepted (Some accepted) =
+        tells-written adds state (lost accepted) accepted.seat (without_pending query (get_or state.seats accepted.seat empty_seat)) sound refl
+        (omega arith) (λ statement. stays-filtered query (get_or state.seats accepted.seat empty_seat).pending statement)
+
+-- the reply to a seat's first statement is taken
+pub tells-taken : (adds : (seat statement : ℕ) → Type 0) (seat : ℕ) (state : State) → IsSound state → Tells adds state (after_taking seat state)
+tells-taken adds seat state sound =
+    let here = seat_at state seat in
+    tells-written adds state (after_taking seat state) seat (with_taken here) sound refl (omega arith)
+    (λ statement. stays-dropped here.pending statement
+    (pairs-back (λ number later. number < later) (map (λ taken. taken.statement) here.taken) (map (λ pending. pending.statement) here.pending)
+    (in-order state seat sound)))

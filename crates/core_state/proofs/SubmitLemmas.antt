@@ -1,0 +1,65 @@
+-- A statement that a seat submits keeps a core sound.
+use Rattle.std.proofs.Common.{ℕ, ◌+◌, ◌<◌, length, Option, Some, None}
+use Rattle.script_reader.specs.declared.statement.Statement.{Statement}
+use Rattle.star_history.specs.Accepted.{Accepts}
+use Rattle.star_history.specs.History.{Change, DimensionDeclared, FactDeclared, Loaded, Ended}
+use Rattle.star_history.specs.Settled.{IsSettled}
+use Rattle.star_history.specs.Store.{Store}
+use Rattle.star_statement.specs.Outcome as outcome
+use Rattle.star_statement.specs.Outcome.{Told, outcome_of}
+use Rattle.reply_text.specs.declared.reply.Reply.{Reply}
+use Rattle.core_state.specs.Beside.{IsOfRows, IsSoundBeside, with_entry}
+use Rattle.core_state.specs.Fitting.{FitsTables}
+use Rattle.core_state.specs.Sound.{IsSound}
+use Rattle.core_state.specs.State.{State}
+use Rattle.core_state.specs.Submitting.{after_outcome, after_submitting, with_change}
+use Rattle.core_state.specs.Tables.{changes_of, tables_of}
+use Rattle.core_state.proofs.DeclaredLemmas.{declared-beside}
+use Rattle.core_state.proofs.GivenLemmas.{Settles}
+use Rattle.core_state.proofs.ToldLemmas.{sound-asked, sound-changed, sound-told}
+
+-- loads and deletes that the tables take keep what is sound beside the seats
+abbrev pub Grows : Type 0
+Grows = (seat statement : ℕ) (change : Change) (state : State) → IsOfRows change → Accepts (tables_of state) change
+    → IsSound state → IsSoundBeside (with_entry seat statement change state)
+
+-- the outcomes of statements are what the tables take
+abbrev pub Outcomes : Type 0
+Outcomes = (store : Store) (statement : Statement) → IsSettled store
+    → FitsTables store (outcome_of store statement).change (outcome_of store statement).told
+
+pub sound-submitted : Grows → Settles → Outcomes → (seat : ℕ) (statement : Statement) (state : State) → seat < length state.seats → IsSound state
+    → IsSound (after_submitting seat statement state)
+sound-submitted grows settles outcomes seat statement state there sound =
+    by_outcome (outcome_of (tables_of state) statement).change (outcome_of (tables_of state) statement).told
+    (outcomes (tables_of state) statement settled)
+  where
+    settled : IsSettled (tables_of state)
+    settled = settles (changes_of state.entries) sound.store
+
+    number : ℕ
+    number = state.numbers.statement + 1
+
+    by_change : (change : Change) (reply : Reply) → Accepts (tables_of state) change
+        → IsSound (after_outcome seat (record { change = Some change; told = outcome.Replied reply }) state)
+    by_change (DimensionDeclared table) reply accepts =
+        sound-changed seat (DimensionDeclared table) reply state.lives.filters state.filters state.numbers.version state there
+        (declared-beside settles seat number (DimensionDeclared table) state (λ rows. rows) accepts sound) sound
+    by_change (FactDeclared table) reply accepts =
+        let now = with_change seat number (FactDeclared table) state in
+        sound-changed seat (FactDeclared table) reply now.lives.filters now.filters now.numbers.version state there
+        (declared-beside settles seat number (FactDeclared table) state (λ rows. rows) accepts sound) sound
+    by_change (Loaded table rows) reply accepts =
+        sound-changed seat (Loaded table rows) reply state.lives.filters state.filters state.numbers.version state there
+        (grows seat number (Loaded table rows) state tt accepts sound) sound
+    by_change (Ended positions) reply accepts =
+        sound-changed seat (Ended positions) reply state.lives.filters state.filters state.numbers.version state there
+        (grows seat number (Ended positions) state tt accepts sound) sound
+
+    by_outcome : (change : Option Change) (told : Told) → FitsTables (tables_of state) change told
+        → IsSound (after_outcome seat (record { change = change; told = told }) state)
+    by_outcome None (outcome.Replied reply) follows = sound-told seat reply state there sound
+    by_outcome None (outcome.Accepted query snapshot) follows =
+        sound-asked seat query snapshot state there settled follows.0 follows.1 follows.2 sound
+    by_outcome (Some change) (outcome.Replied reply) follows = by_change change reply follows
+    by_outcome (Some change) (outcome.Accepted query snapshot) follows = absurd follows
