@@ -90,7 +90,7 @@ starts-there state slot query built start left held runs =
     ap (λ now. start_by state (holder_of now)) held ∙ ap (option_and_then start_in) runs
 
 -- how the query in a slot stands on a roster
-runs-there : (state : State) (slot query built start left : ℕ) (accepted : Accepted) → slot_at state.lives slot ≡ Held query built
+pub runs-there : (state : State) (slot query built start left : ℕ) (accepted : Accepted) → slot_at state.lives slot ≡ Held query built
     → life_of state.lives query ≡ Some (life.Running start left) → accepted_at state.accepted query ≡ Some accepted
     → running_at state slot ≡ Some (entry_of state.lives slot accepted)
 runs-there state slot query built start left accepted held runs found =
@@ -98,7 +98,7 @@ runs-there state slot query built start left accepted held runs found =
     ∙ ap (λ o. option_and_then (λ at. option_map (entry_of state.lives slot) (accepted_at state.accepted query)) (option_and_then start_in o)) runs
     ∙ ap (option_map (entry_of state.lives slot)) found
 
-held-by : (query : ℕ) (now : SlotState) → is_held_by query now ≡ true → (built : ℕ) × (now ≡ Held query built)
+pub held-by : (query : ℕ) (now : SlotState) → is_held_by query now ≡ true → (built : ℕ) × (now ≡ Held query built)
 held-by query Free is = absurd (let both : false ≡ true = is in cc)
 held-by query (Held holder built) is = (built, ap (λ n. Held n built) (eqb-true holder query is))
 held-by query (Clearing left) is = absurd (let both : false ≡ true = is in cc)

@@ -29,7 +29,7 @@ pub record Runs (state : State) : Type 0 where
   pub found : query_in state.lives.queries entry.query ≡ Some entry
   pub runs : entry.life ≡ life.Running start left
 
-some-runs : (state : State) → MayCut state → IsSound state → Runs state
+pub some-runs : (state : State) → MayCut state → IsSound state → Runs state
 some-runs state can sound = by_life entry.life refl can.running.4
   where
     entry : QueryLife
@@ -50,7 +50,7 @@ some-runs state can sound = by_life entry.life refl can.running.4
     by_life life.Spoiled is runs = absurd runs
     by_life life.Abandoned is runs = absurd runs
 
-life-runs : (state : State) (some : Runs state) → life_of state.lives some.entry.query ≡ Some (life.Running some.start some.left)
+pub life-runs : (state : State) (some : Runs state) → life_of state.lives some.entry.query ≡ Some (life.Running some.start some.left)
 life-runs state some = life-found state.lives.queries some.entry.query some.entry some.found ∙ ap Some some.runs
 
 -- something is left of a query that runs, and no more than its extent

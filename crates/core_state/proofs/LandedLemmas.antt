@@ -38,15 +38,15 @@ landed batch flight state = kept_anew state (fed_by state flight) state.lives.qu
     (record state.scan { flights = without_flight batch state.scan.flights; free = state.scan.free + 1 })
 
 -- the entry of a query on a roster
-abbrev entry_for : (number : ℕ) → Flight → Option OnRoster
+abbrev pub entry_for : (number : ℕ) → Flight → Option OnRoster
 entry_for number flight = find (λ entry. eqb entry.number number) flight.roster
 
 -- whether a query of this number gets rows
-abbrev Gets : State → (number : ℕ) → Bool → Type 0
+abbrev pub Gets : State → (number : ℕ) → Bool → Type 0
 Gets state number gets = option_map_or gets_rows (life_of state.lives number) false ≡ gets
 
 -- an accepted query with some rows more
-abbrev with_more : State → Flight → Accepted → OnRoster → Accepted
+abbrev pub with_more : State → Flight → Accepted → OnRoster → Accepted
 with_more state flight accepted entry =
     record accepted { groups = option_map (with_rows (rows_for (tables_of state) flight.rows entry)) accepted.groups }
 
@@ -65,7 +65,7 @@ feeds state flight accepted = by_found (entry_for accepted.number flight)
     by_found None = (accepted.groups, refl)
     by_found (Some entry) = by_gets entry (option_map_or gets_rows (life_of state.lives accepted.number) false)
 
-fed-absent : (state : State) (flight : Flight) (accepted : Accepted) → entry_for accepted.number flight ≡ None → fed_by state flight accepted ≡ accepted
+pub fed-absent : (state : State) (flight : Flight) (accepted : Accepted) → entry_for accepted.number flight ≡ None → fed_by state flight accepted ≡ accepted
 fed-absent state flight accepted is =
     ap (λ o. option_map_or (λ entry. cond {A = Accepted} (option_map_or gets_rows (life_of state.lives accepted.number) false)
     (with_more state flight accepted entry) accepted) o accepted) is
@@ -79,7 +79,7 @@ fed-not state flight accepted gets =
     by_found None = refl
     by_found (Some entry) = refl
 
-fed-there : (state : State) (flight : Flight) (accepted : Accepted) (entry : OnRoster) → entry_for accepted.number flight ≡ Some entry
+pub fed-there : (state : State) (flight : Flight) (accepted : Accepted) (entry : OnRoster) → entry_for accepted.number flight ≡ Some entry
     → Gets state accepted.number true → fed_by state flight accepted ≡ with_more state flight accepted entry
 fed-there state flight accepted entry is gets =
     ap (λ t. option_map_or (λ e. cond {A = Accepted} t (with_more state flight accepted e) accepted) (entry_for accepted.number flight) accepted) gets

@@ -21,7 +21,7 @@ use Rattle.core_state.proofs.AnewLemmas.{LivesAs, StayTaken, by-change, batches-
 use Rattle.core_state.proofs.SeatLemmas.{Told, one-seat, part-stays, pending-submitted, seat-anew, seats-anew}
 
 -- what is ready is no query, or one that is over
-ready-told : (state : State) (statement : ℕ) (awaited : Awaited) → AreSoundQueries state → IsAwaited state statement awaited
+pub ready-told : (state : State) (statement : ℕ) (awaited : Awaited) → AreSoundQueries state → IsAwaited state statement awaited
     → IsSome (ready_to state statement awaited) → IfSome (life_in state.lives.queries statement) Told
 ready-told state statement (Replied reply) queries none ready = by_found (query_in state.lives.queries statement)
     (number-found (λ entry. entry.query) state.lives.queries statement ∙ ap (list_any (λ n. eqb n statement)) (sym queries.same)

@@ -67,7 +67,7 @@ asked-behind (first ∷ accepted) new number query snapshot has =
     by_test false is rest = rest is
 
 -- nothing is kept of those who found no memory
-unkeeps : (spoiled : List ℕ) → KeepsAsked (unkept spoiled)
+pub unkeeps : (spoiled : List ℕ) → KeepsAsked (unkept spoiled)
 unkeeps spoiled accepted = by_test (list_any (λ number. eqb number accepted.number) spoiled)
   where
     by_test : (t : Bool) → (groups : _) × (cond {A = Accepted} t (record accepted { groups = None }) accepted ≡ record accepted { groups = groups })

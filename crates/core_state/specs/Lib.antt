@@ -12,8 +12,10 @@ pub mod Beside
 pub mod Fitting
 pub mod Flown
 pub mod Hands
+pub mod Handed
 pub mod Settings
 pub mod Tables
 pub mod Found
+pub mod Scanned
 pub mod Numbered
 pub mod Story

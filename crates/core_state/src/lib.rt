@@ -4,10 +4,13 @@
 mod event;
 mod laws;
 mod laws_of_answers;
+mod laws_of_attached;
 mod laws_of_batches;
 mod laws_of_filters;
+mod laws_of_folding;
 mod laws_of_hands;
 mod laws_of_order;
+mod laws_of_parts;
 mod laws_of_queries;
 mod laws_of_replies;
 mod laws_of_runs;
@@ -22,15 +25,24 @@ mod story;
 pub use event::Event;
 pub use laws::an_empty_core_is_sound;
 pub use laws_of_answers::{a_reply_that_may_be_taken_is_right, later_steps_change_no_answer};
+pub use laws_of_attached::a_distributor_follows_the_core;
 pub use laws_of_batches::{
     a_distributed_batch_keeps_a_core_sound, a_given_batch_keeps_a_core_sound,
     a_taken_batch_keeps_a_core_sound,
 };
 pub use laws_of_filters::{a_build_keeps_a_core_sound, a_clearing_keeps_a_core_sound};
+pub use laws_of_folding::{
+    a_distributor_folds_what_the_core_folds, folded_rows_are_few, spoiled_slots_are_spoiled_queries,
+};
 pub use laws_of_hands::{
     a_version_in_a_hand_passes_as_the_present_one, what_a_worker_took_stays_right,
 };
 pub use laws_of_order::a_new_order_keeps_a_core_sound;
+pub use laws_of_parts::{
+    a_new_scan_is_that_of_an_empty_core, a_scan_cuts_what_the_core_cuts,
+    a_scan_starts_what_the_core_starts, a_scan_stops_what_the_core_stops,
+    other_events_leave_a_scan,
+};
 pub use laws_of_queries::{
     a_query_without_memory_keeps_a_core_sound, a_taken_reply_keeps_a_core_sound,
     an_abandoned_query_keeps_a_core_sound,

@@ -1,0 +1,153 @@
+-- What a distributor has where a query is abandoned, finds no memory, or its reply is taken.
+use Rattle.std.proofs.Common.{◌≡◌, ◌≢◌, ℕ, ◌<◌, true, false, cond, eqb, List, [], ◌∷◌, length, get_or, map, set, take, Option, Some, None, option_map, slice_get, refl, ap, sym, ◌∙◌, subst, ⊎_elim}
+use Rattle.std.specs.Prelude.{All, IfSome, IsSome}
+use Rattle.std.specs.Option.{option_and_then, option_map_or}
+use Rattle.std.proofs.lemmas.Bool.{cases_lt, eqb-true, ne_eqb}
+use Rattle.std.proofs.lemmas.List.{get_or_past}
+use Rattle.std.proofs.lemmas.List.Elements.{All-head}
+use Rattle.std.proofs.lemmas.Option.{none-some}
+use Rattle.pipeline_manager.specs.Conditions.{CanAbandon, CanBuild, is_open}
+use Rattle.pipeline_manager.specs.Lives.{life_in, query_in, slot_of}
+use Rattle.pipeline_manager.specs.declared.life.Life.{Life}
+use Rattle.pipeline_manager.specs.declared.life.Life.TheVariants as life
+use Rattle.pipeline_manager.specs.declared.life.QueryLife.{QueryLife}
+use Rattle.pipeline_manager.proofs.LifeLemmas.{life_in-same}
+use Rattle.core_state.specs.Admitting.{after_build_wants}
+use Rattle.core_state.specs.Cutting.{gets_rows}
+use Rattle.core_state.specs.Found.{accepted_at, holder_of}
+use Rattle.core_state.specs.Handed.{attached_to, detached_for}
+use Rattle.core_state.specs.Sound.{IsAwaited, IsSound}
+use Rattle.core_state.specs.State.{Accepted, Pending, Seat, State}
+use Rattle.core_state.specs.Submitting.{after_abandoning, after_taking, empty_seat, forgotten, next_ready, ready_to, with_seat, without_groups, without_pending}
+use Rattle.core_state.proofs.AnewLemmas.{forgets, found-anew}
+use Rattle.core_state.proofs.AttachedFrameLemmas.{StaysKept, attached-held, attached-same, attached-set, gets-other, gets-written, kept-none, slot-same}
+use Rattle.core_state.proofs.AttachedStartLemmas.{apart-holder}
+use Rattle.core_state.proofs.FoundLemmas.{find-passes}
+use Rattle.core_state.proofs.HandedAfterLemmas.{kept_by}
+use Rattle.core_state.proofs.HandedSlotLemmas.{gets}
+use Rattle.core_state.proofs.ScannedLifeLemmas.{holds-slot, lives_with, other-holder}
+use Rattle.core_state.proofs.ScannedOverLemmas.{life-accepted}
+use Rattle.core_state.proofs.SeatLemmas.{Told}
+use Rattle.core_state.proofs.TakingLemmas.{ready-told}
+
+-- what is kept of a query of another number stays where one is let go
+pub groups-forgotten : (query : ℕ) (accepted : List Accepted) (number : ℕ) → number ≢ query
+    → option_map_or (λ (a : Accepted). a.groups) (accepted_at (map (forgotten query) accepted) number) None
+    ≡ option_map_or (λ (a : Accepted). a.groups) (accepted_at accepted number) None
+groups-forgotten query accepted number apart =
+    ap (λ o. option_map_or (λ (a : Accepted). a.groups) o None) (found-anew (forgotten query) (forgets query) number accepted)
+    ∙ by_found (accepted_at accepted number) refl
+  where
+    by_found : (o : Option Accepted) → accepted_at accepted number ≡ o
+        → option_map_or (λ (a : Accepted). a.groups) (option_map (forgotten query) o) None ≡ option_map_or (λ (a : Accepted). a.groups) o None
+    by_found None is = refl
+    by_found (Some a) is =
+        let same : a.number ≡ number = eqb-true a.number number (find-passes (λ x. eqb x.number number) accepted a is) in
+        ap (λ t. (cond {A = Accepted} t (record a { groups = None }) a).groups) (ne_eqb a.number query (λ e. apart (sym same ∙ e)))
+
+-- a query of which nothing is kept any more, by a life that gets no rows
+abbrev without : (query : ℕ) → Life → State → State
+without query new state = record state { accepted = map (forgotten query) state.accepted; lives = lives_with query new state.lives }
+
+others-kept : (state : State) (query : ℕ) (new : Life) (number : ℕ) → number ≢ query → StaysKept state (without query new state) number
+others-kept state query new number apart = (
+  gets-other state.lives query new number apart,
+  λ yet. groups-forgotten query state.accepted number apart,
+)
+
+-- by a life that gets no rows a query gets none
+gets-none : (state : State) (query : ℕ) (new : Life) → gets_rows new ≡ false → gets (lives_with query new state.lives) query ≡ false
+gets-none state query new none =
+    ap (λ o. option_map_or gets_rows o false) (life_in-same state.lives.queries query new) ∙ by_life (life_in state.lives.queries query)
+  where
+    by_life : (o : Option Life) → option_map_or gets_rows (option_map (λ (old : Life). new) o) false ≡ false
+    by_life None = refl
+    by_life (Some old) = none
+
+-- what a query had is detached where it has no answer any more
+attached-without : (state : State) (query : ℕ) (new : Life) → IsSound state → gets_rows new ≡ false
+    → attached_to (without query new state) ≡ detached_for state.lives query (attached_to state)
+attached-without state query new sound none = by_place (slot_of state.lives query) refl
+  where
+    by_place : (o : Option ℕ) → slot_of state.lives query ≡ o
+        → attached_to (without query new state) ≡ option_map_or (λ slot. set (attached_to state) slot None) o (attached_to state)
+    by_place None place = attached-same state (without query new state) refl (λ slot low.
+        slot-same state (without query new state) slot refl (λ number is. others-kept state query new number (λ same.
+        other-holder state.lives query slot None sound.slots.lives place low (λ both. none-some slot both) (is ∙ ap Some same))))
+    by_place (Some slot) place =
+        let held = holds-slot state.lives query slot place in
+        attached-set state (without query new state) slot None refl held.1
+        (ap (λ s. kept_by (without query new state) (holder_of s)) held.2
+        ∙ kept-none (without query new state) query (gets-none state query new none))
+        (λ other low apart. slot-same state (without query new state) other refl (λ number is.
+        others-kept state query new number (apart-holder state sound slot query held.0 held.2 other apart number is)))
+
+-- what a query had is detached where it is abandoned
+pub attached-abandon : (state : State) (query : ℕ) → IsSound state → CanAbandon query state.lives
+    → attached_to (after_abandoning query state) ≡ detached_for state.lives query (attached_to state)
+attached-abandon state query sound can =
+    by_accepted (accepted_at state.accepted query) (life-accepted state query sound (by_life (query_in state.lives.queries query) can))
+  where
+    without_it : Accepted → State
+    without_it accepted = with_seat accepted.seat (without_pending query) (without query life.Abandoned state)
+
+    by_life : (o : Option QueryLife) → option_map_or is_open (option_map (λ e. e.life) o) false ≡ true → IsSome o
+    by_life None opens = absurd (let both : false ≡ true = opens in cc)
+    by_life (Some e) opens = refl
+
+    by_accepted : (o : Option Accepted) → IsSome o
+        → attached_to (option_map_or without_it o state) ≡ detached_for state.lives query (attached_to state)
+    by_accepted None some = absurd (let both : false ≡ true = some in cc)
+    by_accepted (Some accepted) some = attached-without state query life.Abandoned sound refl
+
+-- a query that gets rows is not one that gets none
+apart-gets : (state : State) (query number : ℕ) → gets state.lives query ≡ false → gets state.lives number ≡ true → number ≢ query
+apart-gets state query number none yet same = let both : true ≡ false = sym yet ∙ ap (gets state.lives) same ∙ none in cc
+
+-- a query that finds no memory as a filter is built for it got no rows
+pub attached-wants : (state : State) (query dimension : ℕ) → CanBuild query dimension state.lives
+    → attached_to (after_build_wants query state) ≡ attached_to state
+attached-wants state query dimension can =
+    attached-held state (without query life.Spoiled state) refl (λ slot low. refl) (λ number. (
+      gets-written state.lives query life.Spoiled number none,
+      λ yet. groups-forgotten query state.accepted number (apart-gets state query number none yet),
+    ))
+  where
+    none : gets state.lives query ≡ false
+    none = ap (λ o. option_map_or gets_rows o false) can.building
+
+-- who is told gets no rows
+told-none : (o : Option Life) → IfSome o Told → option_map_or gets_rows o false ≡ false
+told-none None told = refl
+told-none (Some now) told = ⊎_elim (λ is. ap gets_rows is) (λ is. ap gets_rows is) told
+
+-- a query whose reply is taken gets no rows
+pub attached-taking : (state : State) (seat : ℕ) → IsSound state → IsSome (next_ready state seat)
+    → attached_to (after_taking seat state) ≡ attached_to state
+attached-taking state seat sound ready = by_pending here.pending refl ready
+  where
+    here : Seat
+    here = get_or state.seats seat empty_seat
+
+    there : (first : Pending) (rest : List Pending) → here.pending ≡ first ∷ rest → seat < length state.seats
+    there first rest is = ⊎_elim (λ low. low)
+        (λ past. let both : [] ≡ first ∷ rest = sym (ap (λ (s : Seat). s.pending) (get_or_past state.seats seat empty_seat past)) ∙ is in cc)
+        (cases_lt seat (length state.seats))
+
+    kept : List Pending → State
+    kept pending = record state { accepted = without_groups (take 1 pending) state.accepted }
+
+    by_pending : (pending : List Pending) → here.pending ≡ pending
+        → IsSome (option_and_then (λ (first : Pending). ready_to state first.statement first.awaited) (slice_get pending 0))
+        → attached_to (kept pending) ≡ attached_to state
+    by_pending [] is some = absurd (let both : false ≡ true = some in cc)
+    by_pending (first ∷ rest) is some =
+        let told = ready-told state first.statement first.awaited sound.queries
+        (All-head (λ pending. IsAwaited state pending.statement pending.awaited) first rest
+        (subst (All (λ pending. IsAwaited state pending.statement pending.awaited)) is
+        (sound.seats.each seat empty_seat (there first rest is)).awaited)) some in
+        let none : gets state.lives first.statement ≡ false = told-none (life_in state.lives.queries first.statement) told in
+        attached-held state (kept (first ∷ rest)) refl (λ slot low. refl) (λ number. (
+          refl,
+          λ yet. groups-forgotten first.statement state.accepted number (apart-gets state first.statement number none yet),
+        ))

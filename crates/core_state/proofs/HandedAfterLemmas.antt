@@ -1,0 +1,124 @@
+-- Slot by slot a distributor has after a batch what the core keeps.
+use Rattle.std.proofs.Common.{◌≡◌, ℕ, Bool, true, false, cond, eqb, List, get_or, map, Option, Some, None, option_map, refl, sym, ap, ◌∙◌}
+use Rattle.std.specs.Prelude.{Contains, IsSome}
+use Rattle.std.specs.Int.{bit_at}
+use Rattle.std.specs.List.{list_any}
+use Rattle.std.specs.Option.{option_and_then, option_map_or}
+use Rattle.std.proofs.lemmas.Bool.{eqb-true}
+use Rattle.star_lists.specs.Roomy.{Roomy}
+use Rattle.dimension_rows.specs.declared.dimension_row.DimensionRow.{DimensionRow}
+use Rattle.star_history.specs.Keyed.{KeyedStore}
+use Rattle.pipeline_manager.specs.Lives.{slot_at}
+use Rattle.pipeline_manager.specs.declared.life.SlotState.{SlotState}
+use Rattle.pipeline_manager.specs.declared.life.SlotState.TheVariants.{Free, Held, Clearing}
+use Rattle.aggregations.specs.Grouped.{Grouped}
+use Rattle.distributor.specs.Folded.{with_batch}
+use Rattle.core_state.specs.Cutting.{after_distribute, gets_rows, unkept}
+use Rattle.core_state.specs.Flown.{IsSoundBatch}
+use Rattle.core_state.specs.Found.{accepted_at, flight_at, holder_of}
+use Rattle.core_state.specs.Handed.{AreKeyedTablesOf, attached_at, fed_in}
+use Rattle.core_state.specs.Sound.{IsSound}
+use Rattle.core_state.specs.State.{Accepted, Flight, State}
+use Rattle.core_state.specs.Submitting.{groups_in}
+use Rattle.core_state.proofs.AcceptedLemmas.{held-accepted}
+use Rattle.core_state.proofs.AnewLemmas.{found-anew}
+use Rattle.core_state.proofs.FoundLemmas.{find-passes}
+use Rattle.core_state.proofs.HandedLivesLemmas.{others-stay, slots-stay, spoiled-none, spoiled_all, still-kept, still-none, unkeeps}
+use Rattle.core_state.proofs.HandedSlotLemmas.{fed-among, gets, held-there, holds-fed, not-among}
+use Rattle.core_state.proofs.HandedFoldLemmas.{FoldsTheSame, fed-as-folded}
+use Rattle.core_state.proofs.LandedLemmas.{fed_by, feeds, landed}
+
+-- the core after a batch, where these queries found no memory
+abbrev pub after_flight : (batch : ℕ) → List ℕ → Flight → State → State
+after_flight batch queries flight state = record (landed batch flight state) {
+  accepted = map (unkept queries) (landed batch flight state).accepted;
+  lives = spoiled_all queries state.lives;
+}
+
+pub distributed : (batch : ℕ) (queries : List ℕ) (flight : Flight) (state : State) → flight_at state.scan.flights batch ≡ Some flight
+    → after_distribute batch queries state ≡ after_flight batch queries flight state
+distributed batch queries flight state there = ap (λ o. option_map_or (λ f. after_flight batch queries f state) o state) there
+
+-- what is kept for the holder of a slot, where it gets rows
+abbrev pub kept_by : State → Option ℕ → Option Grouped
+kept_by core holder = option_and_then (groups_in core)
+    (option_and_then (λ query. cond {A = Option ℕ} (gets core.lives query) (Some query) None) holder)
+
+-- the queries of a set of slots that found no memory, and the core after the batch
+module _ (folds : FoldsTheSame) (state : State) (tables : KeyedStore) (dims : List (Roomy DimensionRow)) (flight : Flight) (sound : IsSound state)
+    (are : AreKeyedTablesOf state tables dims) (flies : Contains state.scan.flights flight) (batch : IsSoundBatch state flight) (number spoiled : ℕ) where
+  -- what a distributor makes of the groups at a slot
+  abbrev folded : (slot : ℕ) → Grouped → Grouped
+  folded slot = with_batch dims flight.rows tables.versions slot
+
+  abbrev queries : List ℕ
+  queries = fed_in state spoiled
+
+  abbrev now : State
+  now = after_flight number queries flight state
+
+  -- what a distributor has at a slot after the batch, where it had these groups
+  abbrev left_at : (slot : ℕ) → Option Grouped → Option Grouped
+  left_at slot attached = cond {A = Option Grouped} (eqb (bit_at spoiled slot) 1) None (option_map (folded slot) attached)
+
+  nothing-left : (slot : ℕ) → left_at slot None ≡ None
+  nothing-left slot = by_test (eqb (bit_at spoiled slot) 1)
+    where
+      by_test : (t : Bool) → cond {A = Option Grouped} t None None ≡ None
+      by_test true = refl
+      by_test false = refl
+
+  -- what is kept of a query that found memory
+  kept-after : (slot query built : ℕ) → slot_at state.lives slot ≡ Held query built → gets state.lives query ≡ true
+      → list_any (λ other. eqb other query) queries ≡ false → option_map (folded slot) (groups_in state query) ≡ groups_in now query
+  kept-after slot query built holds yet none =
+      by_found (accepted_at state.accepted query) refl
+      (held-accepted state slot query built sound (held-there state.lives slot query built holds) holds)
+    where
+      by_found : (o : Option Accepted) → accepted_at state.accepted query ≡ o → IsSome o
+          → option_map (folded slot) (option_map_or (λ a. a.groups) o None) ≡ groups_in now query
+      by_found None is some = absurd (let both : false ≡ true = some in cc)
+      by_found (Some accepted) is some =
+          let same : accepted.number ≡ query = eqb-true accepted.number query (find-passes (λ a. eqb a.number query) state.accepted accepted is) in
+          let fed : (fed_by state flight accepted).number ≡ query = ap (λ a. a.number) (feeds state flight accepted).1 ∙ same in
+          let found : accepted_at now.accepted query ≡ Some (fed_by state flight accepted) =
+          found-anew (unkept queries) (unkeeps queries) query (map (fed_by state flight) state.accepted)
+          ∙ ap (option_map (unkept queries)) (found-anew (fed_by state flight) (feeds state flight) query state.accepted
+          ∙ ap (option_map (fed_by state flight)) is)
+          ∙ ap Some (still-kept queries query (fed_by state flight accepted) fed none) in
+          fed-as-folded folds state tables dims flight sound are flies batch slot built accepted (holds ∙ ap (λ n. Held n built) (sym same)) (ap (accepted_at state.accepted) same ∙ is)
+          (ap (gets state.lives) same ∙ yet)
+          ∙ ap (λ o. option_map_or (λ a. a.groups) o None) (sym found)
+
+  held-left : (slot query built : ℕ) → slot_at state.lives slot ≡ Held query built → left_at slot (kept_by state (Some query)) ≡ kept_by now (Some query)
+  held-left slot query built holds = by_gets (gets state.lives query) refl
+    where
+      by_bit : gets state.lives query ≡ true → (t : Bool) → eqb (bit_at spoiled slot) 1 ≡ t
+          → cond {A = Option Grouped} t None (option_map (folded slot) (groups_in state query)) ≡ kept_by now (Some query)
+      by_bit yet true has =
+          sym (ap (λ t. option_and_then (groups_in now) (cond {A = Option ℕ} t (Some query) None))
+          (spoiled-none queries query state.lives
+          (fed-among state spoiled slot query (eqb-true (bit_at spoiled slot) 1 has) (holds-fed state slot query built holds yet))))
+      by_bit yet false has =
+          let none = not-among state sound.slots.lives spoiled slot query built holds has in
+          let still : gets now.lives query ≡ true = ap (λ o. option_map_or gets_rows o false) (others-stay queries query state.lives none) ∙ yet in
+          kept-after slot query built holds yet none
+          ∙ sym (ap (λ t. option_and_then (groups_in now) (cond {A = Option ℕ} t (Some query) None)) still)
+
+      by_gets : (t : Bool) → gets state.lives query ≡ t
+          → left_at slot (option_and_then (groups_in state) (cond {A = Option ℕ} t (Some query) None)) ≡ kept_by now (Some query)
+      by_gets false is =
+          nothing-left slot
+          ∙ sym (ap (λ t. option_and_then (groups_in now) (cond {A = Option ℕ} t (Some query) None)) (still-none queries query state.lives is))
+      by_gets true is = by_bit is (eqb (bit_at spoiled slot) 1) refl
+
+  -- slot by slot a distributor has after the batch what the core keeps
+  pub slot-left : (slot : ℕ) → left_at slot (attached_at state slot) ≡ attached_at now slot
+  slot-left slot =
+      by_slot (slot_at state.lives slot) refl
+      ∙ ap (λ slots. kept_by now (holder_of (get_or slots slot Free))) (sym (slots-stay queries state.lives))
+    where
+      by_slot : (s : SlotState) → slot_at state.lives slot ≡ s → left_at slot (kept_by state (holder_of s)) ≡ kept_by now (holder_of s)
+      by_slot Free holds = nothing-left slot
+      by_slot (Held query built) holds = held-left slot query built holds
+      by_slot (Clearing left) holds = nothing-left slot

@@ -1,0 +1,184 @@
+-- Events that leave a scan as it is.
+use Rattle.std.proofs.Common.{◌≡◌, ℕ, Bool, true, false, cond, List, [], ◌∷◌, length, map, set, find, take, Option, Some, None, refl, ap, sym, ◌∙◌, subst, inl, inr}
+use Rattle.std.specs.Option.{option_and_then, option_map_or}
+use Rattle.std.proofs.lemmas.List.{length-set}
+use Rattle.star_history.specs.Store.{rows_in}
+use Rattle.dimension_filter.specs.Changes.{filter_with}
+use Rattle.pipeline_manager.specs.Changes.{given_up, is_ending, with_dimension, with_life, with_slot, without_dimension}
+use Rattle.pipeline_manager.specs.Conditions.{CanFree, IsOver, gives_up}
+use Rattle.pipeline_manager.specs.Lives.{Lives, life_in, life_of, slot_at, slot_of}
+use Rattle.pipeline_manager.specs.declared.life.Life.{Life}
+use Rattle.pipeline_manager.specs.declared.life.Life.TheVariants as life
+use Rattle.pipeline_manager.specs.declared.life.QueryLife.{QueryLife}
+use Rattle.pipeline_manager.specs.declared.life.SlotState.{SlotState}
+use Rattle.pipeline_manager.specs.declared.life.SlotState.TheVariants.{Free, Held, Clearing}
+use Rattle.pipeline_manager.proofs.LifeLemmas.{oldest-waits}
+use Rattle.continuous_scan.specs.Scanning.{Scanning}
+use Rattle.core_state.specs.Admitting.{after_build, after_clear, after_finish, after_release, after_reserving, selection_in, with_built, with_version}
+use Rattle.core_state.specs.Cutting.{after_give, given_back, tallies_after, with_flight}
+use Rattle.core_state.specs.Events.{MayFinish, MayReserve}
+use Rattle.core_state.specs.Found.{accepted_at, holder_of, is_held_by, start_in}
+use Rattle.core_state.specs.Scanned.{IsScannedAs}
+use Rattle.core_state.specs.Sound.{IsSound}
+use Rattle.core_state.specs.State.{Accepted, Flight, Pending, State}
+use Rattle.core_state.specs.Submitting.{after_taking, forgotten, seat_at, without_groups}
+use Rattle.core_state.specs.Tables.{tables_of}
+use Rattle.core_state.proofs.AnewLemmas.{forgets}
+use Rattle.core_state.proofs.ScannedFrameLemmas.{StaysBy, found-kept, held-stays, scanned-stays, slot-written, start_by, written-rests, written-stays}
+use Rattle.core_state.proofs.ScannedRunLemmas.{found_by}
+use Rattle.core_state.proofs.WholeFrameLemmas.{by-option}
+
+-- the same lives and queries, and the same position
+pub same-core : (state later : State) (scan : Scanning) → later.scan.position ≡ state.scan.position → later.accepted ≡ state.accepted
+    → later.lives ≡ state.lives → IsScannedAs state scan → IsScannedAs later scan
+same-core state later scan position accepted lives = scanned-stays state later scan position (ap (λ (l : Lives). length l.slots) lives)
+    (λ slot low. held-stays state later slot (ap (λ (l : Lives). l.queries) lives) accepted (ap (λ (l : Lives). holder_of (slot_at l slot)) lives))
+
+-- a slot that is written over has the holder that it had
+slot-kept : (state later : State) (scan : Scanning) (slot : ℕ) (new : SlotState) → later.scan.position ≡ state.scan.position
+    → later.accepted ≡ state.accepted → later.lives ≡ with_slot slot new state.lives → holder_of new ≡ holder_of (slot_at state.lives slot)
+    → IsScannedAs state scan → IsScannedAs later scan
+slot-kept state later scan slot new position accepted lives holder =
+    scanned-stays state later scan position (ap (λ (l : Lives). length l.slots) lives ∙ length-set state.lives.slots slot new)
+    (λ at low. held-stays state later at (ap (λ (l : Lives). l.queries) lives) accepted
+    (ap (λ (l : Lives). holder_of (slot_at l at)) lives
+    ∙ slot-written (λ s. holder_of s ≡ holder_of (slot_at state.lives at)) state.lives.slots slot at new low
+    (λ is. holder ∙ ap (λ n. holder_of (slot_at state.lives n)) (sym is)) (λ apart. refl)))
+
+pub holder-more : (dimension : ℕ) (now : SlotState) → holder_of (with_dimension dimension now) ≡ holder_of now
+holder-more dimension Free = refl
+holder-more dimension (Held query built) = refl
+holder-more dimension (Clearing left) = refl
+
+pub holder-less : (dimension : ℕ) (now : SlotState) → holder_of (without_dimension dimension now) ≡ holder_of now
+holder-less dimension Free = refl
+holder-less dimension (Held query built) = refl
+holder-less dimension (Clearing left) = refl
+
+pub scanned-reserve : (state : State) (scan : Scanning) (query slot : ℕ) → IsSound state → MayReserve query slot state → IsScannedAs state scan
+    → IsScannedAs (after_reserving slot state) scan
+scanned-reserve state scan query slot sound may same =
+    subst (λ o. IsScannedAs (record state { lives = option_map_or reserved o state.lives }) scan) (sym may.oldest)
+    (scanned-stays state (record state { lives = reserved query }) scan refl (length-set state.lives.slots slot (Held query 0))
+    (λ at low. slot-written
+    (λ s. StaysBy state.accepted state.accepted state.lives (reserved query) at (holder_of (slot_at state.lives at)) (holder_of s))
+    state.lives.slots slot at (Held query 0) low
+    (λ is. inl (
+      ap (λ n. start_by state.lives (holder_of (slot_at state.lives n))) is ∙ ap (λ s. start_by state.lives (holder_of s)) may.is_free,
+      written-rests state.lives query life.Building refl,
+    ))
+    (λ apart. written-stays state.accepted state.lives at (holder_of (slot_at state.lives at)) query life.Building
+    (ap (option_and_then start_in) (oldest-waits state.lives.queries query sound.slots.lives.rising may.oldest)) refl)) same)
+  where
+    reserved : ℕ → Lives
+    reserved number = record state.lives {
+      queries = with_life number life.Building state.lives.queries;
+      slots = set state.lives.slots slot (Held number 0);
+    }
+
+pub scanned-build : (state : State) (scan : Scanning) (query dimension : ℕ) → IsScannedAs state scan
+    → IsScannedAs (after_build query dimension state) scan
+scanned-build state scan query dimension same = by_slot (slot_of state.lives query)
+  where
+    built_for : ℕ → Accepted → State
+    built_for slot accepted = with_version dimension
+        (filter_with slot (selection_in accepted.query dimension) (rows_in (tables_of state).dimensions dimension)) state
+
+    built_in : ℕ → State
+    built_in slot = option_map_or (built_for slot) (accepted_at state.accepted query) state
+
+    position : (with_built query dimension state).scan.position ≡ state.scan.position
+    position = by-option (λ s. s.scan.position ≡ state.scan.position) (slot_of state.lives query) built_in state refl
+        (λ slot is. by-option (λ s. s.scan.position ≡ state.scan.position) (accepted_at state.accepted query) (built_for slot) state refl (λ a found. refl))
+
+    accepted : (with_built query dimension state).accepted ≡ state.accepted
+    accepted = by-option (λ s. s.accepted ≡ state.accepted) (slot_of state.lives query) built_in state refl
+        (λ slot is. by-option (λ s. s.accepted ≡ state.accepted) (accepted_at state.accepted query) (built_for slot) state refl (λ a found. refl))
+
+    by_slot : (o : Option ℕ) → IsScannedAs (record (with_built query dimension state) {
+      lives = option_map_or (λ slot. with_slot slot (with_dimension dimension (slot_at state.lives slot)) state.lives) o state.lives;
+    }) scan
+    by_slot None = same-core state (record (with_built query dimension state) { lives = state.lives }) scan position accepted refl same
+    by_slot (Some slot) = slot-kept state
+        (record (with_built query dimension state) { lives = with_slot slot (with_dimension dimension (slot_at state.lives slot)) state.lives }) scan
+        slot (with_dimension dimension (slot_at state.lives slot)) position accepted refl (holder-more dimension (slot_at state.lives slot)) same
+
+pub scanned-give : (state : State) (scan : Scanning) (worker : ℕ) → IsScannedAs state scan → IsScannedAs (after_give worker state) scan
+scanned-give state scan worker same =
+    by-option (λ s. IsScannedAs s scan) (find (is_held_by worker) state.scan.flights) given state same
+    (λ flight is. same-core state (given flight) scan refl refl refl same)
+  where
+    given : Flight → State
+    given flight = record state {
+      filters = record state.filters { tallies = tallies_after flight state.filters.versions state.filters.tallies };
+      scan = record state.scan { flights = with_flight flight.rows.number given_back state.scan.flights };
+    }
+
+pub scanned-clear : (state : State) (scan : Scanning) (slot dimension : ℕ) → IsScannedAs state scan
+    → IsScannedAs (after_clear slot dimension state) scan
+scanned-clear state scan slot dimension = slot-kept state (after_clear slot dimension state) scan slot
+    (without_dimension dimension (slot_at state.lives slot)) refl refl refl (holder-less dimension (slot_at state.lives slot))
+
+pub scanned-release : (state : State) (scan : Scanning) (slot : ℕ) → CanFree slot state.lives → IsScannedAs state scan
+    → IsScannedAs (after_release slot state) scan
+scanned-release state scan slot can = slot-kept state (after_release slot state) scan slot Free refl refl refl (sym (ap holder_of can))
+
+-- a query that gives up does not run
+over-rests : (o : Option Life) → option_map_or gives_up o false ≡ true → option_and_then start_in o ≡ None
+over-rests None over = refl
+over-rests (Some life.Waiting) over = refl
+over-rests (Some life.Building) over = refl
+over-rests (Some (life.Running start left)) over = absurd (let both : false ≡ true = over in cc)
+over-rests (Some life.Ending) over = refl
+over-rests (Some life.Answered) over = refl
+over-rests (Some life.Spoiled) over = refl
+over-rests (Some life.Abandoned) over = refl
+
+pub scanned-finish : (state : State) (scan : Scanning) (slot : ℕ) → MayFinish slot state → IsScannedAs state scan
+    → IsScannedAs (after_finish slot state) scan
+scanned-finish state scan slot may same = by_slot (slot_at state.lives slot) refl may.over
+  where
+    ended : (query built : ℕ) → List QueryLife → State
+    ended query built queries = record state {
+      lives = record state.lives { queries = queries; slots = set state.lives.slots slot (Clearing built) };
+    }
+
+    by_test : (query built : ℕ) → slot_at state.lives slot ≡ Held query built → option_and_then start_in (life_of state.lives query) ≡ None
+        → (t : Bool) → IsScannedAs (ended query built (cond {A = List QueryLife} t (with_life query life.Answered state.lives.queries) state.lives.queries)) scan
+    by_test query built is rests true =
+        scanned-stays state (ended query built (with_life query life.Answered state.lives.queries)) scan refl
+        (length-set state.lives.slots slot (Clearing built))
+        (λ at low. slot-written
+        (λ s. StaysBy state.accepted state.accepted state.lives (ended query built (with_life query life.Answered state.lives.queries)).lives at
+        (holder_of (slot_at state.lives at)) (holder_of s))
+        state.lives.slots slot at (Clearing built) low
+        (λ here. inl (ap (λ n. start_by state.lives (holder_of (slot_at state.lives n))) here ∙ ap (λ s. start_by state.lives (holder_of s)) is ∙ rests, refl))
+        (λ apart. written-stays state.accepted state.lives at (holder_of (slot_at state.lives at)) query life.Answered rests refl)) same
+    by_test query built is rests false =
+        scanned-stays state (ended query built state.lives.queries) scan refl
+        (length-set state.lives.slots slot (Clearing built))
+        (λ at low. slot-written
+        (λ s. StaysBy state.accepted state.accepted state.lives (ended query built state.lives.queries).lives at
+        (holder_of (slot_at state.lives at)) (holder_of s))
+        state.lives.slots slot at (Clearing built) low
+        (λ here. inl (ap (λ n. start_by state.lives (holder_of (slot_at state.lives n))) here ∙ ap (λ s. start_by state.lives (holder_of s)) is ∙ rests, refl))
+        (λ apart. inr (refl, refl))) same
+
+    by_slot : (now : SlotState) → slot_at state.lives slot ≡ now → IsOver now state.lives
+        → IsScannedAs (record state { lives = given_up slot now state.lives }) scan
+    by_slot Free is over = absurd over
+    by_slot (Held query built) is over = by_test query built is (over-rests (life_of state.lives query) over)
+        (option_map_or is_ending (life_in state.lives.queries query) false)
+    by_slot (Clearing left) is over = absurd over
+
+-- nothing is kept any more for some statements
+found-without : (pending : List Pending) (accepted : List Accepted) (lives : Lives) (slot : ℕ) (holder : Option ℕ)
+    → found_by (without_groups pending accepted) lives slot holder ≡ found_by accepted lives slot holder
+found-without [] accepted lives slot holder = refl
+found-without (asked ∷ pending) accepted lives slot holder =
+    found-without pending (map (forgotten asked.statement) accepted) lives slot holder
+    ∙ found-kept (forgotten asked.statement) (forgets asked.statement) accepted lives slot holder
+
+pub scanned-taking : (state : State) (scan : Scanning) (seat : ℕ) → IsScannedAs state scan → IsScannedAs (after_taking seat state) scan
+scanned-taking state scan seat = scanned-stays state (after_taking seat state) scan refl refl
+    (λ at low. inr (refl, found-without (take 1 (seat_at state seat).pending) state.accepted state.lives at (holder_of (slot_at state.lives at))))
