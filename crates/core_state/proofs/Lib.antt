@@ -103,3 +103,7 @@ pub mod AttachedFrameLemmas
 pub mod AttachedStartLemmas
 pub mod AttachedOverLemmas
 pub mod AttachedEventLemmas
+pub mod LoggedPlaceLemmas
+pub mod LoggedRowsLemmas
+pub mod LoggedLemmas
+pub mod LoggedDeleteLemmas

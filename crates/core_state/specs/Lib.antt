@@ -17,5 +17,6 @@ pub mod Settings
 pub mod Tables
 pub mod Found
 pub mod Scanned
+pub mod Logged
 pub mod Numbered
 pub mod Story
