@@ -46,7 +46,7 @@ commits-rise store (Loaded (Dimension dimension) rows) = omega arith
 commits-rise store (Ended positions) = omega arith
 
 -- the entries of a change
-entries-by : (change : Change) (state : State) → (filters_by change state).entries ≡ state.entries
+pub entries-by : (change : Change) (state : State) → (filters_by change state).entries ≡ state.entries
 entries-by (DimensionDeclared table) state = refl
 entries-by (FactDeclared table) state = refl
 entries-by (Loaded table rows) state = refl
@@ -71,7 +71,7 @@ submit-tables outcomes seat statement state settled =
     by_outcome (Some change) (outcome.Accepted query snapshot) follows = absurd follows
 
 -- what hangs on an option leaves the entries where each of its cases does
-by-option : {A : Type 0} (f : A → State) (state : State) (o : Option A) → ((a : A) → (f a).entries ≡ state.entries)
+pub by-option : {A : Type 0} (f : A → State) (state : State) (o : Option A) → ((a : A) → (f a).entries ≡ state.entries)
     → (option_map_or f o state).entries ≡ state.entries
 by-option f state None each = refl
 by-option f state (Some a) each = each a

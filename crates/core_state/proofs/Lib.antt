@@ -103,7 +103,9 @@ pub mod AttachedFrameLemmas
 pub mod AttachedStartLemmas
 pub mod AttachedOverLemmas
 pub mod AttachedEventLemmas
+pub mod LoggedNumberLemmas
 pub mod LoggedPlaceLemmas
 pub mod LoggedRowsLemmas
 pub mod LoggedLemmas
 pub mod LoggedDeleteLemmas
+pub mod LoggedStepLemmas

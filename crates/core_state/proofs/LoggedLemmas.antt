@@ -167,22 +167,22 @@ SettlesNext = (store : Store) (change : Change) → IsSettled store → Accepts 
 abbrev Later : Store → Change → List Change → Store
 Later store change history = fold after_change (after_change store change) history
 
-first-told : (store : Store) (change : Change) (history : List Change) (dimension : ℕ) → dimension ≡ length store.schema.dimensions → IsSettled store
-    → AcceptsAll store (change ∷ history) → All EndsAscending (change ∷ history)
+first-told : (store : Store) (change : Change) (history : List Change) (dimension : ℕ) → dimension ≡ length store.schema.dimensions
+    → IsSettled store → AcceptsAll store (change ∷ history) → All EndsAscending (change ∷ history)
     → change_told (Later store change history) dimension (store.commits + 1) (kind_of_change change) ≡ change
 first-told store change history dimension next settled accepted ascending =
     told-new store (Later store change history) change dimension next settled accepted.0 (All-head EndsAscending change history ascending)
     (keeps-all (after_change store change) history accepted.1)
 
 -- the changes of a history are told by its tables and their kinds
-pub changes-told : SettlesNext → (store : Store) (history : List Change) (dimension : ℕ) → dimension ≡ length store.schema.dimensions → IsSettled store
-    → AcceptsAll store history → All EndsAscending history
+pub changes-told : SettlesNext → (store : Store) (history : List Change) (dimension : ℕ) → dimension ≡ length store.schema.dimensions
+    → IsSettled store → AcceptsAll store history → All EndsAscending history
     → changes_told (fold after_change store history) dimension (store.commits + 1) (map kind_of_change history) ≡ history
 changes-told settles store [] dimension next settled accepted ascending = refl
 changes-told settles store (DimensionDeclared table ∷ history) dimension next settled accepted ascending =
     let change = DimensionDeclared table in
-    let rest = changes-told settles (after_change store change) history (dimension + 1) (omega (arith, length-append store.schema.dimensions (table ∷ [])))
-    (settles store change settled accepted.0) accepted.1 (All-tail EndsAscending change history ascending) in
+    let rest = changes-told settles (after_change store change) history (dimension + 1)
+    (omega (arith, length-append store.schema.dimensions (table ∷ []))) (settles store change settled accepted.0) accepted.1 (All-tail EndsAscending change history ascending) in
     λ i. first-told store change history dimension next settled accepted ascending i ∷ rest i
 changes-told settles store (FactDeclared table ∷ history) dimension next settled accepted ascending =
     let change = FactDeclared table in

@@ -9,7 +9,7 @@ use Rattle.dimension_rows.specs.declared.dimension_row.DimensionRow.{DimensionRo
 use Rattle.star_history.specs.History.{rows_by, versions_by, with_end, with_ends}
 use Rattle.star_history.specs.Store.{PlainVersion}
 use Rattle.core_state.specs.Logged.{facts_loaded_by, rows_loaded_by}
-use Rattle.core_state.proofs.LoggedPlaceLemmas.{other-number, same-number}
+use Rattle.core_state.proofs.LoggedNumberLemmas.{other-number, same-number}
 
 -- what was made of some rows by a commit
 abbrev Makes : {X : Type 0} (row_of : X → List cell.Value) (commit_of : X → ℕ) (make : ℕ → List cell.Value → X) → Type 0

@@ -6,7 +6,13 @@ ghost use Rattle.star_history.specs.History.{Change, store_of};
 ghost use Rattle.star_history.specs.Store.{Store, empty_store};
 ghost use Rattle.star_statement.specs.Outcome.{outcome_of};
 ghost use Rattle.core_state.specs.Logged.{EndsAscending, changes_told, kind_of_change};
+ghost use Rattle.core_state.specs.Settings.{AreWithin};
+ghost use Rattle.core_state.specs.Sound.{empty_core};
+ghost use Rattle.core_state.specs.Steps.{MayStepAll, Step, after_steps};
+ghost use Rattle.core_state.specs.Tables.{changes_of, tables_of};
+ghost use Rattle.core_state.specs.declared.settings.RunSettings.{RunSettings};
 
+use crate::laws_of_runs::every_core_is_sound;
 use star_history::accepted_histories_are_settled;
 
 /// The changes of a history follow from its tables and the kinds of its changes, where each delete names
@@ -23,3 +29,14 @@ pub fn deletes_name_ascending_positions()
     ensures { (store : Store) (statement : Statement) →
         IfSome (outcome_of store statement).change EndsAscending }
 {}
+
+/// The history of every core follows from its tables and the kinds of its changes, whatever steps led to it.
+pub fn every_history_follows_from_its_tables()
+    ensures { (settings : RunSettings) (steps : List Step) → AreWithin settings → MayStepAll (empty_core settings) steps →
+        changes_told (tables_of (after_steps steps (empty_core settings))) 0 1
+        (map kind_of_change (changes_of (after_steps steps (empty_core settings)).entries))
+        ≡ changes_of (after_steps steps (empty_core settings)).entries }
+{
+    every_core_is_sound();
+    changes_follow_from_the_tables();
+}

@@ -61,7 +61,10 @@ pub use laws_of_statements::{
     a_declaration_keeps_what_is_kept, a_statement_keeps_a_core_sound, outcomes_fit_the_tables,
 };
 pub use laws_of_tables::a_change_of_rows_keeps_what_is_kept;
-pub use laws_of_the_log::{changes_follow_from_the_tables, deletes_name_ascending_positions};
+pub use laws_of_the_log::{
+    changes_follow_from_the_tables, deletes_name_ascending_positions,
+    every_history_follows_from_its_tables,
+};
 pub use laws_of_the_scan::a_cut_keeps_a_core_sound;
 pub use laws_of_the_whole::{
     no_core_has_lost_a_statement, no_step_changes_what_is_asked, no_step_loses_a_statement,

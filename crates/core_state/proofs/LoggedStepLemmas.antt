@@ -1,0 +1,92 @@
+-- The deletes in the history of every core name their positions ascending.
+use Rattle.std.proofs.Common.{◌≡◌, ℕ, ◌+◌, List, [], ◌∷◌, ◌++◌, Option, Some, None, refl, sym, ◌∙◌, subst}
+use Rattle.std.specs.Prelude.{All, IfSome, find}
+use Rattle.std.proofs.lemmas.List.Elements.{All-append, All-cons, All-nil}
+use Rattle.pipeline_manager.specs.Lives.{slot_of}
+use Rattle.star_history.specs.History.{Change}
+use Rattle.star_statement.specs.Outcome as outcome
+use Rattle.star_statement.specs.Outcome.{Told, outcome_of}
+use Rattle.core_state.specs.Events.{after_event, after_want}
+use Rattle.core_state.specs.Found.{accepted_at, flight_at, is_held_by}
+use Rattle.core_state.specs.Logged.{EndsAscending}
+use Rattle.core_state.specs.State.{Entry, State}
+use Rattle.core_state.specs.Steps.{Done, Replying, Step, Wanting, after_step, after_steps}
+use Rattle.core_state.specs.Submitting.{after_outcome, with_query}
+use Rattle.core_state.specs.Tables.{changes_of, tables_of}
+use Rattle.core_state.specs.declared.event.Event.{Event}
+use Rattle.core_state.specs.declared.event.Event.TheVariants.{Submit, Reserve, Build, Start, Cut, Take, Give, Distribute, Finish, Clear, Release, Reorder, Abandon}
+use Rattle.core_state.proofs.GrownLemmas.{changes-with}
+use Rattle.core_state.proofs.LaterLemmas.{by-option, entries-by}
+use Rattle.core_state.proofs.LoggedDeleteLemmas.{outcome-ascends}
+
+-- the deletes among entries name their positions ascending
+abbrev Ascending : List Entry → Type 0
+Ascending entries = All EndsAscending (changes_of entries)
+
+query-entries : (seat statement : ℕ) (told : Told) (state : State) → (with_query seat statement told state).entries ≡ state.entries
+query-entries seat statement (outcome.Replied reply) state = refl
+query-entries seat statement (outcome.Accepted query snapshot) state = refl
+
+ascending-with : (entries : List Entry) (entry : Entry) → EndsAscending entry.change → Ascending entries → Ascending (entries ++ entry ∷ [])
+ascending-with entries entry last ascending =
+    subst (All EndsAscending) (sym (changes-with entries entry))
+    (All-append EndsAscending (changes_of entries) (entry.change ∷ []) ascending
+    (All-cons EndsAscending entry.change [] last (All-nil EndsAscending)))
+
+ascending-outcome : (seat : ℕ) (change : Option Change) (told : Told) (state : State) → IfSome change EndsAscending → Ascending state.entries
+    → Ascending (after_outcome seat (record { change = change; told = told }) state).entries
+ascending-outcome seat None told state last ascending = subst Ascending (sym (query-entries seat (state.numbers.statement + 1) told _)) ascending
+ascending-outcome seat (Some change) told state last ascending =
+    subst Ascending (sym (query-entries seat (state.numbers.statement + 1) told _ ∙ entries-by change _))
+    (ascending-with state.entries (record { seat = seat; statement = state.numbers.statement + 1; change = change }) last ascending)
+
+ascending-event : (event : Event) (state : State) → Ascending state.entries → Ascending (after_event event state).entries
+unfolding after_event
+ascending-event (Submit seat statement) state ascending =
+    let found = outcome_of (tables_of state) statement in
+    ascending-outcome seat found.change found.told state (outcome-ascends (tables_of state) statement) ascending
+ascending-event (Reserve query slot) state ascending = ascending
+ascending-event (Build query dimension) state ascending =
+    subst Ascending
+    (sym (by-option _ state (slot_of state.lives query) (λ slot. by-option _ state (accepted_at state.accepted query) (λ accepted. refl))))
+    ascending
+ascending-event (Start query) state ascending = ascending
+ascending-event Cut state ascending = ascending
+ascending-event (Take worker batch) state ascending = ascending
+ascending-event (Give worker) state ascending =
+    subst Ascending (sym (by-option _ state (find (is_held_by worker) state.scan.flights) (λ flight. refl))) ascending
+ascending-event (Distribute batch) state ascending =
+    subst Ascending (sym (by-option _ state (flight_at state.scan.flights batch) (λ flight. refl))) ascending
+ascending-event (Finish slot) state ascending = ascending
+ascending-event (Clear slot dimension) state ascending = ascending
+ascending-event (Release slot) state ascending = ascending
+ascending-event Reorder state ascending = ascending
+ascending-event (Abandon query) state ascending =
+    subst Ascending (sym (by-option _ state (accepted_at state.accepted query) (λ accepted. refl))) ascending
+
+ascending-want : (event : Event) (spoiled : List ℕ) (state : State) → Ascending state.entries → Ascending (after_want event spoiled state).entries
+unfolding after_want
+ascending-want (Submit seat statement) spoiled state ascending = ascending
+ascending-want (Reserve query slot) spoiled state ascending = ascending
+ascending-want (Build query dimension) spoiled state ascending = ascending
+ascending-want (Start query) spoiled state ascending = ascending
+ascending-want Cut spoiled state ascending = ascending
+ascending-want (Take worker batch) spoiled state ascending = ascending
+ascending-want (Give worker) spoiled state ascending = ascending
+ascending-want (Distribute batch) spoiled state ascending =
+    subst Ascending (sym (by-option _ state (flight_at state.scan.flights batch) (λ flight. refl))) ascending
+ascending-want (Finish slot) spoiled state ascending = ascending
+ascending-want (Clear slot dimension) spoiled state ascending = ascending
+ascending-want (Release slot) spoiled state ascending = ascending
+ascending-want Reorder spoiled state ascending = ascending
+ascending-want (Abandon query) spoiled state ascending = ascending
+
+ascending-step : (step : Step) (state : State) → Ascending state.entries → Ascending (after_step step state).entries
+ascending-step (Done event) state ascending = ascending-event event state ascending
+ascending-step (Wanting event spoiled) state ascending = ascending-want event spoiled state ascending
+ascending-step (Replying seat) state ascending = ascending
+
+pub ascending-steps : (steps : List Step) (state : State) → All EndsAscending (changes_of state.entries)
+    → All EndsAscending (changes_of (after_steps steps state).entries)
+ascending-steps [] state ascending = ascending
+ascending-steps (step ∷ steps) state ascending = ascending-steps steps (after_step step state) (ascending-step step state ascending)

@@ -1,0 +1,13 @@
+use Rattle.std.proofs.lemmas.List.Elements.{All-nil}
+use Rattle.core_state.specs.Logged.{EndsAscending}
+use Rattle.core_state.specs.Sound.{empty_core}
+use Rattle.core_state.specs.Steps.{after_steps}
+use Rattle.core_state.specs.Tables.{changes_of}
+use Rattle.core_state.proofs.LoggedStepLemmas.{ascending-steps}
+use Rattle.core_state.proofs.laws_of_the_log.every_history_follows_from_its_tables.Goals as goal
+
+pub returns : goal.returns
+returns c settings steps within may =
+    let sound = c.every_core_is_sound.ensures.from_none settings steps within may in
+    c.changes_follow_from_the_tables.ensures (changes_of (after_steps steps (empty_core settings)).entries) sound.store
+    (ascending-steps steps (empty_core settings) (All-nil EndsAscending))
