@@ -7,3 +7,4 @@ pub mod EndLemmas
 pub mod CutLemmas
 pub mod LawLemmas
 pub mod HolderLemmas
+pub mod RunLemmas

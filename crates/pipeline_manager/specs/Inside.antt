@@ -1,7 +1,12 @@
 -- What the functions inside this crate say of its list of queries.
-use Rattle.std.specs.Prelude.{◌≡◌, ℕ, ◌≤◌, ◌==◌, false, List, length, take, All, if◌then◌else◌}
+use Rattle.std.specs.Prelude.{◌≡◌, ℕ, ◌≤◌, ◌==◌, Bool, true, false, List, length, take, All, if◌then◌else◌}
+use Rattle.std.specs.Option.{option_map_or}
+use Rattle.pipeline_manager.specs.declared.life.Life.{Life}
+use Rattle.pipeline_manager.specs.declared.life.Life.TheVariants.{Waiting, Building, Running, Ending, Answered, Spoiled, Abandoned}
+use Rattle.pipeline_manager.specs.declared.life.SlotState.{SlotState}
+use Rattle.pipeline_manager.specs.declared.life.SlotState.TheVariants.{Free, Held, Clearing}
 use Rattle.pipeline_manager.specs.declared.life.QueryLife.{QueryLife}
-use Rattle.pipeline_manager.specs.Lives.{is_waiting}
+use Rattle.pipeline_manager.specs.Lives.{is_waiting, life_in}
 
 -- none of the first queries waits, of which there are so many
 abbrev pub NoneWaits : (count : ℕ) → List QueryLife → Type 0
@@ -15,3 +20,19 @@ pub record ArePassed (count : ℕ) (queries : List QueryLife) : Type 0 where
 -- a query, changed if it has this number
 abbrev pub changed_if : (query : ℕ) → (QueryLife → QueryLife) → QueryLife → QueryLife
 changed_if query change entry = if entry.query == query then change entry else entry
+
+-- whether the scan gives rows to a query
+abbrev pub is_running : Life → Bool
+is_running Waiting = false
+is_running Building = false
+is_running (Running start left) = true
+is_running Ending = false
+is_running Answered = false
+is_running Spoiled = false
+is_running Abandoned = false
+
+-- whether a query holds a slot in this state and is Running
+abbrev pub holder_runs : List QueryLife → SlotState → Bool
+holder_runs queries Free = false
+holder_runs queries (Held query built) = option_map_or is_running (life_in queries query) false
+holder_runs queries (Clearing left) = false

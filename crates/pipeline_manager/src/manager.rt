@@ -1,8 +1,8 @@
 //! Which query holds which slot, and how far it is. What becomes of them is in `life`.
-ghost use Rattle.std.specs.Prelude.{◌≡◌, ◌<◌, ◌≤◌, [], length, replicate, IfOk, OnOk, OnErr, IfSome, option_map};
+ghost use Rattle.std.specs.Prelude.{◌≡◌, ◌<◌, ◌≤◌, ◌↔◌, [], length, replicate, All, Any, IsTrue, IfOk, OnOk, OnErr, IfSome, option_map};
 ghost use Rattle.pipeline_manager.specs.declared.life.SlotState.TheVariants.{Free};
-ghost use Rattle.pipeline_manager.specs.Lives.{life_of, oldest_waiting, free_slot, slot_at};
-ghost use Rattle.pipeline_manager.specs.Conditions.{IsNew, CanReserve, CanBuild, CanRun, CanCut, CanEnd, CanClear, CanFree, CanSpoil, CanAbandon};
+ghost use Rattle.pipeline_manager.specs.Lives.{life_of, extent_in, oldest_waiting, free_slot, slot_at, slot_of};
+ghost use Rattle.pipeline_manager.specs.Conditions.{IsRunning, IsNew, CanReserve, CanBuild, CanRun, CanCut, CanEnd, CanClear, CanFree, CanSpoil, CanAbandon};
 ghost use Rattle.pipeline_manager.specs.Sound.{IsSound};
 ghost use Rattle.pipeline_manager.specs.Changes.{after_submit, after_reserve, after_built, after_run, after_cut, after_end, after_cleared, after_free, after_spoil, after_abandon};
 
@@ -105,12 +105,60 @@ impl Manager {
         Some(queries::find_query(self.queries.as_slice(), query)?.life)
     }
 
+    /// How many positions the scan gives a query, 0 where none with this number was submitted.
+    pub fn extent(&self, query: u64) -> u32
+        ensures { result ≡ extent_in self.now.queries query }
+    {
+        queries::extent_of(self.queries.as_slice(), query)
+    }
+
+    /// The slot that a query holds, or `None` where it holds none.
+    pub fn slot_of(&self, query: u64) -> Option<u32>
+        ensures slot { result ≡ slot_of self.now query }
+        ensures within { IfSome result (λ slot. slot < length self.now.slots) }
+        ensures sound { IsSound self.now }
+    {
+        Some(slots::first_held(self.slots.as_slice(), query)? as u32)
+    }
+
+    /// Whether some query is Running. It looks at the slots alone.
+    pub fn some_run(&self) -> bool
+        ensures run { IsTrue result ↔ Any (λ entry. IsRunning entry.life) self.now.queries }
+        ensures sound { IsSound self.now }
+    {
+        queries::some_run(self.queries.as_slice(), self.slots.as_slice())
+    }
+
     pub fn slot(&self, slot: u32) -> SlotState
         requires { slot < length self.now.slots }
         ensures state { result ≡ slot_at self.now slot }
         ensures sound { IsSound self.now }
     {
         self.slots.as_slice()[slot as usize]
+    }
+
+    /// How many slots there are.
+    pub fn slots(&self) -> u32
+        ensures count { result ≡ length self.now.slots }
+        ensures few { length self.now.slots ≤ 64 }
+    {
+        self.slots.as_slice().len() as u32
+    }
+
+    /// The set of the dimensions that are filters.
+    pub fn filters(&self) -> u8
+        ensures { result ≡ self.now.filters }
+    {
+        self.filters
+    }
+
+    /// Notes which dimensions are filters: bit j of `filters` says that dimension j is one. No slot is
+    /// used yet.
+    pub fn set_filters(&mut self, filters: u8)
+        requires { All (λ slot. slot ≡ Free) self.old.slots }
+        ensures { self.new ≡ record self.old { filters = filters } }
+    {
+        self.filters = filters;
     }
 
     /// Gives a Free slot to the query that waits the longest. Nothing is built for it yet.

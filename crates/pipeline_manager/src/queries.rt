@@ -1,11 +1,13 @@
 //! The queries in the order of their submission, found by their numbers, which rise.
-ghost use Rattle.std.specs.Prelude.{◌≡◌, ℕ, ◌<◌, ◌≤◌, length, map, find, option_map, slice_index_or, MatchOption, All, false, true, nat_lt, ◌==◌, slice_get, Some};
+ghost use Rattle.std.specs.Prelude.{◌≡◌, ℕ, ◌<◌, ◌≤◌, ◌↔◌, length, map, find, option_map, slice_index_or, MatchOption, All, Any, IsTrue, false, true, nat_lt, ◌==◌, slice_get, Some};
+ghost use Rattle.std.specs.List.{list_any};
 ghost use Rattle.std.specs.List.Sorted.{IsPartitionPoint};
 ghost use Rattle.pipeline_manager.specs.Lives.{is_waiting, query_in, life_in, extent_in};
+ghost use Rattle.pipeline_manager.specs.Conditions.{IsRunning};
 ghost use Rattle.pipeline_manager.specs.Changes.{with_life, is_ending, with_answer, started, covered, cut_life, cut_query};
 ghost use Rattle.std.specs.Option.{option_map_or};
 ghost use Rattle.pipeline_manager.specs.Sound.{AreRising, FitsSlots, slots_held};
-ghost use Rattle.pipeline_manager.specs.Inside.{NoneWaits, changed_if};
+ghost use Rattle.pipeline_manager.specs.Inside.{NoneWaits, changed_if, is_running, holder_runs};
 
 use crate::life::{Life, QueryLife, SlotState};
 use star_lists::ListOf;
@@ -165,5 +167,48 @@ fn cut_query(queries: &mut ListOf<QueryLife>, query: u64, first: u32, last: u32)
     if let Some(place) = place_of(queries.as_slice(), query) {
         let entry = &mut queries.as_mut_slice()[place];
         entry.life = cut_life(covered(first, last, entry.extent), entry.life);
+    }
+}
+
+/// Whether some query is Running. Each Running query holds a slot, so only the holders of slots are
+/// looked at.
+pub(crate) fn some_run(queries: &[QueryLife], slots: &[SlotState]) -> bool
+    requires rising { AreRising queries.now }
+    requires held { (query : ℕ) → FitsSlots (life_in queries.now query) (slots_held query slots.now) }
+    ensures { IsTrue result ↔ Any (λ entry. IsRunning entry.life) queries.now }
+{
+    some_holder_runs(queries, slots)
+}
+
+fn some_holder_runs(queries: &[QueryLife], slots: &[SlotState]) -> bool
+    requires { AreRising queries.now }
+    ensures { result ≡ list_any (holder_runs queries.now) slots.now }
+{
+    for state in slots {
+        if holder_runs(queries, state) {
+            return true;
+        }
+    }
+    false
+}
+
+fn holder_runs(queries: &[QueryLife], state: &SlotState) -> bool
+    requires { AreRising queries.now }
+    ensures { result ≡ holder_runs queries.now state.now }
+{
+    match state {
+        SlotState::Held { query, .. } => is_running(queries, *query),
+        _ => false,
+    }
+}
+
+/// Whether a query is Running.
+fn is_running(queries: &[QueryLife], query: u64) -> bool
+    requires { AreRising queries.now }
+    ensures { result ≡ option_map_or is_running (life_in queries.now query) false }
+{
+    match find_query(queries, query) {
+        None => false,
+        Some(entry) => matches!(entry.life, Life::Running { .. }),
     }
 }
