@@ -1,6 +1,6 @@
 -- Declarations: what a well-formed one declares, and one that is refused.
-use Rattle.std.proofs.Common.{◌≡◌, ℕ, List, [], ◌∷◌, true, map, None, Result, Ok, Err, refl, ap}
-use Rattle.std.specs.Prelude.{All}
+use Rattle.std.proofs.Common.{◌≡◌, ℕ, List, [], ◌∷◌, true, map, Some, None, Result, Ok, Err, refl, ap, sym}
+use Rattle.std.specs.Prelude.{All, IsOkAnd}
 use Rattle.std.proofs.lemmas.List.Elements.{All-cons, All-nil}
 use Rattle.star_values.specs.declared.refusal.Refusal.{Refusal}
 use Rattle.star_parser.specs.declared.ast.AstColumn.{AstColumn}
@@ -11,13 +11,15 @@ use Rattle.star_plan.specs.declared.schema.Schema.{Schema}
 use Rattle.star_plan.specs.declared.table_def.TableDef.{TableDef}
 use Rattle.star_schema.specs.Schemas.{ReferencesNothing}
 use Rattle.star_binder.specs.Table.{declared_table, defined_column}
-use Rattle.star_history.specs.History.{Change}
+use Rattle.star_history.specs.History.{Change, after_change}
 use Rattle.star_history.specs.Keyed.{KeyedStore, plain}
 use Rattle.reply_text.specs.declared.reply.Reply.TheVariants as reply
 use Rattle.star_statement.specs.Applied.{Follows}
+use Rattle.star_statement.specs.Kinds.{kind_of_change}
 use Rattle.star_statement.specs.Outcome.{declared}
 use Rattle.star_statement.specs.Text.{is_dimension}
-use Rattle.star_statement.specs.declared.applied.Applied.TheVariants.{Replied}
+use Rattle.star_statement.specs.declared.applied.Applied.TheVariants.{Replied, Changed}
+use Rattle.star_statement.specs.declared.applied.ChangeKind.{ChangeKind}
 
 no_targets : (s : Schema) (columns : List AstColumn) → HaveNoTargets columns → All (λ (column : ColumnDef). column.target ≡ None) (map (defined_column s) columns)
 no_targets s [] plain = All-nil (λ (column : ColumnDef). column.target ≡ None)
@@ -37,4 +39,11 @@ references_nothing_in s written.Wait table e is shaped = cc
 -- a refused declaration changes nothing, and is told so
 pub follows_refused : (change : TableDef → Change) (name : List ℕ) (old new : KeyedStore) (found : Result TableDef Refusal) (reason : Refusal)
     → found ≡ Err reason → new ≡ old → Follows old new (Ok (Replied (reply.Refused reason))) (declared change name found)
-follows_refused change name old new found reason e same = rw e (refl, ap plain same, tt)
+follows_refused change name old new found reason e same = rw e (refl, refl, ap plain same, tt)
+
+-- a declaration that nothing refuses makes its change, and tells of which kind that is
+pub follows_declared : (kind : ChangeKind) (change : TableDef → Change) (name : List ℕ) (old new : KeyedStore) (found : Result TableDef Refusal)
+    → ((table : TableDef) → kind_of_change (change table) ≡ kind) → IsOkAnd found (λ table. plain new ≡ after_change (plain old) (change table))
+    → Follows old new (Ok (Changed kind (reply.Table name))) (declared change name found)
+follows_declared kind change name old new (Ok table) is tables = (refl, ap Some (sym (is table)), tables, tt)
+follows_declared kind change name old new (Err reason) is tables = absurd tables

@@ -2,6 +2,7 @@
 pub mod Script
 pub mod Effect
 pub mod Outcome
+pub mod Kinds
 pub mod Text
 pub mod Applied
 pub mod Laws

@@ -8,18 +8,20 @@ ghost use Rattle.star_binder.specs.Fault.{is_delete, is_select};
 ghost use Rattle.star_binder.specs.Table.{declared_table, is_declaration};
 ghost use Rattle.star_history.specs.History.{DimensionDeclared, FactDeclared};
 ghost use Rattle.star_history.specs.Keyed.{plain};
+ghost use Rattle.star_store.specs.Loads.{load_change};
 ghost use Rattle.reply_text.specs.declared.reply.Reply.TheVariants as reply;
 ghost use Rattle.star_statement.specs.Applied.{Follows, TellsDone};
-ghost use Rattle.star_statement.specs.Outcome.{block_bytes, declared, meaning_outcome, outcome_of};
+ghost use Rattle.star_statement.specs.Outcome.{block_bytes, committed, declared, meaning_outcome, outcome_of};
 ghost use Rattle.star_statement.specs.Text.{is_dimension};
 ghost use Rattle.star_statement.specs.declared.applied.Applied.TheVariants.{Replied};
 
-use crate::applied::Applied;
+use crate::applied::{Applied, ChangeKind};
 use crate::text::read_text;
 use reply_text::Reply;
 use script_reader::{Block, Statement};
 use star_binder::{BindFault, bind, bind_delete, bind_table};
 use star_parser::Ast;
+use star_schema::find_table;
 use star_store::{Done, Store, StoreFault};
 use star_values::{NoMemory, Refusal, SmallText};
 use std::alloc::Global;
@@ -48,9 +50,7 @@ fn follow(alloc: Global, store: &mut Store, ast: &Ast, block: &Block) -> Result<
     match ast {
         Ast::Dimension { name, .. } => declare_dimension(alloc, store, ast, name),
         Ast::Fact { name, .. } => declare_fact(alloc, store, ast, name),
-        Ast::Load { name, header } => {
-            committed(store.apply_load(name, block_bytes(block), *header))
-        }
+        Ast::Load { name, header } => load(store, name, *header, block_bytes(block)),
         Ast::Delete { .. } => delete(alloc, store, ast),
         Ast::Select { .. } => select(alloc, store, ast),
         Ast::Wait => Ok(Applied::Replied(Reply::Waited)),
@@ -82,7 +82,10 @@ fn declare_dimension(
     let table = bind_table(alloc, ast, store.schema())?;
     let name = name.copy()?;
     match store.declare_dimension(table) {
-        Ok(()) => Ok(Applied::Replied(Reply::Table(name))),
+        Ok(()) => Ok(Applied::Changed {
+            kind: ChangeKind::DeclaresDimension,
+            reply: Reply::Table(name),
+        }),
         Err(StoreFault::Refused(reason)) => Ok(refused(reason)),
         Err(StoreFault::Memory) => Err(NoMemory),
     }
@@ -103,10 +106,33 @@ fn declare_fact(
     let table = bind_table(alloc, ast, store.schema())?;
     let name = name.copy()?;
     match store.declare_fact(table) {
-        Ok(()) => Ok(Applied::Replied(Reply::Table(name))),
+        Ok(()) => Ok(Applied::Changed {
+            kind: ChangeKind::DeclaresFact,
+            reply: Reply::Table(name),
+        }),
         Err(StoreFault::Refused(reason)) => Ok(refused(reason)),
         Err(StoreFault::Memory) => Err(NoMemory),
     }
+}
+
+/// Loads a block into the table of this name.
+fn load(
+    store: &mut Store,
+    name: &SmallText,
+    header: bool,
+    block: &[u8],
+) -> Result<Applied, NoMemory>
+    ensures { Follows store.old store.new result
+        (committed (plain store.old) (load_change (plain store.old) name.now header block.now)) }
+{
+    if store.schema().fact.is_none() {
+        return Ok(refused(Refusal::OutOfOrder));
+    }
+    let Some(table) = find_table(store.schema(), name) else {
+        return Ok(refused(Refusal::UnknownName));
+    };
+    let done = store.apply_load(name, block, header);
+    committed(ChangeKind::Loads(table), done)
 }
 
 /// Ends the versions that a delete selects.
@@ -119,7 +145,7 @@ fn delete(alloc: Global, store: &mut Store, ast: &Ast) -> Result<Applied, NoMemo
         return Ok(refused(Refusal::OutOfOrder));
     }
     match bind_delete(alloc, ast, store.schema()) {
-        Ok(condition) => committed(store.apply_delete(condition.as_ref())),
+        Ok(condition) => committed(ChangeKind::Ends, store.apply_delete(condition.as_ref())),
         Err(BindFault::Refused(reason)) => Ok(refused(reason)),
         Err(BindFault::Memory) => Err(NoMemory),
     }
@@ -151,15 +177,18 @@ fn refused(reason: Refusal) -> Applied
     Applied::Replied(Reply::Refused(reason))
 }
 
-/// The answer to a load or delete that was carried out or refused.
-fn committed(done: Result<Done, StoreFault>) -> Result<Applied, NoMemory>
-    ensures { TellsDone done result }
+/// The answer to a load or delete of this kind that was carried out or refused.
+fn committed(kind: ChangeKind, done: Result<Done, StoreFault>) -> Result<Applied, NoMemory>
+    ensures { TellsDone kind done result }
 {
     match done {
-        Ok(done) => Ok(Applied::Replied(Reply::Commit {
-            number: done.commit,
-            rows: done.rows,
-        })),
+        Ok(done) => Ok(Applied::Changed {
+            kind,
+            reply: Reply::Commit {
+                number: done.commit,
+                rows: done.rows,
+            },
+        }),
         Err(StoreFault::Refused(reason)) => Ok(refused(reason)),
         Err(StoreFault::Memory) => Err(NoMemory),
     }

@@ -7,7 +7,7 @@ mod applying;
 mod laws;
 mod text;
 
-pub use applied::Applied;
+pub use applied::{Applied, ChangeKind};
 pub use applying::apply;
 pub use laws::{
     replies_agree_with_the_tables, replies_follow_from_the_tables,

@@ -1,8 +1,15 @@
-use Rattle.std.proofs.Common.{ap, sym, ◌∙◌}
+use Rattle.std.proofs.Common.{ap, refl, sym, ◌∙◌}
 use Rattle.star_schema.specs.Declaration.{declared_fact}
 use Rattle.star_history.specs.History.{FactDeclared}
-use Rattle.star_statement.proofs.DeclareLemmas.{follows_refused}
+use Rattle.star_statement.proofs.DeclareLemmas.{follows_declared, follows_refused}
+use Rattle.star_statement.specs.declared.applied.ChangeKind.TheVariants.{DeclaresFact}
 use Rattle.star_statement.proofs.applying.declare_fact.Goals as goal
+
+pub returns-in-Ok : goal.returns-in-Ok
+returns-in-Ok c =
+    let table = rw c.schema.ensures.schema at c.in_ok-table.ensures in
+    let declares = rw table at c.in-Ok.ensures.declares in
+    rw c.in_ok-name.ensures (follows_declared DeclaresFact FactDeclared c.args.name.now c.args.store.now c.declare_fact.new.self _ (λ table. refl) declares)
 
 pub returns-in-Err-Refused : goal.returns-in-Err-Refused
 returns-in-Err-Refused c =

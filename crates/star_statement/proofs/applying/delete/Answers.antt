@@ -4,7 +4,8 @@ use Rattle.star_plan.specs.Test.{test_of}
 use Rattle.star_history.specs.Keyed.{plain}
 use Rattle.star_store.specs.Deletes.{delete_change}
 use Rattle.star_store.specs.Done.{Commits}
-use Rattle.star_statement.proofs.ApplyLemmas.{delete_bound, follows_committed, tests_lent}
+use Rattle.star_statement.proofs.ApplyLemmas.{delete_bound, delete_kind, follows_committed, tests_lent}
+use Rattle.star_statement.specs.declared.applied.ChangeKind.TheVariants.{Ends}
 use Rattle.star_statement.proofs.applying.delete.Goals as goal
 
 pub returns-in-Ok : goal.returns-in-Ok
@@ -16,5 +17,5 @@ returns-in-Ok c = λ block.
     let commits = subst (λ condition. Commits (delete_change (plain store) condition) store c.apply_delete.new.self c.apply_delete.result) same
     c.apply_delete.ensures.commits in
     let is = delete_bound (plain store) block (statement_of c.args.ast.now) c.in-Ok.condition c.requires there binds in
-    rw is (follows_committed store c.apply_delete.new.self (delete_change (plain store) (option_map test_of c.in-Ok.condition)) c.apply_delete.result c.committed.result
-    commits c.committed.ensures)
+    rw is (follows_committed Ends store c.apply_delete.new.self (delete_change (plain store) (option_map test_of c.in-Ok.condition)) c.apply_delete.result
+    c.committed.result (delete_kind (plain store) (option_map test_of c.in-Ok.condition)) commits c.committed.ensures)
