@@ -14,7 +14,8 @@ use Rattle.star_history.specs.Settled.{IsDated, IsSettled}
 use Rattle.star_history.specs.Store.{PlainVersion, Store, rows_in}
 use Rattle.star_history.proofs.LaterLemmas.{rows_in_declared, undeclared}
 use Rattle.star_history.proofs.LoadedLemmas.{in_grown, loaded_in}
-use Rattle.core_state.specs.Logged.{EndsAscending, change_told, changes_told, facts_loaded_by, kind_of_change, no_table, positions_ended_by, rows_loaded_by}
+use Rattle.star_statement.specs.Kinds.{kind_of_change}
+use Rattle.core_state.specs.Logged.{EndsAscending, change_told, changes_told, facts_loaded_by, no_table, positions_ended_by, rows_loaded_by}
 use Rattle.core_state.proofs.LoggedPlaceLemmas.{positions-new, positions-other-ends, positions-other-rows}
 use Rattle.core_state.proofs.LoggedRowsLemmas.{facts-later, facts-new, facts-with-ends, rows-later, rows-new}
 

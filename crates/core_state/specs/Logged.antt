@@ -3,27 +3,13 @@ use Rattle.std.specs.Prelude.{ℕ, ◌+◌, ◌<◌, ◌==◌, false, List, [], 
 use Rattle.std.specs.List.{range_with_len}
 use Rattle.std.specs.Option.{option_map_or}
 use Rattle.star_values.specs.declared.value.Value as cell
-use Rattle.star_plan.specs.declared.table.Table.{Table}
 use Rattle.star_plan.specs.declared.table.Table.TheVariants.{Fact, Dimension}
 use Rattle.star_plan.specs.declared.table_def.TableDef.{TableDef}
 use Rattle.dimension_rows.specs.declared.dimension_row.DimensionRow.{DimensionRow}
 use Rattle.star_history.specs.History.{Change, DimensionDeclared, FactDeclared, Loaded, Ended}
 use Rattle.star_history.specs.Store.{PlainVersion, Store, rows_in}
-
--- which kind of change: the next dimension was declared, the fact table was declared, rows were loaded into a table, or
--- versions were ended
-pub data ChangeKind : Type 0 where
-  OfDimension : ChangeKind
-  OfFact : ChangeKind
-  OfRows : Table → ChangeKind
-  OfEnds : ChangeKind
-
--- the kind of a change
-abbrev pub kind_of_change : Change → ChangeKind
-kind_of_change (DimensionDeclared table) = OfDimension
-kind_of_change (FactDeclared table) = OfFact
-kind_of_change (Loaded table rows) = OfRows table
-kind_of_change (Ended positions) = OfEnds
+use Rattle.star_statement.specs.declared.applied.ChangeKind.{ChangeKind}
+use Rattle.star_statement.specs.declared.applied.ChangeKind.TheVariants.{DeclaresDimension, DeclaresFact, Loads, Ends}
 
 -- a table without a name and columns, where none was declared
 abbrev pub no_table : TableDef
@@ -46,25 +32,25 @@ positions_ended_by commit versions =
 -- the change of a kind that the tables tell: where it is a declaration of a dimension, that of the dimension of this
 -- number, and where it is a commit, the one of this number
 abbrev pub change_told : Store → (dimension commit : ℕ) → ChangeKind → Change
-change_told store dimension commit OfDimension = DimensionDeclared (slice_index_or store.schema.dimensions dimension no_table)
-change_told store dimension commit OfFact = FactDeclared (option_map_or (λ table. table) store.schema.fact no_table)
-change_told store dimension commit (OfRows Fact) = Loaded Fact (facts_loaded_by commit store.versions)
-change_told store dimension commit (OfRows (Dimension number)) =
+change_told store dimension commit DeclaresDimension = DimensionDeclared (slice_index_or store.schema.dimensions dimension no_table)
+change_told store dimension commit DeclaresFact = FactDeclared (option_map_or (λ table. table) store.schema.fact no_table)
+change_told store dimension commit (Loads Fact) = Loaded Fact (facts_loaded_by commit store.versions)
+change_told store dimension commit (Loads (Dimension number)) =
     Loaded (Dimension number) (rows_loaded_by commit (rows_in store.dimensions number))
-change_told store dimension commit OfEnds = Ended (positions_ended_by commit store.versions)
+change_told store dimension commit Ends = Ended (positions_ended_by commit store.versions)
 
 -- the changes of these kinds that the tables tell, in their order, from the dimension and the commit of these numbers on:
 -- each declaration of a dimension is the next dimension, and each load and each delete the next commit
 abbrev pub changes_told : Store → (dimension commit : ℕ) → List ChangeKind → List Change
 changes_told store dimension commit [] = []
-changes_told store dimension commit (OfDimension ∷ kinds) =
-    change_told store dimension commit OfDimension ∷ changes_told store (dimension + 1) commit kinds
-changes_told store dimension commit (OfFact ∷ kinds) =
-    change_told store dimension commit OfFact ∷ changes_told store dimension commit kinds
-changes_told store dimension commit (OfRows table ∷ kinds) =
-    change_told store dimension commit (OfRows table) ∷ changes_told store dimension (commit + 1) kinds
-changes_told store dimension commit (OfEnds ∷ kinds) =
-    change_told store dimension commit OfEnds ∷ changes_told store dimension (commit + 1) kinds
+changes_told store dimension commit (DeclaresDimension ∷ kinds) =
+    change_told store dimension commit DeclaresDimension ∷ changes_told store (dimension + 1) commit kinds
+changes_told store dimension commit (DeclaresFact ∷ kinds) =
+    change_told store dimension commit DeclaresFact ∷ changes_told store dimension commit kinds
+changes_told store dimension commit (Loads table ∷ kinds) =
+    change_told store dimension commit (Loads table) ∷ changes_told store dimension (commit + 1) kinds
+changes_told store dimension commit (Ends ∷ kinds) =
+    change_told store dimension commit Ends ∷ changes_told store dimension (commit + 1) kinds
 
 -- the positions of a delete are ascending
 abbrev pub EndsAscending : Change → Type 0
