@@ -27,7 +27,7 @@ pub(crate) fn reply_to(
     ensures tables { OnOk result (plain store.new ≡ store_after (plain store.old) statement.now) }
 {
     match apply(alloc, store, statement)? {
-        Applied::Replied(reply) => Ok(reply),
+        Applied::Replied(reply) | Applied::Changed { reply, .. } => Ok(reply),
         Applied::Accepted { query, snapshot } => reply_to_query(alloc, store, &query, snapshot),
     }
 }
