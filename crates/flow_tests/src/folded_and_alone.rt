@@ -49,7 +49,7 @@ fn told(
 {
     let statement = statement(alloc, line, block)?;
     match apply(alloc, store, &statement)? {
-        Applied::Replied(_) => Ok(None),
+        Applied::Replied(_) | Applied::Changed { .. } => Ok(None),
         Applied::Accepted { query, snapshot } => Ok(Some((query, snapshot))),
     }
 }
