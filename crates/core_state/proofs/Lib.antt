@@ -1,6 +1,5 @@
 pub mod FrameLemmas
 pub mod MovedLemmas
-pub mod OrderLemmas
 pub mod FoundLemmas
 pub mod HeldLemmas
 pub mod WrittenLemmas

@@ -8,7 +8,7 @@ use Rattle.core_state.specs.State.{Filters, State}
 use Rattle.core_state.proofs.FrameLemmas.{entry-moved}
 use Rattle.core_state.proofs.HeldLemmas.{filters-held, queries-stay}
 use Rattle.core_state.proofs.MovedLemmas.{Holds, held_now, sound-held}
-use Rattle.core_state.proofs.OrderLemmas.{order_by-permutes}
+use Rattle.core_parts.proofs.OrderLemmas.{order_by-permutes}
 
 -- who is on a roster stays there where the lives and slots stay
 pub rosters-stay : (state : State) (filters : Filters) (version : ℕ) → AreSoundBatches state

@@ -9,6 +9,8 @@ use Rattle.pipeline_manager.specs.declared.life.SlotState.{SlotState}
 use Rattle.pipeline_manager.specs.declared.life.SlotState.TheVariants.{Free, Held, Clearing}
 use Rattle.pipeline_manager.specs.Lives.{Lives, extent_in, life_of, slot_at}
 use Rattle.core_state.specs.State.{Accepted, FilterVersion, Filters, Flight, OnRoster, State}
+pub use Rattle.core_parts.specs.Filtered.{version_at}
+pub use Rattle.core_parts.specs.Held.{holder_of}
 
 -- the accepted query of a number
 abbrev pub accepted_at : List Accepted → (number : ℕ) → Option Accepted
@@ -25,10 +27,6 @@ is_held_by worker flight = option_map_or (λ hand. hand.worker == worker) flight
 -- the batch in the hand of a worker
 abbrev pub held_by : List Flight → (worker : ℕ) → Option Flight
 held_by flights worker = find (is_held_by worker) flights
-
--- the present version of the filter of a dimension
-abbrev pub version_at : List FilterVersion → (dimension : ℕ) → Option FilterVersion
-version_at versions dimension = find (λ version. version.filter.dimension == dimension) versions
 
 -- whether a batch passed the filter of a dimension
 abbrev pub has_passed : Flight → (dimension : ℕ) → Bool
@@ -50,12 +48,6 @@ has_passed_all filters flight = list_all (has_passed flight) filters.order
 -- whether a slot is in the roster of a batch
 abbrev pub is_on_roster : (slot : ℕ) → Flight → Bool
 is_on_roster slot flight = list_any (λ entry. entry.slot == slot) flight.roster
-
--- the query that holds a slot
-abbrev pub holder_of : SlotState → Option ℕ
-holder_of Free = None
-holder_of (Held query built) = Some query
-holder_of (Clearing left) = None
 
 -- where the lap of a running query began
 abbrev pub start_in : Life → Option ℕ

@@ -13,6 +13,7 @@ use Rattle.core_state.specs.declared.event.Event.TheVariants.{Submit, Reserve, B
 use Rattle.core_state.specs.Found.{holder_of, running_at}
 use Rattle.core_state.specs.State.{OnRoster, State}
 use Rattle.core_state.specs.Tables.{tables_of}
+pub use Rattle.core_parts.specs.Held.{stopped_for}
 
 -- a query that runs in a slot, as the scan has it and as the core has it, with its life
 pub record IsSameRun (now : Option Life) (entry : OnRoster) (running : Running) : Type 0 where
@@ -63,7 +64,3 @@ LeavesScan (Clear slot dimension) = Unit {0}
 LeavesScan (Release slot) = Unit {0}
 LeavesScan Reorder = Unit {0}
 LeavesScan (Abandon query) = ⊥
-
--- a scan that stops what runs for a query, where the query holds a slot
-abbrev pub stopped_for : Lives → (query : ℕ) → Scanning → Scanning
-stopped_for lives query scan = option_map_or (λ slot. after_stop slot scan) (slot_of lives query) scan

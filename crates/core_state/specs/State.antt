@@ -10,32 +10,16 @@ use Rattle.dimension_filter.specs.Filter.{Filter}
 use Rattle.aggregations.specs.Grouped.{Grouped}
 use Rattle.core_state.specs.declared.settings.RunSettings.{RunSettings}
 
+-- the parts, which are defined where their code is
+pub use Rattle.core_parts.specs.Seated.{Asked, Awaited, Pending, Replied, Seat, Taken}
+pub use Rattle.core_parts.specs.Filtered.{Filters, FilterVersion}
+pub use Rattle.core_parts.specs.InFlight.{Flight, Hand, OnRoster}
+
 -- an entry of the history: the seat and the number of the statement that made a change
 pub record Entry : Type 0 where
   pub seat : ℕ
   pub statement : ℕ
   pub change : Change
-
--- what a seat waits for: the reply to a statement, or the answer of a query at its snapshot
-pub data Awaited : Type 0 where
-  Replied : Reply → Awaited
-  Asked : Query → (snapshot : ℕ) → Awaited
-
--- a statement whose reply was not taken, and was not abandoned
-pub record Pending : Type 0 where
-  pub statement : ℕ
-  pub awaited : Awaited
-
--- a statement whose reply was taken; a query with its snapshot
-pub record Taken : Type 0 where
-  pub statement : ℕ
-  pub query : Option (Query × ℕ)
-
--- what a seat submitted, what it waits for, and what it took, each in the order of its statements
-pub record Seat : Type 0 where
-  pub submitted : List ℕ
-  pub pending : List Pending
-  pub taken : List Taken
 
 -- an accepted query: its number, which is that of its statement, its seat, the query, its snapshot, and what is kept of
 -- its rows, as long as they may still be asked for
@@ -45,36 +29,6 @@ pub record Accepted : Type 0 where
   pub query : Query
   pub snapshot : ℕ
   pub groups : Option Grouped
-
--- a version of the filter of a dimension
-pub record FilterVersion : Type 0 where
-  pub number : ℕ
-  pub filter : Filter
-
--- the filters by their dimensions, ascending, the tallies of their probes and drops, and the order in which rows meet them
-pub record Filters : Type 0 where
-  pub versions : List FilterVersion
-  pub tallies : List Tally
-  pub order : List ℕ
-
--- a slot in the roster of a batch, with the query that held it as the batch was cut
-pub record OnRoster : Type 0 where
-  pub slot : ℕ
-  pub number : ℕ
-  pub query : Query
-  pub snapshot : ℕ
-  pub extent : ℕ
-
--- a worker's hand: the version of a filter that its batch is to pass
-pub record Hand : Type 0 where
-  pub worker : ℕ
-  pub version : FilterVersion
-
--- a batch that was cut and not yet distributed: idle, or in a hand
-pub record Flight : Type 0 where
-  pub rows : Rows
-  pub roster : List OnRoster
-  pub hand : Option Hand
 
 -- where the scan stands, the batches in flight in the order in which they were cut, how many frames are free for more,
 -- and how many positions were cut in all

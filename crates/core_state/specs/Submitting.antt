@@ -18,15 +18,13 @@ use Rattle.core_state.specs.Found.{accepted_at}
 use Rattle.core_state.specs.Numbered.{counted}
 use Rattle.core_state.specs.State.{Accepted, Asked, Awaited, FilterVersion, Pending, Replied, Seat, State, Taken}
 use Rattle.core_state.specs.Tables.{filter_dimensions, tables_of, versions_in}
+pub use Rattle.core_parts.specs.Seated.{asked_by, empty_seat, taken_by, with_taken, without_pending}
+pub use Rattle.core_parts.specs.Filtered.{first_version, first_versions}
 
 -- what a seat waits for, where this is told of its statement
 abbrev pub awaited_by : Told → Awaited
 awaited_by (outcome.Replied reply) = Replied reply
 awaited_by (outcome.Accepted query snapshot) = Asked query snapshot
-
--- a seat that did nothing
-abbrev pub empty_seat : Seat
-empty_seat = record { submitted = []; pending = []; taken = [] }
 
 -- a seat with a statement more
 abbrev pub with_statement : (statement : ℕ) → Told → Seat → Seat
@@ -39,16 +37,6 @@ with_statement statement told seat = record seat {
 abbrev pub with_seat : (seat : ℕ) → (Seat → Seat) → State → State
 with_seat seat change state =
     record state { seats = slice_set state.seats seat (change (slice_index_or state.seats seat empty_seat)) }
-
--- the first version of the filter of a dimension
-abbrev pub first_version : (dimension number : ℕ) → FilterVersion
-first_version dimension number =
-    record { number = number; filter = record { dimension = dimension; complement = 0; stored = [] } }
-
--- filters of these dimensions, of which no row was asked: their versions have the numbers from one on
-abbrev pub first_versions : (dimensions : List ℕ) → (number : ℕ) → List FilterVersion
-first_versions [] number = []
-first_versions (dimension ∷ dimensions) number = first_version dimension number ∷ first_versions dimensions (number + 1)
 
 -- the core with a filter for each of these dimensions, in the order of their numbers
 abbrev pub with_filters : (dimensions : List ℕ) → State → State
@@ -112,11 +100,6 @@ after_submitting seat statement state = after_outcome seat (outcome_of (tables_o
 abbrev pub forgotten : (query : ℕ) → Accepted → Accepted
 forgotten query accepted = if accepted.number == query then record accepted { groups = None } else accepted
 
--- a seat without a statement that it waits for
-abbrev pub without_pending : (statement : ℕ) → Seat → Seat
-without_pending statement seat =
-    record seat { pending = filter (λ pending. not (pending.statement == statement)) seat.pending }
-
 -- `abandon`: nobody waits for the query, and nothing is kept of its rows
 abbrev pub after_abandoning : (query : ℕ) → State → State
 after_abandoning query state = option_map_or
@@ -158,22 +141,6 @@ seat_at state seat = slice_index_or state.seats seat empty_seat
 abbrev pub next_ready : State → (seat : ℕ) → Option Ready
 next_ready state seat =
     option_and_then (λ pending. ready_to state pending.statement pending.awaited) (slice_get (seat_at state seat).pending 0)
-
--- the query of a statement with its snapshot, where it is one
-abbrev pub asked_by : Awaited → Option (Query × ℕ)
-asked_by (Replied reply) = None
-asked_by (Asked query snapshot) = Some (query, snapshot)
-
--- a statement whose reply is taken
-abbrev pub taken_by : Pending → Taken
-taken_by pending = record { statement = pending.statement; query = asked_by pending.awaited }
-
--- a seat that has taken the reply to the first statement that it waits for
-abbrev pub with_taken : Seat → Seat
-with_taken seat = record seat {
-  pending = drop 1 seat.pending;
-  taken = seat.taken ++ map taken_by (take 1 seat.pending);
-}
 
 -- nothing is kept any more of the queries of these statements
 abbrev pub without_groups : List Pending → List Accepted → List Accepted

@@ -10,6 +10,7 @@ use Rattle.star_history.specs.History.{Change, store_of}
 use Rattle.star_history.specs.Keyed.{number_by_key}
 use Rattle.star_history.specs.Store.{Store}
 use Rattle.core_state.specs.State.{Entry, State}
+pub use Rattle.core_parts.specs.Filtered.{filter_dimensions}
 
 -- the changes of entries, in their order
 abbrev pub changes_of : List Entry → List Change
@@ -34,8 +35,3 @@ key_number store = number_by_key store.schema store.dimensions
 -- the key numbers of a fact row, one for each dimension that there may be
 abbrev pub key_numbers : Store → List cell.Value → List ℕ
 key_numbers store row = map (key_number store row) (range_with_len 0 KEYS_IN_A_ROW)
-
--- the dimensions that the fact table references, ascending: each has a filter
-abbrev pub filter_dimensions : Schema → List ℕ
-filter_dimensions schema =
-    filter (λ dimension. list_any (references dimension) (fact_columns schema)) (range_with_len 0 (length schema.dimensions))

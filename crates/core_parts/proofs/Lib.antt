@@ -1,0 +1,10 @@
+pub mod AskedLemmas
+pub mod FilterOrderLemmas
+pub mod FilterPlaceLemmas
+pub mod FirstFilterLemmas
+pub mod FlightLemmas
+pub mod NumberLemmas
+pub mod OrderLemmas
+pub mod PlaceLemmas
+pub mod SeatLemmas
+pub mod TurnLemmas

@@ -1,0 +1,11 @@
+-- The parts of a core: what they are to the core, and how code holds them.
+pub mod Filtered
+pub mod InFlight
+pub mod Seated
+pub mod Held
+pub mod Numbered
+pub mod Known
+pub mod Asked
+pub mod Seats
+pub mod Flights
+pub mod Filters

@@ -1,0 +1,263 @@
+//! A seat of the core in code. What becomes of one statement is in `submitted`.
+ghost use Rattle.std.specs.Prelude.{◌≡◌, ℕ, ◌<◌, ◌≤◌, ◌++◌, ◌∷◌, [], List, length, map, find, option_map, option_and_then, slice_get, slice_set, slice_index_or, AllPairs, IsSome, IfSome, IfNone, OnOk, true, false};
+ghost use Rattle.std.specs.Option.{option_map_or};
+ghost use Rattle.std.specs.List.Sorted.{IsPartitionPoint};
+ghost use Rattle.pipeline_manager.specs.Conditions.{is_open};
+ghost use Rattle.pipeline_manager.specs.Lives.{life_of};
+ghost use Rattle.core_parts.specs.Seated.{with_taken, without_pending};
+ghost use Rattle.core_parts.specs.Known.{Known};
+ghost use Rattle.core_parts.specs.Seats.{seat_as, pending_as, is_waited, when_taken, standing_as, is_waited_as, NoneIsWaitedAs, IsWaitedAt, AreInTurn, is_open_in};
+ghost use Rattle.core_parts.specs.declared.submitted.Submitted.{Submitted};
+ghost use Rattle.core_parts.specs.declared.submitted.Standing.TheVariants.{IsAbandoned};
+
+use crate::submitted::{Standing, Submitted};
+use pipeline_manager::{Life, Manager};
+use star_lists::ListWithRoom;
+use star_values::NoMemory;
+use std::alloc::Global;
+use std::marker::Model;
+use std::mem;
+
+/// The statements that a seat submitted, in their order. Replies are taken in that order.
+#[derive(Debug, Drop)]
+pub struct Seat {
+    statements: ListWithRoom<Submitted>,
+
+    /// How many statements at the front are known not to be waited for. It only grows, and with each
+    /// reply it comes to the next statement that is waited for, so no search begins at the front.
+    next: usize,
+}
+
+impl Model for Seat {
+    ghost use Rattle.star_lists.specs.Roomy.{Roomy};
+    ghost use Rattle.core_parts.specs.declared.submitted.Submitted.{Submitted};
+    ghost use Rattle.core_parts.specs.Seats.{AreInTurn};
+
+    ghost Value = { Roomy Submitted };
+
+    ghost view = { λ seat. seat.statements };
+
+    ghost invariant = { λ seat. AreInTurn seat.next seat.statements.items };
+}
+
+impl Seat {
+    pub fn new(alloc: Global) -> Seat
+        ensures { result.items ≡ [] }
+    {
+        Seat {
+            statements: ListWithRoom::new(alloc),
+            next: 0,
+        }
+    }
+
+    pub fn statements(&self) -> &[Submitted]
+        ensures { result.now ≡ self.now.items }
+    {
+        self.statements.as_slice()
+    }
+
+    /// Makes room for one statement more.
+    pub fn reserve(&mut self) -> Result<(), NoMemory>
+        ensures items { self.new.items ≡ self.old.items }
+        ensures room { OnOk result (0 < self.new.room) }
+    {
+        self.statements.reserve(1)
+    }
+
+    /// Puts a statement behind the others, into room that was reserved. It is waited for.
+    pub fn submit(&mut self, number: u64, standing: Standing)
+        requires room { 0 < self.old.room }
+        requires waited { is_waited standing ≡ true }
+        ensures { self.new.items ≡ self.old.items ++ record { number = number; standing = standing } ∷ [] }
+    {
+        self.statements
+            .push_reserved(Submitted { number, standing });
+    }
+
+    /// The first statement that is waited for, if any is.
+    pub fn first(&self) -> Option<&Submitted>
+        ensures first { option_map (λ submitted. submitted.now) result ≡ find (λ submitted. is_waited submitted.standing) self.now.items }
+        ensures pending { (known : List Known) → option_and_then (pending_as known) (option_map (λ submitted. submitted.now) result)
+            ≡ slice_get (seat_as known self.now.items).pending 0 }
+    {
+        first_in(self.statements.as_slice(), self.next)
+    }
+
+    /// Takes the reply to the first statement that is waited for, and gives how that statement stood.
+    pub fn take(&mut self) -> Standing
+        requires { IsSome (find (λ submitted. is_waited submitted.standing) self.old.items) }
+        ensures first { IfSome (find (λ submitted. is_waited submitted.standing) self.old.items)
+            (λ submitted. submitted.standing ≡ result) }
+        ensures taken { (known : List Known) → seat_as known self.new.items ≡ with_taken (seat_as known self.old.items) }
+        ensures numbers { map (λ submitted. submitted.number) self.new.items ≡ map (λ submitted. submitted.number) self.old.items }
+    {
+        let place = first_waited(self.statements.as_slice(), self.next);
+        let standing = take_at(&mut self.statements, place);
+        self.next = first_waited(self.statements.as_slice(), place + 1);
+        standing
+    }
+
+    /// Gives up the statement of this number, if it is waited for: nobody waits for it any more.
+    pub fn abandon(&mut self, number: u64)
+        requires rising { AllPairs (λ statement later. statement < later) (map (λ submitted. submitted.number) self.old.items) }
+        ensures abandoned { (known : List Known) → seat_as known self.new.items ≡ without_pending number (seat_as known self.old.items) }
+        ensures numbers { map (λ submitted. submitted.number) self.new.items ≡ map (λ submitted. submitted.number) self.old.items }
+    {
+        abandon_in(&mut self.statements, number);
+        self.next = first_waited(self.statements.as_slice(), self.next);
+    }
+
+    /// The number of the first statement that is waited for and is a query that may still be answered.
+    pub fn first_open(&self, manager: &Manager) -> Option<u64>
+        ensures { (known : List Known) → result ≡ option_map (λ pending. pending.statement)
+            (find (λ pending. option_map_or is_open (life_of manager.now pending.statement) false) (seat_as known self.now.items).pending) }
+    {
+        first_open_in(self.statements.as_slice(), self.next, manager)
+    }
+}
+
+/// The place of the first statement that is waited for, or how many statements there are. None in
+/// front of `from` is.
+fn first_waited(statements: &[Submitted], from: usize) -> usize
+    requires { AreInTurn from statements.now }
+    ensures turn { AreInTurn result statements.now }
+    ensures waited { slice_get statements.now result ≡ find (λ submitted. is_waited submitted.standing) statements.now }
+{
+    for place in from..statements.len() {
+        if is_waited(&statements[place].standing) {
+            return place;
+        }
+    }
+    statements.len()
+}
+
+fn is_waited(standing: &Standing) -> bool
+    ensures { result ≡ is_waited standing.now }
+{
+    matches!(standing, Standing::Waits(_) | Standing::IsAsked)
+}
+
+/// How a statement stands whose reply is taken.
+fn when_taken(standing: &Standing) -> Standing
+    ensures { result ≡ when_taken standing.now }
+{
+    match standing {
+        Standing::Waits(_) => Standing::IsTaken,
+        Standing::IsAsked => Standing::IsAnswered,
+        Standing::IsTaken => Standing::IsTaken,
+        Standing::IsAnswered => Standing::IsAnswered,
+        Standing::IsAbandoned => Standing::IsAbandoned,
+    }
+}
+
+/// The first statement that is waited for, if any is. None in front of `from` is.
+fn first_in(statements: &[Submitted], from: usize) -> Option<&Submitted>
+    requires { AreInTurn from statements.now }
+    ensures { option_map (λ submitted. submitted.now) result ≡ find (λ submitted. is_waited submitted.standing) statements.now }
+{
+    statements.get(first_waited(statements, from))
+}
+
+/// Writes how the statement at a place stands, and gives how it stood.
+fn replace_standing(
+    statements: &mut ListWithRoom<Submitted>,
+    place: usize,
+    standing: Standing,
+) -> Standing
+    requires { place < length statements.old.items }
+    ensures before { (d : Submitted) → result ≡ (slice_index_or statements.old.items place d).standing }
+    ensures after { (d : Submitted) → statements.new.items
+        ≡ slice_set statements.old.items place (standing_as standing (slice_index_or statements.old.items place d)) }
+{
+    mem::replace(&mut statements.as_mut_slice()[place].standing, standing)
+}
+
+/// Takes the reply to the statement at a place, and gives how the statement stood.
+fn take_at(statements: &mut ListWithRoom<Submitted>, place: usize) -> Standing
+    requires { place < length statements.old.items }
+    ensures before { (d : Submitted) → result ≡ (slice_index_or statements.old.items place d).standing }
+    ensures after { (d : Submitted) → statements.new.items ≡ slice_set statements.old.items place
+        (standing_as (when_taken (slice_index_or statements.old.items place d).standing) (slice_index_or statements.old.items place d)) }
+{
+    let standing = when_taken(&statements.as_slice()[place].standing);
+    replace_standing(statements, place, standing)
+}
+
+/// Gives up the statement of this number, if it is waited for.
+fn abandon_in(statements: &mut ListWithRoom<Submitted>, number: u64)
+    requires { AllPairs (λ statement later. statement < later) (map (λ submitted. submitted.number) statements.old.items) }
+    ensures seat { (known : List Known) → seat_as known statements.new.items ≡ without_pending number (seat_as known statements.old.items) }
+    ensures numbers { map (λ submitted. submitted.number) statements.new.items ≡ map (λ submitted. submitted.number) statements.old.items }
+    ensures turn { (next : ℕ) → AreInTurn next statements.old.items → AreInTurn next statements.new.items }
+{
+    if let Some(place) = waited_place(statements.as_slice(), number) {
+        replace_standing(statements, place, Standing::IsAbandoned);
+    }
+}
+
+/// The place of the statement of this number, if it is waited for.
+fn waited_place(statements: &[Submitted], number: u64) -> Option<usize>
+    requires { AllPairs (λ statement later. statement < later) (map (λ submitted. submitted.number) statements.now) }
+    ensures none { IfNone result (NoneIsWaitedAs number statements.now) }
+    ensures there { IfSome result (λ place. IsWaitedAt number place statements.now) }
+{
+    let place = first_from(statements, number);
+    if is_waited_at(statements, place, number) {
+        Some(place)
+    } else {
+        None
+    }
+}
+
+/// The place of the first statement with this number or a greater one.
+fn first_from(statements: &[Submitted], number: u64) -> usize
+    requires { AllPairs (λ statement later. statement < later) (map (λ submitted. submitted.number) statements.now) }
+    ensures { IsPartitionPoint (λ submitted. submitted.number < number) (λ submitted. number ≤ submitted.number) statements.now result }
+{
+    statements.partition_point(|submitted| submitted.number < number)
+}
+
+/// Whether the statement at a place has this number and is waited for.
+fn is_waited_at(statements: &[Submitted], place: usize, number: u64) -> bool
+    ensures { result ≡ option_map_or (is_waited_as number) (slice_get statements.now place) false }
+{
+    match statements.get(place) {
+        None => false,
+        Some(submitted) => submitted.number == number && is_waited(&submitted.standing),
+    }
+}
+
+/// The number of the first statement that is waited for and is a query that may still be answered.
+/// None in front of `from` is waited for.
+fn first_open_in(statements: &[Submitted], from: usize, manager: &Manager) -> Option<u64>
+    requires { AreInTurn from statements.now }
+    ensures { result ≡ option_map (λ submitted. submitted.number) (find (is_open_in manager.now) statements.now) }
+{
+    for place in from..statements.len() {
+        let submitted = &statements[place];
+        if is_open(submitted, manager) {
+            return Some(submitted.number);
+        }
+    }
+    None
+}
+
+/// Whether a statement is waited for and is a query that may still be answered.
+fn is_open(submitted: &Submitted, manager: &Manager) -> bool
+    ensures { result ≡ is_open_in manager.now submitted.now }
+{
+    is_waited(&submitted.standing) && may_be_answered(submitted.number, manager)
+}
+
+/// Whether a statement is a query that may still be answered.
+pub fn may_be_answered(number: u64, manager: &Manager) -> bool
+    ensures { result ≡ option_map_or is_open (life_of manager.now number) false }
+{
+    match manager.life(number) {
+        None => false,
+        Some(life) => matches!(
+            life,
+            Life::Waiting | Life::Building | Life::Running { .. } | Life::Ending
+        ),
+    }
+}
