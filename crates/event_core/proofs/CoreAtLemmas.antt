@@ -1,0 +1,52 @@
+-- Parts whose state is known are those of a core where they fit that state.
+use Rattle.std.specs.Prelude.{◌≡◌, All, None, IsSome}
+use Rattle.std.proofs.Common.{sym, subst}
+use Rattle.core_state.specs.Cutting.{frame_words}
+use Rattle.core_state.specs.Handed.{attached_to}
+use Rattle.core_state.specs.Logged.{EndsAscending}
+use Rattle.core_state.specs.Scanned.{AreTablesOf, IsScannedAs}
+use Rattle.core_state.specs.Settings.{frames_of}
+use Rattle.core_state.specs.Sound.{IsSound}
+use Rattle.core_state.specs.State.{State}
+use Rattle.core_state.specs.Steps.{MayStep, Step, after_step}
+use Rattle.core_state.specs.Tables.{changes_of, tables_of}
+use Rattle.event_core.specs.Core.{Becomes, IsCore}
+use Rattle.event_core.specs.Parts.{Parts}
+use Rattle.event_core.specs.Seen.{attached_for, state_of}
+
+-- each step keeps a core sound
+abbrev pub KeepSound : Type 0
+KeepSound = (step : Step) (state : State) → MayStep state step → IsSound state → IsSound (after_step step state)
+
+-- parts that fit a state
+pub record AreOf (parts : Parts) (state : State) : Type 0 where
+  pub sound : IsSound state
+  pub tables : AreTablesOf state parts.tables
+  pub ends : All EndsAscending (changes_of state.entries)
+  pub scanned : IsScannedAs state parts.scan
+  pub attached : parts.attached ≡ attached_to state
+  pub beside : All (λ asked. IsSome (attached_for parts.lives parts.attached asked.number) → asked.kept ≡ None) parts.asked
+  pub frames : parts.pool.made ≡ frames_of parts.settings
+  pub words : parts.pool.words ≡ frame_words state
+  pub unnumbered : (tables_of state).schema.fact ≡ None → parts.numbers.version ≡ 0
+
+-- parts that fit the state that they stand for
+core-of : (parts : Parts) → AreOf parts (state_of parts) → IsCore parts
+core-of parts are = record {
+  sound = are.sound;
+  tables = are.tables;
+  ends = are.ends;
+  scanned = are.scanned;
+  attached = are.attached;
+  beside = are.beside;
+  frames = are.frames;
+  words = are.words;
+  unnumbered = are.unnumbered;
+}
+
+-- parts that stand for a state and fit it
+pub becomes-of : (parts : Parts) (after : State) → state_of parts ≡ after → AreOf parts after → Becomes parts after
+becomes-of parts after same are = record {
+  state = same;
+  core = core-of parts (subst (AreOf parts) (sym same) are);
+}

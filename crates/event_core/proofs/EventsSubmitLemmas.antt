@@ -1,0 +1,387 @@
+-- What the code makes of a statement that is submitted is what the law says.
+use Rattle.std.proofs.Common.{◌≡◌, ℕ, ◌+◌, ◌<◌, List, [], ◌∷◌, ◌++◌, length, map, get_or, set, Option, Some, None, option_map, Ok, refl, ap, sym, ◌∙◌, subst, arith}
+use Rattle.std.specs.Prelude.{All, fold}
+use Rattle.std.specs.List.{refill}
+use Rattle.std.specs.Option.{option_map_or}
+use Rattle.std.proofs.Math.Seq.{map-set_same}
+use Rattle.std.proofs.lemmas.List.{get_or-map, length-map, length-set, map-set}
+use Rattle.bit_words.specs.Sets.{with_number}
+use Rattle.star_lists.specs.Roomy.{Roomy}
+use Rattle.script_reader.specs.declared.statement.Statement.{Statement}
+use Rattle.star_plan.specs.Test.{query_of}
+use Rattle.star_plan.specs.declared.schema.Schema.{Schema}
+use Rattle.star_plan.specs.declared.star_query.StarQuery.{StarQuery}
+use Rattle.star_history.specs.History.{Change, after_change}
+use Rattle.star_history.specs.Keyed.{IsKeyed, KeyedStore, plain}
+use Rattle.star_history.specs.Store.{Store}
+use Rattle.star_statement.specs.Applied.{Follows}
+use Rattle.star_statement.specs.Kinds.{kind_of_change}
+use Rattle.star_statement.specs.Outcome as outcome
+use Rattle.star_statement.specs.Outcome.{Outcome, Told, outcome_of}
+use Rattle.star_statement.specs.declared.applied.Applied.TheVariants.{Replied, Changed, Accepted}
+use Rattle.star_statement.specs.declared.applied.ChangeKind.{ChangeKind}
+use Rattle.reply_text.specs.declared.reply.Reply.{Reply}
+use Rattle.pipeline_manager.specs.Changes.{after_submit}
+use Rattle.pipeline_manager.specs.Lives.{Lives}
+use Rattle.aggregations.specs.Grouped.{grouped_of}
+use Rattle.core_state.specs.Handed.{attached_to}
+use Rattle.core_state.specs.Logged.{EndsAscending}
+use Rattle.core_state.specs.Scanned.{IsScannedAs}
+use Rattle.core_state.specs.Sound.{IsSound}
+use Rattle.core_state.specs.State as state
+use Rattle.core_state.specs.State.{State}
+use Rattle.core_state.specs.Submitting.{after_submitting}
+use Rattle.core_state.specs.Tables.{changes_of, filter_dimensions, tables_of}
+use Rattle.event_core.specs.declared.logged.Logged.{Logged}
+use Rattle.core_parts.specs.declared.submitted.Standing.{Standing}
+use Rattle.core_parts.specs.declared.submitted.Standing.TheVariants.{IsAsked, Waits}
+use Rattle.core_parts.specs.declared.submitted.Submitted.{Submitted}
+use Rattle.core_parts.specs.Asked.{AskedQuery, known_in}
+use Rattle.event_core.specs.Changes.{accepted, changed, logged, statements_at, submitted, with_filters_for, with_first_filters}
+use Rattle.event_core.specs.Core.{Becomes, IsCore}
+use Rattle.core_parts.specs.Filters.{dimensions_of, first_filters}
+use Rattle.event_core.specs.Parts.{Parts}
+use Rattle.core_parts.specs.Seats.{seat_as}
+use Rattle.event_core.specs.Seen.{entries_as, state_of}
+use Rattle.core_parts.proofs.FirstFilterLemmas.{dimensions_of-first, length-first}
+use Rattle.core_parts.proofs.PlaceLemmas.{refill-all}
+use Rattle.event_core.proofs.SubmittedSeatLemmas.{statement_of}
+
+-- the statements of the seats
+abbrev pub statements_in : List (Roomy Submitted) → List (List Submitted)
+statements_in seats = map (λ (seat : Roomy Submitted). seat.items) seats
+
+-- the statements of the seats, of which one has a statement more
+abbrev pub with_stood : (seat : ℕ) → Submitted → List (List Submitted) → List (List Submitted)
+with_stood seat statement seats = set seats seat (statements_at seats seat ++ statement ∷ [])
+
+-- a seat that is written over, where it has a statement more
+pub stands : (seats members : List (Roomy Submitted)) (seat : ℕ) (found one : Roomy Submitted) (statement : Submitted)
+    → seat < length seats → members ≡ seats → one.items ≡ (get_or members seat found).items ++ statement ∷ []
+    → statements_in (refill (length seats) seats (set members seat one)) ≡ with_stood seat statement (statements_in seats)
+stands seats members seat found one statement there same pushed =
+    ap statements_in (refill-all seats (set members seat one)
+    (length-set members seat one ∙ ap (λ (list : List (Roomy Submitted)). length list) same))
+    ∙ map-set (λ (seat : Roomy Submitted). seat.items) members seat one
+    ∙ ap (λ (list : List (Roomy Submitted)). set (statements_in list) seat one.items) same
+    ∙ ap (set (statements_in seats) seat) (pushed ∙ ap (λ (list : List Submitted). list ++ statement ∷ []) before)
+  where
+    before : (get_or members seat found).items ≡ statements_at (statements_in seats) seat
+    before = ap (λ (list : List (Roomy Submitted)). (get_or list seat found).items) same
+        ∙ sym (get_or-map (λ (seat : Roomy Submitted). seat.items) seats seat found [] there)
+
+-- a seat that is written over, where it has the statements that it had
+pub stays : (seats members : List (Roomy Submitted)) (seat : ℕ) (found one : Roomy Submitted)
+    → members ≡ seats → one.items ≡ (get_or members seat found).items
+    → statements_in (refill (length seats) seats (set members seat one)) ≡ statements_in seats
+stays seats members seat found one same kept =
+    ap statements_in (refill-all seats (set members seat one)
+    (length-set members seat one ∙ ap (λ (list : List (Roomy Submitted)). length list) same))
+    ∙ map-set_same (λ (seat : Roomy Submitted). seat.items) members seat one found kept
+    ∙ ap statements_in same
+
+-- the filters of the dimensions that the fact table references
+pub filters-first : (parts : Parts) (schema : Schema) (old lives : Lives) (filters : state.Filters) (dimensions count : ℕ)
+    → parts.tables.schema ≡ schema → parts.lives ≡ old → filters ≡ first_filters (filter_dimensions schema)
+    → dimensions ≡ fold with_number 0 (dimensions_of filters.versions) → lives ≡ record old { filters = dimensions }
+    → count ≡ length filters.versions
+    → with_first_filters (filter_dimensions parts.tables.schema) parts
+    ≡ record parts { lives = lives; filters = filters; numbers = record parts.numbers { version = count } }
+filters-first parts schema old lives filters dimensions count same_schema same_lives first is noted counted =
+    ap (λ schema. with_first_filters (filter_dimensions schema) parts) same_schema
+    ∙ ap (λ (lives : Lives). build (record lives { filters = fold with_number 0 referenced }) (first_filters referenced) (length referenced)) same_lives
+    ∙ ap (λ set. build (record old { filters = set }) (first_filters referenced) (length referenced)) (sym set)
+    ∙ ap (λ (lives : Lives). build lives (first_filters referenced) (length referenced)) (sym noted)
+    ∙ ap (λ n. build lives (first_filters referenced) n) (sym number)
+    ∙ ap (λ filters. build lives filters count) (sym first)
+  where
+    referenced : List ℕ
+    referenced = filter_dimensions schema
+
+    build : Lives → state.Filters → ℕ → Parts
+    build lives filters count = record parts { lives = lives; filters = filters; numbers = record parts.numbers { version = count } }
+
+    set : dimensions ≡ fold with_number 0 referenced
+    set = is ∙ ap (λ (filters : state.Filters). fold with_number 0 (dimensions_of filters.versions)) first
+        ∙ ap (fold with_number 0) (dimensions_of-first referenced 1)
+
+    number : count ≡ length referenced
+    number = counted ∙ ap (λ (filters : state.Filters). length filters.versions) first ∙ length-first referenced 1
+
+-- parts whose tables have the same rows and versions, keyed, are those of the same state
+pub with-tables : (parts : Parts) (tables : KeyedStore) (after : State) → plain tables ≡ plain parts.tables → IsKeyed tables
+    → Becomes parts after → Becomes (record parts { tables = tables }) after
+with-tables parts tables after same keyed becomes = record {
+  state = same_state ∙ becomes.state;
+  core = record {
+    sound = subst IsSound (sym same_state) becomes.core.sound;
+    tables = record { same = same ∙ becomes.core.tables.same ∙ sym (ap tables_of same_state); keyed = keyed };
+    ends = subst (λ (state : State). All EndsAscending (changes_of state.entries)) (sym same_state) becomes.core.ends;
+    scanned = subst (λ (state : State). IsScannedAs state parts.scan) (sym same_state) becomes.core.scanned;
+    attached = becomes.core.attached ∙ sym (ap attached_to same_state);
+    beside = becomes.core.beside;
+    frames = becomes.core.frames;
+    words = becomes.core.words;
+    unnumbered = λ none. becomes.core.unnumbered (sym (ap (λ (state : State). (tables_of state).schema.fact) same_state) ∙ none);
+  };
+}
+  where
+    same_state : state_of (record parts { tables = tables }) ≡ state_of parts
+    same_state = ap (λ (store : Store). record (state_of parts) { entries = entries_as store parts.log }) same
+
+-- an outcome of no kind of change has no change
+pub no-change : (change : Option Change) → None ≡ option_map kind_of_change change → change ≡ None
+no-change None none = refl
+no-change (Some change) none = cc
+
+-- the change of an outcome, of this kind
+pub record IsChange (change : Option Change) (kind : ChangeKind) : Type 0 where
+  pub one : Change
+  pub is : change ≡ Some one
+  pub same : kind ≡ kind_of_change one
+
+-- an outcome of a kind of change has such a change
+pub some-change : (change : Option Change) (kind : ChangeKind) → Some kind ≡ option_map kind_of_change change → IsChange change kind
+some-change None kind some = absurd (let never : Some kind ≡ None = some in cc)
+some-change (Some change) kind some = record { one = change; is = refl; same = let same : Some kind ≡ Some (kind_of_change change) = some in cc }
+
+-- an outcome by its two parts
+outcome-is : (found : Outcome) (change : Option Change) (told : Told) → found.change ≡ change → told ≡ found.told
+    → found ≡ record { change = change; told = told }
+outcome-is found change told changes tells =
+    ap (λ (change : Option Change). record { change = change; told = found.told }) changes
+    ∙ ap (λ (told : Told). record { change = change; told = told }) (sym tells)
+
+-- a seat has a statement more, and its number was the last
+stood : (P : List (List Submitted) → ℕ → Type 0) (old before seats : List (List Submitted)) (seat last number : ℕ) (standing : Standing)
+    → before ≡ old → number ≡ last → seats ≡ with_stood seat (statement_of number standing) before
+    → P (with_stood seat (statement_of last standing) old) last → P seats number
+stood P old before seats seat last number standing same counts stands holds =
+    subst (λ list. P list number) (sym stands)
+    (subst (λ n. P (with_stood seat (statement_of n standing) before) n) (sym counts)
+    (subst (λ list. P (with_stood seat (statement_of last standing) list) last) (sym same) holds))
+
+-- how the law goes on of a statement that is told a reply
+abbrev RepliedLaw : Type 0
+RepliedLaw = (parts : Parts) (seat : ℕ) (statement : Statement) (reply : Reply) → IsCore parts → seat < length parts.seats
+    → outcome_of (tables_of (state_of parts)) statement ≡ outcome.only_tells (outcome.Replied reply)
+    → Becomes (submitted seat (parts.numbers.statement + 1)
+    (statements_at parts.seats seat ++ record { number = parts.numbers.statement + 1; standing = Waits reply } ∷ []) parts)
+    (after_submitting seat statement (state_of parts))
+
+-- how it goes on of one that changes the tables
+abbrev ChangedLaw : Type 0
+ChangedLaw = (parts : Parts) (seat : ℕ) (statement : Statement) (reply : Reply) (change : Change) (tables : KeyedStore)
+    → IsCore parts → seat < length parts.seats
+    → outcome_of (tables_of (state_of parts)) statement ≡ record { change = Some change; told = outcome.Replied reply }
+    → plain tables ≡ after_change (tables_of (state_of parts)) change → IsKeyed tables
+    → Becomes (changed seat (parts.numbers.statement + 1)
+    (statements_at parts.seats seat ++ record { number = parts.numbers.statement + 1; standing = Waits reply } ∷ [])
+    (kind_of_change change) tables parts) (after_submitting seat statement (state_of parts))
+
+-- an accepted query of which no row has come
+abbrev pub asked_first : (number seat : ℕ) → StarQuery → (snapshot : ℕ) → AskedQuery
+asked_first number seat query snapshot =
+    record { number = number; seat = seat; query = query; snapshot = snapshot; kept = Some (grouped_of (query_of query) []) }
+
+-- how it goes on of a query that is accepted
+abbrev AcceptedLaw : Type 0
+AcceptedLaw = (parts : Parts) (seat : ℕ) (statement : Statement) (query : StarQuery) (snapshot : ℕ)
+    → IsCore parts → seat < length parts.seats
+    → outcome_of (tables_of (state_of parts)) statement ≡ outcome.only_tells (outcome.Accepted (query_of query) snapshot)
+    → Becomes (accepted seat (parts.numbers.statement + 1)
+    (statements_at parts.seats seat ++ record { number = parts.numbers.statement + 1; standing = IsAsked } ∷ [])
+    (asked_first (parts.numbers.statement + 1) seat query snapshot) parts)
+    (after_submitting seat statement (state_of parts))
+
+-- a seat of the state is one of the parts
+pub seat-there : (parts : Parts) (seat : ℕ) → seat < length (state_of parts).seats → seat < length parts.seats
+seat-there parts seat there = let many = length-map parts.seats (seat_as (known_in parts.asked)) in omega arith
+
+-- a statement that is told a reply
+pub replies : RepliedLaw → (old : Parts) (seat number : ℕ) (statement : Statement) (reply : Reply) (tables : KeyedStore)
+    (log : List Logged) (before seats : List (List Submitted)) (asked : List AskedQuery)
+    → IsCore old → seat < length old.seats → number ≡ old.numbers.statement + 1
+    → log ≡ old.log → asked ≡ old.asked → before ≡ old.seats
+    → seats ≡ with_stood seat (statement_of number (Waits reply)) before
+    → Follows old.tables tables (Ok (Replied reply)) (outcome_of (plain old.tables) statement) → IsKeyed tables
+    → Becomes (record old {
+      tables = tables;
+      log = log;
+      seats = seats;
+      asked = asked;
+      numbers = record old.numbers { statement = number };
+    }) (after_submitting seat statement (state_of old))
+replies law old seat number statement reply tables log before seats asked core there counts same_log same_asked same_seats stands follows keyed =
+    stood (λ seats number. Becomes (with_seats log asked seats number) after) old.seats before seats seat (old.numbers.statement + 1) number
+    (Waits reply) same_seats counts stands
+    (subst (λ log. Becomes (with_seats log asked now (old.numbers.statement + 1)) after) (sym same_log)
+    (subst (λ asked. Becomes (with_seats old.log asked now (old.numbers.statement + 1)) after) (sym same_asked)
+    (with-tables (submitted seat (old.numbers.statement + 1)
+    (statements_at old.seats seat ++ statement_of (old.numbers.statement + 1) (Waits reply) ∷ []) old) tables after
+    (follows.2 ∙ ap (λ (change : Option Change). option_map_or (after_change (plain old.tables)) change (plain old.tables)) none) keyed
+    (law old seat statement reply core there tells))))
+  where
+    after : State
+    after = after_submitting seat statement (state_of old)
+
+    now : List (List Submitted)
+    now = with_stood seat (statement_of (old.numbers.statement + 1) (Waits reply)) old.seats
+
+    with_seats : List Logged → List AskedQuery → List (List Submitted) → ℕ → Parts
+    with_seats log asked seats number = record old {
+      tables = tables;
+      log = log;
+      seats = seats;
+      asked = asked;
+      numbers = record old.numbers { statement = number };
+    }
+
+    found : Outcome
+    found = outcome_of (plain old.tables) statement
+
+    none : found.change ≡ None
+    none = no-change found.change follows.1
+
+    tells : outcome_of (tables_of (state_of old)) statement ≡ outcome.only_tells (outcome.Replied reply)
+    tells = ap (λ store. outcome_of store statement) (sym core.tables.same)
+        ∙ outcome-is found None (outcome.Replied reply) none follows.0
+
+-- a statement that changes the tables
+pub changes : ChangedLaw → (old : Parts) (seat number : ℕ) (statement : Statement) (kind : ChangeKind) (reply : Reply) (tables : KeyedStore)
+    (schema : Schema) (lives : Lives) (filters : state.Filters) (version : ℕ)
+    (earlier log : List Logged) (before seats : List (List Submitted)) (asked : List AskedQuery)
+    → IsCore old → seat < length old.seats → number ≡ old.numbers.statement + 1
+    → earlier ≡ old.log → log ≡ earlier ++ record { seat = seat; statement = number; kind = kind } ∷ []
+    → asked ≡ old.asked → before ≡ old.seats → seats ≡ with_stood seat (statement_of number (Waits reply)) before
+    → Follows old.tables tables (Ok (Changed kind reply)) (outcome_of (plain old.tables) statement) → IsKeyed tables
+    → schema ≡ tables.schema
+    → ((parts : Parts) → parts.tables.schema ≡ schema → parts.lives ≡ old.lives → parts.filters ≡ old.filters
+    → parts.numbers.version ≡ old.numbers.version → with_filters_for kind parts
+    ≡ record parts { lives = lives; filters = filters; numbers = record parts.numbers { version = version } })
+    → Becomes (record old {
+      tables = tables;
+      log = log;
+      seats = seats;
+      asked = asked;
+      lives = lives;
+      filters = filters;
+      numbers = record { statement = number; batch = old.numbers.batch; version = version };
+    }) (after_submitting seat statement (state_of old))
+changes law old seat number statement kind reply tables schema lives filters version earlier log before seats asked core there counts
+    same_log grown same_asked same_seats stands follows keyed same_schema filtered =
+    subst (λ log. Becomes (with_seats log asked seats number) after) (sym grown)
+    (stood (λ seats number. Becomes (with_seats (earlier ++ entry number kind ∷ []) asked seats number) after) old.seats before seats seat
+    last number (Waits reply) same_seats counts stands
+    (subst (λ list. Becomes (with_seats (list ++ entry last kind ∷ []) asked now last) after) (sym same_log)
+    (subst (λ asked. Becomes (with_seats (old.log ++ entry last kind ∷ []) asked now last) after) (sym same_asked)
+    (subst (λ parts. Becomes parts after)
+    (filtered (logged (entry last kind) tables (submitted seat last (statements_at old.seats seat ++ statement_of last (Waits reply) ∷ []) old))
+    (sym same_schema) refl refl refl)
+    (subst (λ kind. Becomes (changed seat last (statements_at old.seats seat ++ statement_of last (Waits reply) ∷ []) kind tables old) after)
+    (sym change.same)
+    (law old seat statement reply change.one tables core there tells makes keyed))))))
+  where
+    after : State
+    after = after_submitting seat statement (state_of old)
+
+    last : ℕ
+    last = old.numbers.statement + 1
+
+    now : List (List Submitted)
+    now = with_stood seat (statement_of last (Waits reply)) old.seats
+
+    entry : ℕ → ChangeKind → Logged
+    entry number kind = record { seat = seat; statement = number; kind = kind }
+
+    with_seats : List Logged → List AskedQuery → List (List Submitted) → ℕ → Parts
+    with_seats log asked seats number = record old {
+      tables = tables;
+      log = log;
+      seats = seats;
+      asked = asked;
+      lives = lives;
+      filters = filters;
+      numbers = record { statement = number; batch = old.numbers.batch; version = version };
+    }
+
+    found : Outcome
+    found = outcome_of (plain old.tables) statement
+
+    change : IsChange found.change kind
+    change = some-change found.change kind follows.1
+
+    tells : outcome_of (tables_of (state_of old)) statement ≡ record { change = Some change.one; told = outcome.Replied reply }
+    tells = ap (λ store. outcome_of store statement) (sym core.tables.same)
+        ∙ outcome-is found (Some change.one) (outcome.Replied reply) change.is follows.0
+
+    makes : plain tables ≡ after_change (tables_of (state_of old)) change.one
+    makes = follows.2 ∙ ap (λ (one : Option Change). option_map_or (after_change (plain old.tables)) one (plain old.tables)) change.is
+        ∙ ap (λ store. after_change store change.one) core.tables.same
+
+-- a query that is accepted
+pub accepts : AcceptedLaw → (old : Parts) (seat number : ℕ) (statement : Statement) (query : StarQuery) (snapshot extent : ℕ)
+    (tables : KeyedStore) (lives : Lives) (one : AskedQuery) (log : List Logged) (before seats : List (List Submitted)) (earlier asked : List AskedQuery)
+    → IsCore old → seat < length old.seats → number ≡ old.numbers.statement + 1
+    → log ≡ old.log → earlier ≡ old.asked → before ≡ old.seats
+    → one ≡ asked_first number seat query snapshot → asked ≡ earlier ++ one ∷ []
+    → extent ≡ length tables.versions → lives ≡ after_submit one.number extent old.lives
+    → seats ≡ with_stood seat (statement_of number IsAsked) before
+    → Follows old.tables tables (Ok (Accepted query snapshot)) (outcome_of (plain old.tables) statement)
+    → Becomes (record old {
+      tables = tables;
+      log = log;
+      seats = seats;
+      asked = asked;
+      lives = lives;
+      numbers = record old.numbers { statement = number };
+    }) (after_submitting seat statement (state_of old))
+accepts law old seat number statement query snapshot extent tables lives one log before seats earlier asked core there counts
+    same_log same_asked same_seats is_one grown reaches waits stands follows =
+    subst (λ lives. Becomes (with_seats tables log asked lives seats number) after) (sym lived)
+    (subst (λ asked. Becomes (with_seats tables log asked (lives_at number tables) seats number) after) (sym with_one)
+    (stood (λ seats number. Becomes (with_seats tables log (earlier ++ asked_at number ∷ []) (lives_at number tables) seats number) after)
+    old.seats before seats seat last number IsAsked same_seats counts stands
+    (subst (λ log. Becomes (with_seats tables log (earlier ++ asked_at last ∷ []) (lives_at last tables) now last) after) (sym same_log)
+    (subst (λ list. Becomes (with_seats tables old.log (list ++ asked_at last ∷ []) (lives_at last tables) now last) after) (sym same_asked)
+    (subst (λ tables. Becomes (with_seats tables old.log (old.asked ++ asked_at last ∷ []) (lives_at last tables) now last) after) (sym follows.3.1)
+    (law old seat statement query snapshot core there tells))))))
+  where
+    after : State
+    after = after_submitting seat statement (state_of old)
+
+    last : ℕ
+    last = old.numbers.statement + 1
+
+    now : List (List Submitted)
+    now = with_stood seat (statement_of last IsAsked) old.seats
+
+    asked_at : ℕ → AskedQuery
+    asked_at number = asked_first number seat query snapshot
+
+    lives_at : ℕ → KeyedStore → Lives
+    lives_at number tables = after_submit number (length tables.versions) old.lives
+
+    with_seats : KeyedStore → List Logged → List AskedQuery → Lives → List (List Submitted) → ℕ → Parts
+    with_seats tables log asked lives seats number = record old {
+      tables = tables;
+      log = log;
+      seats = seats;
+      asked = asked;
+      lives = lives;
+      numbers = record old.numbers { statement = number };
+    }
+
+    lived : lives ≡ lives_at number tables
+    lived = waits ∙ ap (λ (one : AskedQuery). after_submit one.number extent old.lives) is_one
+        ∙ ap (λ n. after_submit number n old.lives) reaches
+
+    with_one : asked ≡ earlier ++ asked_at number ∷ []
+    with_one = grown ∙ ap (λ (one : AskedQuery). earlier ++ one ∷ []) is_one
+
+    found : Outcome
+    found = outcome_of (plain old.tables) statement
+
+    tells : outcome_of (tables_of (state_of old)) statement ≡ outcome.only_tells (outcome.Accepted (query_of query) snapshot)
+    tells = ap (λ store. outcome_of store statement) (sym core.tables.same)
+        ∙ outcome-is found None (outcome.Accepted (query_of query) snapshot) (no-change found.change follows.1) follows.0

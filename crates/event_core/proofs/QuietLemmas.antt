@@ -1,0 +1,60 @@
+-- Events that touch neither the scan nor what is attached.
+use Rattle.std.specs.Prelude.{◌≡◌, ◌+◌, ◌*◌, List, All}
+use Rattle.std.proofs.Common.{ap, sym, ◌∙◌, subst}
+use Rattle.continuous_scan.specs.Scanning.{Scanning}
+use Rattle.core_state.specs.Events.{IsEnabled, after_event}
+use Rattle.core_state.specs.Handed.{LeavesAttached, attached_to}
+use Rattle.core_state.specs.Logged.{EndsAscending}
+use Rattle.core_state.specs.Scanned.{IsScannedAs, LeavesScan}
+use Rattle.core_state.specs.Settings.{frames_of}
+use Rattle.core_state.specs.Sound.{IsSound}
+use Rattle.core_state.specs.State.{Entry, State}
+use Rattle.core_state.specs.Steps.{Done, MayStep, Step, after_step}
+use Rattle.core_state.specs.Tables.{changes_of, tables_by}
+use Rattle.core_state.specs.declared.event.Event.{Event}
+use Rattle.core_state.specs.declared.settings.RunSettings.{RunSettings}
+use Rattle.star_history.specs.Keyed.{IsKeyed, plain}
+use Rattle.event_core.specs.Core.{IsCore, LeavesRest}
+use Rattle.event_core.specs.Parts.{Parts}
+use Rattle.event_core.specs.Seen.{state_of}
+
+-- each step keeps a core sound
+abbrev pub StepsKeep : Type 0
+StepsKeep = (step : Step) (state : State) → MayStep state step → IsSound state → IsSound (after_step step state)
+
+-- an event that does not touch the scan leaves it
+abbrev pub EventsLeaveScans : Type 0
+EventsLeaveScans = (state : State) (scan : Scanning) (event : Event) → IsSound state → IsEnabled state event → LeavesScan event
+    → IsScannedAs state scan → IsScannedAs (after_event event state) scan
+
+-- an event that does not touch what is attached leaves it
+abbrev pub EventsLeaveAttached : Type 0
+EventsLeaveAttached = (state : State) (event : Event) → IsSound state → IsEnabled state event → LeavesAttached event
+    → attached_to (after_event event state) ≡ attached_to state
+
+-- what the parts of a core have to be for its new state, where the rest of it was left
+pub core-left : (old new : Parts) → IsCore old → IsSound (state_of new) → IsScannedAs (state_of new) old.scan
+    → attached_to (state_of new) ≡ attached_to (state_of old) → LeavesRest old new → IsCore new
+core-left old new core sound scanned attached rest = record {
+  sound = sound;
+  tables = record {
+    same = ap plain rest.tables ∙ core.tables.same ∙ sym (ap tables_by rest.entries);
+    keyed = subst IsKeyed (sym rest.tables) core.tables.keyed;
+  };
+  ends = subst (λ (entries : List Entry). All EndsAscending (changes_of entries)) (sym rest.entries) core.ends;
+  scanned = subst (IsScannedAs (state_of new)) (sym rest.scan) scanned;
+  attached = rest.attached ∙ core.attached ∙ sym attached;
+  beside = rest.beside;
+  frames = rest.made ∙ core.frames ∙ sym (ap frames_of rest.settings);
+  words = rest.words ∙ core.words ∙ sym (ap (λ (settings : RunSettings). 16 + settings.batch * 16) rest.settings);
+  unnumbered = rest.unnumbered;
+}
+
+-- an event that leaves the scan and what is attached
+pub core-quiet : StepsKeep → EventsLeaveScans → EventsLeaveAttached → (old new : Parts) (event : Event) → IsCore old
+    → IsEnabled (state_of old) event → LeavesScan event → LeavesAttached event
+    → state_of new ≡ after_event event (state_of old) → LeavesRest old new → IsCore new
+core-quiet keep scans attached old new event core may leaves_scan leaves_attached same rest = core-left old new core
+    (subst IsSound (sym same) (keep (Done event) (state_of old) may core.sound))
+    (subst (λ state. IsScannedAs state old.scan) (sym same) (scans (state_of old) old.scan event core.sound may leaves_scan core.scanned))
+    (ap attached_to same ∙ attached (state_of old) event core.sound may leaves_attached) rest

@@ -1,0 +1,71 @@
+-- Events that a core took.
+use Rattle.std.proofs.Common.{◌≡◌, ◌⊎◌, ℕ, zero, suc, ◌+◌, List, [], ◌∷◌, ◌++◌, take, drop, ap, sym, ◌∙◌, subst, inl, inr, refl, arith}
+use Rattle.core_state.specs.Admitting.{after_build, after_build_wants}
+use Rattle.core_state.specs.Cutting.{after_distribute}
+use Rattle.core_state.specs.Events.{AreFed, IsEnabled, after_event, after_want}
+use Rattle.core_state.specs.Sound.{IsSound}
+use Rattle.core_state.specs.State.{State}
+use Rattle.core_state.specs.declared.event.Event.{Event}
+use Rattle.core_state.specs.declared.event.Event.TheVariants.{Build, Distribute}
+use Rattle.event_core.specs.Took.{IsAfter, Took, TookAll}
+
+-- an event that was done
+pub took-done : (event done : Event) (old new : State) → IsEnabled old event → event ≡ done → new ≡ after_event done old → Took event old new
+took-done event done old new enabled same is = record { enabled = enabled; after = subst (λ e. IsAfter e old new) (sym same) (inl is) }
+
+-- a filter that was built, or for which the query found no memory
+pub took-build : (event : Event) (query dimension : ℕ) (old new : State) → IsEnabled old event → event ≡ Build query dimension
+    → (new ≡ after_build query dimension old) ⊎ (new ≡ after_build_wants query old) → Took event old new
+unfolding after_event after_want
+took-build event query dimension old new enabled same (inl is) =
+    record { enabled = enabled; after = subst (λ e. IsAfter e old new) (sym same) (inl is) }
+took-build event query dimension old new enabled same (inr is) =
+    record { enabled = enabled; after = subst (λ e. IsAfter e old new) (sym same) (inr is) }
+
+-- a batch that was distributed, for which queries may have found no memory
+pub took-distribute : (event : Event) (batch : ℕ) (old new : State) → IsEnabled old event → event ≡ Distribute batch
+    → (spoiled : List ℕ) × AreFed batch spoiled old × (new ≡ after_distribute batch spoiled old) → Took event old new
+unfolding after_want
+took-distribute event batch old new enabled same is =
+    record { enabled = enabled; after = subst (λ e. IsAfter e old new) (sym same) (inr is) }
+
+-- an event more
+took-more : (events : List Event) (event : Event) (old mid new : State) → TookAll events old mid → Took event mid new
+    → TookAll (events ++ event ∷ []) old new
+took-more [] event old mid new all is = (new, subst (λ state. Took event state new) all is, refl)
+took-more (first ∷ events) event old mid new all is = (all.0, all.1, took-more events event all.0 mid new all.2 is)
+
+-- the first of the events were taken, and these are left
+pub record AreTaken (at : ℕ) (events left : List Event) (old now : State) : Type 0 where
+  pub taken : TookAll (take at events) old now
+  pub rest : left ≡ drop at events
+  pub sound : IsSound now
+
+-- an event that is left comes next
+pub record ComesNext (at : ℕ) (events rest : List Event) (event : Event) : Type 0 where
+  pub front : take (suc at) events ≡ take at events ++ event ∷ []
+  pub back : drop (suc at) events ≡ rest
+
+comes-next : (at : ℕ) (events rest : List Event) (event : Event) → event ∷ rest ≡ drop at events → ComesNext at events rest event
+comes-next zero [] rest event is = absurd (let both : event ∷ rest ≡ [] = is in cc)
+comes-next (suc at) [] rest event is = absurd (let both : event ∷ rest ≡ [] = is in cc)
+comes-next zero (first ∷ events) rest event is =
+    let same : event ≡ first = cc in
+    let left : rest ≡ events = cc in
+    record { front = ap (λ e. e ∷ []) (sym same); back = sym left }
+comes-next (suc at) (first ∷ events) rest event is =
+    let next = comes-next at events rest event is in
+    record { front = ap (λ list. first ∷ list) next.front; back = next.back }
+
+-- an event that is left is taken
+pub taken-next : (at : ℕ) (events left rest : List Event) (event : Event) (old now next : State) → AreTaken at events left old now
+    → left ≡ event ∷ rest → Took event now next → IsSound next → AreTaken (at + 1) events rest old next
+taken-next at events left rest event old now next taken is took sound =
+    subst (λ n. AreTaken n events rest old next) (let e : suc at ≡ at + 1 = omega arith in e) (record {
+      taken = subst (λ list. TookAll list old next) (sym comes.front) (took-more (take at events) event old now next taken.taken took);
+      rest = sym comes.back;
+      sound = sound;
+    })
+  where
+    comes : ComesNext at events rest event
+    comes = comes-next at events rest event (sym is ∙ taken.rest)

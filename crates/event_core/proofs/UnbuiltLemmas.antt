@@ -1,0 +1,113 @@
+-- A query of a core finds no memory as a filter is built for it.
+use Rattle.std.proofs.Common.{◌≡◌, ℕ, Bool, true, false, cond, eqb, List, [], ◌∷◌, map, Option, None, refl, ap, sym, ◌∙◌, subst}
+use Rattle.std.specs.Prelude.{All, IsSome}
+use Rattle.std.specs.Option.{option_map_or}
+use Rattle.std.proofs.lemmas.Bool.{eqb-true}
+use Rattle.std.proofs.lemmas.List.Elements.{All-cons, All-head, All-nil, All-tail}
+use Rattle.pipeline_manager.specs.Conditions.{CanBuild}
+use Rattle.pipeline_manager.specs.Lives.{Lives}
+use Rattle.pipeline_manager.specs.declared.life.Life.TheVariants as life
+use Rattle.continuous_scan.specs.Scanning.{Scanning}
+use Rattle.aggregations.specs.Grouped.{Grouped}
+use Rattle.core_state.specs.Admitting.{after_build_wants}
+use Rattle.core_state.specs.Cutting.{gets_rows}
+use Rattle.core_state.specs.Events.{after_want}
+use Rattle.core_state.specs.Handed.{attached_to}
+use Rattle.core_state.specs.Scanned.{IsScannedAs}
+use Rattle.core_state.specs.Sound.{IsSound}
+use Rattle.core_state.specs.State.{Accepted, State}
+use Rattle.core_state.specs.Steps.{Wanting}
+use Rattle.core_state.specs.Submitting.{forgotten}
+use Rattle.core_state.specs.declared.event.Event.TheVariants.{Build}
+use Rattle.core_parts.specs.Asked.{AskedQuery, known_in, with_kept, with_kept_at}
+use Rattle.event_core.specs.Changes.{unbuilt}
+use Rattle.event_core.specs.Core.{Becomes, IsCore}
+use Rattle.core_parts.specs.Known.{reaches_in}
+use Rattle.event_core.specs.Parts.{Parts}
+use Rattle.event_core.specs.Seen.{accepted_as, accepted_in, attached_for, attached_or, state_of}
+use Rattle.event_core.proofs.HeldSlotLemmas.{attached_for-none}
+use Rattle.event_core.proofs.QuietLemmas.{StepsKeep, core-left}
+use Rattle.event_core.proofs.SeenLemmas.{known-with_kept, reaches-with_life, state-seen}
+
+-- of a query for which nothing is attached, nothing is kept any more where nothing is kept beside
+forgotten-one : (lives : Lives) (attached : List (Option Grouped)) (query : ℕ) (entry : AskedQuery) (t : Bool) → eqb entry.number query ≡ t
+    → attached_for lives attached query ≡ None
+    → accepted_as lives attached (cond {A = AskedQuery} t (record entry { kept = None }) entry)
+    ≡ cond {A = Accepted} t (record (accepted_as lives attached entry) { groups = None }) (accepted_as lives attached entry)
+forgotten-one lives attached query entry true is none =
+    ap (λ groups. record (accepted_as lives attached entry) { groups = attached_or groups None })
+    (ap (attached_for lives attached) (eqb-true entry.number query is) ∙ none)
+forgotten-one lives attached query entry false is none = refl
+
+pub accepted-forgotten : (lives : Lives) (attached : List (Option Grouped)) (query : ℕ) (asked : List AskedQuery)
+    → attached_for lives attached query ≡ None
+    → accepted_in lives attached (with_kept_at query None asked) ≡ map (forgotten query) (accepted_in lives attached asked)
+accepted-forgotten lives attached query [] none = refl
+accepted-forgotten lives attached query (entry ∷ asked) none =
+    ap (λ one. one ∷ accepted_in lives attached (with_kept_at query None asked))
+    (forgotten-one lives attached query entry (eqb entry.number query) refl none)
+    ∙ ap (λ rest. forgotten query (accepted_as lives attached entry) ∷ rest) (accepted-forgotten lives attached query asked none)
+
+-- nothing is kept beside what is attached where it was not, and nothing is kept beside a query any more
+abbrev pub IsBeside : Lives → (attached : List (Option Grouped)) → AskedQuery → Type 0
+IsBeside lives attached entry = IsSome (attached_for lives attached entry.number) → entry.kept ≡ None
+
+pub beside-forgotten : (lives : Lives) (attached : List (Option Grouped)) (query : ℕ) (asked : List AskedQuery)
+    → All (IsBeside lives attached) asked → All (IsBeside lives attached) (with_kept_at query None asked)
+beside-forgotten lives attached query [] all = All-nil (IsBeside lives attached)
+beside-forgotten lives attached query (entry ∷ asked) all =
+    All-cons (IsBeside lives attached) (with_kept query None entry) (with_kept_at query None asked)
+    (by_test (eqb entry.number query) (All-head (IsBeside lives attached) entry asked all))
+    (beside-forgotten lives attached query asked (All-tail (IsBeside lives attached) entry asked all))
+  where
+    by_test : (t : Bool) → IsBeside lives attached entry
+        → IsBeside lives attached (cond {A = AskedQuery} t (record entry { kept = None }) entry)
+    by_test true here some = refl
+    by_test false here some = here some
+
+-- such a query leaves a core sound
+sound-unbuilt : StepsKeep → (state : State) (query dimension : ℕ) → CanBuild query dimension state.lives → IsSound state
+    → IsSound (after_build_wants query state)
+unfolding after_want
+sound-unbuilt keep state query dimension can sound = keep (Wanting (Build query dimension) []) state (can, tt) sound
+
+-- the state
+state-unbuilt : (parts : Parts) (query dimension : ℕ) → IsCore parts → CanBuild query dimension parts.lives
+    → state_of (unbuilt query parts) ≡ after_build_wants query (state_of parts)
+state-unbuilt parts query dimension core can = state-seen (unbuilt query parts)
+    (map (forgotten query) (accepted_in parts.lives parts.attached parts.asked)) (known_in parts.asked) (reaches_in parts.lives.queries)
+    (accepted-forgotten parts.lives parts.attached query parts.asked none)
+    (known-with_kept query None parts.asked) (reaches-with_life query life.Spoiled parts.lives.queries)
+  where
+    none : attached_for parts.lives parts.attached query ≡ None
+    none = ap (λ attached. attached_for parts.lives attached query) core.attached
+        ∙ attached_for-none (state_of parts) query (ap (λ o. option_map_or gets_rows o false) can.building)
+
+-- the parts where the query found no memory
+pub becomes-unbuilt : StepsKeep
+    → ((state : State) (scan : Scanning) (query dimension : ℕ) → CanBuild query dimension state.lives → IsScannedAs state scan
+    → IsScannedAs (after_build_wants query state) scan)
+    → ((state : State) (query dimension : ℕ) → CanBuild query dimension state.lives
+    → attached_to (after_build_wants query state) ≡ attached_to state)
+    → (parts : Parts) (query dimension : ℕ) → IsCore parts → CanBuild query dimension parts.lives
+    → Becomes (unbuilt query parts) (after_build_wants query (state_of parts))
+becomes-unbuilt keep scans attached parts query dimension core can =
+    let same = state-unbuilt parts query dimension core can in
+    record {
+      state = same;
+      core = core-left parts (unbuilt query parts) core
+          (subst IsSound (sym same) (sound-unbuilt keep (state_of parts) query dimension can core.sound))
+          (subst (λ state. IsScannedAs state parts.scan) (sym same) (scans (state_of parts) parts.scan query dimension can core.scanned))
+          (ap attached_to same ∙ attached (state_of parts) query dimension can)
+          (record {
+            tables = refl;
+            scan = refl;
+            attached = refl;
+            settings = refl;
+            made = refl;
+            words = refl;
+            entries = refl;
+            beside = beside-forgotten parts.lives parts.attached query parts.asked core.beside;
+            unnumbered = core.unnumbered;
+          });
+    }

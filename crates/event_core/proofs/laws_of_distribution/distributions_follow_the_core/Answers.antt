@@ -1,0 +1,40 @@
+use Rattle.std.proofs.Common.{sym, subst}
+use Rattle.std.specs.Prelude.{All}
+use Rattle.distributor.specs.Masked.{HaveRoom}
+use Rattle.core_state.specs.Handed.{fed_in}
+use Rattle.event_core.specs.Seen.{state_of}
+use Rattle.event_core.proofs.DistributedLemmas.{attached-seen, batch-frame, batch-within, distributed-becomes, held-begun, seen, seen-among, seen-there}
+use Rattle.event_core.proofs.DistributedSlotLemmas.{held-are-fed}
+use Rattle.event_core.proofs.laws_of_distribution.distributions_follow_the_core.Goals as goal
+
+pub returns-clause-within : goal.returns-clause-within
+returns-clause-within c = batch-within
+
+pub returns-clause-room : goal.returns-clause-room
+returns-clause-room c parts place flight core is =
+    subst (All (HaveRoom flight.batch.count)) (sym core.attached)
+    (c.folded_rows_are_few.ensures.attached (state_of parts) (seen parts flight) core.sound (seen-among parts place flight is))
+
+pub returns-clause-frame : goal.returns-clause-frame
+returns-clause-frame c = batch-frame
+
+pub returns-clause-holders : goal.returns-clause-holders
+returns-clause-holders c parts slots core attached = held-are-fed (state_of parts) slots (attached-seen parts slots core attached)
+
+pub returns-clause-begun : goal.returns-clause-begun
+returns-clause-begun c = held-begun
+
+pub returns-clause-fed : goal.returns-clause-fed
+returns-clause-fed c parts batch place slots flight core at is rows =
+    c.spoiled_slots_are_spoiled_queries.ensures.fed (state_of parts) batch (seen parts flight) slots core.sound
+    (seen-there parts batch place flight at is) rows
+
+pub returns-clause-done : goal.returns-clause-done
+returns-clause-done c parts batch place slots flight dims frame core may at is rows attached have long =
+    let there = seen-there parts batch place flight at is in
+    let fed = c.spoiled_slots_are_spoiled_queries.ensures.fed (state_of parts) batch (seen parts flight) slots core.sound there have in
+    distributed-becomes parts batch place slots flight dims frame core at is
+    (c.a_distributed_batch_keeps_a_core_sound.ensures batch (fed_in (state_of parts) slots) (state_of parts) may fed core.sound)
+    (c.a_scan_stops_what_the_core_stops.ensures.distributing (state_of parts) parts.scan batch (fed_in (state_of parts) slots) core.sound may.there core.scanned)
+    (c.spoiled_slots_are_spoiled_queries.ensures.groups (state_of parts) parts.tables dims batch (seen parts flight) slots core.sound
+    (record { tables = core.tables; dimensions = rows }) there)

@@ -1,0 +1,12 @@
+use Rattle.std.proofs.Common.{get_or, ap, ◌∙◌}
+use Rattle.core_parts.specs.Asked.{known_in}
+use Rattle.event_core.specs.Parts.{Parts}
+use Rattle.event_core.proofs.MachineLemmas.{found-pending}
+use Rattle.event_core.proofs.machine.Core.first_open_of.Goals as goal
+
+pub returns : goal.returns
+returns c =
+    found-pending c.args.self.now c.self.inside.manager c.self.inside.seats c.args.seat c.index-as_slice-seat.result c.first_open.result
+    (ap (λ (parts : Parts). parts.lives) c.self.view_is) (ap (λ (parts : Parts). parts.seats) c.self.view_is)
+    (c.index-as_slice-seat.is ∙ ap (λ list. get_or list c.args.seat c.index-as_slice-seat.result) c.as_slice.ensures)
+    c.requires (c.first_open.ensures (known_in c.args.self.now.asked))

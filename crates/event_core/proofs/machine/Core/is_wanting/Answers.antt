@@ -1,0 +1,12 @@
+use Rattle.event_core.proofs.EnablingLemmas.{from-not, unwanted-empty, unwanted-held}
+use Rattle.event_core.proofs.machine.Core.is_wanting.Goals.{then-is_none, else-is_none}
+use Rattle.event_core.proofs.machine.Core.is_wanting.Goals as goal
+
+pub returns-else-not-all_zero : goal.returns-else-not-all_zero
+returns-else-not-all_zero c = elim c.if-is_none.branch [
+  | then-is_none w ↦
+      unwanted-empty c.args.self.now.filters c.args.flight.now c.if-is_none.value c.if-not-all_zero.false
+      (w.all_zero.ensures.0 (from-not w.all_zero.result c.if-is_none.value w.value-is c.if-not-all_zero.false))
+  | else-is_none w ↦
+      unwanted-held c.args.self.now.filters c.args.flight.now c.if-is_none.value c.if-not-all_zero.false w.if-is_none.ensures
+]

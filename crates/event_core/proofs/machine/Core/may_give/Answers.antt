@@ -1,0 +1,10 @@
+use Rattle.std.proofs.Common.{ap, ◌∙◌, is_some}
+use Rattle.event_core.specs.Parts.{Parts}
+use Rattle.event_core.proofs.EnablingLemmas.{given-held}
+use Rattle.event_core.proofs.machine.Core.may_give.Goals as goal
+
+pub returns : goal.returns
+returns c =
+    given-held c.args.self.now c.args.worker c.as_slice.result.now c.is_some.result
+    (c.as_slice.ensures ∙ ap (λ (parts : Parts). parts.flights) c.self.view_is)
+    (c.is_some.ensures ∙ ap is_some c.place_held_by.ensures.place)

@@ -1,0 +1,8 @@
+use Rattle.event_core.proofs.SlotEventLemmas.{reserve-becomes}
+use Rattle.event_core.proofs.machine.Core.reserve.Goals as goal
+
+pub invariant_of-self : goal.invariant_of-self
+invariant_of-self c = (
+  (reserve-becomes c.slots_follow_the_core.ensures.reserve _ _ _ _ _ c.self.view_is c.self.invariant.0 c.requires c.reserve.ensures).core,
+  c.self.invariant.1,
+)

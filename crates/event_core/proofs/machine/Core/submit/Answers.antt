@@ -1,0 +1,133 @@
+use Rattle.std.proofs.Common.{◌≡◌, ◌+◌, ◌<◌, length, get_or, Ok, sym, ap, ◌∙◌, subst, arith}
+use Rattle.star_history.specs.Keyed.{plain}
+use Rattle.star_statement.specs.Applied.{Follows}
+use Rattle.star_statement.specs.Outcome.{outcome_of}
+use Rattle.star_statement.specs.declared.applied.Applied.{Applied}
+use Rattle.star_statement.specs.declared.applied.Applied.TheVariants.{Replied, Changed, Accepted}
+use Rattle.core_state.specs.Submitting.{after_submitting}
+use Rattle.event_core.specs.contracts.machine.Core.{the_view}
+use Rattle.core_parts.specs.Asked.{AskedQuery}
+use Rattle.event_core.specs.Core.{Becomes}
+use Rattle.event_core.specs.Parts.{Parts}
+use Rattle.event_core.specs.Seen.{state_of}
+use Rattle.event_core.proofs.EventsSubmitLemmas.{IsChange, accepts, changes, replies, seat-there, some-change, statements_in}
+use Rattle.event_core.proofs.machine.Core.submit.Goals as goal
+
+-- the parts are those after a statement that is told a reply
+replied : (c : goal.After-drop-all-inside-in-Replied-3)
+    → Becomes (record (the_view c.self.inside) {
+      tables = c.apply_to.new.store;
+      log = c.make_room.new.log.items;
+      seats = statements_in c.stand.new.seats;
+      asked = c.make_room.new.asked.items;
+      numbers = record (the_view c.self.inside).numbers { statement = c.in-Some.number };
+    }) (after_submitting c.args.seat c.args.statement.now (state_of (the_view c.self.inside)))
+replied c =
+    let there : c.args.seat < length (the_view c.self.inside).seats =
+    seat-there (the_view c.self.inside) c.args.seat
+    (subst (λ (parts : Parts). c.args.seat < length (state_of parts).seats) (sym c.self.view_is) c.requires) in
+    let counts : c.in-Some.number ≡ c.self.inside.last_statement + 1 = omega (arith, c.in-Some.ensures) in
+    let follows : Follows c.self.inside.store c.apply_to.new.store (Ok (Replied c.in-Replied.reply))
+    (outcome_of (plain c.self.inside.store) c.args.statement.now) =
+    subst (λ (applied : Applied). Follows c.self.inside.store c.apply_to.new.store (Ok applied)
+    (outcome_of (plain c.self.inside.store) c.args.statement.now)) c.in-Replied.is c.in_ok-reply.ensures.follows in
+    replies c.submissions_follow_the_core.ensures.replied (the_view c.self.inside) c.args.seat c.in-Some.number c.args.statement.now
+    c.in-Replied.reply c.apply_to.new.store c.make_room.new.log.items (statements_in c.make_room.new.seats)
+    (statements_in c.stand.new.seats) c.make_room.new.asked.items c.self.invariant.0 there counts c.make_room.ensures.changes
+    c.make_room.ensures.queries c.make_room.ensures.statements c.stand.ensures follows c.apply_to.ensures.keyed
+
+pub invariant_of-self-in-Replied-1 : goal.invariant_of-self-in-Replied-1
+invariant_of-self-in-Replied-1 c = ((replied c).core, c.self.invariant.1)
+
+pub returns-in-Replied-clause-ok : goal.returns-in-Replied-clause-ok
+returns-in-Replied-clause-ok c =
+    (replied c).state ∙ ap (λ (parts : Parts). after_submitting c.args.seat c.args.statement.now (state_of parts)) c.self.view_is
+
+pub filter_for-requires-clause-quiet : goal.filter_for-requires-clause-quiet
+filter_for-requires-clause-quiet c = λ declares.
+    let follows : Follows c.self.inside.store c.apply_to.new.store (Ok (Changed c.in-Changed.kind c.in-Changed.reply))
+    (outcome_of (plain c.self.inside.store) c.args.statement.now) =
+    subst (λ (applied : Applied). Follows c.self.inside.store c.apply_to.new.store (Ok applied)
+    (outcome_of (plain c.self.inside.store) c.args.statement.now)) c.in-Changed.is c.in_ok-reply.ensures.follows in
+    let change : IsChange (outcome_of (plain c.self.inside.store) c.args.statement.now).change c.in-Changed.kind =
+    some-change _ _ follows.1 in
+    c.a_declared_fact_table_finds_free_slots.ensures (the_view c.self.inside) c.args.statement.now change.one c.self.invariant.0
+    (ap (λ store. (outcome_of store c.args.statement.now).change) (sym c.self.invariant.0.tables.same) ∙ change.is)
+    (sym change.same ∙ declares)
+
+pub accept-requires-clause-is_new : goal.accept-requires-clause-is_new
+accept-requires-clause-is_new c = λ k d low.
+    let new : (get_or c.self.inside.manager.queries k d).query < c.self.inside.last_statement + 1 =
+    c.submissions_follow_the_core.ensures.new (the_view c.self.inside) c.self.invariant.0 k d low in
+    let number : c.in_ok-asked-in-Accepted.asked.number ≡ c.in-Some.number =
+    ap (λ (asked : AskedQuery). asked.number) c.in_ok-asked-in-Accepted.ensures in
+    omega (arith, c.in-Some.ensures)
+
+-- the parts are those after a query that is accepted
+accepted : (c : goal.After-drop-all-inside-in-Accepted-3)
+    → Becomes (record (the_view c.self.inside) {
+      tables = c.apply_to.new.store;
+      log = c.make_room.new.log.items;
+      seats = statements_in c.stand-in-Accepted.new.seats;
+      asked = c.accept.new.asked.items;
+      lives = c.accept.new.manager;
+      numbers = record (the_view c.self.inside).numbers { statement = c.in-Some.number };
+    }) (after_submitting c.args.seat c.args.statement.now (state_of (the_view c.self.inside)))
+accepted c =
+    let there : c.args.seat < length (the_view c.self.inside).seats =
+    seat-there (the_view c.self.inside) c.args.seat
+    (subst (λ (parts : Parts). c.args.seat < length (state_of parts).seats) (sym c.self.view_is) c.requires) in
+    let counts : c.in-Some.number ≡ c.self.inside.last_statement + 1 = omega (arith, c.in-Some.ensures) in
+    let follows : Follows c.self.inside.store c.apply_to.new.store (Ok (Accepted c.in-Accepted.query c.in-Accepted.snapshot))
+    (outcome_of (plain c.self.inside.store) c.args.statement.now) =
+    subst (λ (applied : Applied). Follows c.self.inside.store c.apply_to.new.store (Ok applied)
+    (outcome_of (plain c.self.inside.store) c.args.statement.now)) c.in-Accepted.is c.in_ok-reply.ensures.follows in
+    accepts c.submissions_follow_the_core.ensures.accepted (the_view c.self.inside) c.args.seat c.in-Some.number c.args.statement.now
+    c.in-Accepted.query c.in-Accepted.snapshot c.len-extent.result c.apply_to.new.store c.accept.new.manager
+    c.in_ok-asked-in-Accepted.asked c.make_room.new.log.items (statements_in c.make_room.new.seats)
+    (statements_in c.stand-in-Accepted.new.seats) c.make_room.new.asked.items c.accept.new.asked.items c.self.invariant.0 there counts
+    c.make_room.ensures.changes c.make_room.ensures.queries c.make_room.ensures.statements c.in_ok-asked-in-Accepted.ensures
+    c.in_ok-accept-in-Accepted.ensures.queries
+    (c.len-extent.ensures.count ∙ ap length c.facts.ensures.versions) c.in_ok-accept-in-Accepted.ensures.lives
+    c.stand-in-Accepted.ensures follows
+
+pub invariant_of-self-in-Accepted-1 : goal.invariant_of-self-in-Accepted-1
+invariant_of-self-in-Accepted-1 c = ((accepted c).core, c.self.invariant.1)
+
+pub returns-in_ok-accept-in-Accepted-clause-ok : goal.returns-in_ok-accept-in-Accepted-clause-ok
+returns-in_ok-accept-in-Accepted-clause-ok c =
+    (accepted c).state ∙ ap (λ (parts : Parts). after_submitting c.args.seat c.args.statement.now (state_of parts)) c.self.view_is
+
+-- the parts are those after a statement that changes the tables
+changed : (c : goal.After-self-in-Changed-1)
+    → Becomes (record (the_view c.self.inside) {
+      tables = c.apply_to.new.store;
+      log = c.push_reserved.new.self.items;
+      seats = statements_in c.stand-in-Changed.new.seats;
+      asked = c.make_room.new.asked.items;
+      lives = c.filter_for.new.manager;
+      filters = c.filter_for.new.filters;
+      numbers = record { statement = c.in-Some.number; batch = c.self.inside.last_batch; version = c.filter_for.new.last_version };
+    }) (after_submitting c.args.seat c.args.statement.now (state_of (the_view c.self.inside)))
+changed c =
+    let there : c.args.seat < length (the_view c.self.inside).seats =
+    seat-there (the_view c.self.inside) c.args.seat
+    (subst (λ (parts : Parts). c.args.seat < length (state_of parts).seats) (sym c.self.view_is) c.requires) in
+    let counts : c.in-Some.number ≡ c.self.inside.last_statement + 1 = omega (arith, c.in-Some.ensures) in
+    let follows : Follows c.self.inside.store c.apply_to.new.store (Ok (Changed c.in-Changed.kind c.in-Changed.reply))
+    (outcome_of (plain c.self.inside.store) c.args.statement.now) =
+    subst (λ (applied : Applied). Follows c.self.inside.store c.apply_to.new.store (Ok applied)
+    (outcome_of (plain c.self.inside.store) c.args.statement.now)) c.in-Changed.is c.in_ok-reply.ensures.follows in
+    changes c.submissions_follow_the_core.ensures.changed (the_view c.self.inside) c.args.seat c.in-Some.number c.args.statement.now
+    c.in-Changed.kind c.in-Changed.reply c.apply_to.new.store c.schema.result.now c.filter_for.new.manager c.filter_for.new.filters
+    c.filter_for.new.last_version c.make_room.new.log.items c.push_reserved.new.self.items (statements_in c.make_room.new.seats)
+    (statements_in c.stand-in-Changed.new.seats) c.make_room.new.asked.items c.self.invariant.0 there counts
+    c.make_room.ensures.changes c.push_reserved.ensures.items c.make_room.ensures.queries c.make_room.ensures.statements
+    c.stand-in-Changed.ensures follows c.apply_to.ensures.keyed c.schema.ensures.schema c.filter_for.ensures
+
+pub invariant_of-self-in-Changed : goal.invariant_of-self-in-Changed
+invariant_of-self-in-Changed c = ((changed c).core, c.self.invariant.1)
+
+pub returns-in-Changed-clause-ok : goal.returns-in-Changed-clause-ok
+returns-in-Changed-clause-ok c =
+    (changed c).state ∙ ap (λ (parts : Parts). after_submitting c.args.seat c.args.statement.now (state_of parts)) c.self.view_is

@@ -1,0 +1,53 @@
+use Rattle.core_state.specs.Events.{after_event}
+use Rattle.event_core.proofs.TookLemmas.{took-build, took-distribute, took-done}
+use Rattle.event_core.proofs.machine.Core.take_enabled.Goals as goal
+
+pub returns-in_ok-submit-in-Submit-clause-taken : goal.returns-in_ok-submit-in-Submit-clause-taken
+unfolding after_event
+returns-in_ok-submit-in-Submit-clause-taken c = took-done _ _ _ _ c.requires c.in-Submit.is c.in_ok-submit-in-Submit.ensures.ok
+
+pub returns-in-Reserve-clause-taken : goal.returns-in-Reserve-clause-taken
+unfolding after_event
+returns-in-Reserve-clause-taken c = took-done _ _ _ _ c.requires c.in-Reserve.is c.reserve.ensures
+
+pub returns-in-Build-clause-taken : goal.returns-in-Build-clause-taken
+returns-in-Build-clause-taken c = took-build _ _ _ _ _ c.requires c.in-Build.is c.build.ensures
+
+pub returns-in_ok-start-in-Start-clause-taken : goal.returns-in_ok-start-in-Start-clause-taken
+unfolding after_event
+returns-in_ok-start-in-Start-clause-taken c = took-done _ _ _ _ c.requires c.in-Start.is c.in_ok-start-in-Start.ensures.ok
+
+pub returns-in-Cut-clause-taken : goal.returns-in-Cut-clause-taken
+unfolding after_event
+returns-in-Cut-clause-taken c = took-done _ _ _ _ c.requires c.in-Cut.is c.cut.ensures
+
+pub returns-in_ok-take-in-Take-clause-taken : goal.returns-in_ok-take-in-Take-clause-taken
+unfolding after_event
+returns-in_ok-take-in-Take-clause-taken c = took-done _ _ _ _ c.requires c.in-Take.is c.in_ok-take-in-Take.ensures.ok
+
+pub returns-in-Give-clause-taken : goal.returns-in-Give-clause-taken
+unfolding after_event
+returns-in-Give-clause-taken c = took-done _ _ _ _ c.requires c.in-Give.is c.give.ensures
+
+pub returns-in-Distribute-clause-taken : goal.returns-in-Distribute-clause-taken
+returns-in-Distribute-clause-taken c = took-distribute _ _ _ _ c.requires c.in-Distribute.is c.distribute.ensures
+
+pub returns-in-Finish-clause-taken : goal.returns-in-Finish-clause-taken
+unfolding after_event
+returns-in-Finish-clause-taken c = took-done _ _ _ _ c.requires c.in-Finish.is c.finish.ensures
+
+pub returns-in_ok-clear-in-Clear-clause-taken : goal.returns-in_ok-clear-in-Clear-clause-taken
+unfolding after_event
+returns-in_ok-clear-in-Clear-clause-taken c = took-done _ _ _ _ c.requires c.in-Clear.is c.in_ok-clear-in-Clear.ensures.ok
+
+pub returns-in-Release-clause-taken : goal.returns-in-Release-clause-taken
+unfolding after_event
+returns-in-Release-clause-taken c = took-done _ _ _ _ c.requires c.in-Release.is c.release.ensures
+
+pub returns-in-Reorder-clause-taken : goal.returns-in-Reorder-clause-taken
+unfolding after_event
+returns-in-Reorder-clause-taken c = took-done _ _ _ _ c.requires c.in-Reorder.is c.reorder.ensures
+
+pub returns-in-Abandon-clause-taken : goal.returns-in-Abandon-clause-taken
+unfolding after_event
+returns-in-Abandon-clause-taken c = took-done _ _ _ _ c.requires c.in-Abandon.is c.abandon.ensures

@@ -1,0 +1,89 @@
+use Rattle.std.proofs.Common.{◌≡◌, Some, None, option_map, slice_get, refl, ap, sym, ◌∙◌, subst}
+use Rattle.std.specs.Prelude.{IfSome}
+use Rattle.core_state.specs.Answers.{IsRight}
+use Rattle.core_state.specs.Submitting.{after_taking, next_ready, seat_at}
+use Rattle.core_parts.specs.Asked.{AreRising}
+use Rattle.event_core.specs.Changes.{statements_at}
+use Rattle.event_core.specs.Core.{Becomes}
+use Rattle.event_core.specs.Parts.{Parts, parts_by}
+use Rattle.event_core.specs.Replies.{ready_of}
+use Rattle.event_core.specs.Seen.{state_of}
+use Rattle.event_core.specs.Taking.{next_number, snapshot_for}
+use Rattle.event_core.proofs.AskedKeptLemmas.{asked-rise}
+use Rattle.event_core.proofs.ReplyEventLemmas.{reply-becomes, reply-nothing, reply-ready, reply-right}
+use Rattle.event_core.proofs.SeatPlaceLemmas.{seat-read, seat-there, statements_in}
+use Rattle.event_core.proofs.machine.Core.take_reply_of.Goals as goal
+
+pub returns-in_err-number-clause-ready : goal.returns-in_err-number-clause-ready
+returns-in_err-number-clause-ready c =
+    let low = seat-there _ _ c.self.inside.seats c.args.seat c.self.view_is refl c.requires in
+    let statements = seat-read c.self.inside.seats c.as_slice.result.now c.args.seat c.index-as_slice-seat.result c.as_slice.ensures low
+    c.index-as_slice-seat.is in
+    let none : next_number c.self.inside.manager (statements_at (statements_in c.self.inside.seats) c.args.seat) ≡ None =
+    ap (next_number c.self.inside.manager) (sym statements) ∙ sym c.next_number.ensures ∙ c.in_err-number.was in
+    ap (option_map ready_of) c.from_residual.ensures
+    ∙ sym (subst (λ seen. next_ready (state_of seen) c.args.seat ≡ None) c.self.view_is
+    (reply-nothing c.taken_replies_follow_the_core.ensures.nothing c.taken_replies_follow_the_core.ensures.open _ c.args.seat
+    c.self.invariant.0 none))
+
+pub snapshot_of-snapshot-requires : goal.snapshot_of-snapshot-requires
+snapshot_of-snapshot-requires c = subst AreRising (sym c.as_slice-2.ensures) (asked-rise _ c.self.invariant.0)
+
+pub take_kept-groups-requires : goal.take_kept-groups-requires
+take_kept-groups-requires c = asked-rise _ c.self.invariant.0
+
+-- the parts before, and what is known of them
+abbrev before : (c : goal.After-ready_with) → Parts
+before c = parts_by c.self.inside.settings c.self.inside.store c.self.inside.log c.self.inside.seats c.self.inside.asked
+    c.self.inside.manager c.self.inside.filters c.self.inside.scan c.self.inside.distributor c.self.inside.flights
+    c.self.inside.pool c.self.inside.cut c.self.inside.last_statement c.self.inside.last_batch c.self.inside.last_version
+
+found : (c : goal.After-ready_with)
+    → next_number (before c).lives (statements_at (before c).seats c.args.seat) ≡ Some c.in_ok-number.number
+found c =
+    let low = seat-there (before c) c.args.self.now c.self.inside.seats c.args.seat c.self.view_is refl c.requires in
+    let statements = seat-read c.self.inside.seats c.as_slice.result.now c.args.seat c.index-as_slice-seat.result c.as_slice.ensures low
+    c.index-as_slice-seat.is in
+    ap (next_number c.self.inside.manager) (sym statements) ∙ sym c.next_number.ensures ∙ c.in_ok-number.was
+
+ready : (c : goal.After-ready_with) → next_ready (state_of (before c)) c.args.seat ≡ Some (ready_of c.ready_with.result)
+ready c =
+    reply-ready c.taken_replies_follow_the_core.ensures.closed (before c) c.args.seat c.in_ok-number.number c.snapshot_of-snapshot.result
+    c.take_kept-groups.result c.take_first-standing.result (ready_of c.ready_with.result) c.self.invariant.0 (record {
+      number_is = found c;
+      snapshot_is = c.snapshot_of-snapshot.ensures ∙ ap (λ asked. snapshot_for asked c.in_ok-number.number) c.as_slice-2.ensures;
+      groups_are = c.take_kept-groups.ensures.groups;
+      standing_is = c.take_first-standing.ensures.first;
+      ready_is = c.ready_with.ensures;
+    })
+
+becomes : (c : goal.After-ready_with) → Becomes
+    (record (before c) { seats = statements_in c.take_first-standing.new.seats; asked = c.take_kept-groups.new.asked.items })
+    (after_taking c.args.seat (state_of (before c)))
+becomes c =
+    reply-becomes c.taken_replies_follow_the_core.ensures.done (before c) c.args.seat c.in_ok-number.number (ready_of c.ready_with.result)
+    (statements_in c.take_first-standing.new.seats) c.take_kept-groups.new.asked.items c.self.invariant.0 (found c) (ready c) (record {
+      seat_takes = c.take_first-standing.ensures.taken;
+      others_stay = c.take_first-standing.ensures.others;
+      asked_are = ap (λ asked. asked.items) c.take_kept-groups.ensures.left;
+    })
+
+pub invariant_of-self : goal.invariant_of-self
+invariant_of-self c = ((becomes c).core, c.self.invariant.1)
+
+pub returns-clause-ready : goal.returns-clause-ready
+returns-clause-ready c =
+    sym (subst (λ seen. next_ready (state_of seen) c.args.seat ≡ Some (ready_of c.ready_with.result)) c.self.view_is (ready c))
+
+pub returns-clause-taken : goal.returns-clause-taken
+returns-clause-taken c = λ some. (becomes c).state ∙ ap (λ seen. after_taking c.args.seat (state_of seen)) c.self.view_is
+
+pub returns-clause-right : goal.returns-clause-right
+returns-clause-right c =
+    subst (λ seen. IfSome (slice_get (seat_at (state_of seen) c.args.seat).pending 0)
+    (λ pending. IsRight (state_of seen) pending.statement pending.awaited (ready_of c.ready_with.result))) c.self.view_is
+    (reply-right c.a_reply_that_may_be_taken_is_right.ensures.right (before c) c.args.seat (ready_of c.ready_with.result) c.self.invariant.0
+    (ready c))
+
+pub returns-clause-sound : goal.returns-clause-sound
+returns-clause-sound c = (becomes c).core.sound

@@ -1,0 +1,10 @@
+use Rattle.std.proofs.Common.{◌∙◌, ap}
+use Rattle.event_core.specs.Changes.{with_filters_for}
+use Rattle.event_core.proofs.EventsSubmitLemmas.{filters-first}
+use Rattle.event_core.proofs.statements.filter_for.Goals as goal
+
+pub returns-in-DeclaresFact : goal.returns-in-DeclaresFact
+returns-in-DeclaresFact c = λ parts schema lives filters version.
+    ap (λ kind. with_filters_for kind parts) c.in-DeclaresFact.is
+    ∙ filters-first parts c.args.schema.now c.args.manager.now c.set_filters.new.self c.referenced.result c.dimensions.result c.count.result
+    schema lives c.referenced.ensures c.dimensions.ensures c.set_filters.ensures c.count.ensures

@@ -1,0 +1,8 @@
+-- The parts of a core in code, the state that they stand for, and what holds of them.
+pub mod Parts
+pub mod Seen
+pub mod Core
+pub mod Replies
+pub mod Took
+pub mod Changes
+pub mod Taking

@@ -1,0 +1,55 @@
+-- What a core has become where it took an event.
+use Rattle.std.specs.Prelude.{◌≡◌, ◌⊎◌, List, [], ◌∷◌, ℕ}
+use Rattle.core_state.specs.Events.{AreFed, IsEnabled, after_event, after_want}
+use Rattle.core_state.specs.State.{State}
+use Rattle.core_state.specs.Steps.{Step, Done, Wanting, Replying, MayStepAll, after_steps}
+use Rattle.core_state.specs.declared.event.Event.{Event}
+use Rattle.core_state.specs.declared.event.Event.TheVariants.{Submit, Reserve, Build, Start, Cut, Take, Give, Distribute, Finish, Clear, Release, Reorder, Abandon}
+
+-- at an event queries found no memory: the query that is built, or some of those that get rows of the batch
+abbrev pub IsSpoilt : Event → (old new : State) → Type 0
+IsSpoilt (Submit seat statement) old new = ⊥
+IsSpoilt (Reserve query slot) old new = ⊥
+IsSpoilt (Build query dimension) old new = new ≡ after_want (Build query dimension) [] old
+IsSpoilt (Start query) old new = ⊥
+IsSpoilt Cut old new = ⊥
+IsSpoilt (Take worker batch) old new = ⊥
+IsSpoilt (Give worker) old new = ⊥
+IsSpoilt (Distribute batch) old new =
+    (spoiled : List ℕ) × AreFed batch spoiled old × (new ≡ after_want (Distribute batch) spoiled old)
+IsSpoilt (Finish slot) old new = ⊥
+IsSpoilt (Clear slot dimension) old new = ⊥
+IsSpoilt (Release slot) old new = ⊥
+IsSpoilt Reorder old new = ⊥
+IsSpoilt (Abandon query) old new = ⊥
+
+-- the event was done, or queries found no memory at it
+abbrev pub IsAfter : Event → (old new : State) → Type 0
+IsAfter event old new = (new ≡ after_event event old) ⊎ IsSpoilt event old new
+
+-- the event was taken: it might come, and was done as far as there was memory
+pub record Took (event : Event) (old new : State) : Type 0 where
+  pub enabled : IsEnabled old event
+  pub after : IsAfter event old new
+
+-- events were taken, one after the other
+abbrev pub TookAll : List Event → (old new : State) → Type 0
+TookAll [] old new = new ≡ old
+TookAll (event ∷ events) old new = (next : State) × Took event old next × TookAll events next new
+
+-- the event of a step, if it is one
+abbrev pub IsOf : Event → Step → Type 0
+IsOf event (Done other) = other ≡ event
+IsOf event (Wanting other spoiled) = other ≡ event
+IsOf event (Replying seat) = ⊥
+
+-- the steps are those of the events, in turn
+abbrev pub AreOf : List Event → List Step → Type 0
+AreOf [] [] = Unit {0}
+AreOf [] (step ∷ steps) = ⊥
+AreOf (event ∷ events) [] = ⊥
+AreOf (event ∷ events) (step ∷ steps) = IsOf event step × AreOf events steps
+
+-- steps of these events, each of which might come, lead from one state to the other
+abbrev pub StepsFor : List Event → (old new : State) → Type 0
+StepsFor events old new = (steps : List Step) × (MayStepAll old steps × (AreOf events steps × (new ≡ after_steps steps old)))

@@ -1,0 +1,11 @@
+//! What holds of every list of events that a core took.
+ghost use Rattle.std.specs.Prelude.{List};
+ghost use Rattle.core_state.specs.State.{State};
+ghost use Rattle.core_state.specs.declared.event.Event.{Event};
+ghost use Rattle.event_core.specs.Took.{StepsFor, TookAll};
+
+/// Events that a core took are steps of the core, each of which might come, and lead to the same state. So all that holds
+/// of every list of steps holds of them.
+pub fn taken_events_are_steps()
+    ensures { (events : List Event) (old new : State) → TookAll events old new → StepsFor events old new }
+{}

@@ -1,0 +1,26 @@
+//! The core of the shared scan in code: what each event makes of it. When an event may come, and what it changes, is
+//! defined in `core_state`.
+#![tactic(auto)]
+
+mod batches;
+mod enabling;
+mod filtering;
+mod laws_of_batches;
+mod laws_of_core;
+mod laws_of_distribution;
+mod laws_of_filters;
+mod laws_of_slots;
+mod laws_of_statements;
+mod laws_of_steps;
+mod logged;
+mod machine;
+mod replies;
+mod slots;
+mod spoiling;
+mod statements;
+mod stepping;
+
+pub use laws_of_steps::taken_events_are_steps;
+pub use machine::Core;
+pub use replies::Ready;
+pub use stepping::{EventsFault, StepFault};

@@ -1,0 +1,196 @@
+//! The core and its parts. What each event makes of them is in the files beside this one.
+ghost use Rattle.std.specs.Prelude.{◌≡◌, ◌↔◌, IsTrue, false, ℕ, ◌<◌, length, map, find, option_map, replicate, [], Some, IfOk, IsSome};
+ghost use Rattle.std.specs.Option.{option_map_or};
+ghost use Rattle.bit_words.specs.Sets.{Has};
+ghost use Rattle.pipeline_manager.specs.Conditions.{is_open};
+ghost use Rattle.pipeline_manager.specs.Lives.{life_of};
+ghost use Rattle.core_state.specs.Settings.{AreWithin};
+ghost use Rattle.core_state.specs.Sound.{IsSound, empty_core};
+ghost use Rattle.core_state.specs.Submitting.{seat_at};
+ghost use Rattle.core_state.specs.Tables.{tables_of};
+ghost use Rattle.core_parts.specs.Filters.{tally_at};
+ghost use Rattle.event_core.specs.Replies.{first_open};
+ghost use Rattle.event_core.specs.Seen.{state_of};
+
+use crate::enabling::has;
+use crate::laws_of_core::a_new_core_is_empty;
+use crate::logged::Logged;
+use continuous_scan::Scan;
+use core_parts::{Asked, Filters, Flights, Seat};
+use core_state::RunSettings;
+use distributor::Distributor;
+use filter_order::Tally;
+use frame_pool::Pool;
+use pipeline_manager::{Life, Manager};
+use star_lists::{ListOf, ListWithRoom};
+use star_store::Store;
+use star_values::NoMemory;
+use std::alloc::Global;
+use std::marker::Model;
+
+/// The core of the shared scan: the tables, the queries that were asked of them, and the scan that gives rows to those
+/// that run.
+#[derive(Debug, Drop)]
+pub struct Core {
+    pub(crate) alloc: Global,
+    pub(crate) settings: RunSettings,
+    pub(crate) store: Store,
+
+    /// The kinds of the changes that led to the tables.
+    pub(crate) log: ListWithRoom<Logged>,
+    pub(crate) seats: ListOf<Seat>,
+
+    /// The accepted queries. Their numbers rise.
+    pub(crate) asked: ListWithRoom<Asked>,
+
+    /// Their lives, and which of them holds which slot.
+    pub(crate) manager: Manager,
+    pub(crate) filters: Filters,
+    pub(crate) scan: Scan,
+
+    /// At the slot of each query that runs or is ending, the groups of its rows.
+    pub(crate) distributor: Distributor,
+    pub(crate) flights: Flights,
+
+    /// The frames that no batch is in.
+    pub(crate) pool: Pool,
+
+    /// How many positions were cut in all. It stays at its greatest value.
+    pub(crate) cut: u64,
+
+    /// The last numbers that were given.
+    pub(crate) last_statement: u64,
+    pub(crate) last_batch: u64,
+    pub(crate) last_version: u64,
+}
+
+impl Model for Core {
+    ghost use Rattle.event_core.specs.Parts.{Parts, parts_by};
+    ghost use Rattle.event_core.specs.Core.{IsCore, HasRoom};
+
+    ghost Value = { Parts };
+
+    ghost use Rattle.star_plan.specs.contracts.star_query.StarQuery as star_query;
+    ghost use Rattle.std.specs.Coded.{codes};
+
+    ghost coded = { Prim.hlevel (codes, star_query.the_row.coded) };
+
+    ghost view = { λ core. parts_by core.settings core.store core.log core.seats core.asked core.manager core.filters core.scan
+        core.distributor core.flights core.pool core.cut core.last_statement core.last_batch core.last_version };
+
+    ghost invariant = { λ core.
+        IsCore (parts_by core.settings core.store core.log core.seats core.asked core.manager core.filters core.scan
+        core.distributor core.flights core.pool core.cut core.last_statement core.last_batch core.last_version)
+        × HasRoom core.settings core.flights };
+}
+
+impl Core {
+    /// A core of these settings, with no tables. All frames are made.
+    pub fn new(alloc: Global, settings: RunSettings) -> Result<Core, NoMemory>
+        requires { AreWithin settings }
+        ensures { IfOk result (λ core. state_of core ≡ empty_core settings) }
+    {
+        a_new_core_is_empty();
+        let frames = 2 * settings.workers as usize + 8;
+        let words = 16 + settings.batch as usize * 16;
+        Ok(Core {
+            alloc,
+            settings,
+            store: Store::new(alloc),
+            log: ListWithRoom::new(alloc),
+            seats: empty_seats(alloc, settings.seats)?,
+            asked: ListWithRoom::new(alloc),
+            manager: Manager::new(alloc, settings.slots, 0)?,
+            filters: Filters::new(alloc),
+            scan: Scan::new(alloc, settings.slots)?,
+            distributor: Distributor::new(alloc, settings.slots)?,
+            flights: Flights::new(alloc, frames)?,
+            pool: Pool::new(alloc, frames, words)?,
+            cut: 0,
+            last_statement: 0,
+            last_batch: 0,
+            last_version: 0,
+        })
+    }
+
+    /// The life of a query, or `None` where no query has this number.
+    pub fn life(&self, query: u64) -> Option<Life>
+        ensures life { result ≡ life_of (state_of self.now).lives query }
+        ensures sound { IsSound (state_of self.now) }
+    {
+        self.manager.life(query)
+    }
+
+    /// Whether there is a seat of this number.
+    pub fn has_seat(&self, seat: u32) -> bool
+        ensures { IsTrue result ↔ (seat < length (state_of self.now).seats) }
+    {
+        (seat as usize) < self.seats.len()
+    }
+
+    /// The seat's earliest query that is Waiting, Building, Running or Ending. A seat that is not there has none.
+    pub fn first_pending(&self, seat: u32) -> Option<u64>
+        ensures { result ≡ first_open (state_of self.now).lives (seat_at (state_of self.now) seat) }
+    {
+        if self.has_seat(seat) {
+            self.first_open_of(seat)
+        } else {
+            None
+        }
+    }
+
+    /// The earliest query of a seat that is there.
+    fn first_open_of(&self, seat: u32) -> Option<u64>
+        requires { seat < length (state_of self.now).seats }
+        ensures { result ≡ first_open (state_of self.now).lives (seat_at (state_of self.now) seat) }
+    {
+        self.seats.as_slice()[seat as usize].first_open(&self.manager)
+    }
+
+    /// Whether a dimension has a filter.
+    pub fn is_filter(&self, dimension: u8) -> bool
+        ensures { IsTrue result ↔ Has (state_of self.now).lives.filters dimension }
+    {
+        has(self.manager.filters(), dimension)
+    }
+
+    /// What the filter of a dimension did so far. The dimension has a filter.
+    pub fn tally(&self, dimension: u8) -> Tally
+        requires { Has (state_of self.now).lives.filters dimension }
+        ensures { Some result ≡ tally_at (state_of self.now).filters dimension }
+    {
+        self.filters.tally(dimension)
+    }
+
+    /// How many commits there were.
+    pub fn commits(&self) -> u64
+        ensures { result ≡ (tables_of (state_of self.now)).commits }
+    {
+        self.store.commits()
+    }
+
+    /// How many batches are idle or in a hand.
+    pub fn batch_count(&self) -> u32
+        ensures { result ≡ length (state_of self.now).scan.flights }
+    {
+        self.flights.as_slice().len() as u32
+    }
+
+    /// How many positions all cuts held together. It stays at its greatest value.
+    pub fn positions_cut(&self) -> u64
+        ensures { result ≡ (state_of self.now).scan.cut }
+    {
+        self.cut
+    }
+}
+
+/// So many seats that submitted nothing.
+fn empty_seats(alloc: Global, count: u32) -> Result<ListOf<Seat>, NoMemory>
+    ensures { IfOk result (λ seats. map (λ seat. seat.items) seats ≡ replicate count []) }
+{
+    let mut seats = ListOf::new(alloc);
+    'seats: for _ in 0..count {
+        seats.push(Seat::new(alloc))?;
+    }
+    Ok(seats)
+}

@@ -1,0 +1,146 @@
+//! How a reply is taken.
+ghost use Rattle.std.specs.Prelude.{◌≡◌, ◌<◌, ℕ, List, length, find, map, option_map, slice_get, slice_set, IsSome, IfSome, None};
+ghost use Rattle.core_state.specs.Answers.{IsRight};
+ghost use Rattle.core_state.specs.Sound.{IsSound};
+ghost use Rattle.core_state.specs.Submitting.{after_taking, next_ready, seat_at, with_taken};
+ghost use Rattle.core_parts.specs.Asked.{AreRising};
+ghost use Rattle.event_core.specs.Changes.{statements_at};
+ghost use Rattle.core_parts.specs.Known.{Known};
+ghost use Rattle.event_core.specs.Replies.{IsReplyOf, ready_of};
+ghost use Rattle.core_parts.specs.Seats.{is_waited, seat_as};
+ghost use Rattle.event_core.specs.Seen.{state_of};
+ghost use Rattle.event_core.specs.Taking.{may_be_taken, next_number, ready_with, snapshot_for};
+
+use crate::laws_of_statements::taken_replies_follow_the_core;
+use crate::machine::Core;
+use aggregations::Groups;
+use core_parts::{Asked, Seat, Standing, Submitted, may_be_answered, queries};
+use core_state::a_reply_that_may_be_taken_is_right;
+use pipeline_manager::Manager;
+use reply_text::Reply;
+use star_lists::ListOf;
+use star_plan::Answer;
+use star_values::NoMemory;
+
+/// A reply that was taken.
+#[derive(Debug, Drop)]
+pub enum Ready {
+    Whole(Reply),
+
+    /// The groups of an answered query, whose answer is its reply.
+    Grouped { snapshot: u64, groups: Groups },
+}
+
+impl Core {
+    /// Takes the next reply of a seat, in the order of its statements. `None` where the seat waits for nothing, as one that is
+    /// not there, or the first statement that it waits for is a query that may still be answered. No memory is taken.
+    pub fn take_reply(&mut self, seat: u32) -> Option<Ready>
+        ensures ready { option_map ready_of result ≡ next_ready (state_of self.old) seat }
+        ensures taken { IsSome result → state_of self.new ≡ after_taking seat (state_of self.old) }
+        ensures none { result ≡ None → self.new ≡ self.old }
+        ensures right { IfSome result (λ ready. IfSome (slice_get (seat_at (state_of self.old) seat).pending 0)
+            (λ pending. IsRight (state_of self.old) pending.statement pending.awaited (ready_of ready))) }
+        ensures sound { IsSound (state_of self.new) }
+    {
+        let _ = &self.settings;
+        if self.has_seat(seat) {
+            self.take_reply_of(seat)
+        } else {
+            None
+        }
+    }
+
+    /// The same of a seat that is there.
+    fn take_reply_of(&mut self, seat: u32) -> Option<Ready>
+        requires { seat < length (state_of self.old).seats }
+        ensures ready { option_map ready_of result ≡ next_ready (state_of self.old) seat }
+        ensures taken { IsSome result → state_of self.new ≡ after_taking seat (state_of self.old) }
+        ensures none { result ≡ None → self.new ≡ self.old }
+        ensures right { IfSome result (λ ready. IfSome (slice_get (seat_at (state_of self.old) seat).pending 0)
+            (λ pending. IsRight (state_of self.old) pending.statement pending.awaited (ready_of ready))) }
+        ensures sound { IsSound (state_of self.new) }
+    {
+        taken_replies_follow_the_core();
+        a_reply_that_may_be_taken_is_right();
+        let number = next_number(&self.seats.as_slice()[seat as usize], &self.manager)?;
+        let snapshot = snapshot_of(self.asked.as_slice(), number);
+        let groups = queries::take_kept(&mut self.asked, number);
+        let standing = take_first(&mut self.seats, seat as usize);
+        Some(ready_with(standing, snapshot, groups))
+    }
+}
+
+/// The number of the first statement that a seat waits for, unless that is a query that may still be answered.
+fn next_number(seat: &Seat, manager: &Manager) -> Option<u64>
+    ensures { result ≡ next_number manager.now seat.now.items }
+{
+    let first = seat.first()?;
+    if may_be_taken(first, manager) {
+        Some(first.number)
+    } else {
+        None
+    }
+}
+
+/// Whether the reply to a statement that is waited for may be taken.
+fn may_be_taken(submitted: &Submitted, manager: &Manager) -> bool
+    ensures { result ≡ may_be_taken manager.now submitted.now.number submitted.now.standing }
+{
+    match submitted.standing {
+        Standing::IsAsked => !may_be_answered(submitted.number, manager),
+        _ => true,
+    }
+}
+
+/// The snapshot of an accepted query, 0 where none has this number.
+fn snapshot_of(asked: &[Asked], query: u64) -> u64
+    requires { AreRising asked.now }
+    ensures { result ≡ snapshot_for asked.now query }
+{
+    match queries::place_of(asked, query) {
+        None => 0,
+        Some(place) => asked[place].snapshot(),
+    }
+}
+
+/// Takes the reply to the first statement that a seat waits for, and gives how that statement stood.
+fn take_first(seats: &mut ListOf<Seat>, seat: usize) -> Standing
+    requires there { seat < length seats.old }
+    requires waited { IsSome (find (λ submitted. is_waited submitted.standing)
+        (statements_at (map (λ seat. seat.items) seats.old) seat)) }
+    ensures first { IfSome (find (λ submitted. is_waited submitted.standing)
+        (statements_at (map (λ seat. seat.items) seats.old) seat)) (λ submitted. submitted.standing ≡ result) }
+    ensures taken { (known : List Known) → seat_as known (statements_at (map (λ seat. seat.items) seats.new) seat)
+        ≡ with_taken (seat_as known (statements_at (map (λ seat. seat.items) seats.old) seat)) }
+    ensures others { map (λ seat. seat.items) seats.new ≡ slice_set (map (λ seat. seat.items) seats.old) seat
+        (statements_at (map (λ seat. seat.items) seats.new) seat) }
+{
+    seats.as_mut_slice()[seat].take()
+}
+
+/// The reply to a statement that stood so, where this was kept beside its query.
+fn ready_with(standing: Standing, snapshot: u64, groups: Option<Groups>) -> Ready
+    ensures { ready_of result ≡ ready_with standing snapshot groups }
+{
+    match (standing, groups) {
+        (Standing::Waits(reply), _) => Ready::Whole(reply),
+        (_, Some(groups)) => Ready::Grouped { snapshot, groups },
+        (_, None) => Ready::Whole(Reply::Memory),
+    }
+}
+
+impl Ready {
+    /// The reply itself. Where the rows of an answer find no memory, it is `memory`.
+    pub fn into_reply(self) -> Reply
+        ensures { IsReplyOf self result }
+    {
+        match self {
+            Ready::Whole(reply) => reply,
+            Ready::Grouped { snapshot, groups } => match groups.finish() {
+                Ok(Answer::Rows(rows)) => Reply::Answer { snapshot, rows },
+                Ok(Answer::Overflow) => Reply::Overflow { snapshot },
+                Err(NoMemory) => Reply::Memory,
+            },
+        }
+    }
+}

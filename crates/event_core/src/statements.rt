@@ -1,0 +1,204 @@
+//! How a statement is submitted.
+ghost use Rattle.std.specs.Prelude.{◌≡◌, ◌<◌, ◌≤◌, [], ◌∷◌, ◌++◌, All, length, map, slice_index_or, slice_set, Some, true, OnOk, OnErr};
+ghost use Rattle.std.specs.List.{range_with_len};
+ghost use Rattle.script_reader.specs.declared.statement.Statement.{Statement};
+ghost use Rattle.star_history.specs.History.{Change};
+ghost use Rattle.star_history.specs.Keyed.{IsKeyed, plain};
+ghost use Rattle.star_history.specs.Settled.{IsSettled};
+ghost use Rattle.star_lists.specs.Roomy.{Roomy};
+ghost use Rattle.star_statement.specs.Applied.{Follows};
+ghost use Rattle.star_statement.specs.Kinds.{kind_of_change};
+ghost use Rattle.star_statement.specs.Outcome.{outcome_of};
+ghost use Rattle.star_statement.specs.declared.applied.ChangeKind.TheVariants.{DeclaresFact};
+ghost use Rattle.pipeline_manager.specs.Changes.{after_submit};
+ghost use Rattle.pipeline_manager.specs.Conditions.{IsNew};
+ghost use Rattle.pipeline_manager.specs.declared.life.SlotState.TheVariants.{Free};
+ghost use Rattle.core_state.specs.Submitting.{after_submitting};
+ghost use Rattle.core_state.specs.Tables.{tables_of};
+ghost use Rattle.core_parts.specs.declared.submitted.Submitted.{Submitted};
+ghost use Rattle.event_core.specs.Changes.{statements_at, with_filters_for};
+ghost use Rattle.event_core.specs.Core.{IsCore};
+ghost use Rattle.core_parts.specs.Filters.{first_filters};
+ghost use Rattle.event_core.specs.Parts.{Parts};
+ghost use Rattle.core_parts.specs.Seats.{is_waited};
+ghost use Rattle.event_core.specs.Seen.{state_of};
+
+use crate::laws_of_statements::submissions_follow_the_core;
+use crate::logged::Logged;
+use crate::machine::Core;
+use core_parts::{Asked, Filters, Seat, Standing};
+use core_state::outcomes_fit_the_tables;
+use pipeline_manager::Manager;
+use script_reader::Statement;
+use star_history::accepted_histories_are_settled;
+use star_lists::{ListOf, ListWithRoom};
+use star_plan::Schema;
+use star_statement::{Applied, ChangeKind, apply};
+use star_store::Store;
+use star_values::NoMemory;
+use std::alloc::Global;
+
+impl Core {
+    /// A seat submits a statement. Where no memory is left, or no number for one statement more, nothing has changed.
+    pub(crate) fn submit(&mut self, seat: u32, statement: &Statement) -> Result<(), NoMemory>
+        requires { seat < length (state_of self.old).seats }
+        ensures ok { OnOk result (state_of self.new ≡ after_submitting seat statement.now (state_of self.old)) }
+        ensures err { OnErr result (self.new ≡ self.old) }
+    {
+        submissions_follow_the_core();
+        a_declared_fact_table_finds_free_slots();
+        let Some(number) = self.last_statement.checked_add(1) else {
+            return Err(NoMemory);
+        };
+        // All that a change of the tables needs is there before it is made: after it nothing may fail.
+        make_room(&mut self.seats, seat, &mut self.log, &mut self.asked)?;
+        let all = Filters::of_all(self.alloc)?;
+        match apply_to(self.alloc, &mut self.store, statement)? {
+            Applied::Replied(reply) => {
+                stand(&mut self.seats, seat, number, Standing::Waits(reply));
+                self.last_statement = number;
+                Ok(())
+            }
+            Applied::Changed { kind, reply } => {
+                self.log.push_reserved(Logged {
+                    seat,
+                    statement: number,
+                    kind,
+                });
+                filter_for(
+                    kind,
+                    all,
+                    self.store.schema(),
+                    &mut self.filters,
+                    &mut self.manager,
+                    &mut self.last_version,
+                );
+                stand(&mut self.seats, seat, number, Standing::Waits(reply));
+                self.last_statement = number;
+                Ok(())
+            }
+            Applied::Accepted { query, snapshot } => {
+                let asked = Asked::new(self.alloc, number, seat, query, snapshot)?;
+                let extent = self.store.facts().len();
+                accept(&mut self.asked, &mut self.manager, asked, extent)?;
+                stand(&mut self.seats, seat, number, Standing::IsAsked);
+                self.last_statement = number;
+                Ok(())
+            }
+        }
+    }
+}
+
+/// Where the change of a statement declares the fact table, no slot is held.
+fn a_declared_fact_table_finds_free_slots()
+    ensures { (parts : Parts) (statement : Statement) (change : Change) → IsCore parts →
+        (outcome_of (tables_of (state_of parts)) statement).change ≡ Some change → kind_of_change change ≡ DeclaresFact →
+        All (λ slot. slot ≡ Free) parts.lives.slots }
+{
+    outcomes_fit_the_tables();
+    accepted_histories_are_settled();
+}
+
+/// Makes room for a statement more of a seat, for a change more, and for a query more.
+fn make_room(
+    seats: &mut ListOf<Seat>,
+    seat: u32,
+    log: &mut ListWithRoom<Logged>,
+    asked: &mut ListWithRoom<Asked>,
+) -> Result<(), NoMemory>
+    requires { seat < length seats.old }
+    ensures statements { map (λ seat. seat.items) seats.new ≡ map (λ seat. seat.items) seats.old }
+    ensures changes { log.new.items ≡ log.old.items }
+    ensures queries { asked.new.items ≡ asked.old.items }
+    ensures for_statement { OnOk result ((d : Roomy Submitted) → 0 < (slice_index_or seats.new seat d).room) }
+    ensures for_change { OnOk result (0 < log.new.room) }
+    ensures for_query { OnOk result (0 < asked.new.room) }
+{
+    log.reserve(1)?;
+    asked.reserve(1)?;
+    reserve_at(seats, seat)
+}
+
+/// Makes room for a statement more of a seat.
+fn reserve_at(seats: &mut ListOf<Seat>, seat: u32) -> Result<(), NoMemory>
+    requires { seat < length seats.old }
+    ensures statements { map (λ seat. seat.items) seats.new ≡ map (λ seat. seat.items) seats.old }
+    ensures room { OnOk result ((d : Roomy Submitted) → 0 < (slice_index_or seats.new seat d).room) }
+{
+    seats.as_mut_slice()[seat as usize].reserve()
+}
+
+/// Puts a statement behind the others of a seat, into room that was made. It is waited for.
+fn stand(seats: &mut ListOf<Seat>, seat: u32, number: u64, standing: Standing)
+    requires there { seat < length seats.old }
+    requires room { (d : Roomy Submitted) → 0 < (slice_index_or seats.old seat d).room }
+    requires waited { is_waited standing ≡ true }
+    ensures { map (λ seat. seat.items) seats.new ≡ slice_set (map (λ seat. seat.items) seats.old) seat
+        (statements_at (map (λ seat. seat.items) seats.old) seat ++ record { number = number; standing = standing } ∷ []) }
+{
+    seats.as_mut_slice()[seat as usize].submit(number, standing);
+}
+
+/// Does what a statement says to the tables, whose key numbers stay right.
+fn apply_to(alloc: Global, store: &mut Store, statement: &Statement) -> Result<Applied, NoMemory>
+    ensures follows { Follows store.old store.new result (outcome_of (plain store.old) statement.now) }
+    ensures keyed { IsKeyed store.new }
+    ensures settled { IsSettled (plain store.new) }
+{
+    let applied = apply(alloc, store, statement);
+    // This call is here for what it ensures of the tables.
+    store.facts();
+    applied
+}
+
+/// Makes the filters that a change of a kind asks for, out of those for all dimensions.
+fn filter_for(
+    kind: ChangeKind,
+    all: Filters,
+    schema: &Schema,
+    filters: &mut Filters,
+    manager: &mut Manager,
+    last_version: &mut u64,
+)
+    requires all { all ≡ first_filters (range_with_len 0 8) }
+    requires few { length schema.now.dimensions ≤ 8 }
+    requires quiet { kind ≡ DeclaresFact → All (λ slot. slot ≡ Free) manager.old.slots }
+    ensures { (parts : Parts) → parts.tables.schema ≡ schema.now → parts.lives ≡ manager.old →
+        parts.filters ≡ filters.old → parts.numbers.version ≡ last_version.old →
+        with_filters_for kind parts ≡ record parts {
+          lives = manager.new;
+          filters = filters.new;
+          numbers = record parts.numbers { version = last_version.new };
+        } }
+{
+    match kind {
+        ChangeKind::DeclaresFact => {
+            *filters = all.referenced(schema);
+            manager.set_filters(filters.dimensions());
+            *last_version = filters.count() as u64;
+        }
+        ChangeKind::DeclaresDimension => {}
+        ChangeKind::Loads(_) => {}
+        ChangeKind::Ends => {}
+    }
+}
+
+/// Puts a query behind the others that were accepted, into room that was made. It waits, and the scan gives it this many
+/// positions.
+fn accept(
+    asked: &mut ListWithRoom<Asked>,
+    manager: &mut Manager,
+    query: Asked,
+    extent: u32,
+) -> Result<(), NoMemory>
+    requires room { 0 < asked.old.room }
+    requires is_new { IsNew query.number manager.old }
+    ensures queries { OnOk result (asked.new.items ≡ asked.old.items ++ query ∷ []) }
+    ensures lives { OnOk result (manager.new ≡ after_submit query.number extent manager.old) }
+    ensures err_queries { OnErr result (asked.new ≡ asked.old) }
+    ensures err_lives { OnErr result (manager.new ≡ manager.old) }
+{
+    manager.submit(query.number(), extent)?;
+    asked.push_reserved(query);
+    Ok(())
+}

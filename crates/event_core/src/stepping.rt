@@ -1,0 +1,109 @@
+//! One event after the other.
+ghost use Rattle.std.specs.Prelude.{◌≡◌, ◌<◌, ◌↔◌, ℕ, List, length, take, IsTrue, IsErrOf, OnOk, OnErr, IfErr};
+ghost use Rattle.core_state.specs.Events.{IsEnabled};
+ghost use Rattle.core_state.specs.Sound.{IsSound};
+ghost use Rattle.event_core.specs.Seen.{state_of};
+ghost use Rattle.event_core.specs.Took.{Took, TookAll};
+
+use crate::machine::Core;
+use core_state::Event;
+use star_values::NoMemory;
+
+/// Why an event was not taken.
+#[derive(Clone, Copy, Debug, PartialEq, Eq)]
+pub enum StepFault {
+    /// It may not come now.
+    NotEnabled,
+
+    /// No memory was left for it.
+    Memory,
+}
+
+impl From<NoMemory> for StepFault {
+    ghost use Rattle.std.specs.Prelude.{◌≡◌};
+    ghost use Rattle.event_core.specs.declared.stepping.StepFault.TheVariants.{Memory};
+
+    ghost from_gives = { λ _ fault. fault ≡ Memory };
+
+    fn from(_none: NoMemory) -> StepFault {
+        StepFault::Memory
+    }
+}
+
+/// Which event of a list was the first that was not taken.
+#[derive(Clone, Copy, Debug, PartialEq, Eq)]
+pub struct EventsFault {
+    /// Its place, from 0.
+    pub at: u64,
+    pub cause: StepFault,
+}
+
+impl Core {
+    /// Takes an event, if it may come. A query that finds no memory as its filter is built, or as its rows are folded, is
+    /// spoiled. Where any other event finds none, nothing has changed.
+    pub fn step(&mut self, event: Event) -> Result<(), StepFault>
+        ensures disabled { IsErrOf result StepFault.NotEnabled ↔ (IsEnabled (state_of self.old) event → ⊥) }
+        ensures taken { OnOk result (Took event (state_of self.old) (state_of self.new)) }
+        ensures err { OnErr result (self.new ≡ self.old) }
+        ensures sound { IsSound (state_of self.new) }
+    {
+        let taken = self.take_if_enabled(event);
+        let _ = &self.settings;
+        taken
+    }
+
+    /// Takes an event, if it may come.
+    fn take_if_enabled(&mut self, event: Event) -> Result<(), StepFault>
+        ensures disabled { IsErrOf result StepFault.NotEnabled ↔ (IsEnabled (state_of self.old) event → ⊥) }
+        ensures taken { OnOk result (Took event (state_of self.old) (state_of self.new)) }
+        ensures err { OnErr result (self.new ≡ self.old) }
+    {
+        if !self.enabled(&event) {
+            return Err(StepFault::NotEnabled);
+        }
+        self.take_enabled(event)?;
+        Ok(())
+    }
+
+    /// Takes an event that may come.
+    fn take_enabled(&mut self, event: Event) -> Result<(), NoMemory>
+        requires { IsEnabled (state_of self.old) event }
+        ensures taken { OnOk result (Took event (state_of self.old) (state_of self.new)) }
+        ensures err { OnErr result (self.new ≡ self.old) }
+    {
+        match event {
+            Event::Submit { seat, statement } => self.submit(seat, &statement)?,
+            Event::Reserve { query, slot } => self.reserve(query, slot),
+            Event::Build { query, dimension } => self.build(query, dimension),
+            Event::Start { query } => self.start(query)?,
+            Event::Cut => self.cut(),
+            Event::Take { worker, batch } => self.take(worker, batch)?,
+            Event::Give { worker } => self.give(worker),
+            Event::Distribute { batch } => self.distribute(batch),
+            Event::Finish { slot } => self.finish(slot),
+            Event::Clear { slot, dimension } => self.clear(slot, dimension)?,
+            Event::Release { slot } => self.release(slot),
+            Event::Reorder => self.reorder(),
+            Event::Abandon { query } => self.abandon(query),
+        }
+        Ok(())
+    }
+
+    /// Takes events, one after the other, up to the first that is not taken.
+    pub fn run_events(&mut self, events: Vec<Event>) -> Result<(), EventsFault>
+        ensures all { OnOk result (TookAll events.items (state_of self.old) (state_of self.new)) }
+        ensures before { IfErr result (λ fault. TookAll (take fault.at events.items) (state_of self.old) (state_of self.new)
+            × (fault.at < length events.items)) }
+        ensures sound { IsSound (state_of self.new) }
+    {
+        let _ = &self.settings;
+        let mut at = 0;
+        'events: for event in events {
+            if let Err(cause) = self.step(event) {
+                return Err(EventsFault { at, cause });
+            }
+            at += 1;
+        }
+        Ok(())
+    }
+}
