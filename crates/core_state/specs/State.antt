@@ -9,7 +9,6 @@ use Rattle.pipeline_manager.specs.Lives.{Lives}
 use Rattle.dimension_filter.specs.Filter.{Filter}
 use Rattle.aggregations.specs.Grouped.{Grouped}
 use Rattle.core_state.specs.declared.settings.RunSettings.{RunSettings}
-
 -- the parts, which are defined where their code is
 pub use Rattle.core_parts.specs.Seated.{Asked, Awaited, Pending, Replied, Seat, Taken}
 pub use Rattle.core_parts.specs.Filtered.{Filters, FilterVersion}
