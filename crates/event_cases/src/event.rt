@@ -1,0 +1,76 @@
+//! How an event is written: its word, and its numbers behind it.
+use crate::words::{Words, byte_of, short_of, words_of};
+use core_state::Event;
+use std::alloc::{AllocError, Global};
+
+/// The event that a line says, if it says one.
+pub(crate) fn event_of(line: &str) -> Option<Event> {
+    match words_of(line)? {
+        Words::Alone(word) => alone(word),
+        Words::WithOne(word, number) => with_one(word, number),
+        Words::WithTwo(word, first, second) => with_two(word, first, second),
+    }
+}
+
+/// The events that a line says, parted by commas, if each part says one.
+pub(crate) fn events_of(alloc: Global, line: &str) -> Result<Option<Vec<Event>>, AllocError> {
+    let mut events = Vec::new(alloc);
+    for part in line.split(',') {
+        match event_of(part) {
+            None => return Ok(None),
+            Some(event) => events.push(event)?,
+        }
+    }
+    Ok(Some(events))
+}
+
+/// The event of a word alone.
+fn alone(word: &str) -> Option<Event> {
+    match word {
+        "cut" => Some(Event::Cut),
+        "reorder" => Some(Event::Reorder),
+        _ => None,
+    }
+}
+
+/// The event of a word and a number.
+fn with_one(word: &str, number: u64) -> Option<Event> {
+    match word {
+        "start" => Some(Event::Start { query: number }),
+        "abandon" => Some(Event::Abandon { query: number }),
+        "distribute" => Some(Event::Distribute { batch: number }),
+        "give" => Some(Event::Give {
+            worker: short_of(number)?,
+        }),
+        "finish" => Some(Event::Finish {
+            slot: short_of(number)?,
+        }),
+        "release" => Some(Event::Release {
+            slot: short_of(number)?,
+        }),
+        _ => None,
+    }
+}
+
+/// The event of a word and two numbers.
+fn with_two(word: &str, first: u64, second: u64) -> Option<Event> {
+    match word {
+        "reserve" => Some(Event::Reserve {
+            query: first,
+            slot: short_of(second)?,
+        }),
+        "build" => Some(Event::Build {
+            query: first,
+            dimension: byte_of(second)?,
+        }),
+        "take" => Some(Event::Take {
+            worker: short_of(first)?,
+            batch: second,
+        }),
+        "clear" => Some(Event::Clear {
+            slot: short_of(first)?,
+            dimension: byte_of(second)?,
+        }),
+        _ => None,
+    }
+}
