@@ -1,10 +1,9 @@
 pub mod AskedLemmas
-pub mod FilterOrderLemmas
-pub mod FilterPlaceLemmas
 pub mod FirstFilterLemmas
 pub mod FlightLemmas
 pub mod NumberLemmas
 pub mod OrderLemmas
+pub mod PassingLemmas
 pub mod PlaceLemmas
 pub mod SeatLemmas
 pub mod TurnLemmas

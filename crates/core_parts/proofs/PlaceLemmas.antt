@@ -1,5 +1,5 @@
--- The first place at which a test passes, and what a list ends as that was lent to be written there.
-use Rattle.std.proofs.Common.{◌≡◌, ℕ, ◌<◌, ◌≤◌, Bool, List, [], ◌∷◌, length, slice_get, Some, None, refl, ap, sym, ◌∙◌, arith, ◌⊎◌, inl, inr}
+-- The first place at which a test passes, what is found there, and what a list ends as that was lent to be written there.
+use Rattle.std.proofs.Common.{◌≡◌, ℕ, ◌<◌, ◌≤◌, Bool, true, false, cond, List, [], ◌∷◌, length, slice_get, Option, Some, None, refl, ap, sym, ◌∙◌, arith, ◌⊎◌, inl, inr}
 use Rattle.std.specs.List.{find, position, position_or_len, refill}
 use Rattle.std.specs.Option.{option_and_then}
 use Rattle.std.proofs.lemmas.Bool.{cases_lt, lt-ltb, le-ltb}
@@ -36,6 +36,16 @@ get-position p xs = by_cases (cases_lt (position_or_len p xs) (length xs))
     by_cases (inr past) =
         ap (option_and_then (slice_get xs)) (position-past p xs past)
         ∙ sym (slice_get_past xs (position_or_len p xs) past) ∙ sym (find_at p xs)
+
+-- what is found passes
+pub find-passes : {X : Type 0} (p : X → Bool) (xs : List X) (found : X) → find p xs ≡ Some found → p found ≡ true
+find-passes p [] found is = cc
+find-passes {X} p (x ∷ xs) found is = by_test (p x) refl (find-passes p xs found) is
+  where
+    by_test : (t : Bool) → p x ≡ t → (find p xs ≡ Some found → p found ≡ true)
+        → cond {A = Option X} t (Some x) (find p xs) ≡ Some found → p found ≡ true
+    by_test true passes rest is = let same : x ≡ found = cc in ap p (sym same) ∙ passes
+    by_test false fails rest is = rest is
 
 -- as many members as the list has replace all of them
 pub refill-all : {X : Type 0} (old members : List X) → length members ≡ length old → refill (length old) old members ≡ members

@@ -1,11 +1,12 @@
 -- Statements of which the first are not waited for, and what is written over one of them.
-use Rattle.std.proofs.Common.{◌≡◌, ℕ, zero, suc, ◌+◌, ◌<◌, ◌≤◌, Bool, true, false, List, [], ◌∷◌, ◌++◌, length, get_or, set, take, drop, slice_get, find, cond, Option, Some, None, IsSome, refl, ap, sym, subst, ◌∙◌, arith}
+use Rattle.std.proofs.Common.{◌≡◌, ℕ, zero, suc, ◌+◌, ◌<◌, ◌≤◌, Bool, true, false, List, [], ◌∷◌, ◌++◌, length, get_or, set, take, drop, slice_get, find, Option, Some, None, IsSome, refl, ap, sym, subst, ◌∙◌, arith}
 use Rattle.std.specs.List.{All}
 use Rattle.std.proofs.lemmas.List.{drop-append-le, drop-drop, drop-set-lt, length-set, length_push, take-append-le, take_all, take_more_set}
 use Rattle.std.proofs.lemmas.List.Elements.{All-cons, All-drop, All-head, All-more, All-nil, All-push, All-set, All-tail}
 use Rattle.std.proofs.lemmas.Option.{get_or_from_slice_get, slice_get_within}
 use Rattle.core_parts.specs.declared.submitted.Submitted.{Submitted}
 use Rattle.core_parts.specs.Seats.{is_taken, is_waited, AreInTurn}
+use Rattle.core_parts.proofs.PlaceLemmas.{find-passes}
 
 -- nobody waits for a statement
 abbrev pub IsNotWaited : Submitted → Type 0
@@ -46,15 +47,6 @@ pub find-none : (p : Submitted → Bool) (statements : List Submitted) (place : 
     → All (λ submitted. p submitted ≡ false) (take place statements) → find p statements ≡ None
 find-none p statements place past none =
     find-nothing p statements (subst (All (λ submitted. p submitted ≡ false)) (take_all place statements past) none)
-
-find-passes : (p : Submitted → Bool) (statements : List Submitted) (submitted : Submitted) → find p statements ≡ Some submitted → p submitted ≡ true
-find-passes p [] submitted found = cc
-find-passes p (first ∷ statements) submitted found = by_test (p first) refl (find-passes p statements submitted) found
-  where
-    by_test : (t : Bool) → p first ≡ t → (find p statements ≡ Some submitted → p submitted ≡ true)
-        → cond t (Some first) (find p statements) ≡ Some submitted → p submitted ≡ true
-    by_test true passes rest found = let same : first ≡ submitted = cc in ap p (sym same) ∙ passes
-    by_test false fails rest found = rest found
 
 -- the first statement that is waited for, if any is
 abbrev pub first_of : List Submitted → Option Submitted

@@ -9,3 +9,5 @@ pub mod Asked
 pub mod Seats
 pub mod Flights
 pub mod Filters
+pub mod Passed
+pub mod Passing

@@ -2,18 +2,18 @@
 #![tactic(auto)]
 
 mod asked;
-mod filters;
+mod crossing;
 mod flight;
 pub mod flights;
+mod passing;
 pub mod queries;
 mod seat;
 mod submitted;
-mod version;
 
 pub use asked::Asked;
-pub use filters::Filters;
+pub use core_filters::{Filters, Version};
+pub use crossing::{filters_may_be_shared, flights_may_be_sent};
 pub use flight::{Flight, Hand, MAX_SLOTS};
 pub use flights::Flights;
 pub use seat::{Seat, may_be_answered};
 pub use submitted::{Standing, Submitted};
-pub use version::Version;

@@ -1,13 +1,13 @@
 -- When an event may come, by what the code asks of the batches in flight.
-use Rattle.std.proofs.Common.{◌≡◌, ◌↔◌, ℕ, ◌<◌, ◌≤◌, Bool, true, false, not, ◌&&◌, ◌||◌, cond, eqb, List, [], ◌∷◌, length, get_or, map, Option, Some, None, is_some, option_map, IsTrue, refl, ap, sym, ◌∙◌, subst, inl, inr, arith, eq-eqb, eqb-true}
+use Rattle.std.proofs.Common.{◌≡◌, ◌↔◌, ℕ, ◌<◌, ◌≤◌, Bool, true, false, not, ◌||◌, cond, eqb, List, [], ◌∷◌, length, get_or, map, Option, Some, None, is_some, option_map, IsTrue, refl, ap, sym, ◌∙◌, subst, arith}
 use Rattle.std.specs.Prelude.{All, IfSome, IsSome, find, position}
 use Rattle.std.specs.Int.{bit_at}
-use Rattle.std.specs.List.{list_all, list_any}
+use Rattle.std.specs.List.{list_any}
 use Rattle.std.specs.Option.{option_map_or}
+use Rattle.std.proofs.lemmas.Bool.{not-true}
 use Rattle.std.proofs.lemmas.List.{length-map}
 use Rattle.std.proofs.lemmas.List.Elements.{All-head, All-tail}
 use Rattle.std.proofs.lemmas.List.Folds.{find_at, list_any_none}
-use Rattle.std.proofs.lemmas.List.Sums.{AllPass-from_list_all}
 use Rattle.std.proofs.lemmas.Option.{slice_get_past}
 use Rattle.star_history.proofs.FoundLemmas.{find_position}
 use Rattle.pipeline_manager.specs.Conditions.{CanEnd}
@@ -21,6 +21,7 @@ use Rattle.core_parts.specs.declared.flight.Flight.{Flight}
 use Rattle.star_lists.specs.Roomy.{Roomy}
 use Rattle.core_parts.specs.declared.submitted.Submitted.{Submitted}
 use Rattle.core_parts.specs.Asked.{known_in}
+use Rattle.event_choice.proofs.FlightLemmas.{not-both}
 use Rattle.event_core.specs.Core.{IsCore}
 use Rattle.core_parts.specs.Flights.{Through, Wants, flight_as, flights_as}
 use Rattle.core_parts.specs.Known.{Known, Reach, reaches_in}
@@ -30,7 +31,7 @@ use Rattle.event_core.proofs.EnablingSetLemmas.{bit-roster}
 use Rattle.core_parts.proofs.PlaceLemmas.{past-from_none}
 
 -- what is found in a map
-find-map : {X Y : Type 0} (f : X → Y) (p : Y → Bool) (xs : List X) → find p (map f xs) ≡ option_map f (find (λ x. p (f x)) xs)
+pub find-map : {X Y : Type 0} (f : X → Y) (p : Y → Bool) (xs : List X) → find p (map f xs) ≡ option_map f (find (λ x. p (f x)) xs)
 find-map f p [] = refl
 find-map {X} {Y} f p (x ∷ xs) =
     ap (λ o. cond {A = Option Y} (p (f x)) (Some (f x)) o) (find-map f p xs) ∙ by_test (p (f x)) (find (λ x. p (f x)) xs)
@@ -96,10 +97,6 @@ some-flight o flight is = ap is_some is
 if-flight : (P : state.Flight → Type 0) (o : Option state.Flight) (flight : state.Flight) → o ≡ Some flight → P flight → IfSome o P
 if-flight P o flight is holds = subst (λ o. IfSome o P) (sym is) holds
 
--- a test that fails is not true
-not-both : (t : Bool) → t ≡ false → ¬ (t ≡ true)
-not-both t fails passes = absurd (let both : false ≡ true = sym fails ∙ passes in cc)
-
 -- a batch that is not there is not distributed
 pub undistributed : (parts : Parts) (batch : ℕ) (flights : List Flight) → flights ≡ parts.flights
     → position (λ flight. eqb flight.batch.number batch) flights ≡ None → IsTrue false ↔ MayDistribute batch (state_of parts)
@@ -121,13 +118,13 @@ undistributed parts batch flights same none = (
     here = subst (λ list. position (λ (flight : Flight). eqb flight.batch.number batch) list ≡ None) same none
 
 -- one that is there may be distributed where it is through
-pub distributed-through : (parts : Parts) (batch : ℕ) (flights : List Flight) (place : ℕ) (flight : Flight) (through : Bool)
-    → flights ≡ parts.flights → position (λ flight. eqb flight.batch.number batch) flights ≡ Some place
-    → flight ≡ get_or flights place flight → IsTrue through ↔ Through parts.filters flight
+pub distributed-through : (parts : Parts) (batch : ℕ) (filters : state.Filters) (flights : List Flight) (place : ℕ) (flight : Flight)
+    → (through : Bool) → filters ≡ parts.filters → flights ≡ parts.flights → position (λ flight. eqb flight.batch.number batch) flights ≡ Some place
+    → flight ≡ get_or flights place flight → IsTrue through ↔ Through filters flight
     → IsTrue through ↔ MayDistribute batch (state_of parts)
-distributed-through parts batch flights place flight through same at is test = (
-  (λ passes. record { there = some-flight found own there; through = if-flight (IsThrough parts.filters) found own there (of-code (test.0 passes)) }),
-  (λ may. test.1 (to-code (some-at (IsThrough parts.filters) found own there may.through))),
+distributed-through parts batch filters flights place flight through meant same at is test = (
+  (λ passes. record { there = some-flight found own there; through = if-flight (IsThrough parts.filters) found own there (of-code (of-parts.0 passes)) }),
+  (λ may. of-parts.1 (to-code (some-at (IsThrough parts.filters) found own there may.through))),
 )
   where
     known : List Known
@@ -145,6 +142,9 @@ distributed-through parts batch flights place flight through same at is test = (
     there : flight_at (flights_as known reaches parts.flights) batch ≡ Some (flight_as known reaches flight)
     there = subst (λ list. flight_at (flights_as known reaches list) batch ≡ Some (flight_as known reaches flight)) same
         (flight-there known reaches batch flights place flight at is)
+
+    of-parts : IsTrue through ↔ Through parts.filters flight
+    of-parts = subst (λ (filters : state.Filters). IsTrue through ↔ Through filters flight) meant test
 
     of-code : Through parts.filters flight → IsThrough parts.filters (flight_as known reaches flight)
     of-code code = record { idle = code.idle; through = code.through }
@@ -188,19 +188,19 @@ none-found None is = refl
 none-found (Some flight) is = absurd (not-both true is refl)
 
 -- a worker with an empty hand may take a batch that wants a filter
-pub taken-wanting : (parts : Parts) (worker batch seats : ℕ) (flights : List Flight) (place : ℕ) (flight : Flight) (wanting : Bool)
-    → seats ≡ length parts.seats → worker < seats → flights ≡ parts.flights
+pub taken-wanting : (parts : Parts) (worker batch seats : ℕ) (filters : state.Filters) (flights : List Flight) (place : ℕ)
+    → (flight : Flight) (wanting : Bool) → filters ≡ parts.filters → seats ≡ length parts.seats → worker < seats → flights ≡ parts.flights
     → is_some (position (λ flight. option_map_or (λ hand. eqb hand.worker worker) flight.hand false) flights) ≡ false
     → position (λ flight. eqb flight.batch.number batch) flights ≡ Some place → flight ≡ get_or flights place flight
-    → IsTrue wanting ↔ Wants parts.filters flight → IsTrue wanting ↔ MayTake worker batch (state_of parts)
-taken-wanting parts worker batch seats flights place flight wanting count low same free at is test = (
+    → IsTrue wanting ↔ Wants filters flight → IsTrue wanting ↔ MayTake worker batch (state_of parts)
+taken-wanting parts worker batch seats filters flights place flight wanting meant count low same free at is test = (
   (λ passes. record {
     seat = seat;
     empty = empty;
     there = some-flight found own there;
-    wanting = if-flight (IsWanting parts.filters) found own there (of-code (test.0 passes));
+    wanting = if-flight (IsWanting parts.filters) found own there (of-code (of-parts.0 passes));
   }),
-  (λ may. test.1 (to-code (some-at (IsWanting parts.filters) found own there may.wanting))),
+  (λ may. of-parts.1 (to-code (some-at (IsWanting parts.filters) found own there may.wanting))),
 )
   where
     known : List Known
@@ -225,6 +225,9 @@ taken-wanting parts worker batch seats flights place flight wanting count low sa
     empty : held_by (flights_as known reaches parts.flights) worker ≡ None
     empty = none-found _ (sym (is-held known reaches worker parts.flights)
         ∙ subst (λ list. is_some (position (λ (flight : Flight). option_map_or (λ hand. eqb hand.worker worker) flight.hand false) list) ≡ false) same free)
+
+    of-parts : IsTrue wanting ↔ Wants parts.filters flight
+    of-parts = subst (λ (filters : state.Filters). IsTrue wanting ↔ Wants filters flight) meant test
 
     of-code : Wants parts.filters flight → IsWanting parts.filters (flight_as known reaches flight)
     of-code code = record { idle = code.idle; bits = code.bits; filter = code.filter }
@@ -260,10 +263,6 @@ finished-landed parts slot flights on core same test over = (
         ∙ on-some (known_in parts.asked) (reaches_in parts.lives.queries) slot parts.flights
         (λ k d low. (core.sound.batches k d low).slots)
 
-    not-true : (t : Bool) → not t ≡ true → t ≡ false
-    not-true true is = sym is
-    not-true false is = refl
-
 -- a worker may give back where a batch is in its hand
 pub given-held : (parts : Parts) (worker : ℕ) (flights : List Flight) (held : Bool) → flights ≡ parts.flights
     → held ≡ is_some (position (λ flight. option_map_or (λ hand. eqb hand.worker worker) flight.hand false) flights)
@@ -275,59 +274,7 @@ given-held parts worker flights held same test =
     is = test ∙ ap (λ list. is_some (position (λ (flight : Flight). option_map_or (λ hand. eqb hand.worker worker) flight.hand false) list)) same
         ∙ is-held (known_in parts.asked) (reaches_in parts.lives.queries) worker parts.flights
 
--- rows of which no bit is left
-empty-rows : (bits : List ℕ) → All (λ word. word ≡ 0) bits → list_all (λ word. eqb word 0) bits ≡ true
-empty-rows [] none = refl
-empty-rows (word ∷ bits) none =
-    ap (λ t. t && list_all (λ word. eqb word 0) bits) (eq-eqb word 0 (All-head (λ word. word ≡ 0) word bits none))
-    ∙ empty-rows bits (All-tail (λ word. word ≡ 0) word bits none)
-
--- where each bit is tested, none is left
-none-left : (bits : List ℕ) → list_all (λ word. eqb word 0) bits ≡ true → All (λ word. word ≡ 0) bits
-none-left bits tested = λ k d low.
-    eqb-true (get_or bits k d) 0 (AllPass-from_list_all (λ word. eqb word 0) bits tested k d low)
-
--- a batch without a hand is idle
-idle : (hand : Option state.Hand) → is_some hand ≡ false → hand ≡ None
-idle None is = refl
-idle (Some hand) is = absurd (not-both true is refl)
-
--- an idle batch of which no bit is left is through
-pub through-empty : (filters : state.Filters) (flight : Flight) (empty : Bool) → is_some flight.hand ≡ false
-    → All (λ word. word ≡ 0) flight.batch.bits → empty ≡ true → IsTrue empty ↔ Through filters flight
-through-empty filters flight empty free none is =
-    ((λ tested. record { idle = idle flight.hand free; through = inr (empty-rows flight.batch.bits none) }), (λ through. is))
-
--- one that has a bit left is through where it passed every filter
-pub through-passed : (filters : state.Filters) (flight : Flight) (passed : Bool) → is_some flight.hand ≡ false
-    → ¬ (All (λ word. word ≡ 0) flight.batch.bits)
-    → passed ≡ list_all (λ dimension. eqb (bit_at flight.batch.passed dimension) 1) filters.order
-    → IsTrue passed ↔ Through filters flight
-through-passed filters flight passed free some test = (
-  (λ all. record { idle = idle flight.hand free; through = inl (sym test ∙ all) }),
-  (λ through. elim through.through [ inl all ↦ test ∙ all | inr none ↦ absurd (some (none-left flight.batch.bits none)) ]),
-)
-
--- a batch in a hand wants no filter
-pub unwanted-held : (filters : state.Filters) (flight : Flight) (wants : Bool) → wants ≡ false → is_some flight.hand ≡ true
-    → IsTrue wants ↔ Wants filters flight
-unwanted-held filters flight wants not held =
-    ((λ does. absurd (not-both wants not does)), (λ law. absurd (not-both (is_some flight.hand) (ap is_some law.idle) held)))
-
--- nor does one of which no bit is left
-pub unwanted-empty : (filters : state.Filters) (flight : Flight) (wants : Bool) → wants ≡ false
-    → All (λ word. word ≡ 0) flight.batch.bits → IsTrue wants ↔ Wants filters flight
-unwanted-empty filters flight wants not none = (
-  (λ does. absurd (not-both wants not does)),
-  (λ law. absurd (not-both (list_all (λ word. eqb word 0) flight.batch.bits) law.bits (empty-rows flight.batch.bits none))),
-)
-
 -- the seats are as many as the code has
 pub seats-seen : (parts : Parts) (seats : List (Roomy Submitted)) (count : ℕ) → map (λ seat. seat.items) seats ≡ parts.seats
     → count ≡ length seats → count ≡ length parts.seats
 seats-seen parts seats count same is = is ∙ sym (length-map seats (λ (seat : Roomy Submitted). seat.items)) ∙ ap length same
-
--- a test that is turned over
-pub from-not : (t value : Bool) → value ≡ not t → value ≡ false → t ≡ true
-from-not true value turned is = refl
-from-not false value turned is = absurd (not-both value is turned)

@@ -6,6 +6,7 @@ pub mod AskedKeptLemmas
 pub mod BuiltLemmas
 pub mod ChangedLemmas
 pub mod ClearedLemmas
+pub mod ChoosingLemmas
 pub mod CoreAtLemmas
 pub mod CutHolderLemmas
 pub mod CutIntoLemmas
@@ -27,12 +28,15 @@ pub mod FirstLemmas
 pub mod FirstReplyLemmas
 pub mod FoundAgainLemmas
 pub mod HandLemmas
+pub mod IdleLemmas
 pub mod HeldSlotLemmas
 pub mod KeptLifeLemmas
 pub mod LivedLemmas
 pub mod MachineLemmas
 pub mod NewCoreLemmas
 pub mod NextVersionLemmas
+pub mod PassedAllLemmas
+pub mod PassedOnceLemmas
 pub mod QuietLemmas
 pub mod ReplyEventLemmas
 pub mod RosterAgainLemmas

@@ -1,5 +1,5 @@
 -- What holds of the parts of every core.
-use Rattle.std.specs.Prelude.{◌≡◌, ◌≢◌, ℕ, ◌+◌, ◌-◌, ◌*◌, ◌<◌, ◌≤◌, List, [], length, filter_map, slice_index_or, All, Some, None, IsSome, IsTrue, ◌==◌, if◌then◌else◌}
+use Rattle.std.specs.Prelude.{◌≡◌, ◌≢◌, ℕ, ◌+◌, ◌-◌, ◌*◌, ◌<◌, ◌≤◌, List, [], length, filter_map, slice_index_or, All, None, IsSome, IsTrue, ◌==◌, if◌then◌else◌}
 use Rattle.std.specs.Int.{bit_at}
 use Rattle.std.specs.List.{range_with_len}
 use Rattle.std.specs.Option.{option_map_or}
@@ -11,8 +11,7 @@ use Rattle.star_plan.specs.Test.{Selection}
 use Rattle.dimension_rows.specs.declared.dimension_row.DimensionRow.{DimensionRow}
 use Rattle.batch_flow.specs.declared.batch.TheConstants.{KEYS_IN_A_ROW}
 use Rattle.pipeline_manager.specs.Conditions as managed
-use Rattle.pipeline_manager.specs.Lives.{Lives, oldest_waiting, slot_at}
-use Rattle.pipeline_manager.specs.declared.life.SlotState.TheVariants.{Free}
+use Rattle.pipeline_manager.specs.Lives.{Lives, slot_at}
 use Rattle.dimension_filter.specs.Filter.{Filter, is_stored, vector_of}
 use Rattle.continuous_scan.specs.Calls.{CanCut}
 use Rattle.continuous_scan.specs.Range.{end_in, first_in, some_run}
@@ -98,9 +97,3 @@ pub record LeavesRest (old new : Parts) : Type 0 where
 abbrev pub holders_in : Lives → (slots : ℕ) → List ℕ
 holders_in lives slots = filter_map
     (λ slot. if bit_at slots slot == 1 then holder_of (slot_at lives slot) else None) (range_with_len 0 (length lives.slots))
-
--- the oldest query that waits has this number, and the slot is free
-pub record MayGetSlot (query slot : ℕ) (lives : Lives) : Type 0 where
-  pub oldest : oldest_waiting lives ≡ Some query
-  pub there : slot < length lives.slots
-  pub is_free : slot_at lives slot ≡ Free

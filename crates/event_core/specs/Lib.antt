@@ -4,5 +4,7 @@ pub mod Seen
 pub mod Core
 pub mod Replies
 pub mod Took
+pub mod Chosen
 pub mod Changes
 pub mod Taking
+pub mod Passing

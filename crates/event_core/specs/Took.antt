@@ -1,5 +1,5 @@
 -- What a core has become where it took an event.
-use Rattle.std.specs.Prelude.{◌≡◌, ◌⊎◌, List, [], ◌∷◌, ℕ}
+use Rattle.std.specs.Prelude.{◌≡◌, ◌⊎◌, List, [], ◌∷◌, ℕ, All}
 use Rattle.core_state.specs.Events.{AreFed, IsEnabled, after_event, after_want}
 use Rattle.core_state.specs.State.{State}
 use Rattle.core_state.specs.Steps.{Step, Done, Wanting, Replying, MayStepAll, after_steps}
@@ -36,6 +36,12 @@ pub record Took (event : Event) (old new : State) : Type 0 where
 abbrev pub TookAll : List Event → (old new : State) → Type 0
 TookAll [] old new = new ≡ old
 TookAll (event ∷ events) old new = (next : State) × Took event old next × TookAll events next new
+
+-- events of which each is one of these were taken, one after the other
+pub record IsLed (IsOne : Event → Type 0) (old new : State) : Type 0 where
+  pub events : List Event
+  pub each : All IsOne events
+  pub took : TookAll events old new
 
 -- the event of a step, if it is one
 abbrev pub IsOf : Event → Step → Type 0

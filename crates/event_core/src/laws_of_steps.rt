@@ -1,8 +1,19 @@
-//! What holds of every list of events that a core took.
+//! What holds of every core, and of every list of events that a core took.
 ghost use Rattle.std.specs.Prelude.{List};
+ghost use Rattle.core_state.specs.Sound.{IsSound};
 ghost use Rattle.core_state.specs.State.{State};
 ghost use Rattle.core_state.specs.declared.event.Event.{Event};
+ghost use Rattle.event_core.specs.Seen.{state_of};
 ghost use Rattle.event_core.specs.Took.{StepsFor, TookAll};
+
+use crate::machine::Core;
+
+/// Every core is sound, whatever events led to it.
+pub fn every_core_is_sound(core: &Core)
+    ensures { IsSound (state_of core.now) }
+{
+    let _ = &core.settings;
+}
 
 /// Events that a core took are steps of the core, each of which might come, and lead to the same state. So all that holds
 /// of every list of steps holds of them.

@@ -3,24 +3,28 @@
 #![tactic(auto)]
 
 mod batches;
+mod choosing;
 mod enabling;
 mod filtering;
 mod laws_of_batches;
 mod laws_of_core;
 mod laws_of_distribution;
 mod laws_of_filters;
+mod laws_of_passing;
 mod laws_of_slots;
 mod laws_of_statements;
 mod laws_of_steps;
 mod logged;
 mod machine;
+mod passing;
 mod replies;
 mod slots;
 mod spoiling;
 mod statements;
 mod stepping;
 
-pub use laws_of_steps::taken_events_are_steps;
+pub use choosing::EventKind;
+pub use laws_of_steps::{every_core_is_sound, taken_events_are_steps};
 pub use machine::Core;
 pub use replies::Ready;
 pub use stepping::{EventsFault, StepFault};

@@ -12,13 +12,13 @@ ghost use Rattle.core_parts.specs.Filters.{tally_at};
 ghost use Rattle.event_core.specs.Replies.{first_open};
 ghost use Rattle.event_core.specs.Seen.{state_of};
 
-use crate::enabling::has;
 use crate::laws_of_core::a_new_core_is_empty;
 use crate::logged::Logged;
 use continuous_scan::Scan;
 use core_parts::{Asked, Filters, Flights, Seat};
 use core_state::RunSettings;
 use distributor::Distributor;
+use event_choice::has;
 use filter_order::Tally;
 use frame_pool::Pool;
 use pipeline_manager::{Life, Manager};

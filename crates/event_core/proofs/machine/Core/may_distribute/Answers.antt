@@ -10,6 +10,7 @@ returns-in-None c =
 
 pub returns-in-Some : goal.returns-in-Some
 returns-in-Some c =
-    distributed-through c.args.self.now c.args.batch c.as_slice-flights.result.now c.in-Some.place c.index-flights-place.result
-    c.is_through.result (c.as_slice-flights.ensures ∙ ap (λ (parts : Parts). parts.flights) c.self.view_is)
+    distributed-through c.args.self.now c.args.batch c.self.inside.filters c.as_slice-flights.result.now c.in-Some.place
+    c.index-flights-place.result c.is_through.result (ap (λ (parts : Parts). parts.filters) c.self.view_is)
+    (c.as_slice-flights.ensures ∙ ap (λ (parts : Parts). parts.flights) c.self.view_is)
     (sym c.in-Some.ensures.place) c.index-flights-place.is c.is_through.ensures

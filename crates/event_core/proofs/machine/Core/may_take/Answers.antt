@@ -23,8 +23,8 @@ returns-in-None c =
 
 pub returns-in-Some : goal.returns-in-Some
 returns-in-Some c =
-    taken-wanting c.args.self.now c.args.worker c.args.batch c.len.result c.as_slice-flights.result.now c.in-Some.place
-    c.index-flights-place.result c.is_wanting.result
+    taken-wanting c.args.self.now c.args.worker c.args.batch c.len.result c.self.inside.filters c.as_slice-flights.result.now
+    c.in-Some.place c.index-flights-place.result c.is_wanting.result (ap (λ (parts : Parts). parts.filters) c.self.view_is)
     (seats-seen c.args.self.now c.self.inside.seats c.len.result (ap (λ (parts : Parts). parts.seats) c.self.view_is) c.len.ensures)
     c.if-worker-len.false
     (c.as_slice-flights.ensures ∙ ap (λ (parts : Parts). parts.flights) c.self.view_is)

@@ -1,0 +1,4 @@
+pub mod FilterOrderLemmas
+pub mod FilterPlaceLemmas
+pub mod FirstFilterLemmas
+pub mod OrderLemmas

@@ -1,0 +1,3 @@
+pub mod FlightLemmas
+pub mod SetLemmas
+pub mod SlotLemmas

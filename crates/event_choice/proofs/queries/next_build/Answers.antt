@@ -1,0 +1,13 @@
+use Rattle.std.proofs.Common.{ℕ, arith, below_more, refl}
+use Rattle.pipeline_manager.specs.Conditions.{CanBuild}
+use Rattle.event_choice.proofs.SlotLemmas.{begun-building, none-at-all}
+use Rattle.event_choice.proofs.queries.next_build.Goals as goal
+
+pub loop-slot-preserved : goal.loop-slot-preserved
+loop-slot-preserved c = below_more _ _ c.loop-slot.invariant (c.in_default.ensures.none refl)
+
+pub returns-clause-none : goal.returns-clause-none
+returns-clause-none c =
+    λ none query dimension. none-at-all (λ (query : ℕ). CanBuild query dimension c.args.manager.now) c.args.manager.now
+    c.count_slots-slot-end.ensures.sound (λ query can. begun-building c.args.manager.now query can.building)
+    (λ query slot within first. c.loop-slot.invariant slot (omega arith) query dimension first) query

@@ -1,0 +1,2 @@
+-- What may come next.
+pub mod Slots

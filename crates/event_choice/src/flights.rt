@@ -1,0 +1,49 @@
+//! Which batch in flight may come next.
+ghost use Rattle.std.specs.Prelude.{◌≡◌, ◌≢◌, ◌↔◌, ◌==◌, find, All, AllPairs, IfSome, IsSomeAnd, IsTrue};
+ghost use Rattle.core_parts.specs.Flights.{Through, Wants};
+
+use core_parts::{Filters, Flight};
+
+/// Whether a batch is idle, has a bit left, and did not pass every filter.
+pub fn is_wanting(filters: &Filters, flight: &Flight) -> bool
+    ensures { IsTrue result ↔ Wants filters.now flight.now }
+{
+    flight.hand.is_none() && !flight.batch.all_zero() && filters.next(&flight.batch).is_some()
+}
+
+/// Whether a batch is idle, and passed every filter or has no bit left.
+pub fn is_through(filters: &Filters, flight: &Flight) -> bool
+    ensures { IsTrue result ↔ Through filters.now flight.now }
+{
+    flight.hand.is_none() && (flight.batch.all_zero() || filters.all_passed(&flight.batch))
+}
+
+/// The number of a batch that is idle and has passed every filter or has no bit left.
+pub fn next_through(filters: &Filters, flights: &[Flight]) -> Option<u64>
+    requires apart { AllPairs (λ flight other. flight.batch.number ≢ other.batch.number) flights.now }
+    ensures some { IfSome result (λ number.
+        IsSomeAnd (find (λ flight. flight.batch.number == number) flights.now) (Through filters.now)) }
+    ensures none { result ≡ None → All (λ flight. Through filters.now flight → ⊥) flights.now }
+{
+    for flight in flights {
+        if is_through(filters, flight) {
+            return Some(flight.batch.number());
+        }
+    }
+    None
+}
+
+/// The number of a batch that is idle, has a bit left and did not pass every filter.
+pub fn next_wanting(filters: &Filters, flights: &[Flight]) -> Option<u64>
+    requires apart { AllPairs (λ flight other. flight.batch.number ≢ other.batch.number) flights.now }
+    ensures some { IfSome result (λ number.
+        IsSomeAnd (find (λ flight. flight.batch.number == number) flights.now) (Wants filters.now)) }
+    ensures none { result ≡ None → All (λ flight. Wants filters.now flight → ⊥) flights.now }
+{
+    for flight in flights {
+        if is_wanting(filters, flight) {
+            return Some(flight.batch.number());
+        }
+    }
+    None
+}

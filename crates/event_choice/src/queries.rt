@@ -1,0 +1,127 @@
+//! Which query may come next.
+ghost use Rattle.std.specs.Prelude.{◌≡◌, ℕ, ◌<◌, length, IfSome, IsSomeAnd};
+ghost use Rattle.pipeline_manager.specs.Conditions.{CanBuild, CanRun};
+ghost use Rattle.pipeline_manager.specs.Lives.{built_of, life_of, slot_of};
+ghost use Rattle.pipeline_manager.specs.Sound.{IsSound};
+ghost use Rattle.event_choice.specs.Slots.{MayGetSlot};
+
+use crate::enabling::is_building;
+use crate::sets::{is_within, least_outside};
+use pipeline_manager::{Life, Manager, SlotState, holders_are_found};
+
+/// A query that may get a slot.
+#[derive(Clone, Copy, Debug, PartialEq, Eq)]
+pub struct Reservation {
+    pub query: u64,
+    pub slot: u32,
+}
+
+/// A query, and a dimension whose filter may be built for it.
+#[derive(Clone, Copy, Debug, PartialEq, Eq)]
+pub struct ToBuild {
+    pub query: u64,
+    pub dimension: u8,
+}
+
+/// A query that is Building, and the set of the dimensions that are built for it.
+#[derive(Clone, Copy, Debug)]
+struct Unbuilt {
+    query: u64,
+    built: u8,
+}
+
+/// A query that waits the longest and a free slot for it, or `None` where no query waits or no slot is free.
+pub fn next_reservation(manager: &Manager) -> Option<Reservation>
+    ensures some { IfSome result (λ found. MayGetSlot found.query found.slot manager.now) }
+    ensures none { result ≡ None → (query slot : ℕ) → MayGetSlot query slot manager.now → ⊥ }
+{
+    let query = manager.oldest_waiting()?;
+    let slot = manager.free_slot()?;
+    Some(Reservation { query, slot })
+}
+
+/// A query and a dimension whose filter may be built for it, or `None`.
+pub fn next_build(manager: &Manager) -> Option<ToBuild>
+    ensures some { IfSome result (λ found. CanBuild found.query found.dimension manager.now) }
+    ensures none { result ≡ None → (query dimension : ℕ) → CanBuild query dimension manager.now → ⊥ }
+{
+    for slot in 0..count_slots(manager) {
+        if let Some(found) = build_at(manager, slot) {
+            return Some(found);
+        }
+    }
+    None
+}
+
+/// A query for which every filter is built, so that it may begin to run, or `None`.
+pub fn next_start(manager: &Manager) -> Option<u64>
+    ensures some { IfSome result (λ query. CanRun query manager.now) }
+    ensures none { result ≡ None → (query : ℕ) → CanRun query manager.now → ⊥ }
+{
+    for slot in 0..count_slots(manager) {
+        if let Some(found) = start_at(manager, slot) {
+            return Some(found);
+        }
+    }
+    None
+}
+
+/// How many slots there are.
+fn count_slots(manager: &Manager) -> u32
+    ensures count { result ≡ length manager.now.slots }
+    ensures sound { IsSound manager.now }
+{
+    // What it answers is not needed: it says that the lives are sound.
+    let _ = manager.oldest_waiting();
+    manager.slots()
+}
+
+/// The query that holds a slot, and a dimension whose filter may be built for it.
+fn build_at(manager: &Manager, slot: u32) -> Option<ToBuild>
+    requires { slot < length manager.now.slots }
+    ensures some { IfSome result (λ found. CanBuild found.query found.dimension manager.now) }
+    ensures none { result ≡ None → (query dimension : ℕ) → slot_of manager.now query ≡ Some slot →
+        CanBuild query dimension manager.now → ⊥ }
+{
+    let unbuilt = unbuilt_at(manager, slot)?;
+    let dimension = least_outside(manager.filters(), unbuilt.built)?;
+    Some(ToBuild {
+        query: unbuilt.query,
+        dimension,
+    })
+}
+
+/// The query that holds a slot, if it may begin to run.
+fn start_at(manager: &Manager, slot: u32) -> Option<u64>
+    requires { slot < length manager.now.slots }
+    ensures some { IfSome result (λ query. CanRun query manager.now) }
+    ensures none { result ≡ None → (query : ℕ) → slot_of manager.now query ≡ Some slot → CanRun query manager.now → ⊥ }
+{
+    let unbuilt = unbuilt_at(manager, slot)?;
+    if is_within(manager.filters(), unbuilt.built) {
+        Some(unbuilt.query)
+    } else {
+        None
+    }
+}
+
+/// The query that holds a slot, if it is Building.
+fn unbuilt_at(manager: &Manager, slot: u32) -> Option<Unbuilt>
+    requires { slot < length manager.now.slots }
+    ensures some { IfSome result (λ found.
+        (life_of manager.now found.query ≡ Some Life.Building) × (built_of manager.now found.query ≡ found.built)) }
+    ensures only { (query : ℕ) → slot_of manager.now query ≡ Some slot → life_of manager.now query ≡ Some Life.Building →
+        IsSomeAnd result (λ found. found.query ≡ query) }
+{
+    holders_are_found();
+    match manager.slot(slot) {
+        SlotState::Held { query, built } => {
+            if is_building(manager, query) {
+                Some(Unbuilt { query, built })
+            } else {
+                None
+            }
+        }
+        SlotState::Free | SlotState::Clearing(_) => None,
+    }
+}

@@ -1,0 +1,169 @@
+-- No event of a kind may come where the parts of a core offer none, and one that they offer may.
+use Rattle.std.proofs.Common.{◌≡◌, ◌≢◌, ℕ, Bool, true, false, cond, List, [], ◌∷◌, length, get_or, Option, Some, None, option_map, eqb, refl, ap, sym, ◌∙◌, subst, arith}
+use Rattle.std.specs.Prelude.{All, AllPairs, IfSome, IsSome, IsSomeAnd, find}
+use Rattle.std.specs.Int.{bit_at}
+use Rattle.std.specs.List.{list_any}
+use Rattle.std.proofs.lemmas.Bool.{not-true, not_from_false}
+use Rattle.std.proofs.lemmas.List.{get_or-map, length-map}
+use Rattle.std.proofs.lemmas.List.Elements.{All-head, All-map, All-tail}
+use Rattle.pipeline_manager.specs.Conditions.{CanBuild, CanClear, CanEnd, CanFree, CanRun}
+use Rattle.core_state.specs.Events.{IsThrough, IsWanting, MayCut, MayDistribute, MayFinish, MayReserve}
+use Rattle.core_state.specs.Found.{flight_at}
+use Rattle.core_state.specs.State as state
+use Rattle.core_state.specs.State.{State}
+use Rattle.core_state.specs.declared.event.Event.TheVariants.{Submit, Reserve, Build, Start, Cut, Take, Give, Distribute, Finish, Clear, Release, Reorder, Abandon}
+use Rattle.core_parts.specs.Asked.{known_in}
+use Rattle.core_parts.specs.Flights.{Through, Wants, flight_as, flights_as}
+use Rattle.core_parts.specs.Known.{Known, Reach, reaches_in}
+use Rattle.core_parts.specs.declared.flight.Flight.{Flight}
+use Rattle.event_core.specs.Chosen.{NoneMayCome}
+use Rattle.event_core.specs.Core.{IsCore}
+use Rattle.event_core.specs.Parts.{Parts}
+use Rattle.event_core.specs.Seen.{state_of}
+use Rattle.event_core.specs.declared.choosing.EventKind.{EventKind}
+use Rattle.event_core.specs.declared.choosing.EventKind.TheVariants as kind
+use Rattle.event_core.proofs.EnablingLemmas.{find-map, finished-landed}
+
+-- whatever its numbers, an event of a kind may not come
+abbrev pub NoneOffered : EventKind → State → Type 0
+NoneOffered kind.Reserve state = (query slot : ℕ) → MayReserve query slot state → ⊥
+NoneOffered kind.Build state = (query dimension : ℕ) → CanBuild query dimension state.lives → ⊥
+NoneOffered kind.Start state = (query : ℕ) → CanRun query state.lives → ⊥
+NoneOffered kind.Cut state = MayCut state → ⊥
+NoneOffered kind.Distribute state = (batch : ℕ) → MayDistribute batch state → ⊥
+NoneOffered kind.Finish state = (slot : ℕ) → MayFinish slot state → ⊥
+NoneOffered kind.Clear state = (slot dimension : ℕ) → CanClear slot dimension state.lives → ⊥
+NoneOffered kind.Release state = (slot : ℕ) → CanFree slot state.lives → ⊥
+
+-- nothing of one kind is offered where nothing of the other is, which is the same
+offered-of : (state : State) (one other : EventKind) → Some one ≡ Some other → NoneOffered other state → NoneOffered one state
+offered-of state one other same none = subst (λ (of : EventKind). NoneOffered of state) (cc) none
+
+-- so no event of the kind may come
+pub none-come : (of : EventKind) (state : State) → NoneOffered of state → NoneMayCome of state
+none-come of state none (Submit seat statement) is may = absurd (cc)
+none-come of state none (Reserve query slot) is may = offered-of state kind.Reserve of is none query slot may
+none-come of state none (Build query dimension) is may = offered-of state kind.Build of is none query dimension may
+none-come of state none (Start query) is may = offered-of state kind.Start of is none query may
+none-come of state none Cut is may = offered-of state kind.Cut of is none may
+none-come of state none (Take worker batch) is may = absurd (cc)
+none-come of state none (Give worker) is may = absurd (cc)
+none-come of state none (Distribute batch) is may = offered-of state kind.Distribute of is none batch may
+none-come of state none (Finish slot) is may = offered-of state kind.Finish of is none slot may
+none-come of state none (Clear slot dimension) is may = offered-of state kind.Clear of is none slot dimension may
+none-come of state none (Release slot) is may = offered-of state kind.Release of is none slot may
+none-come of state none Reorder is may = absurd (cc)
+none-come of state none (Abandon query) is may = absurd (cc)
+
+-- batches in flight have different numbers in the code, too
+pub numbers-apart : (parts : Parts) (flights : List Flight) → IsCore parts → flights ≡ parts.flights
+    → AllPairs (λ flight other. flight.batch.number ≢ other.batch.number) flights
+numbers-apart parts flights core same =
+    subst (λ list. AllPairs (λ (flight other : Flight). flight.batch.number ≢ other.batch.number) list) (sym same)
+    (λ i j d before low equal.
+    let count : length (state_of parts).scan.flights ≡ length parts.flights = length-map parts.flights as_core in
+    let left = get_or-map as_core parts.flights i d (as_core d) (omega arith) in
+    let right = get_or-map as_core parts.flights j d (as_core d) low in
+    core.sound.numbers.apart i j (as_core d) before (omega arith)
+    (ap (λ (flight : state.Flight). flight.rows.number) left ∙ equal ∙ sym (ap (λ (flight : state.Flight). flight.rows.number) right)))
+  where
+    as_core : Flight → state.Flight
+    as_core = flight_as (known_in parts.asked) (reaches_in parts.lives.queries)
+
+-- what holds of a batch that is found holds of it as the core has it
+found-as : (P : Flight → Type 0) (Q : state.Flight → Type 0) (known : List Known) (reaches : List Reach) (number : ℕ) (flights : List Flight)
+    → ((flight : Flight) → P flight → Q (flight_as known reaches flight))
+    → IsSomeAnd (find (λ flight. eqb flight.batch.number number) flights) P → IsSomeAnd (flight_at (flights_as known reaches flights) number) Q
+found-as P Q known reaches number flights implies found =
+    subst (λ o. IsSomeAnd o Q) (sym (find-map (flight_as known reaches) (λ flight. eqb flight.rows.number number) flights))
+    (by_found (find (λ flight. eqb flight.batch.number number) flights) found)
+  where
+    by_found : (o : Option Flight) → IsSomeAnd o P → IsSomeAnd (option_map (flight_as known reaches) o) Q
+    by_found None holds = holds
+    by_found (Some flight) holds = implies flight holds
+
+-- what holds of all holds of what is found
+in-all : {X : Type 0} (P : X → Type 0) (p : X → Bool) (xs : List X) → All P xs → IfSome (find p xs) P
+in-all P p [] all = tt
+in-all {X} P p (x ∷ xs) all = by_test (p x) (in-all P p xs (All-tail P x xs all))
+  where
+    by_test : (t : Bool) → IfSome (find p xs) P → IfSome (cond {A = Option X} t (Some x) (find p xs)) P
+    by_test true rest = All-head P x xs all
+    by_test false rest = rest
+
+-- what is there, and of which this holds where it is, and never does, is not there
+never-found : {X : Type 0} (P : X → Type 0) (o : Option X) → IfSome o (λ x. P x → ⊥) → IsSome o → IfSome o P → ⊥
+never-found P None never there holds = absurd (let both : false ≡ true = there in cc)
+never-found P (Some x) never there holds = never holds
+
+-- what is there, and what holds of it
+found-there : {X : Type 0} (P : X → Type 0) (o : Option X) → IsSomeAnd o P → IsSome o × IfSome o P
+found-there P None holds = absurd holds
+found-there P (Some x) holds = (refl, holds)
+
+-- a batch that is through in the code may be distributed
+pub distribute-offered : (parts : Parts) (number : ℕ) (filters : state.Filters) (flights : List Flight)
+    → filters ≡ parts.filters → flights ≡ parts.flights
+    → IsSomeAnd (find (λ flight. eqb flight.batch.number number) flights) (Through filters) → MayDistribute number (state_of parts)
+distribute-offered parts number filters flights meant same found = record { there = both.0; through = both.1 }
+  where
+    in_parts : IsSomeAnd (find (λ (flight : Flight). eqb flight.batch.number number) parts.flights) (Through filters)
+    in_parts = subst (λ list. IsSomeAnd (find (λ (flight : Flight). eqb flight.batch.number number) list) (Through filters)) same found
+
+    both : IsSome (flight_at (state_of parts).scan.flights number) × IfSome (flight_at (state_of parts).scan.flights number) (IsThrough parts.filters)
+    both = found-there (IsThrough parts.filters) (flight_at (state_of parts).scan.flights number)
+        (found-as (Through parts.filters) (IsThrough parts.filters) (known_in parts.asked) (reaches_in parts.lives.queries) number parts.flights
+        (λ flight code. record { idle = code.idle; through = code.through })
+        (subst (λ of. IsSomeAnd (find (λ (flight : Flight). eqb flight.batch.number number) parts.flights) (Through of)) meant in_parts))
+
+-- where none is through, none may be
+pub none-distributed : (parts : Parts) (filters : state.Filters) (flights : List Flight) → filters ≡ parts.filters → flights ≡ parts.flights
+    → All (λ flight. Through filters flight → ⊥) flights → NoneMayCome kind.Distribute (state_of parts)
+none-distributed parts filters flights meant same none = none-come kind.Distribute (state_of parts) (λ number may.
+    never-found (IsThrough parts.filters) (flight_at (state_of parts).scan.flights number)
+    (in-all (λ flight. IsThrough parts.filters flight → ⊥) (λ flight. eqb flight.rows.number number) (state_of parts).scan.flights each)
+    may.there may.through)
+  where
+    each : All (λ flight. IsThrough parts.filters flight → ⊥) (state_of parts).scan.flights
+    each = All-map (λ flight. IsThrough parts.filters flight → ⊥) (flight_as (known_in parts.asked) (reaches_in parts.lives.queries)) parts.flights
+        (λ k d low is. subst (λ list. All (λ (flight : Flight). Through filters flight → ⊥) list) same none k d low
+        (subst (λ of. Through of (get_or parts.flights k d)) (sym meant) (record { idle = is.idle; through = is.through })))
+
+-- a batch that wants a filter in the code does in the core
+pub take-offered : (parts : Parts) (found : Option ℕ) (filters : state.Filters) (flights : List Flight)
+    → filters ≡ parts.filters → flights ≡ parts.flights
+    → IfSome found (λ number. IsSomeAnd (find (λ flight. eqb flight.batch.number number) flights) (Wants filters))
+    → IfSome found (λ number. IsSomeAnd (flight_at (state_of parts).scan.flights number) (IsWanting parts.filters))
+take-offered parts None filters flights meant same wants = tt
+take-offered parts (Some number) filters flights meant same wants =
+    found-as (Wants parts.filters) (IsWanting parts.filters) (known_in parts.asked) (reaches_in parts.lives.queries) number parts.flights
+    (λ flight code. record { idle = code.idle; bits = code.bits; filter = code.filter })
+    (subst (λ of. IsSomeAnd (find (λ (flight : Flight). eqb flight.batch.number number) parts.flights) (Wants of)) meant in_parts)
+  where
+    in_parts : IsSomeAnd (find (λ (flight : Flight). eqb flight.batch.number number) parts.flights) (Wants filters)
+    in_parts = subst (λ list. IsSomeAnd (find (λ (flight : Flight). eqb flight.batch.number number) list) (Wants filters)) same wants
+
+-- where none does in the code, none does
+pub none-wanting : (parts : Parts) (filters : state.Filters) (flights : List Flight) → filters ≡ parts.filters → flights ≡ parts.flights
+    → All (λ flight. Wants filters flight → ⊥) flights → All (λ flight. IsWanting parts.filters flight → ⊥) (state_of parts).scan.flights
+none-wanting parts filters flights meant same none =
+    All-map (λ flight. IsWanting parts.filters flight → ⊥) (flight_as (known_in parts.asked) (reaches_in parts.lives.queries)) parts.flights
+    (λ k d low is. subst (λ list. All (λ (flight : Flight). Wants filters flight → ⊥) list) same none k d low
+    (subst (λ of. Wants of (get_or parts.flights k d)) (sym meant) (record { idle = is.idle; bits = is.bits; filter = is.filter })))
+
+-- a slot that is over, and on no roster, may be finished
+pub finish-offered : (parts : Parts) (slot : ℕ) (flights : List Flight) → IsCore parts → flights ≡ parts.flights
+    → CanEnd slot parts.lives × (list_any (λ flight. eqb (bit_at flight.batch.roster slot) 1) flights ≡ false) → MayFinish slot (state_of parts)
+finish-offered parts slot flights core same offered =
+    (finished-landed parts slot flights (list_any (λ flight. eqb (bit_at flight.batch.roster slot) 1) flights) core same refl offered.0).0
+    (not_from_false (list_any (λ flight. eqb (bit_at flight.batch.roster slot) 1) flights) offered.1)
+
+-- where none is, none may be
+pub none-finished : (parts : Parts) (flights : List Flight) → IsCore parts → flights ≡ parts.flights
+    → ((slot : ℕ) → CanEnd slot parts.lives × (list_any (λ flight. eqb (bit_at flight.batch.roster slot) 1) flights ≡ false) → ⊥)
+    → NoneMayCome kind.Finish (state_of parts)
+none-finished parts flights core same none = none-come kind.Finish (state_of parts) (λ slot may. none slot (
+  may.over,
+  not-true (list_any (λ flight. eqb (bit_at flight.batch.roster slot) 1) flights)
+      ((finished-landed parts slot flights (list_any (λ flight. eqb (bit_at flight.batch.roster slot) 1) flights) core same refl may.over).1 may),
+))

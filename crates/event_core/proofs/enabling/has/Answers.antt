@@ -1,6 +1,0 @@
-use Rattle.event_core.proofs.EnablingSetLemmas.{in-past}
-use Rattle.event_core.proofs.enabling.has.Goals as goal
-
-pub returns-else-dimension-lt8 : goal.returns-else-dimension-lt8
-returns-else-dimension-lt8 c =
-    in-past c.args.set c.args.dimension c.ranges.set.fits c.if-dimension-lt8.false
