@@ -2,6 +2,7 @@
 //! reading or printing failed.
 #![tactic(auto)]
 
+mod choice;
 mod event;
 mod question;
 mod story;
@@ -12,6 +13,7 @@ use star_values::NoMemory;
 use std::alloc::{AllocError, Global};
 use std::io;
 use std::process::ExitCode;
+use std::thread::Threads;
 
 fn main(rt: HostRuntime) -> ExitCode {
     match play(&rt) {
@@ -25,7 +27,7 @@ fn main(rt: HostRuntime) -> ExitCode {
 }
 
 /// Plays the stories on the standard input.
-fn play<R: Input + Print + AllocGlobal>(rt: &R) -> io::Result<()> {
+fn play<R: Input + Print + AllocGlobal + Threads + Sync>(rt: &R) -> io::Result<()> {
     let mut stage = Stage { story: None };
     stage.play_lines(rt)
 }
@@ -38,7 +40,10 @@ struct Stage {
 
 impl Stage {
     /// The lines of the standard input, one after the other.
-    fn play_lines<R: Input + Print + AllocGlobal>(&mut self, rt: &R) -> io::Result<()> {
+    fn play_lines<R: Input + Print + AllocGlobal + Threads + Sync>(
+        &mut self,
+        rt: &R,
+    ) -> io::Result<()> {
         for line in rt.lines(rt.alloc()) {
             self.play_line(rt, line?.as_str())?;
         }
@@ -46,9 +51,13 @@ impl Stage {
     }
 
     /// A line of a story: it is printed, and below it what came of it.
-    fn play_line<R: Print + AllocGlobal>(&mut self, rt: &R, line: &str) -> io::Result<()> {
+    fn play_line<R: Print + AllocGlobal + Threads + Sync>(
+        &mut self,
+        rt: &R,
+        line: &str,
+    ) -> io::Result<()> {
         println!(rt; "{line}")?;
-        let told = told_of(rt.alloc(), &mut self.story, line)?;
+        let told = told_of(rt, &mut self.story, line)?;
         print_told(rt, told.as_str())
     }
 }
@@ -62,7 +71,12 @@ fn print_told(rt: &impl Print, told: &str) -> io::Result<()> {
 }
 
 /// What is told of a line of the story that goes on, or that begins with it.
-fn told_of(alloc: Global, story: &mut Option<Story>, line: &str) -> Result<String, AllocError> {
+fn told_of<R: AllocGlobal + Threads + Sync>(
+    rt: &R,
+    story: &mut Option<Story>,
+    line: &str,
+) -> Result<String, AllocError> {
+    let alloc = rt.alloc();
     if line.is_empty() || line.starts_with("# ") {
         return Ok(String::new(alloc));
     }
@@ -72,14 +86,18 @@ fn told_of(alloc: Global, story: &mut Option<Story>, line: &str) -> Result<Strin
             *story = Some(begun);
             Ok(String::new(alloc))
         }
-        Ok(None) => told_in(alloc, story, line),
+        Ok(None) => told_in(rt, story, line),
     }
 }
 
 /// What is told of a line that begins no story.
-fn told_in(alloc: Global, story: &mut Option<Story>, line: &str) -> Result<String, AllocError> {
+fn told_in<R: AllocGlobal + Threads + Sync>(
+    rt: &R,
+    story: &mut Option<Story>,
+    line: &str,
+) -> Result<String, AllocError> {
     match story {
-        None => String::from_str(alloc, NOT_UNDERSTOOD),
-        Some(story) => story.told(line),
+        None => String::from_str(rt.alloc(), NOT_UNDERSTOOD),
+        Some(story) => story.told(rt, line),
     }
 }

@@ -2,9 +2,11 @@
 ghost use Rattle.std.specs.Prelude.{◌≡◌, false, IfSome};
 ghost use Rattle.core_state.specs.Settings.{AreWithin};
 
+use crate::choice::{kind_of, tell_next};
 use crate::event::{event_of, events_of};
 use crate::question::{Question, question_of};
-use crate::words::{number_of, short_of};
+use crate::words::{NOTHING, number_of, short_of};
+use core_driver::{finish_all, turn};
 use core_state::{Event, RunSettings};
 use event_core::{Core, EventsFault, Ready, StepFault};
 use reply_text::print_reply;
@@ -13,6 +15,7 @@ use star_values::{ByteText, NoMemory};
 use std::alloc::{AllocError, Global};
 use std::fmt::Write;
 use std::str;
+use std::thread::Threads;
 
 /// How many replies are taken for one line at most.
 const MOST_REPLIES: u32 = 1000;
@@ -32,7 +35,8 @@ pub(crate) struct Story {
     ghost goes_on: { script.ended ≡ false },
 }
 
-/// The settings that a line says: how many slots, how many rows a batch has, and how many seats there are.
+/// The settings that a line says: how many slots, how many rows a batch has, how many seats there are, and how many workers,
+/// of which there are none where the line does not say it.
 fn settings_of(line: &str) -> Option<RunSettings>
     ensures { IfSome result AreWithin }
 {
@@ -43,21 +47,29 @@ fn settings_of(line: &str) -> Option<RunSettings>
     let slots = short_of(number_of(words.next()?)?)?;
     let batch = short_of(number_of(words.next()?)?)?;
     let seats = short_of(number_of(words.next()?)?)?;
+    let workers = short_of(number_of(words.next().unwrap_or("0"))?)?;
     if words.next().is_some() {
         return None;
     }
-    settings_within(slots, batch, seats)
+    settings_within(workers, slots, batch, seats)
 }
 
-/// The settings of a core without workers of its own, where they are within its limits.
-fn settings_within(slots: u32, batch: u32, seats: u32) -> Option<RunSettings>
+/// These settings, where they are within the limits of a core.
+fn settings_within(workers: u32, slots: u32, batch: u32, seats: u32) -> Option<RunSettings>
     ensures { IfSome result AreWithin }
 {
-    if slots < 1 || slots > 64 || batch < 1 || batch > 1024 || seats < 1 || seats > 128 {
+    if workers > 16
+        || slots < 1
+        || slots > 64
+        || batch < 1
+        || batch > 1024
+        || seats < 1
+        || seats > 128
+    {
         return None;
     }
     Some(RunSettings {
-        workers: 0,
+        workers,
         slots,
         batch,
         seats,
@@ -78,7 +90,11 @@ impl Story {
     }
 
     /// What is told where a line says what happens to the core, or asks something of it.
-    pub(crate) fn told(&mut self, line: &str) -> Result<String, AllocError> {
+    pub(crate) fn told<R: Threads + Sync>(
+        &mut self,
+        rt: &R,
+        line: &str,
+    ) -> Result<String, AllocError> {
         let mut told = String::new(self.alloc);
         if let Some(text) = line.strip_prefix("> ") {
             told.push_str(self.submit(text)?)?;
@@ -86,8 +102,12 @@ impl Story {
             self.run(events, &mut told)?;
         } else if let Some(event) = line.strip_prefix("may ") {
             told.push_str(self.may(event))?;
+        } else if let Some(kind) = line.strip_prefix("next ") {
+            self.tell_next(kind, &mut told)?;
         } else if let Some(event) = event_of(line) {
             told.push_str(outcome_of(self.core.step(event)))?;
+        } else if let Some(drive) = drive_of(line) {
+            told.push_str(self.drive(rt, drive))?;
         } else if let Some(question) = question_of(line) {
             self.answer(question, &mut told)?;
         } else {
@@ -135,6 +155,32 @@ impl Story {
         }
     }
 
+    /// Tells an event of a kind that may come, or the batch that may be taken.
+    fn tell_next(&self, word: &str, told: &mut String) -> Result<(), AllocError> {
+        if word == "take" {
+            return tell_number(self.core.next_take(), told);
+        }
+        match kind_of(word) {
+            None => told.push_str(NOT_UNDERSTOOD),
+            Some(kind) => tell_next(&self.core, kind, told),
+        }
+    }
+
+    /// The core is driven on, where no batch is in a hand.
+    fn drive<R: Threads + Sync>(&mut self, rt: &R, drive: Drive) -> &'static str {
+        if !self.core.is_idle() {
+            return "in a hand";
+        }
+        match drive {
+            Drive::PassAll => {
+                self.core.pass_all(rt);
+                ""
+            }
+            Drive::Turn => driven(turn(rt, &mut self.core)),
+            Drive::FinishAll => driven(finish_all(rt, &mut self.core)),
+        }
+    }
+
     /// What is answered to a question.
     fn answer(&mut self, question: Question, told: &mut String) -> Result<(), AllocError> {
         match question {
@@ -153,7 +199,7 @@ impl Story {
     fn take_replies(&mut self, seat: u32, most: u32, told: &mut String) -> Result<(), AllocError> {
         for count in 0..most {
             match self.core.take_reply(seat) {
-                None if count == 0 => return told.push_str("none"),
+                None if count == 0 => return told.push_str(NOTHING),
                 None => return Ok(()),
                 Some(ready) => tell_reply(self.alloc, ready, told)?,
             }
@@ -163,7 +209,7 @@ impl Story {
 
     fn tell_life(&self, query: u64, told: &mut String) -> Result<(), AllocError> {
         match self.core.life(query) {
-            None => told.push_str("none"),
+            None => told.push_str(NOTHING),
             Some(life) => write!(told, "{life:?}"),
         }
     }
@@ -175,6 +221,37 @@ impl Story {
         let tally = self.core.tally(dimension);
         let (probes, drops) = (tally.probes, tally.drops);
         write!(told, "{probes} probes {drops} drops")
+    }
+}
+
+/// How far a core is driven on.
+#[derive(Clone, Copy, Debug)]
+enum Drive {
+    /// All batches pass the filters.
+    PassAll,
+
+    /// One turn.
+    Turn,
+
+    /// Turn after turn, until every query is answered.
+    FinishAll,
+}
+
+/// How far a line says that the core is driven on, if it says so.
+fn drive_of(line: &str) -> Option<Drive> {
+    match line {
+        "pass all" => Some(Drive::PassAll),
+        "turn" => Some(Drive::Turn),
+        "finish all" => Some(Drive::FinishAll),
+        _ => None,
+    }
+}
+
+/// What came of driving a core on: nothing is told where there was memory.
+fn driven(done: Result<(), NoMemory>) -> &'static str {
+    match done {
+        Ok(()) => "",
+        Err(NoMemory) => NO_MEMORY,
     }
 }
 
@@ -196,7 +273,7 @@ fn cause_of(fault: StepFault) -> &'static str {
 
 fn tell_number(number: Option<u64>, told: &mut String) -> Result<(), AllocError> {
     match number {
-        None => told.push_str("none"),
+        None => told.push_str(NOTHING),
         Some(number) => write!(told, "{number}"),
     }
 }

@@ -1,5 +1,8 @@
 //! How a line says something: a word, and numbers behind it.
 
+/// What is told where there is nothing to tell of.
+pub(crate) const NOTHING: &str = "none";
+
 /// A word, and its numbers.
 #[derive(Clone, Copy, Debug)]
 pub(crate) enum Words<'a> {

@@ -1,0 +1,56 @@
+-- No batch comes into a hand but by an event that takes one.
+use Rattle.std.proofs.Common.{◌≡◌, ℕ, not, eqb, Some, None, refl, sym, subst, ⊎_elim}
+use Rattle.std.specs.Prelude.{All}
+use Rattle.std.proofs.lemmas.List.Elements.{All-filter, All-push}
+use Rattle.core_state.specs.Events.{after_event}
+use Rattle.core_state.specs.State.{Flight, Scan, State}
+use Rattle.core_state.specs.declared.event.Event.{Event}
+use Rattle.core_state.specs.declared.event.Event.TheVariants.{Submit, Reserve, Build, Start, Cut, Take, Give, Distribute, Finish, Clear, Release, Reorder, Abandon}
+use Rattle.core_state.proofs.CutRowsLemmas.{cut_flight}
+use Rattle.event_core.specs.Chosen.{AreIdle, IsOfKind}
+use Rattle.event_core.specs.Took.{Took}
+use Rattle.event_core.specs.declared.choosing.EventKind.{EventKind}
+use Rattle.core_driver.proofs.TakenLemmas.{IsStill, distributes, still-leaves}
+
+-- the batch is in no hand
+abbrev IsIdle : Flight → Type 0
+IsIdle flight = flight.hand ≡ None
+
+-- an event that moves no batch
+idle-still : (event : Event) (old new : State) → IsStill event → Took event old new → AreIdle old → AreIdle new
+idle-still event old new still took idle =
+    subst (λ (scan : Scan). All IsIdle scan.flights) (sym (still-leaves event old new still took).scan) idle
+
+-- a cut
+idle-cut : (old new : State) → Took Cut old new → AreIdle old → AreIdle new
+unfolding after_event
+idle-cut old new took idle = ⊎_elim
+    (λ done. subst AreIdle (sym done) (All-push IsIdle old.scan.flights (cut_flight old) idle refl))
+    (λ never. absurd never)
+    took.after
+
+-- a distribution
+idle-distributed : (batch : ℕ) (old new : State) → Took (Distribute batch) old new → AreIdle old → AreIdle new
+idle-distributed batch old new took idle =
+    subst (λ (scan : Scan). All IsIdle scan.flights) (sym (distributes batch old new took).scan)
+    (All-filter (λ (flight : Flight). not (eqb flight.rows.number batch)) IsIdle old.scan.flights idle)
+
+-- an event of no kind
+no-kind : (kind : EventKind) → None ≡ Some kind → ⊥
+no-kind kind both = cc
+
+-- an event of a kind brings no batch into a hand
+pub idle-taken : (kind : EventKind) (event : Event) (old new : State) → IsOfKind kind event → Took event old new → AreIdle old → AreIdle new
+idle-taken kind (Submit seat statement) old new is took idle = absurd (no-kind kind is)
+idle-taken kind (Reserve query slot) old new is took idle = idle-still (Reserve query slot) old new tt took idle
+idle-taken kind (Build query dimension) old new is took idle = idle-still (Build query dimension) old new tt took idle
+idle-taken kind (Start query) old new is took idle = idle-still (Start query) old new tt took idle
+idle-taken kind Cut old new is took idle = idle-cut old new took idle
+idle-taken kind (Take worker batch) old new is took idle = absurd (no-kind kind is)
+idle-taken kind (Give worker) old new is took idle = absurd (no-kind kind is)
+idle-taken kind (Distribute batch) old new is took idle = idle-distributed batch old new took idle
+idle-taken kind (Finish slot) old new is took idle = idle-still (Finish slot) old new tt took idle
+idle-taken kind (Clear slot dimension) old new is took idle = idle-still (Clear slot dimension) old new tt took idle
+idle-taken kind (Release slot) old new is took idle = idle-still (Release slot) old new tt took idle
+idle-taken kind Reorder old new is took idle = absurd (no-kind kind is)
+idle-taken kind (Abandon query) old new is took idle = absurd (no-kind kind is)

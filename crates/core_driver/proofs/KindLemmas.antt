@@ -1,0 +1,165 @@
+-- Which events the kinds that are asked for make.
+use Rattle.std.proofs.Common.{◌≡◌, zero, suc, Bool, true, false, List, [], ◌∷◌, Option, Some, None, refl, sym, ◌∙◌, subst, arith}
+use Rattle.std.specs.Prelude.{◌↔◌, All, IfSome, IsTrue, is_some}
+use Rattle.std.proofs.lemmas.List.Elements.{All-cons, All-nil}
+use Rattle.core_state.specs.Events.{IsEnabled}
+use Rattle.core_state.specs.State.{State}
+use Rattle.core_state.specs.declared.event.Event.{Event}
+use Rattle.core_state.specs.declared.event.Event.TheVariants.{Submit, Reserve, Build, Start, Cut, Take, Give, Distribute, Finish, Clear, Release, Reorder, Abandon}
+use Rattle.event_core.specs.Chosen.{IsOfKind, kind_of}
+use Rattle.event_core.specs.Took.{IsLed}
+use Rattle.event_core.specs.declared.choosing.EventKind.{EventKind}
+use Rattle.event_core.specs.declared.choosing.EventKind.TheVariants as kind
+use Rattle.core_driver.specs.Driven.{IsOfAdmission, IsOfRound, IsOfSome, NoneOfMayCome}
+use Rattle.core_driver.proofs.LedLemmas.{led-wider}
+use Rattle.core_driver.proofs.TakenLemmas.{IsStill}
+
+-- a kind of events by which queries are admitted
+abbrev pub IsAdmissionKind : EventKind → Type 0
+IsAdmissionKind kind.Reserve = Unit {0}
+IsAdmissionKind kind.Build = Unit {0}
+IsAdmissionKind kind.Start = Unit {0}
+IsAdmissionKind kind.Cut = ⊥
+IsAdmissionKind kind.Distribute = ⊥
+IsAdmissionKind kind.Finish = ⊥
+IsAdmissionKind kind.Clear = ⊥
+IsAdmissionKind kind.Release = ⊥
+
+-- a kind of events of a round
+abbrev pub IsRoundKind : EventKind → Type 0
+IsRoundKind kind.Reserve = ⊥
+IsRoundKind kind.Build = ⊥
+IsRoundKind kind.Start = ⊥
+IsRoundKind kind.Cut = Unit {0}
+IsRoundKind kind.Distribute = Unit {0}
+IsRoundKind kind.Finish = Unit {0}
+IsRoundKind kind.Clear = Unit {0}
+IsRoundKind kind.Release = Unit {0}
+
+-- a kind of events that move no batch
+abbrev pub IsStillKind : EventKind → Type 0
+IsStillKind kind.Reserve = Unit {0}
+IsStillKind kind.Build = Unit {0}
+IsStillKind kind.Start = Unit {0}
+IsStillKind kind.Cut = ⊥
+IsStillKind kind.Distribute = ⊥
+IsStillKind kind.Finish = Unit {0}
+IsStillKind kind.Clear = Unit {0}
+IsStillKind kind.Release = Unit {0}
+
+-- there is a kind, which is one of these
+abbrev pub IsKindOf : (EventKind → Type 0) → Option EventKind → Type 0
+IsKindOf IsOne None = ⊥
+IsKindOf IsOne (Some kind) = IsOne kind
+
+-- an event of such a kind is of an admission
+admission-event : (event : Event) → IsKindOf IsAdmissionKind (kind_of event) → IsOfAdmission event
+admission-event (Submit seat statement) is = absurd is
+admission-event (Reserve query slot) is = tt
+admission-event (Build query dimension) is = tt
+admission-event (Start query) is = tt
+admission-event Cut is = absurd is
+admission-event (Take worker batch) is = absurd is
+admission-event (Give worker) is = absurd is
+admission-event (Distribute batch) is = absurd is
+admission-event (Finish slot) is = absurd is
+admission-event (Clear slot dimension) is = absurd is
+admission-event (Release slot) is = absurd is
+admission-event Reorder is = absurd is
+admission-event (Abandon query) is = absurd is
+
+-- or of a round
+round-event : (event : Event) → IsKindOf IsRoundKind (kind_of event) → IsOfRound event
+round-event (Submit seat statement) is = absurd is
+round-event (Reserve query slot) is = absurd is
+round-event (Build query dimension) is = absurd is
+round-event (Start query) is = absurd is
+round-event Cut is = tt
+round-event (Take worker batch) is = absurd is
+round-event (Give worker) is = absurd is
+round-event (Distribute batch) is = tt
+round-event (Finish slot) is = tt
+round-event (Clear slot dimension) is = tt
+round-event (Release slot) is = tt
+round-event Reorder is = absurd is
+round-event (Abandon query) is = absurd is
+
+-- or moves no batch
+still-event : (event : Event) → IsKindOf IsStillKind (kind_of event) → IsStill event
+still-event (Submit seat statement) is = absurd is
+still-event (Reserve query slot) is = tt
+still-event (Build query dimension) is = tt
+still-event (Start query) is = tt
+still-event Cut is = absurd is
+still-event (Take worker batch) is = absurd is
+still-event (Give worker) is = absurd is
+still-event (Distribute batch) is = absurd is
+still-event (Finish slot) is = tt
+still-event (Clear slot dimension) is = tt
+still-event (Release slot) is = tt
+still-event Reorder is = absurd is
+still-event (Abandon query) is = absurd is
+
+-- an event of some kinds is of one of them, which is one of these
+pub kind-of-some : (IsOne : EventKind → Type 0) (kinds : List EventKind) (event : Event) → All IsOne kinds → IsOfSome kinds event
+    → IsKindOf IsOne (kind_of event)
+kind-of-some IsOne kinds event all some =
+    subst (IsKindOf IsOne) (sym some.4) (subst IsOne some.3 (all some.0 some.1 some.2))
+
+-- an event of kinds of an admission, or of a round
+pub admission-of-some : (kinds : List EventKind) (event : Event) → All IsAdmissionKind kinds → IsOfSome kinds event → IsOfAdmission event
+admission-of-some kinds event all some = admission-event event (kind-of-some IsAdmissionKind kinds event all some)
+
+-- of a round
+pub round-of-some : (kinds : List EventKind) (event : Event) → All IsRoundKind kinds → IsOfSome kinds event → IsOfRound event
+round-of-some kinds event all some = round-event event (kind-of-some IsRoundKind kinds event all some)
+
+-- of kinds that move no batch
+pub still-of-some : (kinds : List EventKind) (event : Event) → All IsStillKind kinds → IsOfSome kinds event → IsStill event
+still-of-some kinds event all some = still-event event (kind-of-some IsStillKind kinds event all some)
+
+-- the kinds of the phases of a turn
+pub admission-kinds : All IsAdmissionKind (kind.Reserve ∷ kind.Build ∷ kind.Start ∷ [])
+admission-kinds =
+    All-cons IsAdmissionKind kind.Reserve (kind.Build ∷ kind.Start ∷ []) tt
+    (All-cons IsAdmissionKind kind.Build (kind.Start ∷ []) tt
+    (All-cons IsAdmissionKind kind.Start [] tt (All-nil IsAdmissionKind)))
+
+-- a cut
+pub cut-kinds : All IsRoundKind (kind.Cut ∷ [])
+cut-kinds = All-cons IsRoundKind kind.Cut [] tt (All-nil IsRoundKind)
+
+-- which move no batch
+pub still-kinds : All IsStillKind (kind.Finish ∷ kind.Clear ∷ kind.Release ∷ [])
+still-kinds =
+    All-cons IsStillKind kind.Finish (kind.Clear ∷ kind.Release ∷ []) tt
+    (All-cons IsStillKind kind.Clear (kind.Release ∷ []) tt
+    (All-cons IsStillKind kind.Release [] tt (All-nil IsStillKind)))
+
+-- lists of events of these kinds are an admission, or of a round
+pub admission-led : (kinds : List EventKind) → All IsAdmissionKind kinds → (old new : State) → IsLed (IsOfSome kinds) old new
+    → IsLed IsOfAdmission old new
+admission-led kinds all = led-wider (IsOfSome kinds) IsOfAdmission (λ event some. admission-of-some kinds event all some)
+
+-- of a round
+pub round-led : (kinds : List EventKind) → All IsRoundKind kinds → (old new : State) → IsLed (IsOfSome kinds) old new → IsLed IsOfRound old new
+round-led kinds all = led-wider (IsOfSome kinds) IsOfRound (λ event some. round-of-some kinds event all some)
+
+-- an event of one kind is of some, if that is among them
+pub some-of-first : (first : EventKind) (kinds : List EventKind) (event : Event) → IsOfKind first event → IsOfSome (first ∷ kinds) event
+some-of-first first kinds event is = (zero, first, (omega arith), refl, is)
+
+-- and where more kinds are asked for
+pub some-of-more : (first : EventKind) (kinds : List EventKind) (event : Event) → IsOfSome kinds event → IsOfSome (first ∷ kinds) event
+some-of-more first kinds event some = (suc some.0, some.1, (let low = some.2 in omega arith), some.3, some.4)
+
+-- what is told of an event that is asked for, where one of these kinds may come
+pub next-told : (kinds : List EventKind) (state : State) (next : Option Event) (told : Bool) → told ≡ is_some next → IfSome next (IsOfSome kinds)
+    → IfSome next (IsEnabled state) → (next ≡ None → NoneOfMayCome kinds state)
+    → IsTrue told ↔ ((event : Event) × (IsOfSome kinds event × IsEnabled state event))
+next-told kinds state None told is one enabled none = (
+  (λ tells. absurd (let both : false ≡ true = sym is ∙ tells in cc)),
+  (λ may. absurd (none refl may.1.0.0 may.1.0.1 may.1.0.2 may.0
+      (subst (λ kind. IsOfKind kind may.0) (sym may.1.0.3) may.1.0.4) may.1.1)),
+)
+next-told kinds state (Some event) told is one enabled none = ((λ tells. (event, (one, enabled))), (λ may. is))

@@ -1,0 +1,67 @@
+-- Which events are those of a round other than a cut.
+use Rattle.std.proofs.Common.{List, [], ◌∷◌, Option, Some, None, sym, subst}
+use Rattle.std.specs.Prelude.{All}
+use Rattle.std.proofs.lemmas.List.Elements.{All-cons, All-nil}
+use Rattle.core_state.specs.State.{State}
+use Rattle.core_state.specs.declared.event.Event.{Event}
+use Rattle.core_state.specs.declared.event.Event.TheVariants.{Take, Give, Distribute, Finish, Clear, Release}
+use Rattle.event_core.specs.Chosen.{IsPassing, kind_of}
+use Rattle.event_core.specs.Took.{IsLed}
+use Rattle.event_core.specs.declared.choosing.EventKind.{EventKind}
+use Rattle.event_core.specs.declared.choosing.EventKind.TheVariants as kind
+use Rattle.core_driver.specs.Driven.{IsOfSome}
+use Rattle.core_driver.specs.Lap.{IsOfLanding}
+use Rattle.core_driver.proofs.LedLemmas.{led-wider}
+
+-- a kind of such events
+abbrev pub IsLandingKind : EventKind → Type 0
+IsLandingKind kind.Reserve = ⊥
+IsLandingKind kind.Build = ⊥
+IsLandingKind kind.Start = ⊥
+IsLandingKind kind.Cut = ⊥
+IsLandingKind kind.Distribute = Unit {0}
+IsLandingKind kind.Finish = Unit {0}
+IsLandingKind kind.Clear = Unit {0}
+IsLandingKind kind.Release = Unit {0}
+
+-- there is a kind, which is one of these
+abbrev HasLandingKind : Option EventKind → Type 0
+HasLandingKind None = ⊥
+HasLandingKind (Some kind) = IsLandingKind kind
+
+-- an event of such a kind
+landing-event : (event : Event) → HasLandingKind (kind_of event) → IsOfLanding event
+landing-event (Distribute batch) is = tt
+landing-event (Finish slot) is = tt
+landing-event (Clear slot dimension) is = tt
+landing-event (Release slot) is = tt
+landing-event event is = absurd is
+
+-- an event of some kinds, each of which is one of these
+pub landing-of-some : (kinds : List EventKind) (event : Event) → All IsLandingKind kinds → IsOfSome kinds event → IsOfLanding event
+landing-of-some kinds event all some =
+    landing-event event (subst HasLandingKind (sym some.4) (subst IsLandingKind some.3 (all some.0 some.1 some.2)))
+
+-- an event by which the front takes a batch or gives it back
+pub landing-passing : (event : Event) → IsPassing event → IsOfLanding event
+landing-passing (Take worker batch) passing = tt
+landing-passing (Give worker) passing = tt
+landing-passing event passing = absurd passing
+
+-- distributions
+pub landing-distributes : All IsLandingKind (kind.Distribute ∷ [])
+landing-distributes = All-cons IsLandingKind kind.Distribute [] tt (All-nil IsLandingKind)
+
+-- slots that become free
+pub landing-frees : All IsLandingKind (kind.Finish ∷ kind.Clear ∷ kind.Release ∷ [])
+landing-frees =
+    All-cons IsLandingKind kind.Finish (kind.Clear ∷ kind.Release ∷ []) tt
+    (All-cons IsLandingKind kind.Clear (kind.Release ∷ []) tt (All-cons IsLandingKind kind.Release [] tt (All-nil IsLandingKind)))
+
+-- the same of events one after the other
+pub landing-led : (kinds : List EventKind) → All IsLandingKind kinds → (old new : State) → IsLed (IsOfSome kinds) old new → IsLed IsOfLanding old new
+landing-led kinds all = led-wider (IsOfSome kinds) IsOfLanding (λ event some. landing-of-some kinds event all some)
+
+-- batches pass filters
+pub landing-passes : (old new : State) → IsLed IsPassing old new → IsLed IsOfLanding old new
+landing-passes = led-wider IsPassing IsOfLanding landing-passing

@@ -1,0 +1,104 @@
+-- The events of a round leave a scan that is on its way on its way.
+use Rattle.std.proofs.Common.{◌≡◌, ◌≤◌, ◌-◌, ℕ, inl, inr, ap, ◌∙◌, subst, sym, ⊎_elim, arith}
+use Rattle.std.specs.Prelude.{All}
+use Rattle.continuous_scan.specs.Range.{first_of}
+use Rattle.core_state.specs.Cutting.{after_cutting, first_in}
+use Rattle.core_state.specs.Events.{MayCut}
+use Rattle.core_state.specs.Sound.{IsSound}
+use Rattle.core_state.specs.State.{State}
+use Rattle.core_state.specs.Tables.{versions_in}
+use Rattle.core_state.specs.declared.event.Event.{Event}
+use Rattle.core_state.specs.declared.event.Event.TheVariants.{Cut}
+use Rattle.core_state.proofs.StepLemmas.{StepsKeep}
+use Rattle.event_core.specs.Took.{IsLed, Took}
+use Rattle.core_driver.specs.Driven.{IsOfRound}
+use Rattle.core_driver.specs.Lap.{BeganAt, CameRound, IsEnd, IsLeftBetween, IsOnItsWay, IsToComeRound, IsWithin}
+use Rattle.core_driver.proofs.LapCutLemmas.{CutsOn, cut_of, cuts-on}
+use Rattle.core_driver.proofs.LapEndsLemmas.{all-ends, over-began, over-between}
+use Rattle.core_driver.proofs.LapLandingLemmas.{Lands, lands-taken}
+use Rattle.core_driver.proofs.LapRestLemmas.{by-round, cut-done, rests-land, runs-land}
+use Rattle.core_driver.proofs.LedLemmas.{led-keeps, took-sound}
+
+-- the table has as many versions
+versions-land : (old new : State) → Lands old new → versions_in new ≡ versions_in old
+versions-land old new lands = (rests-land old new lands).versions
+
+-- the next cut begins where it did
+first-land : (old new : State) → Lands old new → first_in new ≡ first_in old
+first-land old new lands =
+    ap (λ position. first_of position (versions_in new)) lands.position ∙ ap (first_of old.scan.position) (versions-land old new lands)
+
+-- the way ends where it did
+end-land : (end : ℕ) (old new : State) → Lands old new → IsEnd end old → IsEnd end new
+end-land end old new lands is_end = record {
+  within = subst (λ n. end ≤ n) (sym (versions-land old new lands)) is_end.within;
+  is = ⊎_elim (λ last. inl (last ∙ sym (versions-land old new lands))) (λ began. inr (
+    began.0,
+    all-ends (λ entry. BeganAt end entry.life) (λ entry. over-began end entry.life) old.lives.queries new.lives.queries lands.ends began.1,
+  )) is_end.is;
+}
+
+-- a scan that is to come round is still to
+coming-land : (end most : ℕ) (old new : State) → Lands old new → IsToComeRound end most old → IsToComeRound end most new
+coming-land end most old new lands coming = record {
+  is_end = end-land end old new lands coming.is_end;
+  enough =
+      let versions = versions-land old new lands in
+      let first = first-land old new lands in
+      let all = coming.enough in
+      omega arith;
+}
+
+-- one that came round has as much left
+came-land : (end most : ℕ) (old new : State) → Lands old new → CameRound end most old → CameRound end most new
+came-land end most old new lands came = record {
+  is_end = end-land end old new lands came.is_end;
+  left = subst (λ first. All (λ entry. IsLeftBetween first end entry.extent entry.life) new.lives.queries) (sym (first-land old new lands))
+      (all-ends (λ entry. IsLeftBetween (first_in old) end entry.extent entry.life)
+      (λ entry. over-between (first_in old) end entry.extent entry.life) old.lives.queries new.lives.queries lands.ends came.left);
+  enough = let first = first-land old new lands in let all = came.enough in omega arith;
+}
+
+-- an event other than a cut leaves the way
+pub way-land : (end most : ℕ) (old new : State) → Lands old new → IsOnItsWay end most old → IsOnItsWay end most new
+way-land end most old new lands way = ⊎_elim
+    (λ none. inl (runs-land old new lands none))
+    (λ on. inr (⊎_elim
+    (λ coming. inl (coming-land end most old new lands coming))
+    (λ came. inr (came-land end most old new lands came)) on)) way
+
+-- the way ends within as many positions
+within-land : (total : ℕ) (old new : State) → Lands old new → IsWithin total old → IsWithin total new
+within-land total old new lands within = record {
+  end = within.end;
+  most = within.most;
+  way = way-land within.end within.most old new lands within.way;
+  enough = let cut = lands.cut in let all = within.enough in omega arith;
+}
+
+-- a cut takes its positions from the way
+within-cut : (total : ℕ) (old : State) → IsSound old → MayCut old → IsSound (after_cutting old) → IsWithin total old
+    → IsWithin total (after_cutting old)
+within-cut total old sound may later within =
+    let on : CutsOn within.end within.most old = cuts-on within.end within.most old sound may later within.way in
+    record {
+      end = within.end;
+      most = within.most - cut_of old;
+      way = on.way;
+      enough = let all = within.enough in let enough = on.enough in omega arith;
+    }
+
+-- an event of a round
+within-round : StepsKeep → (total : ℕ) (event : Event) (old new : State) → IsOfRound event → IsSound old → Took event old new
+    → IsWithin total old → IsWithin total new
+within-round keep total event old new one sound =
+    by-round (λ event. Took event old new → IsWithin total old → IsWithin total new)
+    (λ took within.
+    let done = cut-done old new took in
+    let later : IsSound (after_cutting old) = subst IsSound done (took-sound keep Cut old new took sound) in
+    subst (IsWithin total) (sym done) (within-cut total old sound took.enabled later within))
+    (λ other landing took within. within-land total old new (lands-taken other old new landing took) within) event one
+
+-- a round leaves the scan on its way, at whose end no more positions were cut than before
+pub round-within : StepsKeep → (total : ℕ) (old new : State) → IsLed IsOfRound old new → IsSound old → IsWithin total old → IsWithin total new
+round-within keep total = led-keeps keep IsOfRound (IsWithin total) (within-round keep total)

@@ -1,0 +1,38 @@
+-- What a loop that takes events of some kinds leaves.
+use Rattle.std.proofs.Common.{◌≡◌, ◌<◌, List, [], ap, ◌∙◌, subst, inr, ⊎_elim, arith}
+use Rattle.std.specs.Prelude.{All}
+use Rattle.core_state.specs.Sound.{IsSound}
+use Rattle.core_state.specs.State.{Scan, State}
+use Rattle.core_state.specs.declared.event.Event.{Event}
+use Rattle.event_core.specs.Took.{IsLed, Took}
+use Rattle.event_core.specs.declared.choosing.EventKind.{EventKind}
+use Rattle.core_driver.specs.Driven.{IsOfSome}
+use Rattle.core_driver.specs.Work.{TookSome, work_in}
+use Rattle.core_driver.proofs.KindLemmas.{IsStillKind, still-of-some}
+use Rattle.core_driver.proofs.LedLemmas.{led-holds}
+use Rattle.core_driver.proofs.TakenLemmas.{LeavesBatches, leaves-joined, same-batches, still-leaves}
+use Rattle.core_driver.proofs.WorkLemmas.{work-taken}
+
+-- an event of some kinds leaves less work
+pub work-of-some : (kinds : List EventKind) (event : Event) (old new : State) → IsSound old → IsOfSome kinds event → Took event old new
+    → work_in new < work_in old
+work-of-some kinds event old new sound some took = work-taken some.1 event old new sound some.4 took
+
+-- kinds of events that move no batch leave the batches
+pub still-led : (kinds : List EventKind) → All IsStillKind kinds → (old new : State) → IsLed (IsOfSome kinds) old new → LeavesBatches old new
+still-led kinds all old new led = led-holds (IsOfSome kinds) (LeavesBatches old)
+    (λ event before after some took left.
+    leaves-joined old before after left (still-leaves event before after (still-of-some kinds event all some) took))
+    old new led (same-batches old)
+
+-- where none is in flight, none is then
+pub landed-led-on : (kinds : List EventKind) → All IsStillKind kinds → (old new : State) → IsLed (IsOfSome kinds) old new
+    → old.scan.flights ≡ [] → new.scan.flights ≡ []
+landed-led-on kinds all old new led landed = ap (λ (scan : Scan). scan.flights) (still-led kinds all old new led).scan ∙ landed
+
+-- where one more leaves less work, the loop left less
+pub some-more : (first old new : State) → TookSome first old → work_in new < work_in old → TookSome first new
+some-more first old new some less = inr (⊎_elim
+    (λ same. subst (λ state. work_in new < work_in state) same less)
+    (λ before. omega arith)
+    some)

@@ -1,0 +1,76 @@
+-- The query that waits the longest is admitted, where a slot is free.
+use Rattle.std.proofs.Common.{◌≡◌, ◌≢◌, ◌⊎◌, ℕ, ◌<◌, length, Some, refl, sym, ap, ◌∙◌, subst, inl, inr, ⊎_elim}
+use Rattle.continuous_scan.specs.Range.{first_of}
+use Rattle.pipeline_manager.specs.Changes.{started}
+use Rattle.pipeline_manager.specs.Lives.{Lives, extent_in, life_of, oldest_waiting, slot_at}
+use Rattle.pipeline_manager.specs.declared.life.Life.TheVariants as life
+use Rattle.pipeline_manager.specs.declared.life.SlotState.TheVariants.{Free}
+use Rattle.core_state.specs.Sound.{IsSound}
+use Rattle.core_state.specs.State.{State}
+use Rattle.core_state.specs.Tables.{versions_in}
+use Rattle.core_state.specs.declared.event.Event.{Event}
+use Rattle.core_state.specs.declared.event.Event.TheVariants.{Submit, Reserve, Build, Start, Cut, Take, Give, Distribute, Finish, Clear, Release, Reorder, Abandon}
+use Rattle.core_state.proofs.StepLemmas.{StepsKeep}
+use Rattle.event_core.specs.Chosen.{NoneMayCome}
+use Rattle.event_core.specs.Took.{IsLed, Took}
+use Rattle.event_core.specs.declared.choosing.EventKind.TheVariants as kind
+use Rattle.core_driver.specs.Driven.{IsOfAdmission}
+use Rattle.core_driver.proofs.LedLemmas.{led-keeps}
+use Rattle.core_driver.proofs.StayLemmas.{not-waiting-admitted}
+use Rattle.core_driver.proofs.TakenLemmas.{taken-lives}
+use Rattle.core_driver.proofs.WaitLemmas.{IsNext, next-built, next-reserved, next-written, started-rests}
+
+-- the query waits no longer, or it is the next, for which there is a slot
+abbrev IsNextOrAdmitted : (query : ℕ) → Lives → Type 0
+IsNextOrAdmitted query lives = (life_of lives query ≢ Some life.Waiting) ⊎ IsNext query lives
+
+-- while it is the next, each event of an admission leaves it so, or admits it
+next-kept : (query : ℕ) (event : Event) (old new : State) → IsOfAdmission event → IsSound old → Took event old new → IsNext query old.lives
+    → IsNextOrAdmitted query new.lives
+next-kept query (Submit seat statement) old new admits sound took next = absurd admits
+next-kept query (Reserve other slot) old new admits sound took next = ⊎_elim
+    (λ done. inl (λ waits.
+    let now : life_of new.lives query ≡ Some life.Building =
+    ap (λ lives. life_of lives query) done ∙ next-reserved query slot old.lives sound.slots.lives next.oldest in
+    let both : Some life.Building ≡ Some life.Waiting = sym now ∙ waits in cc))
+    (λ never. absurd never)
+    (taken-lives (Reserve other slot) old new (inl tt) took)
+next-kept query (Build other dimension) old new admits sound took next = ⊎_elim
+    (λ done. inr (subst (IsNext query) (sym done) (next-built query other dimension old.lives next)))
+    (λ spoils. inr (subst (IsNext query) (sym spoils)
+    (next-written query other life.Spoiled old.lives sound.slots.lives took.enabled.building refl next)))
+    (taken-lives (Build other dimension) old new (inl tt) took)
+next-kept query (Start other) old new admits sound took next = ⊎_elim
+    (λ done. inr (subst (IsNext query) (sym done)
+    (next-written query other
+    (started (first_of old.scan.position (versions_in old)) (extent_in old.lives.queries other)) old.lives sound.slots.lives took.enabled.building
+    (started-rests (first_of old.scan.position (versions_in old)) (extent_in old.lives.queries other)) next)))
+    (λ never. absurd never)
+    (taken-lives (Start other) old new (inl tt) took)
+next-kept query Cut old new admits sound took next = absurd admits
+next-kept query (Take worker batch) old new admits sound took next = absurd admits
+next-kept query (Give worker) old new admits sound took next = absurd admits
+next-kept query (Distribute batch) old new admits sound took next = absurd admits
+next-kept query (Finish slot) old new admits sound took next = absurd admits
+next-kept query (Clear slot dimension) old new admits sound took next = absurd admits
+next-kept query (Release slot) old new admits sound took next = absurd admits
+next-kept query Reorder old new admits sound took next = absurd admits
+next-kept query (Abandon other) old new admits sound took next = absurd admits
+
+-- each event of an admission leaves it the next, or admitted
+kept-admission : (query : ℕ) (event : Event) (old new : State) → IsOfAdmission event → IsSound old → Took event old new
+    → IsNextOrAdmitted query old.lives → IsNextOrAdmitted query new.lives
+kept-admission query event old new admits sound took so_far = ⊎_elim
+    (λ rests. inl (not-waiting-admitted query event old new admits sound took rests))
+    (λ next. next-kept query event old new admits sound took next)
+    so_far
+
+-- once no slot may be reserved, the query that waited the longest as one was free waits no longer
+pub next-admitted : StepsKeep → (query slot : ℕ) (old new : State) → IsSound old → oldest_waiting old.lives ≡ Some query
+    → slot < length old.lives.slots → slot_at old.lives slot ≡ Free → IsLed IsOfAdmission old new → NoneMayCome kind.Reserve new
+    → life_of new.lives query ≢ Some life.Waiting
+next-admitted keep query slot old new sound oldest there is_free led none = ⊎_elim
+    (λ rests. rests)
+    (λ next. absurd (none (Reserve query next.slot) refl (record { oldest = next.oldest; there = next.there; is_free = next.is_free })))
+    (led-keeps keep IsOfAdmission (λ state. IsNextOrAdmitted query state.lives) (kept-admission query) old new led sound
+    (inr (record { oldest = oldest; slot = slot; there = there; is_free = is_free })))

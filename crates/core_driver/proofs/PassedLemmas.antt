@@ -1,0 +1,145 @@
+-- Events by which batches pass filters, and a new order, leave lives, tables and the scan, and as much work.
+use Rattle.std.proofs.Common.{◌≡◌, ℕ, List, length, find, refl, sym, ap, ◌∙◌, subst, inr, ⊎_elim}
+use Rattle.std.specs.Prelude.{sum_by}
+use Rattle.std.proofs.lemmas.List.{length-map}
+use Rattle.pipeline_manager.specs.Lives.{Lives}
+use Rattle.core_state.specs.Cutting.{with_flight}
+use Rattle.core_state.specs.Events.{after_event}
+use Rattle.core_state.specs.Found.{is_held_by}
+use Rattle.core_state.specs.State.{Entry, Flight, Scan, State}
+use Rattle.core_state.specs.Tables.{tables_by}
+use Rattle.core_state.specs.declared.event.Event.{Event}
+use Rattle.core_state.specs.declared.event.Event.TheVariants.{Submit, Reserve, Build, Start, Cut, Take, Give, Distribute, Finish, Clear, Release, Reorder, Abandon}
+use Rattle.event_core.specs.Took.{IsSpoilt, Took}
+use Rattle.core_driver.specs.Work.{all_to_cut, steps_to_free, work_in}
+use Rattle.core_driver.proofs.TakenLemmas.{LeavesBatches, either-way, given_by, still-leaves, taken-lives}
+use Rattle.core_driver.proofs.WorkLifeLemmas.{steps_in}
+use Rattle.core_driver.proofs.WorkNumberLemmas.{work_of}
+
+-- an event by which a batch comes into a hand or out of it
+abbrev pub IsOfHand : Event → Type 0
+IsOfHand (Submit seat statement) = ⊥
+IsOfHand (Reserve query slot) = ⊥
+IsOfHand (Build query dimension) = ⊥
+IsOfHand (Start query) = ⊥
+IsOfHand Cut = ⊥
+IsOfHand (Take worker batch) = Unit {0}
+IsOfHand (Give worker) = Unit {0}
+IsOfHand (Distribute batch) = ⊥
+IsOfHand (Finish slot) = ⊥
+IsOfHand (Clear slot dimension) = ⊥
+IsOfHand (Release slot) = ⊥
+IsOfHand Reorder = ⊥
+IsOfHand (Abandon query) = ⊥
+
+-- what is left where batches pass filters
+pub record Passes (old new : State) : Type 0 where
+  pub settings : new.settings ≡ old.settings
+  pub entries : new.entries ≡ old.entries
+  pub accepted : new.accepted ≡ old.accepted
+  pub lives : new.lives ≡ old.lives
+  pub position : new.scan.position ≡ old.scan.position
+  pub cut : new.scan.cut ≡ old.scan.cut
+  pub free : new.scan.free ≡ old.scan.free
+  pub flights : length new.scan.flights ≡ length old.scan.flights
+
+-- all is left of a core by itself
+same-passes : (state : State) → Passes state state
+same-passes state = record {
+  settings = refl;
+  entries = refl;
+  accepted = refl;
+  lives = refl;
+  position = refl;
+  cut = refl;
+  free = refl;
+  flights = refl;
+}
+
+-- the batches in flight of which one is changed are as many
+as-many : (number : ℕ) (change : Flight → Flight) (flights : List Flight) → length (with_flight number change flights) ≡ length flights
+as-many number change flights = length-map flights _
+
+-- an event of a hand that is done
+event-passes : (event : Event) (state : State) → IsOfHand event → Passes state (after_event event state)
+unfolding after_event
+event-passes (Submit seat statement) state passing = absurd passing
+event-passes (Reserve query slot) state passing = absurd passing
+event-passes (Build query dimension) state passing = absurd passing
+event-passes (Start query) state passing = absurd passing
+event-passes Cut state passing = absurd passing
+event-passes (Take worker batch) state passing = record {
+  settings = refl;
+  entries = refl;
+  accepted = refl;
+  lives = refl;
+  position = refl;
+  cut = refl;
+  free = refl;
+  flights = as-many batch _ state.scan.flights;
+}
+event-passes (Give worker) state passing =
+    either-way (Passes state) (given_by state) (find (is_held_by worker) state.scan.flights) state (same-passes state) (λ flight. record {
+      settings = refl;
+      entries = refl;
+      accepted = refl;
+      lives = refl;
+      position = refl;
+      cut = refl;
+      free = refl;
+      flights = as-many flight.rows.number _ state.scan.flights;
+    })
+event-passes (Distribute batch) state passing = absurd passing
+event-passes (Finish slot) state passing = absurd passing
+event-passes (Clear slot dimension) state passing = absurd passing
+event-passes (Release slot) state passing = absurd passing
+event-passes Reorder state passing = absurd passing
+event-passes (Abandon query) state passing = absurd passing
+
+-- no query finds no memory where a batch is taken or given back
+never-spoilt : (event : Event) (old new : State) → IsOfHand event → IsSpoilt event old new → ⊥
+never-spoilt (Submit seat statement) old new passing spoilt = spoilt
+never-spoilt (Reserve query slot) old new passing spoilt = spoilt
+never-spoilt (Build query dimension) old new passing spoilt = passing
+never-spoilt (Start query) old new passing spoilt = spoilt
+never-spoilt Cut old new passing spoilt = spoilt
+never-spoilt (Take worker batch) old new passing spoilt = spoilt
+never-spoilt (Give worker) old new passing spoilt = spoilt
+never-spoilt (Distribute batch) old new passing spoilt = passing
+never-spoilt (Finish slot) old new passing spoilt = spoilt
+never-spoilt (Clear slot dimension) old new passing spoilt = spoilt
+never-spoilt (Release slot) old new passing spoilt = spoilt
+never-spoilt Reorder old new passing spoilt = spoilt
+never-spoilt (Abandon query) old new passing spoilt = spoilt
+
+-- what an event of a hand leaves
+pub took-hands : (event : Event) (old new : State) → IsOfHand event → Took event old new → Passes old new
+took-hands event old new passing took = ⊎_elim
+    (λ done. subst (Passes old) (sym done) (event-passes event old passing))
+    (λ spoilt. absurd (never-spoilt event old new passing spoilt))
+    took.after
+
+-- the work that is left, by the parts of a core that tell it
+abbrev pub work_by : Lives → List Entry → (position flights : ℕ) → ℕ
+work_by lives entries position flights =
+    work_of (all_to_cut lives.queries) (length (tables_by entries).versions) position (steps_in lives.queries)
+    (sum_by steps_to_free lives.slots) flights
+
+-- the work is told by lives, tables, and where the scan stands with how many batches
+pub same-work : (old new : State) → new.lives ≡ old.lives → new.entries ≡ old.entries → new.scan.position ≡ old.scan.position
+    → length new.scan.flights ≡ length old.scan.flights → work_in new ≡ work_in old
+same-work old new lives entries position flights =
+    ap (λ now. work_by now new.entries new.scan.position (length new.scan.flights)) lives
+    ∙ ap (λ now. work_by old.lives now new.scan.position (length new.scan.flights)) entries
+    ∙ ap (λ now. work_by old.lives old.entries now (length new.scan.flights)) position
+    ∙ ap (work_by old.lives old.entries old.scan.position) flights
+
+-- a new order leaves the lives and slots
+pub reordered-lives : (old new : State) → Took Reorder old new → new.lives ≡ old.lives
+reordered-lives old new took = ⊎_elim (λ same. same) (λ never. absurd never) (taken-lives Reorder old new (inr tt) took)
+
+-- and as much work
+pub work-reordered : (old new : State) → Took Reorder old new → work_in new ≡ work_in old
+work-reordered old new took =
+    let left : LeavesBatches old new = still-leaves Reorder old new tt took in
+    same-work old new (reordered-lives old new took) left.entries (ap (λ (scan : Scan). scan.position) left.scan) (ap (λ (scan : Scan). length scan.flights) left.scan)

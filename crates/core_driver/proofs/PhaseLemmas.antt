@@ -1,0 +1,153 @@
+-- What the phases of a turn leave.
+use Rattle.std.proofs.Common.{◌≡◌, ◌≤◌, ◌<◌, List, [], ◌∷◌, Option, Some, None, refl, sym, subst, inl, inr, ⊎_elim, arith}
+use Rattle.std.specs.Prelude.{All}
+use Rattle.std.proofs.lemmas.List.Elements.{All-head, All-tail}
+use Rattle.core_state.specs.Events.{MayCut}
+use Rattle.core_state.specs.Sound.{IsSound}
+use Rattle.core_state.specs.State.{State}
+use Rattle.core_state.specs.declared.event.Event.{Event}
+use Rattle.core_state.specs.declared.event.Event.TheVariants.{Cut, Take, Give, Distribute, Finish, Clear, Release, Reorder}
+use Rattle.core_state.proofs.StepLemmas.{StepsKeep}
+use Rattle.event_core.specs.Chosen.{kind_of}
+use Rattle.event_core.specs.Took.{IsLed, Took, TookAll}
+use Rattle.event_core.specs.declared.choosing.EventKind.{EventKind}
+use Rattle.event_core.specs.declared.choosing.EventKind.TheVariants as kind
+use Rattle.core_driver.specs.Driven.{IsDriven, IsFreeOrUnderWay, IsLanded, IsOfRound, IsOfSome, IsReorder, NoneOfMayCome, Rises}
+use Rattle.core_driver.specs.Lap.{IsOfLanding}
+use Rattle.core_driver.specs.Work.{TookSome, work_in}
+use Rattle.core_driver.proofs.KindLemmas.{cut-kinds, round-of-some}
+use Rattle.core_driver.proofs.LandLemmas.{landed-stays}
+use Rattle.core_driver.proofs.LedLemmas.{led-holds, led-joined, led-keeps, led-sound, led-wider, took-sound}
+use Rattle.core_driver.proofs.PassedLemmas.{reordered-lives, same-work, took-hands, work-reordered}
+use Rattle.core_driver.proofs.RiseLemmas.{rises-cut, rises-stays}
+use Rattle.core_driver.proofs.RoundLemmas.{none-first, only-kind}
+use Rattle.core_driver.proofs.WorkLemmas.{work-taken}
+
+-- the events of a landing are of a round
+pub round-landing : (event : Event) → IsOfLanding event → IsOfRound event
+round-landing (Take worker batch) one = tt
+round-landing (Give worker) one = tt
+round-landing (Distribute batch) one = tt
+round-landing (Finish slot) one = tt
+round-landing (Clear slot dimension) one = tt
+round-landing (Release slot) one = tt
+round-landing Reorder one = tt
+round-landing event one = absurd one
+
+-- and so is the one that orders the filters
+pub round-reorder : (event : Event) → IsReorder event → IsOfRound event
+round-reorder event is = subst IsOfRound (sym is) tt
+
+-- an event of a round leaves no more work
+work-after : (event : Event) (old new : State) → IsOfRound event → IsSound old → Took event old new → work_in new ≤ work_in old
+work-after Cut old new one sound took = let less = work-taken kind.Cut Cut old new sound refl took in omega arith
+work-after (Take worker batch) old new one sound took =
+    let passes = took-hands (Take worker batch) old new tt took in
+    let same = same-work old new passes.lives passes.entries passes.position passes.flights in
+    omega arith
+work-after (Give worker) old new one sound took =
+    let passes = took-hands (Give worker) old new tt took in
+    let same = same-work old new passes.lives passes.entries passes.position passes.flights in
+    omega arith
+work-after (Distribute batch) old new one sound took =
+    let less = work-taken kind.Distribute (Distribute batch) old new sound refl took in omega arith
+work-after (Finish slot) old new one sound took =
+    let less = work-taken kind.Finish (Finish slot) old new sound refl took in omega arith
+work-after (Clear slot dimension) old new one sound took =
+    let less = work-taken kind.Clear (Clear slot dimension) old new sound refl took in omega arith
+work-after (Release slot) old new one sound took =
+    let less = work-taken kind.Release (Release slot) old new sound refl took in omega arith
+work-after Reorder old new one sound took = let same = work-reordered old new took in omega arith
+work-after event old new one sound took = absurd one
+
+-- nor does a round
+pub work-round : StepsKeep → (old new : State) → IsLed IsOfRound old new → IsSound old → work_in new ≤ work_in old
+work-round keep old new led sound = led-keeps keep IsOfRound (λ state. work_in state ≤ work_in old)
+    (λ event before after one so_sound took so_far. let less = work-after event before after one so_sound took in omega arith)
+    old new led sound (omega arith)
+
+-- there is a kind, which is that of a cut
+abbrev IsCutKind : Option EventKind → Type 0
+IsCutKind None = ⊥
+IsCutKind (Some kind.Reserve) = ⊥
+IsCutKind (Some kind.Build) = ⊥
+IsCutKind (Some kind.Start) = ⊥
+IsCutKind (Some kind.Cut) = Unit {0}
+IsCutKind (Some kind.Distribute) = ⊥
+IsCutKind (Some kind.Finish) = ⊥
+IsCutKind (Some kind.Clear) = ⊥
+IsCutKind (Some kind.Release) = ⊥
+
+-- an event of that kind is a cut
+cut-event : (event : Event) → IsCutKind (kind_of event) → event ≡ Cut
+cut-event Cut is = refl
+cut-event event is = absurd is
+
+-- where a batch may be cut, cuts make the count of positions rise, as many as may come
+pub cuts-rise : StepsKeep → (old new : State) → IsSound old → IsLed (IsOfSome (kind.Cut ∷ [])) old new → NoneOfMayCome (kind.Cut ∷ []) new
+    → MayCut old → Rises old.scan.cut new.scan.cut
+cuts-rise keep old new sound led none may = by_events led.events led.each led.took
+  where
+    driven : (event : Event) → IsOfSome (kind.Cut ∷ []) event → IsDriven event
+    driven event some = inr (round-of-some (kind.Cut ∷ []) event cut-kinds some)
+
+    first-rises : (event : Event) (next : State) → IsOfSome (kind.Cut ∷ []) event → Took event old next → Rises old.scan.cut next.scan.cut
+    first-rises event next some took =
+        let of_kind : kind_of event ≡ Some kind.Cut = only-kind kind.Cut event some in
+        let is : event ≡ Cut = cut-event event (subst IsCutKind (sym of_kind) tt) in
+        rises-cut old next sound (subst (λ (one : Event). Took one old next) is took) old.scan.cut (inl (omega arith))
+
+    by_events : (events : List Event) → All (IsOfSome (kind.Cut ∷ [])) events → TookAll events old new → Rises old.scan.cut new.scan.cut
+    by_events [] each took = absurd (none-first kind.Cut [] new none Cut refl (subst MayCut (sym took) may))
+    by_events (event ∷ events) each took =
+        rises-stays keep old.scan.cut took.0 new
+        (record {
+          events = events;
+          each = λ place d low. driven _ (All-tail (IsOfSome (kind.Cut ∷ [])) event events each place d low);
+          took = took.2;
+        })
+        (took-sound keep event old took.0 took.1 sound)
+        (first-rises event took.0 (All-head (IsOfSome (kind.Cut ∷ [])) event events each) took.1)
+
+-- and leave less work
+pub cuts-fall : (old new : State) → TookSome old new → NoneOfMayCome (kind.Cut ∷ []) new → MayCut old → work_in new < work_in old
+cuts-fall old new some none may = ⊎_elim
+    (λ same. absurd (none-first kind.Cut [] new none Cut refl (subst MayCut (sym same) may)))
+    (λ less. less)
+    some
+
+-- a new order leaves a core landed
+landed-reordered : (old new : State) → Took Reorder old new → IsLanded old → IsLanded new
+landed-reordered old new took landed = record {
+  landed = landed-stays Reorder old new tt took landed.landed;
+  slots = subst (λ lives. All (IsFreeOrUnderWay lives) lives.slots) (sym (reordered-lives old new took)) landed.slots;
+}
+
+-- and so does none
+pub landed-ordered : (old new : State) → IsLed IsReorder old new → IsLanded old → IsLanded new
+landed-ordered = led-holds IsReorder IsLanded
+    (λ event old new is took landed. landed-reordered old new (subst (λ (one : Event). Took one old new) is took) landed)
+
+-- the driver takes events of a round
+pub round-driven : (old new : State) → IsLed IsOfRound old new → IsLed IsDriven old new
+round-driven = led-wider IsOfRound IsDriven (λ event one. inr one)
+
+-- a landing and a new order are of a round
+pub rest-led : (old landed new : State) → IsLed IsOfLanding old landed → IsLed IsReorder landed new → IsLed IsOfRound old new
+rest-led old landed new first second =
+    led-joined IsOfRound old landed new (led-wider IsOfLanding IsOfRound round-landing old landed first)
+    (led-wider IsReorder IsOfRound round-reorder landed new second)
+
+-- what cuts leave of the count of positions stays so through the rest of a round
+pub stays-risen : StepsKeep → (old mid new : State) → IsSound old → IsLed IsOfRound old mid → IsLed IsOfRound mid new
+    → (MayCut old → Rises old.scan.cut mid.scan.cut) → MayCut old → Rises old.scan.cut new.scan.cut
+stays-risen keep old mid new sound first second rises may =
+    rises-stays keep old.scan.cut mid new (round-driven mid new second) (led-sound keep IsOfRound old mid first sound) (rises may)
+
+-- and so does less work
+pub stays-fallen : StepsKeep → (old mid new : State) → IsSound old → IsLed IsOfRound old mid → IsLed IsOfRound mid new
+    → (MayCut old → work_in mid < work_in old) → MayCut old → work_in new < work_in old
+stays-fallen keep old mid new sound first second falls may =
+    let less = falls may in
+    let rest = work-round keep mid new second (led-sound keep IsOfRound old mid first sound) in
+    omega arith

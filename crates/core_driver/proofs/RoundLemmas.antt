@@ -1,0 +1,76 @@
+-- What a round of the driver leaves, by its phases.
+use Rattle.std.proofs.Common.{◌≡◌, ℕ, zero, suc, ◌<◌, List, [], ◌∷◌, length, Option, Some, None, sym, subst, arith}
+use Rattle.std.specs.Prelude.{IsSomeAnd, slice_index_or}
+use Rattle.std.proofs.lemmas.List.Elements.{All-head, All-tail, All-weaker}
+use Rattle.pipeline_manager.specs.Conditions.{IsRunning}
+use Rattle.pipeline_manager.specs.Lives.{life_in}
+use Rattle.pipeline_manager.specs.declared.life.Life.{Life}
+use Rattle.pipeline_manager.specs.declared.life.Life.TheVariants as life
+use Rattle.pipeline_manager.specs.declared.life.SlotState.{SlotState}
+use Rattle.pipeline_manager.specs.declared.life.SlotState.TheVariants.{Free, Held, Clearing}
+use Rattle.core_state.specs.Sound.{IsSound}
+use Rattle.core_state.specs.State.{State}
+use Rattle.core_state.specs.declared.event.Event.{Event}
+use Rattle.event_core.specs.Chosen.{IsOfKind, NoneMayCome}
+use Rattle.event_core.specs.Took.{IsLed}
+use Rattle.event_core.specs.declared.choosing.EventKind.{EventKind}
+use Rattle.event_core.specs.declared.choosing.EventKind.TheVariants as kind
+use Rattle.core_driver.specs.Driven.{IsFreeOrRuns, IsFreeOrUnderWay, IsLanded, IsOfSome, IsSettled, IsUnderWay, NoneOfMayCome}
+use Rattle.core_driver.proofs.KindLemmas.{still-kinds}
+use Rattle.core_driver.proofs.LandLemmas.{AreThrough, landed-led}
+use Rattle.core_driver.proofs.LedLemmas.{led-wider}
+use Rattle.core_driver.proofs.LoopLemmas.{landed-led-on}
+use Rattle.core_driver.proofs.SettleLemmas.{lands}
+
+-- no event of the first kind may come, nor any of the others
+pub none-first : (first : EventKind) (kinds : List EventKind) (state : State) → NoneOfMayCome (first ∷ kinds) state → NoneMayCome first state
+none-first first kinds state none = All-head (λ kind. NoneMayCome kind state) first kinds none
+
+pub none-others : (first : EventKind) (kinds : List EventKind) (state : State) → NoneOfMayCome (first ∷ kinds) state → NoneOfMayCome kinds state
+none-others first kinds state none = All-tail (λ kind. NoneMayCome kind state) first kinds none
+
+-- an event of one kind, where that alone is asked for
+pub only-kind : (first : EventKind) (event : Event) → IsOfSome (first ∷ []) event → IsOfKind first event
+only-kind first event some = by_place some.0 some.1 some.2 some.3 some.4
+  where
+    by_place : (place : ℕ) (kind : EventKind) → place < length (first ∷ []) → slice_index_or (first ∷ []) place kind ≡ kind → IsOfKind kind event
+        → IsOfKind first event
+    by_place zero kind low is of_kind = subst (λ k. IsOfKind k event) (sym is) of_kind
+    by_place (suc place) kind low is of_kind = absurd (omega arith)
+
+-- once batches passed all filters, and were distributed, and slots became free, as far as they can be, a core is landed
+pub round-lands : (passed landed free : State) → AreThrough passed → IsLed (IsOfSome (kind.Distribute ∷ [])) passed landed
+    → NoneOfMayCome (kind.Distribute ∷ []) landed → IsLed (IsOfSome (kind.Finish ∷ kind.Clear ∷ kind.Release ∷ [])) landed free
+    → NoneOfMayCome (kind.Finish ∷ kind.Clear ∷ kind.Release ∷ []) free → IsSound free → IsLanded free
+round-lands passed landed free through distributed no_more freed no_others sound =
+    lands free sound
+    (landed-led-on (kind.Finish ∷ kind.Clear ∷ kind.Release ∷ []) still-kinds landed free freed
+    (landed-led passed landed through
+    (led-wider (IsOfSome (kind.Distribute ∷ [])) (IsOfKind kind.Distribute) (only-kind kind.Distribute) passed landed distributed)
+    (none-first kind.Distribute [] landed no_more)))
+    (none-first kind.Finish (kind.Clear ∷ kind.Release ∷ []) free no_others)
+    (none-first kind.Clear (kind.Release ∷ []) free (none-others kind.Finish (kind.Clear ∷ kind.Release ∷ []) free no_others))
+    (none-first kind.Release [] free (none-others kind.Clear (kind.Release ∷ []) free
+    (none-others kind.Finish (kind.Clear ∷ kind.Release ∷ []) free no_others)))
+
+-- a settled core is landed
+pub settled-landed : (state : State) → IsSettled state → IsLanded state
+settled-landed state settled = record {
+  landed = settled.landed;
+  slots = All-weaker (IsFreeOrRuns state.lives) (IsFreeOrUnderWay state.lives) by_state state.lives.slots settled.slots;
+}
+  where
+    by_life : (o : Option Life) → IsSomeAnd o IsRunning → IsSomeAnd o IsUnderWay
+    by_life None runs = absurd runs
+    by_life (Some life.Waiting) runs = absurd runs
+    by_life (Some life.Building) runs = absurd runs
+    by_life (Some (life.Running start left)) runs = tt
+    by_life (Some life.Ending) runs = absurd runs
+    by_life (Some life.Answered) runs = absurd runs
+    by_life (Some life.Spoiled) runs = absurd runs
+    by_life (Some life.Abandoned) runs = absurd runs
+
+    by_state : (slot : SlotState) → IsFreeOrRuns state.lives slot → IsFreeOrUnderWay state.lives slot
+    by_state Free runs = tt
+    by_state (Held query built) runs = by_life (life_in state.lives.queries query) runs
+    by_state (Clearing left) runs = absurd runs

@@ -1,0 +1,118 @@
+-- What is said of the life of a query stays said of it through the events of the driver.
+use Rattle.std.proofs.Common.{ℕ, ◌-◌, Option, sym, subst, inl, inr, ⊎_elim}
+use Rattle.continuous_scan.specs.Range.{first_of}
+use Rattle.pipeline_manager.specs.Lives.{Lives, extent_in, life_in, life_of}
+use Rattle.pipeline_manager.specs.declared.life.Life.{Life}
+use Rattle.pipeline_manager.specs.declared.life.Life.TheVariants as life
+use Rattle.core_state.specs.Cutting.{end_in, first_in}
+use Rattle.core_state.specs.Events.{IsEnabled}
+use Rattle.core_state.specs.Sound.{IsSound}
+use Rattle.core_state.specs.State.{State}
+use Rattle.core_state.specs.Tables.{versions_in}
+use Rattle.core_state.specs.declared.event.Event.{Event}
+use Rattle.core_state.specs.declared.event.Event.TheVariants.{Submit, Reserve, Build, Start, Cut, Take, Give, Distribute, Finish, Clear, Release, Reorder, Abandon}
+use Rattle.event_core.specs.Took.{Took}
+use Rattle.core_driver.specs.Driven.{IsDriven, IsOfAdmission, IsOfRound}
+use Rattle.core_driver.proofs.TakenLemmas.{Spoils, lives_by, taken-lives}
+use Rattle.core_driver.proofs.TurnLemmas.{AdmissionKeeps, RoundKeeps, built-queries, says-cut, says-ended, says-reserved, says-spoiled, says-started, says-written}
+
+-- an event of a round that is done
+round-done : (Says : Option Life → Type 0) → RoundKeeps Says → (number : ℕ) (event : Event) (state : State) → IsOfRound event
+    → Says (life_of state.lives number) → Says (life_of (lives_by event state) number)
+round-done Says keeps number (Submit seat statement) state round says = absurd round
+round-done Says keeps number (Reserve query slot) state round says = absurd round
+round-done Says keeps number (Build query dimension) state round says = absurd round
+round-done Says keeps number (Start query) state round says = absurd round
+round-done Says keeps number Cut state round says =
+    says-cut Says (first_in state) (end_in state - 1) state.lives.queries number keeps.cut says
+round-done Says keeps number (Take worker batch) state round says = says
+round-done Says keeps number (Give worker) state round says = says
+round-done Says keeps number (Distribute batch) state round says = says
+round-done Says keeps number (Finish slot) state round says = says-ended Says slot state.lives number keeps.answered says
+round-done Says keeps number (Clear slot dimension) state round says = says
+round-done Says keeps number (Release slot) state round says = says
+round-done Says keeps number Reorder state round says = says
+round-done Says keeps number (Abandon query) state round says = absurd round
+
+-- one at which queries find no memory
+round-spoilt : (Says : Option Life → Type 0) → RoundKeeps Says → (number : ℕ) (event : Event) (old new : Lives) → IsOfRound event
+    → Spoils event old new → Says (life_of old number) → Says (life_of new number)
+round-spoilt Says keeps number (Submit seat statement) old new round spoils says = absurd spoils
+round-spoilt Says keeps number (Reserve query slot) old new round spoils says = absurd spoils
+round-spoilt Says keeps number (Build query dimension) old new round spoils says = absurd round
+round-spoilt Says keeps number (Start query) old new round spoils says = absurd spoils
+round-spoilt Says keeps number Cut old new round spoils says = absurd spoils
+round-spoilt Says keeps number (Take worker batch) old new round spoils says = absurd spoils
+round-spoilt Says keeps number (Give worker) old new round spoils says = absurd spoils
+round-spoilt Says keeps number (Distribute batch) old new round spoils says =
+    subst (λ lives. Says (life_of lives number)) (sym spoils.1) (says-spoiled Says spoils.0 old number keeps.spoiled says)
+round-spoilt Says keeps number (Finish slot) old new round spoils says = absurd spoils
+round-spoilt Says keeps number (Clear slot dimension) old new round spoils says = absurd spoils
+round-spoilt Says keeps number (Release slot) old new round spoils says = absurd spoils
+round-spoilt Says keeps number Reorder old new round spoils says = absurd spoils
+round-spoilt Says keeps number (Abandon query) old new round spoils says = absurd spoils
+
+-- an event of a round keeps it
+pub round-says : (Says : Option Life → Type 0) → RoundKeeps Says → (number : ℕ) (event : Event) (old new : State) → IsOfRound event
+    → Took event old new → Says (life_of old.lives number) → Says (life_of new.lives number)
+round-says Says keeps number event old new round took says = ⊎_elim
+    (λ done. subst (λ lives. Says (life_of lives number)) (sym done) (round-done Says keeps number event old round says))
+    (λ spoils. round-spoilt Says keeps number event old.lives new.lives round spoils says)
+    (taken-lives event old new (inr round) took)
+
+-- an event of an admission that is done
+admission-done : (Says : Option Life → Type 0) → AdmissionKeeps Says → (number : ℕ) (event : Event) (state : State) → IsOfAdmission event
+    → IsSound state → IsEnabled state event → Says (life_of state.lives number) → Says (life_of (lives_by event state) number)
+admission-done Says keeps number (Submit seat statement) state admits sound may says = absurd admits
+admission-done Says keeps number (Reserve query slot) state admits sound may says =
+    says-reserved Says slot state.lives number sound.slots.lives keeps.reserved says
+admission-done Says keeps number (Build query dimension) state admits sound may says =
+    subst (λ queries. Says (life_in queries number)) (sym (built-queries query dimension state.lives)) says
+admission-done Says keeps number (Start query) state admits sound may says =
+    says-started Says query (first_of state.scan.position (versions_in state)) state.lives number may
+    (keeps.started (first_of state.scan.position (versions_in state)) (extent_in state.lives.queries query)) says
+admission-done Says keeps number Cut state admits sound may says = absurd admits
+admission-done Says keeps number (Take worker batch) state admits sound may says = absurd admits
+admission-done Says keeps number (Give worker) state admits sound may says = absurd admits
+admission-done Says keeps number (Distribute batch) state admits sound may says = absurd admits
+admission-done Says keeps number (Finish slot) state admits sound may says = absurd admits
+admission-done Says keeps number (Clear slot dimension) state admits sound may says = absurd admits
+admission-done Says keeps number (Release slot) state admits sound may says = absurd admits
+admission-done Says keeps number Reorder state admits sound may says = absurd admits
+admission-done Says keeps number (Abandon query) state admits sound may says = absurd admits
+
+-- one at which a query finds no memory
+admission-spoilt : (Says : Option Life → Type 0) → AdmissionKeeps Says → (number : ℕ) (event : Event) (state : State) (new : Lives)
+    → IsOfAdmission event → IsEnabled state event → Spoils event state.lives new → Says (life_of state.lives number) → Says (life_of new number)
+admission-spoilt Says keeps number (Submit seat statement) state new admits may spoils says = absurd spoils
+admission-spoilt Says keeps number (Reserve query slot) state new admits may spoils says = absurd spoils
+admission-spoilt Says keeps number (Build query dimension) state new admits may spoils says =
+    subst (λ lives. Says (life_of lives number)) (sym spoils)
+    (says-written Says query life.Building life.Spoiled state.lives.queries number may.building keeps.spoiled says)
+admission-spoilt Says keeps number (Start query) state new admits may spoils says = absurd spoils
+admission-spoilt Says keeps number Cut state new admits may spoils says = absurd spoils
+admission-spoilt Says keeps number (Take worker batch) state new admits may spoils says = absurd spoils
+admission-spoilt Says keeps number (Give worker) state new admits may spoils says = absurd spoils
+admission-spoilt Says keeps number (Distribute batch) state new admits may spoils says = absurd admits
+admission-spoilt Says keeps number (Finish slot) state new admits may spoils says = absurd spoils
+admission-spoilt Says keeps number (Clear slot dimension) state new admits may spoils says = absurd spoils
+admission-spoilt Says keeps number (Release slot) state new admits may spoils says = absurd spoils
+admission-spoilt Says keeps number Reorder state new admits may spoils says = absurd spoils
+admission-spoilt Says keeps number (Abandon query) state new admits may spoils says = absurd spoils
+
+-- an event of an admission keeps it
+pub admission-says : (Says : Option Life → Type 0) → AdmissionKeeps Says → (number : ℕ) (event : Event) (old new : State) → IsOfAdmission event
+    → IsSound old → Took event old new → Says (life_of old.lives number) → Says (life_of new.lives number)
+admission-says Says keeps number event old new admits sound took says = ⊎_elim
+    (λ done. subst (λ lives. Says (life_of lives number)) (sym done)
+    (admission-done Says keeps number event old admits sound took.enabled says))
+    (λ spoils. admission-spoilt Says keeps number event old new.lives admits took.enabled spoils says)
+    (taken-lives event old new (inl admits) took)
+
+-- an event of the driver keeps what both keep
+pub driven-says : (Says : Option Life → Type 0) → AdmissionKeeps Says → RoundKeeps Says → (number : ℕ) (event : Event) (old new : State)
+    → IsDriven event → IsSound old → Took event old new → Says (life_of old.lives number) → Says (life_of new.lives number)
+driven-says Says admits round number event old new driven sound took says = ⊎_elim
+    (λ one. admission-says Says admits number event old new one sound took says)
+    (λ one. round-says Says round number event old new one took says)
+    driven

@@ -1,0 +1,76 @@
+-- Sums over lists of which one member is another, or each is changed.
+use Rattle.std.proofs.Common.{◌≡◌, ℕ, zero, suc, ◌<◌, ◌≤◌, ◌+◌, Bool, true, false, cond, eqb, List, [], ◌∷◌, length, get_or, map, Option, Some, None, refl, ap, arith}
+use Rattle.std.specs.Prelude.{sum_by}
+use Rattle.std.proofs.lemmas.List.Sums.{sum_by-cons}
+use Rattle.std.proofs.lemmas.Bool.{eqb-true}
+use Rattle.pipeline_manager.specs.Changes.{with_life}
+use Rattle.pipeline_manager.specs.Lives.{query_in}
+use Rattle.pipeline_manager.specs.Sound.{AreRising}
+use Rattle.pipeline_manager.specs.declared.life.Life.{Life}
+use Rattle.pipeline_manager.specs.declared.life.QueryLife.{QueryLife}
+use Rattle.pipeline_manager.proofs.QueryLemmas.{head_is_only, map-missing, tail_rises}
+
+-- another life of the one query with this number changes the sum by what that query counts
+pub sum-written : (weight : QueryLife → ℕ) (query : ℕ) (life : Life) (queries : List QueryLife) (entry : QueryLife) → AreRising queries
+    → query_in queries query ≡ Some entry
+    → sum_by weight (with_life query life queries) + weight entry ≡ sum_by weight queries + weight (record entry { life = life })
+sum-written weight query life [] entry rising found = absurd (let both : None ≡ Some entry = found in cc)
+sum-written weight query life (first ∷ queries) entry rising found =
+    by_test (eqb first.query query) refl found (sum-written weight query life queries entry (tail_rises first queries rising))
+  where
+    whole : sum_by weight (first ∷ queries) ≡ weight first + sum_by weight queries
+    whole = sum_by-cons weight first queries
+
+    by_test : (t : Bool) → eqb first.query query ≡ t → cond {A = Option QueryLife} t (Some first) (query_in queries query) ≡ Some entry
+        → (query_in queries query ≡ Some entry
+        → sum_by weight (with_life query life queries) + weight entry ≡ sum_by weight queries + weight (record entry { life = life }))
+        → sum_by weight (cond {A = QueryLife} t (record first { life = life }) first ∷ with_life query life queries) + weight entry
+        ≡ sum_by weight (first ∷ queries) + weight (record entry { life = life })
+    by_test true at is rest =
+        let same : first ≡ entry = cc in
+        let others : with_life query life queries ≡ queries =
+        map-missing queries query (λ e. record e { life = life }) (head_is_only first queries query rising (eqb-true first.query query at)) in
+        let written = sum_by-cons weight (record first { life = life }) (with_life query life queries) in
+        let stay = ap (sum_by weight) others in
+        let before = ap weight same in
+        let now : weight (record first { life = life }) ≡ weight (record entry { life = life }) = ap (λ (e : QueryLife). weight (record e { life = life })) same in
+        let all : sum_by weight (record first { life = life } ∷ with_life query life queries) + weight entry
+        ≡ sum_by weight (first ∷ queries) + weight (record entry { life = life }) = omega (arith, whole) in
+        all
+    by_test false at is rest =
+        let more = rest is in
+        let written = sum_by-cons weight first (with_life query life queries) in
+        let all : sum_by weight (first ∷ with_life query life queries) + weight entry
+        ≡ sum_by weight (first ∷ queries) + weight (record entry { life = life }) = omega (arith, whole) in
+        all
+
+-- a change that makes no member count more makes the sum no more
+pub sum-changed : {X : Type 0} (weight : X → ℕ) (change : X → X) (xs : List X) → ((x : X) → weight (change x) ≤ weight x)
+    → sum_by weight (map change xs) ≤ sum_by weight xs
+sum-changed weight change [] less = omega arith
+sum-changed weight change (x ∷ xs) less =
+    let rest = sum-changed weight change xs less in
+    let here = less x in
+    omega (arith, sum_by-cons weight x xs, sum_by-cons weight (change x) (map change xs))
+
+-- and less where it makes one member count less
+pub sum-less : {X : Type 0} (weight : X → ℕ) (change : X → X) (xs : List X) (place : ℕ) (d : X) → ((x : X) → weight (change x) ≤ weight x)
+    → place < length xs → weight (change (get_or xs place d)) < weight (get_or xs place d)
+    → sum_by weight (map change xs) < sum_by weight xs
+sum-less weight change [] place d less low here = absurd (omega arith)
+sum-less weight change (x ∷ xs) zero d less low here =
+    let rest = sum-changed weight change xs less in
+    omega (arith, sum_by-cons weight x xs, sum_by-cons weight (change x) (map change xs))
+sum-less weight change (x ∷ xs) (suc place) d less low here =
+    let rest = sum-less weight change xs place d less (omega arith) here in
+    let first = less x in
+    omega (arith, sum_by-cons weight x xs, sum_by-cons weight (change x) (map change xs))
+
+-- a change that each member counts the same with leaves the sum
+pub sum-same : {X : Type 0} (weight : X → ℕ) (change : X → X) (xs : List X) → ((x : X) → weight (change x) ≡ weight x)
+    → sum_by weight (map change xs) ≡ sum_by weight xs
+sum-same weight change [] same = refl
+sum-same weight change (x ∷ xs) same =
+    let rest = sum-same weight change xs same in
+    let here = same x in
+    omega (arith, sum_by-cons weight x xs, sum_by-cons weight (change x) (map change xs))

@@ -1,0 +1,132 @@
+-- Each event that is taken by its kind leaves less work.
+use Rattle.std.proofs.Common.{◌≡◌, ℕ, ◌<◌, ◌+◌, List, [], ◌∷◌, length, Some, None, Option, refl, sym, ap, ◌∙◌, subst, inl, inr, ⊎_elim, false, true, arith}
+use Rattle.std.specs.Prelude.{All, IsSome, sum_by}
+use Rattle.std.specs.List.{fold}
+use Rattle.std.proofs.lemmas.List.Elements.{All-contains, All-map}
+use Rattle.continuous_scan.specs.Range.{first_of}
+use Rattle.pipeline_manager.specs.Changes.{after_spoil}
+use Rattle.pipeline_manager.specs.Lives.{Lives}
+use Rattle.core_state.specs.Events.{after_event}
+use Rattle.core_state.specs.Found.{flight_at}
+use Rattle.core_state.specs.Sound.{IsSound}
+use Rattle.core_state.specs.State.{FilterVersion, Flight, Scan, State}
+use Rattle.core_state.specs.Tables.{filter_dimensions, tables_of, versions_in}
+use Rattle.core_state.specs.declared.event.Event.{Event}
+use Rattle.core_state.specs.declared.event.Event.TheVariants.{Submit, Reserve, Build, Start, Cut, Take, Give, Distribute, Finish, Clear, Release, Reorder, Abandon}
+use Rattle.core_state.proofs.DistributeLemmas.{length-landed, without_flight}
+use Rattle.event_core.specs.Chosen.{IsOfKind}
+use Rattle.event_core.specs.Took.{Took}
+use Rattle.event_core.specs.declared.choosing.EventKind.{EventKind}
+use Rattle.core_driver.specs.Driven.{IsDriven}
+use Rattle.core_driver.specs.Work.{all_to_cut, steps_to_free, work_in}
+use Rattle.core_driver.proofs.PassedLemmas.{work_by}
+use Rattle.core_driver.proofs.TakenLemmas.{Distributes, IsStill, LeavesBatches, Spoils, distributes, lives_by, still-leaves, taken-lives}
+use Rattle.core_driver.proofs.WorkCutLemmas.{work-cut}
+use Rattle.core_driver.proofs.WorkLifeLemmas.{no-more-spoiled, steps_in}
+use Rattle.core_driver.proofs.WorkLivesLemmas.{HaveLess, less-built, less-cleared, less-ended, less-released, less-reserved, less-spoiled, less-started}
+use Rattle.core_driver.proofs.WorkNumberLemmas.{work-falls}
+use Rattle.core_driver.proofs.WorkSlotLemmas.{FiltersAreBelow}
+
+-- each filter is of one of eight dimensions
+pub filters-below : (state : State) → IsSound state → FiltersAreBelow 8 state.lives
+filters-below state sound dimension has =
+    All-contains (λ d. d < 8) (filter_dimensions (tables_of state).schema) dimension
+    (subst (All (λ d. d < 8)) sound.filters.dimensions
+    (All-map (λ d. d < 8) (λ (version : FilterVersion). version.filter.dimension) state.filters.versions
+    (λ place d low. (sound.filters.each place d low).table.numbered)))
+    ((sound.filters.set dimension).0 has)
+
+-- fewer steps leave less work
+fewer-steps : (old new : State) → LeavesBatches old new → HaveLess old.lives new.lives → work_in new < work_in old
+fewer-steps old new left less =
+    let falls = work-falls (all_to_cut old.lives.queries) (all_to_cut new.lives.queries) (length (tables_of old).versions) old.scan.position
+    (steps_in old.lives.queries) (sum_by steps_to_free old.lives.slots) (length old.scan.flights)
+    (steps_in new.lives.queries) (sum_by steps_to_free new.lives.slots) (length old.scan.flights) less.cut (let steps = less.steps in omega arith) in
+    let same : work_in new ≡ work_by new.lives old.entries old.scan.position (length old.scan.flights) =
+    ap (λ (scan : Scan). work_by new.lives new.entries scan.position (length scan.flights)) left.scan
+    ∙ ap (λ entries. work_by new.lives entries old.scan.position (length old.scan.flights)) left.entries in
+    subst (λ work. work < work_in old) (sym same) falls
+
+-- an event that moves no batch leaves less work where it leaves fewer steps
+work-stepped : (event : Event) (old new : State) → IsStill event → IsDriven event → Took event old new
+    → HaveLess old.lives (lives_by event old) → ((now : Lives) → Spoils event old.lives now → HaveLess old.lives now)
+    → work_in new < work_in old
+work-stepped event old new still driven took less spoilt =
+    fewer-steps old new (still-leaves event old new still took) (⊎_elim
+    (λ done. subst (HaveLess old.lives) (sym done) less)
+    (λ spoils. spoilt new.lives spoils)
+    (taken-lives event old new driven took))
+
+-- queries that find no memory keep their slots
+spoiled-slots : (spoiled : List ℕ) (lives : Lives) → (fold (λ now query. after_spoil query now) lives spoiled).slots ≡ lives.slots
+spoiled-slots [] lives = refl
+spoiled-slots (query ∷ spoiled) lives = spoiled-slots spoiled (after_spoil query lives)
+
+-- a batch less is in flight once it is distributed
+fewer-flights : (batch : ℕ) (state : State) → IsSound state → IsSome (flight_at state.scan.flights batch)
+    → length state.scan.flights ≡ length (without_flight batch state.scan.flights) + 1
+fewer-flights batch state sound there = by_flight (flight_at state.scan.flights batch) refl there
+  where
+    by_flight : (o : Option Flight) → flight_at state.scan.flights batch ≡ o → IsSome o
+        → length state.scan.flights ≡ length (without_flight batch state.scan.flights) + 1
+    by_flight None is some = absurd (let both : false ≡ true = some in cc)
+    by_flight (Some landed) is some = length-landed batch landed state.scan.flights is sound.numbers.apart
+
+-- a distribution leaves less work
+work-distributed : (batch : ℕ) (old new : State) → IsSound old → Took (Distribute batch) old new → work_in new < work_in old
+work-distributed batch old new sound took =
+    let after : Distributes batch old new = distributes batch old new took in
+    let spoils : Lives = fold (λ now query. after_spoil query now) old.lives after.spoiled in
+    let no_more = no-more-spoiled after.spoiled old.lives in
+    let slots : sum_by steps_to_free spoils.slots ≡ sum_by steps_to_free old.lives.slots =
+    ap (sum_by steps_to_free) (spoiled-slots after.spoiled old.lives) in
+    let flights = fewer-flights batch old sound took.enabled.there in
+    let falls = work-falls (all_to_cut old.lives.queries) (all_to_cut spoils.queries) (length (tables_of old).versions) old.scan.position
+    (steps_in old.lives.queries) (sum_by steps_to_free old.lives.slots) (length old.scan.flights)
+    (steps_in spoils.queries) (sum_by steps_to_free spoils.slots) (length (without_flight batch old.scan.flights))
+    no_more.cut (let steps = no_more.steps in omega arith) in
+    let same : work_in new ≡ work_by spoils old.entries old.scan.position (length (without_flight batch old.scan.flights)) =
+    ap (λ (scan : Scan). work_by new.lives new.entries scan.position (length scan.flights)) after.scan
+    ∙ ap (λ entries. work_by new.lives entries old.scan.position (length (without_flight batch old.scan.flights))) after.entries
+    ∙ ap (λ lives. work_by lives old.entries old.scan.position (length (without_flight batch old.scan.flights))) after.lives in
+    subst (λ work. work < work_in old) (sym same) falls
+
+-- a cut
+work-cut-taken : (old new : State) → IsSound old → Took Cut old new → work_in new < work_in old
+unfolding after_event
+work-cut-taken old new sound took = ⊎_elim
+    (λ done. subst (λ state. work_in state < work_in old) (sym done) (work-cut old took.enabled sound))
+    (λ never. absurd never)
+    took.after
+
+-- an event of a kind is of no other
+no-kind : (kind : EventKind) → None ≡ Some kind → ⊥
+no-kind kind both = cc
+
+-- each event of a kind leaves less work
+pub work-taken : (kind : EventKind) (event : Event) (old new : State) → IsSound old → IsOfKind kind event → Took event old new
+    → work_in new < work_in old
+work-taken kind (Submit seat statement) old new sound is took = absurd (no-kind kind is)
+work-taken kind (Reserve query slot) old new sound is took =
+    work-stepped (Reserve query slot) old new tt (inl tt) took
+    (less-reserved slot query old.lives sound.slots.lives took.enabled.oldest took.enabled.there took.enabled.is_free) (λ now never. absurd never)
+work-taken kind (Build query dimension) old new sound is took =
+    work-stepped (Build query dimension) old new tt (inl tt) took
+    (less-built query dimension old.lives sound.slots.lives (filters-below old sound) took.enabled)
+    (λ now spoils. subst (HaveLess old.lives) (sym spoils) (less-spoiled query old.lives sound.slots.lives took.enabled.building))
+work-taken kind (Start query) old new sound is took =
+    work-stepped (Start query) old new tt (inl tt) took
+    (less-started query (first_of old.scan.position (versions_in old)) old.lives sound.slots.lives took.enabled) (λ now never. absurd never)
+work-taken kind Cut old new sound is took = work-cut-taken old new sound took
+work-taken kind (Take worker batch) old new sound is took = absurd (no-kind kind is)
+work-taken kind (Give worker) old new sound is took = absurd (no-kind kind is)
+work-taken kind (Distribute batch) old new sound is took = work-distributed batch old new sound took
+work-taken kind (Finish slot) old new sound is took =
+    work-stepped (Finish slot) old new tt (inr tt) took (less-ended slot old.lives took.enabled.over) (λ now never. absurd never)
+work-taken kind (Clear slot dimension) old new sound is took =
+    work-stepped (Clear slot dimension) old new tt (inr tt) took
+    (less-cleared slot dimension old.lives sound.slots.lives (filters-below old sound) took.enabled) (λ now never. absurd never)
+work-taken kind (Release slot) old new sound is took =
+    work-stepped (Release slot) old new tt (inr tt) took (less-released slot old.lives took.enabled) (λ now never. absurd never)
+work-taken kind Reorder old new sound is took = absurd (no-kind kind is)
+work-taken kind (Abandon query) old new sound is took = absurd (no-kind kind is)

@@ -1,0 +1,25 @@
+-- Where no event of these kinds may come, all that can be are admitted.
+use Rattle.std.proofs.Common.{[], ◌∷◌}
+use Rattle.std.proofs.lemmas.Result.{on_ok_weaker}
+use Rattle.event_core.specs.Seen.{state_of}
+use Rattle.event_core.specs.declared.choosing.EventKind.TheVariants as kind
+use Rattle.core_driver.proofs.KindLemmas.{admission-kinds, admission-led}
+use Rattle.core_driver.proofs.RoundLemmas.{none-first, none-others}
+use Rattle.core_driver.proofs.driver.admit.Goals as goal
+
+pub returns-clause-led : goal.returns-clause-led
+returns-clause-led c =
+    admission-led (kind.Reserve ∷ kind.Build ∷ kind.Start ∷ []) admission-kinds (state_of c.args.core.now) (state_of c.take_all.new.core)
+    c.take_all.ensures.led
+
+pub returns-clause-admits : goal.returns-clause-admits
+returns-clause-admits c = on_ok_weaker c.take_all.result
+    (λ none.
+    let others = none-others kind.Reserve (kind.Build ∷ kind.Start ∷ []) (state_of c.take_all.new.core) none in
+    record {
+      led = returns-clause-led c;
+      reserve = none-first kind.Reserve (kind.Build ∷ kind.Start ∷ []) (state_of c.take_all.new.core) none;
+      build = none-first kind.Build (kind.Start ∷ []) (state_of c.take_all.new.core) others;
+      start = none-first kind.Start [] (state_of c.take_all.new.core) (none-others kind.Build (kind.Start ∷ []) (state_of c.take_all.new.core) others);
+    })
+    c.take_all.ensures.none

@@ -1,0 +1,46 @@
+-- What turn after turn leaves, where it breaks off and in the end.
+use Rattle.std.proofs.Common.{◌≡◌, Bool, false, true, sym, ◌∙◌}
+use Rattle.std.specs.Prelude.{◌↔◌, IsTrue}
+use Rattle.core_state.specs.State.{State}
+use Rattle.event_core.specs.Seen.{state_of}
+use Rattle.core_driver.specs.Driven.{IsDriven, MayGoOn}
+use Rattle.core_driver.proofs.FinishLemmas.{first-lap, gone-answers, gone-finishes, gone-first, gone-lap, gone-on}
+use Rattle.core_driver.proofs.LedLemmas.{led-joined}
+use Rattle.core_driver.proofs.driver.finish_all.Goals as goal
+
+-- where it is told that none may go on, none may
+stops : (state : State) (told : Bool) → told ≡ false → IsTrue told ↔ MayGoOn state → MayGoOn state → ⊥
+stops state told is tells may = let both : false ≡ true = sym is ∙ tells.1 may in cc
+
+pub returns-in_err-land-clause-lap : goal.returns-in_err-land-clause-lap
+returns-in_err-land-clause-lap g c = first-lap (state_of c.args.core.now) (state_of c.land.new.core) c.land.ensures.led
+
+pub turns-init : goal.turns-init
+turns-init g c =
+    gone-first c.every_step_keeps_a_core_sound.ensures (state_of c.args.core.now) (state_of c.land.new.core) c.every_core_is_sound.ensures
+    c.land.ensures.led c.in_ok-land.ensures.landed
+
+pub turns-preserved : goal.turns-preserved
+turns-preserved g c =
+    gone-on c.every_step_keeps_a_core_sound.ensures (state_of c.args.core.now) (state_of c.turns.core) (state_of c.turn.new.core)
+    c.every_core_is_sound.ensures c.turns.invariant (c.may_go_on.ensures.0 c.turns-test.true) c.turn.ensures.driven c.in_ok-turn.ensures.whole
+    c.in_ok-turn.ensures.settled
+
+pub returns-in_err-turn-clause-driven : goal.returns-in_err-turn-clause-driven
+returns-in_err-turn-clause-driven g c =
+    led-joined IsDriven (state_of c.args.core.now) (state_of c.turns.core) (state_of c.turn.new.core) c.turns.invariant.driven c.turn.ensures.driven
+
+pub returns-in_err-turn-clause-lap : goal.returns-in_err-turn-clause-lap
+returns-in_err-turn-clause-lap g c =
+    gone-lap c.every_step_keeps_a_core_sound.ensures (state_of c.args.core.now) (state_of c.turns.core) (state_of c.turn.new.core)
+    c.every_core_is_sound.ensures c.turns.invariant (c.may_go_on.ensures.0 c.turns-test.true) c.turn.ensures.turn
+
+pub returns-clause-finished : goal.returns-clause-finished
+returns-clause-finished g c =
+    gone-finishes c.every_step_keeps_a_core_sound.ensures (state_of c.args.core.now) (state_of c.turns.core) c.every_core_is_sound.ensures
+    c.turns.invariant (stops (state_of c.turns.core) c.may_go_on.result c.turns-test.false c.may_go_on.ensures)
+
+pub returns-clause-answers : goal.returns-clause-answers
+returns-clause-answers g c =
+    gone-answers c.every_step_keeps_a_core_sound.ensures (state_of c.args.core.now) (state_of c.turns.core) c.every_core_is_sound.ensures
+    c.turns.invariant (stops (state_of c.turns.core) c.may_go_on.result c.turns-test.false c.may_go_on.ensures)

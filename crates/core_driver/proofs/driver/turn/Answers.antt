@@ -1,0 +1,43 @@
+-- A turn is an admission and a round.
+use Rattle.std.proofs.lemmas.Result.{on_ok_weaker}
+use Rattle.event_core.specs.Seen.{state_of}
+use Rattle.core_driver.specs.Driven.{IsOfAdmission}
+use Rattle.core_driver.proofs.LedLemmas.{led-sound}
+use Rattle.core_driver.proofs.WholeLemmas.{halves-driven, turn-admits, turn-falls, turn-rises, turn-settles}
+use Rattle.core_driver.proofs.driver.turn.Goals as goal
+
+pub returns-clause-driven : goal.returns-clause-driven
+returns-clause-driven g c =
+    halves-driven (state_of c.args.core.now) (state_of c.admit.new.core) (state_of c.go_round.new.core) c.admit.ensures.led c.go_round.ensures.led
+
+pub returns-clause-whole : goal.returns-clause-whole
+returns-clause-whole g c = on_ok_weaker c.go_round.result
+    (λ landed. (state_of c.admit.new.core, (c.in_ok-admit.ensures.admits, c.go_round.ensures.led)))
+    c.go_round.ensures.landed
+
+pub returns-clause-settled : goal.returns-clause-settled
+returns-clause-settled g c = on_ok_weaker c.go_round.result
+    (turn-settles (state_of c.args.core.now) (state_of c.admit.new.core) (state_of c.go_round.new.core) c.in_ok-admit.ensures.admits
+    c.go_round.ensures.led)
+    c.go_round.ensures.landed
+
+pub returns-clause-admits : goal.returns-clause-admits
+returns-clause-admits g c = on_ok_weaker c.go_round.result
+    (λ landed.
+    turn-admits c.every_step_keeps_a_core_sound.ensures (state_of c.args.core.now) (state_of c.admit.new.core) (state_of c.go_round.new.core)
+    c.every_core_is_sound.ensures c.in_ok-admit.ensures.admits c.go_round.ensures.led)
+    c.go_round.ensures.landed
+
+pub returns-clause-cuts : goal.returns-clause-cuts
+returns-clause-cuts g c = on_ok_weaker c.go_round.result
+    (turn-rises c.every_step_keeps_a_core_sound.ensures (state_of c.args.core.now) (state_of c.admit.new.core) (state_of c.go_round.new.core)
+    c.every_core_is_sound.ensures c.in_ok-admit.ensures.admits)
+    c.go_round.ensures.cuts
+
+pub returns-clause-less : goal.returns-clause-less
+returns-clause-less g c = on_ok_weaker c.go_round.result
+    (turn-falls c.every_step_keeps_a_core_sound.ensures (state_of c.args.core.now) (state_of c.admit.new.core) (state_of c.go_round.new.core)
+    (led-sound c.every_step_keeps_a_core_sound.ensures IsOfAdmission (state_of c.args.core.now) (state_of c.admit.new.core) c.admit.ensures.led
+    c.every_core_is_sound.ensures)
+    c.in_ok-admit.ensures.admits c.admit.ensures.some c.go_round.ensures.led)
+    c.go_round.ensures.less

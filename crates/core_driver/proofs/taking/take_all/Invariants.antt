@@ -1,0 +1,17 @@
+-- Events of the kinds were taken so far, and each left less work.
+use Rattle.event_core.specs.Chosen.{AreIdle}
+use Rattle.event_core.specs.Seen.{state_of}
+use Rattle.event_core.specs.Took.{IsLed}
+use Rattle.core_driver.specs.Driven.{IsOfSome}
+use Rattle.core_driver.specs.Work.{TookSome, work_in}
+use Rattle.core_driver.proofs.taking.take_all.Given as goal
+
+abbrev pub invariant-events : goal.invariant-events
+invariant-events l = record {
+  led : IsLed (IsOfSome l.kinds) (state_of l.fn.core) (state_of l.core);
+  some : TookSome (state_of l.fn.core) (state_of l.core);
+  idle : AreIdle (state_of l.fn.core) → AreIdle (state_of l.core);
+}
+
+abbrev pub decreases-events : goal.decreases-events
+decreases-events l = work_in (state_of l.core)

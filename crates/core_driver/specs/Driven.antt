@@ -1,0 +1,137 @@
+-- Which events the driver of a core takes, and what it leaves.
+use Rattle.std.specs.Prelude.{◌≡◌, ◌⊎◌, ℕ, ◌<◌, List, [], ◌∷◌, All, Any, false, IsSome, IsSomeAnd, IsTrue, Some}
+use Rattle.pipeline_manager.specs.Conditions.{IsRunning, is_open}
+use Rattle.pipeline_manager.specs.Lives.{Lives, free_slot, life_of, oldest_waiting}
+use Rattle.pipeline_manager.specs.declared.life.Life.{Life}
+use Rattle.pipeline_manager.specs.declared.life.Life.TheVariants.{Waiting, Building, Running, Ending, Answered, Spoiled, Abandoned}
+use Rattle.pipeline_manager.specs.declared.life.SlotState.{SlotState}
+use Rattle.pipeline_manager.specs.declared.life.SlotState.TheVariants.{Free, Held, Clearing}
+use Rattle.core_state.specs.Events.{IsEnabled}
+use Rattle.core_state.specs.Numbered.{last_number}
+use Rattle.core_state.specs.State.{State}
+use Rattle.core_state.specs.declared.event.Event.{Event}
+use Rattle.core_state.specs.declared.event.Event.TheVariants.{Submit, Reserve, Build, Start, Cut, Take, Give, Distribute, Finish, Clear, Release, Reorder, Abandon}
+use Rattle.event_core.specs.Chosen.{IsOfKind, NoneMayCome}
+use Rattle.event_core.specs.Took.{IsLed}
+use Rattle.event_core.specs.declared.choosing.EventKind.{EventKind}
+use Rattle.event_core.specs.declared.choosing.EventKind.TheVariants as kind
+
+-- an event of one of these kinds
+abbrev pub IsOfSome : List EventKind → Event → Type 0
+IsOfSome kinds event = Any (λ kind. IsOfKind kind event) kinds
+
+-- no event of any of these kinds may come
+abbrev pub NoneOfMayCome : List EventKind → State → Type 0
+NoneOfMayCome kinds state = All (λ kind. NoneMayCome kind state) kinds
+
+-- an event by which no query begins to run, none is submitted, and none is abandoned
+abbrev pub IsOfRound : Event → Type 0
+IsOfRound (Submit seat statement) = ⊥
+IsOfRound (Reserve query slot) = ⊥
+IsOfRound (Build query dimension) = ⊥
+IsOfRound (Start query) = ⊥
+IsOfRound Cut = Unit {0}
+IsOfRound (Take worker batch) = Unit {0}
+IsOfRound (Give worker) = Unit {0}
+IsOfRound (Distribute batch) = Unit {0}
+IsOfRound (Finish slot) = Unit {0}
+IsOfRound (Clear slot dimension) = Unit {0}
+IsOfRound (Release slot) = Unit {0}
+IsOfRound Reorder = Unit {0}
+IsOfRound (Abandon query) = ⊥
+
+-- an event by which a query is admitted: it gets a slot, its filters are built, or it begins to run
+abbrev pub IsOfAdmission : Event → Type 0
+IsOfAdmission (Submit seat statement) = ⊥
+IsOfAdmission (Reserve query slot) = Unit {0}
+IsOfAdmission (Build query dimension) = Unit {0}
+IsOfAdmission (Start query) = Unit {0}
+IsOfAdmission Cut = ⊥
+IsOfAdmission (Take worker batch) = ⊥
+IsOfAdmission (Give worker) = ⊥
+IsOfAdmission (Distribute batch) = ⊥
+IsOfAdmission (Finish slot) = ⊥
+IsOfAdmission (Clear slot dimension) = ⊥
+IsOfAdmission (Release slot) = ⊥
+IsOfAdmission Reorder = ⊥
+IsOfAdmission (Abandon query) = ⊥
+
+-- an event that the driver may take: no statement is submitted, and no query abandoned
+abbrev pub IsDriven : Event → Type 0
+IsDriven event = IsOfAdmission event ⊎ IsOfRound event
+
+-- the event that orders the filters
+abbrev pub IsReorder : Event → Type 0
+IsReorder event = event ≡ Reorder
+
+-- a slot in this state is free, or a query holds it that runs
+abbrev pub IsFreeOrRuns : Lives → SlotState → Type 0
+IsFreeOrRuns lives Free = Unit {0}
+IsFreeOrRuns lives (Held query built) = IsSomeAnd (life_of lives query) IsRunning
+IsFreeOrRuns lives (Clearing left) = ⊥
+
+-- a query with this life is built for, or runs
+abbrev pub IsUnderWay : Life → Type 0
+IsUnderWay Waiting = ⊥
+IsUnderWay Building = Unit {0}
+IsUnderWay (Running start left) = Unit {0}
+IsUnderWay Ending = ⊥
+IsUnderWay Answered = ⊥
+IsUnderWay Spoiled = ⊥
+IsUnderWay Abandoned = ⊥
+
+-- a slot in this state is free, or a query holds it that is built for or runs
+abbrev pub IsFreeOrUnderWay : Lives → SlotState → Type 0
+IsFreeOrUnderWay lives Free = Unit {0}
+IsFreeOrUnderWay lives (Held query built) = IsSomeAnd (life_of lives query) IsUnderWay
+IsFreeOrUnderWay lives (Clearing left) = ⊥
+
+-- no batch is in flight, no slot is being cleared, and every query that holds a slot is built for or runs
+pub record IsLanded (state : State) : Type 0 where
+  pub landed : state.scan.flights ≡ []
+  pub slots : All (IsFreeOrUnderWay state.lives) state.lives.slots
+
+-- no batch is in flight, no slot is being cleared, and every query that holds a slot runs
+pub record IsSettled (state : State) : Type 0 where
+  pub landed : state.scan.flights ≡ []
+  pub slots : All (IsFreeOrRuns state.lives) state.lives.slots
+
+-- no batch is in flight, no query is waiting, building, running or ending, and every slot is free
+pub record IsFinished (state : State) : Type 0 where
+  pub landed : state.scan.flights ≡ []
+  pub none_open : All (λ entry. is_open entry.life ≡ false) state.lives.queries
+  pub free : All (λ slot. slot ≡ Free) state.lives.slots
+
+-- the query that waited the longest, where a slot was free, does not wait any more
+abbrev pub AdmitsOldest : (old new : State) → Type 0
+AdmitsOldest old new = (query : ℕ) → oldest_waiting old.lives ≡ Some query → IsSome (free_slot old.lives) →
+    ¬ (life_of new.lives query ≡ Some Waiting)
+
+-- a query may be admitted, or a batch cut
+abbrev pub MayGoOn : State → Type 0
+MayGoOn state =
+    (event : Event) × (IsOfSome (kind.Reserve ∷ kind.Build ∷ kind.Start ∷ kind.Cut ∷ []) event × IsEnabled state event)
+
+-- a count is greater than it was, or at its greatest value
+abbrev pub Rises : (old new : ℕ) → Type 0
+Rises old new = (old < new) ⊎ (new ≡ last_number)
+
+-- every query that might still be answered is answered, or found no memory
+abbrev pub AnswersAll : (old new : State) → Type 0
+AnswersAll old new = All (λ entry. IsTrue (is_open entry.life) →
+    (life_of new.lives entry.query ≡ Some Answered) ⊎ (life_of new.lives entry.query ≡ Some Spoiled)) old.lives.queries
+
+-- queries were admitted, as far as they can be
+pub record Admits (old new : State) : Type 0 where
+  pub led : IsLed IsOfAdmission old new
+  pub reserve : NoneMayCome kind.Reserve new
+  pub build : NoneMayCome kind.Build new
+  pub start : NoneMayCome kind.Start new
+
+-- a whole turn: queries are admitted, as far as they can be, and then events of a round come
+abbrev pub IsWholeTurn : (old new : State) → Type 0
+IsWholeTurn old new = (mid : State) × (Admits old mid × IsLed IsOfRound mid new)
+
+-- a turn, which ends where memory is wanted
+abbrev pub IsTurn : (old new : State) → Type 0
+IsTurn old new = IsLed IsOfAdmission old new ⊎ IsWholeTurn old new
