@@ -29,10 +29,10 @@ came given = record { waiting = given; fed = length given; ended = false }
 abbrev pub IsLaw : Type 0
 IsLaw = (statements : List Statement) → replies_of [] statements ≡ replies_at [] 0 empty_store statements
 
-script_text-left : IsLaw → (last : Bool) (given : List ℕ) → script_text last given ≡ text_left empty_store last given
+script_text-left : IsLaw → (last : Bool) (given : List ℕ) → script_text [] last given ≡ text_left empty_store last given
 script_text-left law last given = ap text_of_all (law (statements_of last given))
 
-some_refused-left : IsLaw → (last : Bool) (given : List ℕ) → some_refused last given ≡ refused_left empty_store last given
+some_refused-left : IsLaw → (last : Bool) (given : List ℕ) → some_refused [] last given ≡ refused_left empty_store last given
 some_refused-left law last given = ap (list_any is_refusal) (law (statements_of last given))
 
 -- these bytes were given and those written, and the replies to the rest are left
@@ -103,10 +103,10 @@ fed_run store waits waits' refused left0 left left' taken0 taken piece run gave 
 
 -- The bytes within the limit.
 
-within_all : (given : List ℕ) → length given ≤ SCRIPT_LIMIT → within_limit given ≡ given
+pub within_all : (given : List ℕ) → length given ≤ SCRIPT_LIMIT → within_limit given ≡ given
 within_all given few = take_all SCRIPT_LIMIT given few
 
-within_more : (given piece : List ℕ) → length given ≡ SCRIPT_LIMIT → within_limit (given ++ piece) ≡ given
+pub within_more : (given piece : List ℕ) → length given ≡ SCRIPT_LIMIT → within_limit (given ++ piece) ≡ given
 within_more given piece full =
     let fits : SCRIPT_LIMIT ≤ length given = omega arith in
     take-append-le SCRIPT_LIMIT given piece fits ∙ take_all SCRIPT_LIMIT given (omega arith)
@@ -120,7 +120,7 @@ no_reply store waits none not_ended =
 
 -- all replies to what has come were written
 whole_text : IsLaw → (store : Store) (waits : Reading) (refused : Bool) (left0 left taken0 taken : Option (List ℕ)) → (run : IsRunning store waits refused left0 left taken0 taken)
-    → HasNoStatement waits → run.written ≡ script_text false run.given
+    → HasNoStatement waits → run.written ≡ script_text [] false run.given
 whole_text law store waits refused left0 left taken0 taken run none =
     let all = rw (append-nil run.given, append-nil waits.waiting) at (run.replies.text [] false (λ e. cc)) in
     sym (script_text-left law false run.given ∙ all ∙ ap (λ text. run.written ++ text) (no_reply store waits none run.not_ended) ∙ append-nil run.written)
@@ -133,6 +133,7 @@ fault_run law store waits refused was ended read read' left0 left left' taken0 t
     let within = run.within in let counted = run.counted in record {
       given = run.given;
       written = run.written;
+      wanted = [];
       gave = rw (append-nil run.given) at (Consumes-trans left0 left left' run.given [] run.gave (rw nothing at gave));
       took = run.took;
       reads = omega arith;
@@ -148,10 +149,11 @@ limit_run law store waits refused was ended read read' left0 left left' taken0 t
     let counted = run.counted in record {
       given = run.given ++ piece;
       written = run.written;
+      wanted = [];
       gave = Consumes-trans left0 left left' run.given piece run.gave gave;
       took = run.took;
       reads = omega (arith, length-append run.given piece);
-      writes = whole_text law store waits refused left0 left taken0 taken run none ∙ ap (script_text false) (sym (within_more run.given piece (omega arith)));
+      writes = whole_text law store waits refused left0 left taken0 taken run none ∙ ap (script_text [] false) (sym (within_more run.given piece (omega arith)));
       memory = λ h. cc;
     }
 
@@ -164,12 +166,13 @@ unfed_run law store waits refused was ended read read' left0 left left' taken0 t
     let within : length (run.given ++ piece) ≤ SCRIPT_LIMIT = omega (arith, length-append run.given piece) in record {
       given = run.given ++ piece;
       written = run.written;
+      wanted = [];
       gave = Consumes-trans left0 left left' run.given piece run.gave gave;
       took = run.took;
       reads = omega (arith, within);
       writes = (
         text_left store ended (waits.waiting ++ piece),
-        ap (script_text ended) (within_all (run.given ++ piece) within) ∙ script_text-left law ended (run.given ++ piece) ∙ run.replies.text piece ended (λ e. cc),
+        ap (script_text [] ended) (within_all (run.given ++ piece) within) ∙ script_text-left law ended (run.given ++ piece) ∙ run.replies.text piece ended (λ e. cc),
       );
       memory = λ h. inr (same, unfailed, within);
     }
@@ -179,7 +182,7 @@ unfed_run law store waits refused was ended read read' left0 left left' taken0 t
 -- a front of what is still to come, behind what was written
 front_on : IsLaw → (ended last : Bool) (store : Store) (waits : Reading) (given front written : List ℕ) (refused : Bool)
     → Replies empty_store (came given) store waits front refused → IsFront written (text_left store last (waits.waiting ++ []))
-    → IsFront (front ++ written) (script_text last given)
+    → IsFront (front ++ written) (script_text [] last given)
 front_on law ended last store waits given front written refused way part = (
   part.0,
   script_text-left law last given ∙ sym (ap (text_left empty_store last) (append-nil given)) ∙ way.text [] last (λ e. cc)
@@ -188,7 +191,7 @@ front_on law ended last store waits given front written refused way part = (
 
 proper_on : IsLaw → (last : Bool) (store : Store) (waits : Reading) (given front written : List ℕ) (refused : Bool)
     → Replies empty_store (came given) store waits front refused → IsProperFront written (text_left store last (waits.waiting ++ []))
-    → IsProperFront (front ++ written) (script_text last given)
+    → IsProperFront (front ++ written) (script_text [] last given)
 proper_on law last store waits given front written refused way part = (
   part.0,
   part.1,
@@ -205,6 +208,7 @@ halted_run law WriteFault store store' waits waits' refused was ended read read'
     let few : length run.given ≤ SCRIPT_LIMIT = omega arith in record {
       given = run.given;
       written = run.written ++ answers.0;
+      wanted = [];
       gave = run.gave;
       took = Appends-trans taken0 taken taken' run.written answers.0 run.took answers.1;
       reads = omega arith;
@@ -217,6 +221,7 @@ halted_run law NoMemory store store' waits waits' refused was ended read read' l
     let few : length run.given ≤ SCRIPT_LIMIT = omega arith in record {
       given = run.given;
       written = run.written ++ answers.0;
+      wanted = [];
       gave = run.gave;
       took = Appends-trans taken0 taken taken' run.written answers.0 run.took answers.1;
       reads = omega arith;
@@ -232,7 +237,7 @@ abbrev pub finished : Reading → Reading
 finished waits = record waits { ended = true }
 
 -- what may come at the end
-at_end : (waits : Reading) → MayCome (finished waits) [] true
+pub at_end : (waits : Reading) → MayCome (finished waits) [] true
 at_end waits e = (refl, refl)
 
 pub ended_run : IsLaw → (store store' : Store) (waits waits' : Reading) (refused some was ended : Bool) (read read' : ℕ) (left0 left left' taken0 taken taken' : Option (List ℕ)) (piece : List ℕ)
@@ -245,14 +250,14 @@ ended_run law store store' waits waits' refused some was ended read read' left0 
     none : statements_of true waits'.waiting ≡ []
     none = subst (λ e. statements_of e waits'.waiting ≡ []) stays.1 answers.3
 
-    text : run.written ++ answers.0 ≡ script_text true run.given
+    text : run.written ++ answers.0 ≡ script_text [] true run.given
     text =
         let first = rw (append-nil run.given) at (run.replies.text [] true (λ e. cc)) in
         let then_all = rw (append-nil waits'.waiting) at (answers.2.text [] true (at_end waits)) in
         sym (script_text-left law true run.given ∙ first ∙ ap (λ t. run.written ++ t) (then_all
         ∙ ap (λ statements. answers.0 ++ text_of_all (replies_at [] 0 store' statements)) none ∙ append-nil answers.0))
 
-    refusals : some_refused true run.given ≡ (refused || some)
+    refusals : some_refused [] true run.given ≡ (refused || some)
     refusals =
         let first = rw (append-nil run.given) at (run.replies.refusals [] true (λ e. cc)) in
         let then_all = rw (append-nil waits'.waiting) at (answers.2.refusals [] true (at_end waits)) in
@@ -273,6 +278,7 @@ ended_run law store store' waits waits' refused some was ended read read' left0 
     by_refused false e = record {
       given = run.given;
       written = run.written ++ answers.0;
+      wanted = [];
       gave = gave_all;
       took = Appends-trans taken0 taken taken' run.written answers.0 run.took answers.1;
       reads = few;
@@ -282,6 +288,7 @@ ended_run law store store' waits waits' refused some was ended read read' left0 
     by_refused true e = record {
       given = run.given;
       written = run.written ++ answers.0;
+      wanted = [];
       gave = gave_all;
       took = Appends-trans taken0 taken taken' run.written answers.0 run.took answers.1;
       reads = few;
@@ -303,7 +310,7 @@ ended_halted law halt store store' waits waits' refused was ended read read' lef
     few : length run.given ≤ SCRIPT_LIMIT
     few = let counted = run.counted in let within = run.within in omega arith
 
-    proper : RepliesInPart store (finished waits) answers.0 → IsProperFront (run.written ++ answers.0) (script_text ended (within_limit run.given))
+    proper : RepliesInPart store (finished waits) answers.0 → IsProperFront (run.written ++ answers.0) (script_text [] ended (within_limit run.given))
     proper part = rw (within_all run.given few, has_ended.0)
         (proper_on law true store waits run.given run.written answers.0 refused run.replies (part [] true (at_end waits)))
 
@@ -311,6 +318,7 @@ ended_halted law halt store store' waits waits' refused was ended read read' lef
     by_halt WriteFault part = record {
       given = run.given;
       written = run.written ++ answers.0;
+      wanted = [];
       gave = gave_all;
       took = Appends-trans taken0 taken taken' run.written answers.0 run.took answers.1;
       reads = omega (arith, few);
@@ -321,6 +329,7 @@ ended_halted law halt store store' waits waits' refused was ended read read' lef
         let whole = proper (part.1 refl) in record {
           given = run.given;
           written = run.written ++ answers.0;
+          wanted = [];
           gave = gave_all;
           took = Appends-trans taken0 taken taken' run.written answers.0 run.took answers.1;
           reads = omega (arith, few);

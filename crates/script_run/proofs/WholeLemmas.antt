@@ -20,7 +20,7 @@ or_assoc true b c = refl
 or_assoc false b c = refl
 
 -- each reply has a text
-text_some : (reply : Reply) → 0 < length (text_of reply)
+pub text_some : (reply : Reply) → 0 < length (text_of reply)
 text_some (Table name) = omega arith
 text_some (Commit number rows) = omega arith
 text_some (Answer snapshot rows) = omega arith
@@ -136,7 +136,7 @@ fewer_left b c w' w'' answered first stays =
     let same = ap (λ ended. length (replies_left c ended (w''.waiting ++ []))) stays.1 in
     omega arith
 
-or_false : (a : Bool) → (a || false) ≡ a
+pub or_false : (a : Bool) → (a || false) ≡ a
 or_false true = refl
 or_false false = refl
 

@@ -1,5 +1,5 @@
 -- How a run ends, by what became of its replies.
-use Rattle.std.specs.Prelude.{Bool, true, false}
+use Rattle.std.specs.Prelude.{Bool, true, false, Result, Ok, Err}
 use Rattle.star_io.specs.declared.run_end.RunEnd.{RunEnd}
 use Rattle.star_io.specs.declared.run_end.RunEnd.TheVariants as end
 use Rattle.script_run.specs.declared.halt.Halt.{Halt}
@@ -14,3 +14,8 @@ end_of_halt halt.NoMemory = end.NoMemory
 abbrev pub end_of_all : Bool → RunEnd
 end_of_all false = end.Clean
 end_of_all true = end.SomeRefused
+
+-- the reading ended so, and the replies behind it were written or halted
+abbrev pub end_behind : Result Bool Halt → RunEnd → RunEnd
+end_behind (Ok refused) reading = reading
+end_behind (Err halt) reading = end_of_halt halt

@@ -1,5 +1,5 @@
 -- What a run of a script writes, and why it ends.
-use Rattle.std.specs.Prelude.{◌≡◌, ℕ, ◌+◌, ◌<◌, ◌≤◌, ◌⊎◌, Bool, true, false, List, [], ◌++◌, length, take, Option}
+use Rattle.std.specs.Prelude.{◌≡◌, ℕ, ◌+◌, ◌<◌, ◌≤◌, ◌⊎◌, Bool, true, false, List, ◌++◌, length, take, Option}
 use Rattle.std.specs.List.{list_any}
 use Rattle.std.specs.Io.KnownBytes.{Appends, Consumes, IsAtEnd}
 use Rattle.star_io.specs.Faults.{FailedOnce, FailedOnceAtMost}
@@ -16,13 +16,13 @@ use Rattle.star_statement.specs.Script.{replies_of}
 abbrev pub within_limit : List ℕ → List ℕ
 within_limit given = take SCRIPT_LIMIT given
 
--- the replies to a script, whose input has ended or not. Memory is wanted at no place: a run for which it is ends there
-abbrev pub script_replies : Bool → List ℕ → List Reply
-script_replies ended script = replies_of [] (statements_of ended script)
+-- the replies to a script, whose input has ended or not, where memory was wanted for the statements at these places
+abbrev pub script_replies : (wanted : List ℕ) → (ended : Bool) → List ℕ → List Reply
+script_replies wanted ended script = replies_of wanted (statements_of ended script)
 
 -- their text
-abbrev pub script_text : Bool → List ℕ → List ℕ
-script_text ended script = text_of_all (script_replies ended script)
+abbrev pub script_text : (wanted : List ℕ) → (ended : Bool) → List ℕ → List ℕ
+script_text wanted ended script = text_of_all (script_replies wanted ended script)
 
 -- the reply is a refusal, or tells that memory was wanted
 abbrev pub is_refusal : Reply → Bool
@@ -31,8 +31,8 @@ is_refusal Memory = true
 is_refusal reply = false
 
 -- some reply is one of these
-abbrev pub some_refused : Bool → List ℕ → Bool
-some_refused ended script = list_any is_refusal (script_replies ended script)
+abbrev pub some_refused : (wanted : List ℕ) → (ended : Bool) → List ℕ → Bool
+some_refused wanted ended script = list_any is_refusal (script_replies wanted ended script)
 
 -- the bytes begin with these
 abbrev pub IsFront : List ℕ → List ℕ → Type 0
@@ -49,15 +49,15 @@ HasEnded ended left = (ended ≡ true) × IsAtEnd left
 -- what a run wrote, by the bytes that its source gave, by whether the source has ended and by what is left at it: at
 -- `Clean` and `SomeRefused` all replies of a script whose input has ended, at a read fault or the limit all replies of
 -- one whose input has not, at a write fault a proper front of the replies, and where no memory was left a front
-abbrev pub Writes : RunEnd → Bool → Option (List ℕ) → List ℕ → List ℕ → Type 0
-Writes Clean ended left given written =
-    HasEnded ended left × (written ≡ script_text true given) × (some_refused true given ≡ false)
-Writes SomeRefused ended left given written =
-    HasEnded ended left × (written ≡ script_text true given) × (some_refused true given ≡ true)
-Writes ReadFault ended left given written = written ≡ script_text false given
-Writes ScriptLimit ended left given written = written ≡ script_text false (within_limit given)
-Writes WriteFault ended left given written = IsProperFront written (script_text ended (within_limit given))
-Writes NoMemory ended left given written = IsFront written (script_text ended (within_limit given))
+abbrev pub Writes : (wanted : List ℕ) → RunEnd → Bool → Option (List ℕ) → List ℕ → List ℕ → Type 0
+Writes wanted Clean ended left given written =
+    HasEnded ended left × (written ≡ script_text wanted true given) × (some_refused wanted true given ≡ false)
+Writes wanted SomeRefused ended left given written =
+    HasEnded ended left × (written ≡ script_text wanted true given) × (some_refused wanted true given ≡ true)
+Writes wanted ReadFault ended left given written = written ≡ script_text wanted false given
+Writes wanted ScriptLimit ended left given written = written ≡ script_text wanted false (within_limit given)
+Writes wanted WriteFault ended left given written = IsProperFront written (script_text wanted ended (within_limit given))
+Writes wanted NoMemory ended left given written = IsFront written (script_text wanted ended (within_limit given))
 
 -- how many bytes were read: the byte past the limit at `ScriptLimit`, and at each end that is no fault of the
 -- sink and no want of memory only there
@@ -86,14 +86,15 @@ CountsFaults WriteFault read read' read_failed write write' write_failed =
 CountsFaults NoMemory read read' read_failed write write' write_failed =
     FailedOnceAtMost read read' read_failed × (write' ≡ write)
 
--- in a run the source gave these bytes and the sink took those, and they belong together as its end says. Want of memory
--- is told in place of no other end: some reply was still to be written, or the reading met no end
+-- in a run the source gave these bytes and the sink took those, and they belong together as its end says, where memory was
+-- wanted for the statements at some places, which the replies tell. Want of memory of the run itself is told in place of no other end: some reply was still to be written, or the reading met no end
 pub record AnswersScript (end : RunEnd) (ended ended' : Bool) (read read' : ℕ) (left left' taken taken' : Option (List ℕ)) : Type 0 where
   pub given : List ℕ
   pub written : List ℕ
+  pub wanted : List ℕ
   pub gave : Consumes left left' given
   pub took : Appends taken taken' written
   pub reads : ReadsBytes end (length given)
-  pub writes : Writes end ended' left' given written
-  pub memory : end ≡ NoMemory → IsProperFront written (script_text ended' (within_limit given))
+  pub writes : Writes wanted end ended' left' given written
+  pub memory : end ≡ NoMemory → IsProperFront written (script_text wanted ended' (within_limit given))
       ⊎ MetNoEnd ended ended' read read' given

@@ -2,9 +2,13 @@
 #![tactic(auto)]
 
 mod answer;
+mod front;
 mod halt;
 mod piece;
 mod reply;
 mod run;
+mod shared;
+mod waiting;
 
-pub use run::{run_alone, run_script};
+pub use run::run_alone;
+pub use shared::{RunDone, run_script};

@@ -1,4 +1,5 @@
-//! A run of a script: each statement is replied to as soon as it is whole, before more is read.
+//! A run of a script in which each query is answered by itself: each statement is replied to as soon as it is whole, before
+//! more is read.
 ghost use Rattle.std.specs.Prelude.{◌≡◌};
 ghost use Rattle.script_run.specs.Run.{AnswersScript, CountsFaults};
 ghost use Rattle.script_run.specs.End.{end_of_all, end_of_halt};
@@ -13,21 +14,7 @@ use star_store::Store;
 use std::alloc::Global;
 
 /// The most bytes that one read asks for.
-const PIECE_BYTES: usize = 64 * 1024;
-
-/// Reads a script to its end, and writes the reply to each of its statements, in order.
-///
-/// It is `run_alone`: each query is answered by itself, at its place.
-pub fn run_script<S: Source, K: Sink>(alloc: Global, source: &mut S, sink: &mut K) -> RunEnd
-    ensures answers { AnswersScript result (S.ended source.old) (S.ended source.new)
-        (S.read_faults source.old) (S.read_faults source.new)
-        (S.left source.old) (S.left source.new) (K.taken sink.old) (K.taken sink.new) }
-    ensures faults { CountsFaults result
-        (S.read_faults source.old) (S.read_faults source.new) (S.read_failed source.new)
-        (K.write_faults sink.old) (K.write_faults sink.new) (K.write_failed sink.new) }
-{
-    run_alone(alloc, source, sink)
-}
+pub(crate) const PIECE_BYTES: usize = 64 * 1024;
 
 /// Reads a script to its end, and writes the reply to each of its statements, in order, before it reads on.
 /// Each query is answered by itself, at its place.
@@ -68,7 +55,7 @@ pub fn run_alone<S: Source, K: Sink>(alloc: Global, source: &mut S, sink: &mut K
 }
 
 /// How a run ends whose input was read to its end.
-fn end_of_all(refused: bool) -> RunEnd
+pub(crate) fn end_of_all(refused: bool) -> RunEnd
     ensures { result ≡ end_of_all refused }
 {
     if refused {
@@ -78,7 +65,7 @@ fn end_of_all(refused: bool) -> RunEnd
     }
 }
 
-fn end_of_halt(halt: Halt) -> RunEnd
+pub(crate) fn end_of_halt(halt: Halt) -> RunEnd
     ensures { result ≡ end_of_halt halt }
 {
     match halt {

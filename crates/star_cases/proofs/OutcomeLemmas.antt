@@ -7,16 +7,16 @@ use Rattle.star_cases.specs.Judge.{has_refusal, wanted_end}
 use Rattle.star_cases.specs.Outcome.{Answers}
 
 -- a run that ends by one of the two ends that are wanted has read all of the script and written all replies
-wanted_ends : (refused : Bool) (end : RunEnd) (ended : Bool) (left given replies : List ℕ)
-    → end ≡ (if refused then SomeRefused else Clean) → Writes end ended (Some left) given replies
-    → (left ≡ []) × (replies ≡ script_text true given) × (refused ≡ some_refused true given)
-wanted_ends true end ended left given replies is wrote =
-    let all : Writes SomeRefused ended (Some left) given replies =
-    subst (λ e. Writes e ended (Some left) given replies) is wrote in
+wanted_ends : (wanted : List ℕ) (refused : Bool) (end : RunEnd) (ended : Bool) (left given replies : List ℕ)
+    → end ≡ (if refused then SomeRefused else Clean) → Writes wanted end ended (Some left) given replies
+    → (left ≡ []) × (replies ≡ script_text wanted true given) × (refused ≡ some_refused wanted true given)
+wanted_ends wanted true end ended left given replies is wrote =
+    let all : Writes wanted SomeRefused ended (Some left) given replies =
+    subst (λ e. Writes wanted e ended (Some left) given replies) is wrote in
     (all.0.1, all.1, sym all.2)
-wanted_ends false end ended left given replies is wrote =
-    let all : Writes Clean ended (Some left) given replies =
-    subst (λ e. Writes e ended (Some left) given replies) is wrote in
+wanted_ends wanted false end ended left given replies is wrote =
+    let all : Writes wanted Clean ended (Some left) given replies =
+    subst (λ e. Writes wanted e ended (Some left) given replies) is wrote in
     (all.0.1, all.1, sym all.2)
 
 -- a run that is right answers the script
@@ -24,8 +24,8 @@ pub right_runs_answer : (end : RunEnd) (ended ended' : Bool) (read read' : ℕ) 
     → AnswersScript end ended ended' read read' (Some script) (Some left) (Some []) (Some bytes)
     → bytes ≡ replies → end ≡ wanted_end replies → Answers script replies
 right_runs_answer end ended ended' read read' script left bytes replies run same is =
-    let wrote : Writes end ended' (Some left) run.given replies =
-    subst (λ b. Writes end ended' (Some left) run.given b) (sym run.took ∙ same) run.writes in
-    let all = wanted_ends (has_refusal replies) end ended' left run.given replies is wrote in
+    let wrote : Writes run.wanted end ended' (Some left) run.given replies =
+    subst (λ b. Writes run.wanted end ended' (Some left) run.given b) (sym run.took ∙ same) run.writes in
+    let all = wanted_ends run.wanted (has_refusal replies) end ended' left run.given replies is wrote in
     let whole : run.given ≡ script = sym (run.gave ∙ ap (λ l. run.given ++ l) all.0 ∙ append-nil run.given) in
-    subst (λ s. Answers s replies) whole (all.1, all.2)
+    subst (λ s. Answers s replies) whole (run.wanted, all.1, all.2)

@@ -10,6 +10,7 @@ use crate::outcome::{are_all_right, check_case, count_right};
 use std::io;
 use std::process::ExitCode;
 use std::rt::Files;
+use std::thread::Threads;
 
 fn main(rt: HostRuntime) -> ExitCode {
     match check_folder(&rt, ".") {
@@ -24,7 +25,7 @@ fn main(rt: HostRuntime) -> ExitCode {
 }
 
 /// Runs the cases of a folder, prints what came of them, and answers whether all are right.
-fn check_folder<R: Files + Print + AllocGlobal + Clone + Drop>(
+fn check_folder<R: Files + Print + AllocGlobal + Threads + Sync + Clone + Drop>(
     rt: &R,
     folder: &str,
 ) -> io::Result<bool> {

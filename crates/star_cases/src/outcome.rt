@@ -1,18 +1,60 @@
 //! What came of the runs of a case.
-ghost use Rattle.std.specs.Prelude.{◌≡◌, ◌&&◌, ◌==◌, ◌<◌, not, length, IfOk, IsNone, count_by};
+ghost use Rattle.std.specs.Prelude.{◌≡◌, ◌&&◌, ◌==◌, ◌<◌, ◌≤◌, not, length, IfOk, IsNone, count_by};
 ghost use Rattle.std.specs.List.{list_all};
-ghost use Rattle.star_cases.specs.Outcome.{Answers, is_right};
+ghost use Rattle.core_state.specs.Settings.{AreWithin};
+ghost use Rattle.script_run.specs.Run.{AnswersScript};
+ghost use Rattle.star_cases.specs.Outcome.{Answers, IsWithin, is_right};
 
 use crate::case::{Case, read_case};
 use crate::judge::{Fault, fault_of};
-use script_run::run_script;
-use star_io::{ListSink, PieceSource};
+use core_state::RunSettings;
+use script_run::{run_alone, run_script};
+use star_io::{ListSink, PieceSource, RunEnd, Sink, Source};
 use std::alloc::{AllocError, Global};
 use std::fmt;
 use std::rt::Files;
+use std::thread::Threads;
 
 /// The bytes at which a script comes and its replies go at once: all that is asked for, and few.
 const PIECES: [usize; 3] = [65_536, 7, 1];
+
+/// How a script is run: each query by itself, or in a core of these settings.
+#[derive(Clone, Copy, Debug)]
+enum Way {
+    Alone,
+    Shared(RunSettings),
+}
+
+/// How many ways there are.
+const WAYS: u32 = 4;
+
+/// The ways, by their numbers: by itself, in a core as the program has one, in one with a slot and rows that pass alone, and in
+/// one whose batches pass on several threads.
+fn way_of(number: u32) -> Way
+    ensures { IsWithin result }
+{
+    match number {
+        0 => Way::Alone,
+        1 => Way::Shared(settings(0, 64, 256)),
+        2 => Way::Shared(settings(0, 1, 1)),
+        _ => Way::Shared(settings(2, 3, 2)),
+    }
+}
+
+/// Settings of a core with one seat.
+fn settings(workers: u32, slots: u32, batch: u32) -> RunSettings
+    requires workers { workers ≤ 16 }
+    requires slots { (1 ≤ slots) × (slots ≤ 64) }
+    requires batch { (1 ≤ batch) × (batch ≤ 1024) }
+    ensures { AreWithin result }
+{
+    RunSettings {
+        workers,
+        slots,
+        batch,
+        seats: 1,
+    }
+}
 
 /// A case, and what is wrong with it, if anything is.
 #[derive(Debug, Drop)]
@@ -58,40 +100,71 @@ pub(crate) fn are_all_right(outcomes: &[Outcome]) -> bool
 }
 
 /// Runs a case of a folder. Files that cannot be read are wrong.
-pub(crate) fn check_case<R: Files + AllocGlobal>(
+pub(crate) fn check_case<R: Files + AllocGlobal + Threads + Sync>(
     rt: &R,
     folder: &str,
     name: String,
 ) -> Result<Outcome, AllocError> {
     let wrong = match read_case(rt, folder, name.as_str()) {
-        Ok(case) => wrong_in(rt.alloc(), &case)?,
+        Ok(case) => wrong_in(rt, &case)?,
         Err(error) => Some(format!(in rt.alloc(); "not read: {error}")?),
     };
     Ok(Outcome { name, wrong })
 }
 
 /// What is wrong with the first run of a case that is wrong.
-fn wrong_in(alloc: Global, case: &Case) -> Result<Option<String>, AllocError> {
-    for piece in PIECES {
-        if let Some(wrong) = wrong_in_pieces(alloc, case, piece)? {
-            return Ok(Some(wrong));
+fn wrong_in<R: AllocGlobal + Threads + Sync>(
+    rt: &R,
+    case: &Case,
+) -> Result<Option<String>, AllocError> {
+    for number in 0..WAYS {
+        for piece in PIECES {
+            if let Some(wrong) = wrong_in_pieces(rt, case, way_of(number), piece)? {
+                return Ok(Some(wrong));
+            }
         }
     }
     Ok(None)
 }
 
 /// What is wrong with a run whose bytes come and go in pieces of this size.
-fn wrong_in_pieces(alloc: Global, case: &Case, piece: usize) -> Result<Option<String>, AllocError>
-    requires { 0 < piece }
+fn wrong_in_pieces<R: AllocGlobal + Threads + Sync>(
+    rt: &R,
+    case: &Case,
+    way: Way,
+    piece: usize,
+) -> Result<Option<String>, AllocError>
+    requires piece { 0 < piece }
+    requires within { IsWithin way }
     ensures { IfOk result
         (λ wrong. IsNone wrong → Answers case.now.script.items case.now.replies.items) }
 {
+    let alloc = rt.alloc();
     let mut source = PieceSource::new(case.script.clone()?, piece, Vec::new(alloc));
     let mut sink = ListSink::new(alloc, piece, Vec::new(alloc));
-    let end = run_script(alloc, &mut source, &mut sink);
+    let end = run(rt, alloc, way, &mut source, &mut sink);
     match fault_of(sink.bytes(), end, &case.replies) {
         None => Ok(None),
-        Some(fault) => Ok(Some(told(alloc, fault, piece, sink.bytes(), &case.replies)?)),
+        Some(fault) => Ok(Some(told(alloc, fault, way, piece, sink.bytes(), &case.replies)?)),
+    }
+}
+
+/// Runs a script in a way.
+fn run<R: Threads + Sync, S: Source, K: Sink>(
+    rt: &R,
+    alloc: Global,
+    way: Way,
+    source: &mut S,
+    sink: &mut K,
+) -> RunEnd
+    requires { IsWithin way }
+    ensures { AnswersScript result (S.ended source.old) (S.ended source.new)
+        (S.read_faults source.old) (S.read_faults source.new)
+        (S.left source.old) (S.left source.new) (K.taken sink.old) (K.taken sink.new) }
+{
+    match way {
+        Way::Alone => run_alone(alloc, source, sink),
+        Way::Shared(settings) => run_script(rt, alloc, settings, source, sink).end,
     }
 }
 
@@ -99,20 +172,21 @@ fn wrong_in_pieces(alloc: Global, case: &Case, piece: usize) -> Result<Option<St
 fn told(
     alloc: Global,
     fault: Fault,
+    way: Way,
     piece: usize,
     written: &[u8],
     replies: &[u8],
 ) -> Result<String, AllocError> {
     match fault {
         Fault::End(end) => {
-            format!(in alloc; "in pieces of {piece} bytes the run ends by {end:?}")
+            format!(in alloc; "{way:?} in pieces of {piece} bytes the run ends by {end:?}")
         }
         Fault::Line(number) => {
             let one = line_at(written, number);
             let other = line_at(replies, number);
             let (length, wanted) = (written.len(), replies.len());
             format!(in alloc;
-                "in pieces of {piece} bytes line {number} is {one:?} and not {other:?}, of {length} bytes and not {wanted}"
+                "{way:?} in pieces of {piece} bytes line {number} is {one:?} and not {other:?}, of {length} bytes and not {wanted}"
             )
         }
     }

@@ -14,6 +14,7 @@ headline_of Clean ended ended' read read' left left' taken taken' run =
     record {
       given = run.given;
       written = run.written;
+      wanted = run.wanted;
       gave = run.gave;
       took = run.took;
       answered = λ _. (run.writes.0, run.reads, run.writes.1);
@@ -30,6 +31,7 @@ headline_of SomeRefused ended ended' read read' left left' taken taken' run =
     record {
       given = run.given;
       written = run.written;
+      wanted = run.wanted;
       gave = run.gave;
       took = run.took;
       answered = λ _. (run.writes.0, run.reads, run.writes.1);
@@ -46,6 +48,7 @@ headline_of ReadFault ended ended' read read' left left' taken taken' run =
     record {
       given = run.given;
       written = run.written;
+      wanted = run.wanted;
       gave = run.gave;
       took = run.took;
       answered = λ h. absurd (omega arith);
@@ -62,6 +65,7 @@ headline_of WriteFault ended ended' read read' left left' taken taken' run =
     record {
       given = run.given;
       written = run.written;
+      wanted = run.wanted;
       gave = run.gave;
       took = run.took;
       answered = λ h. absurd (omega arith);
@@ -78,6 +82,7 @@ headline_of NoMemory ended ended' read read' left left' taken taken' run =
     record {
       given = run.given;
       written = run.written;
+      wanted = run.wanted;
       gave = run.gave;
       took = run.took;
       answered = λ h. absurd (omega arith);
@@ -94,6 +99,7 @@ headline_of ScriptLimit ended ended' read read' left left' taken taken' run =
     record {
       given = run.given;
       written = run.written;
+      wanted = run.wanted;
       gave = run.gave;
       took = run.took;
       answered = λ h. absurd (omega arith);
@@ -113,6 +119,7 @@ untouched ended read left taken =
     record {
       given = [];
       written = [];
+      wanted = [];
       gave = Consumes-nil left;
       took = Appends-nil taken;
       answered = λ h. absurd (omega arith);

@@ -19,20 +19,22 @@ status_of ScriptLimit = 6
 -- The source gave these bytes in the call, the sink took those, and the status says how they belong together: all
 -- replies to the statements of the bytes, in order, where nothing is left at the source; where a read failed or the
 -- limit was passed, to those that were whole by then; where a write failed, a proper front of the replies; where no
--- memory was left, a front of them, and a proper one unless the reading had met no end.
+-- memory was left for the run, a front of them, and a proper one unless the reading had met no end. At some places memory
+-- was wanted for the statement alone; the replies tell which.
 pub record Headline (status : ℕ) (ended ended' : Bool) (read read' : ℕ) (left left' taken taken' : Option (List ℕ)) : Type 0 where
   pub given : List ℕ
   pub written : List ℕ
+  pub wanted : List ℕ
   pub gave : Consumes left left' given
   pub took : Appends taken taken' written
-  pub answered : status ≤ 1 → HasEnded ended' left' × (length given ≤ SCRIPT_LIMIT) × (written ≡ script_text true given)
-  pub refused : status ≤ 1 → ((status ≡ 1) ↔ (some_refused true given ≡ true))
+  pub answered : status ≤ 1 → HasEnded ended' left' × (length given ≤ SCRIPT_LIMIT) × (written ≡ script_text wanted true given)
+  pub refused : status ≤ 1 → ((status ≡ 1) ↔ (some_refused wanted true given ≡ true))
   pub no_settings : status ≡ 2 → (given ≡ []) × (written ≡ [])
-  pub read_fault : status ≡ 3 → (length given ≤ SCRIPT_LIMIT) × (written ≡ script_text false given)
-  pub write_fault : status ≡ 4 → IsProperFront written (script_text ended' (within_limit given))
-  pub no_memory : status ≡ 5 → IsFront written (script_text ended' (within_limit given))
-      × (IsProperFront written (script_text ended' (within_limit given)) ⊎ MetNoEnd ended ended' read read' given)
-  pub past_limit : status ≡ 6 → (length given ≡ SCRIPT_LIMIT + 1) × (written ≡ script_text false (within_limit given))
+  pub read_fault : status ≡ 3 → (length given ≤ SCRIPT_LIMIT) × (written ≡ script_text wanted false given)
+  pub write_fault : status ≡ 4 → IsProperFront written (script_text wanted ended' (within_limit given))
+  pub no_memory : status ≡ 5 → IsFront written (script_text wanted ended' (within_limit given))
+      × (IsProperFront written (script_text wanted ended' (within_limit given)) ⊎ MetNoEnd ended ended' read read' given)
+  pub past_limit : status ≡ 6 → (length given ≡ SCRIPT_LIMIT + 1) × (written ≡ script_text wanted false (within_limit given))
   pub bounded : length given ≤ SCRIPT_LIMIT + 1
   pub known : status ≤ 6
 

@@ -23,7 +23,7 @@ fn main(rt: HostRuntime) -> ExitCode {
         Ok(words) => {
             let mut source = StdSource::new(rt.reader());
             let mut sink = StdSink::new(io::writer(&rt));
-            cjoin(rt.alloc(), &words, &mut source, &mut sink)
+            cjoin(&rt, rt.alloc(), &words, &mut source, &mut sink).status
         }
         Err(error) => status_without_words(&error),
     };

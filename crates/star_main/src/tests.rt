@@ -5,6 +5,7 @@ use crate::top::cjoin;
 use star_io::{ListSink, PieceSource};
 use std::alloc::{AllocError, Global};
 use std::test::Fail;
+use std::thread::Threads;
 
 /// Two stores, four sales, and what they reply.
 const BASE: &str = "dimension store (id int key, city text)
@@ -24,10 +25,11 @@ load sales
 const BASE_REPLIES: &str = "table store\ntable sales\ncommit 1 rows 2\ncommit 2 rows 4\n";
 
 /// The status of a script, and the bytes written.
-fn run(alloc: Global, script: &[u8]) -> Result<(u8, String), Fail> {
+fn run<R: AllocGlobal + Threads + Sync>(rt: &R, script: &[u8]) -> Result<(u8, String), Fail> {
+    let alloc = rt.alloc();
     let mut source = source(alloc, script, 4096, &[])?;
     let mut sink = ListSink::new(alloc, 1 << 16, Vec::new(alloc));
-    let status = cjoin(alloc, &[], &mut source, &mut sink);
+    let status = cjoin(rt, alloc, &[], &mut source, &mut sink).status;
     Ok((status, text(alloc, sink.bytes())?))
 }
 
@@ -54,7 +56,7 @@ fn a_refusal_has_a_status(rt: HostRuntime) -> Result<(), Fail> {
         (b"wait;;\nwait", "refused 1 syntax at 5\nwaited\n", 1),
     ];
     for (script, replies, wanted) in cases {
-        let (status, written) = run(rt.alloc(), script)?;
+        let (status, written) = run(&rt, script)?;
         assert_eq!(rt; written.as_str(), replies, "at {script:?}");
         assert_eq!(rt; status, wanted, "at {script:?}");
     }
@@ -67,7 +69,7 @@ fn a_read_fault_leaves_the_statements_before_it(rt: HostRuntime) -> Result<(), F
     // The first dot line ends at byte 121, and the call behind it fails.
     let mut source = source(alloc, BASE.as_bytes(), 121, &[1])?;
     let mut sink = ListSink::new(alloc, 1 << 16, Vec::new(alloc));
-    let status = cjoin(alloc, &[], &mut source, &mut sink);
+    let status = cjoin(&rt, alloc, &[], &mut source, &mut sink).status;
     let written = text(alloc, sink.bytes())?;
     assert_eq!(rt;
         written.as_str(),
@@ -82,7 +84,7 @@ fn a_write_fault_leaves_a_front_of_the_replies(rt: HostRuntime) -> Result<(), Fa
     let alloc = rt.alloc();
     let mut source = source(alloc, BASE.as_bytes(), 4096, &[])?;
     let mut sink = ListSink::new(alloc, 8, [1].to_vec(alloc)?);
-    let status = cjoin(alloc, &[], &mut source, &mut sink);
+    let status = cjoin(&rt, alloc, &[], &mut source, &mut sink).status;
     let written = text(alloc, sink.bytes())?;
     assert_eq!(rt; written.as_str(), "table st");
     assert_eq!(rt; status, 4);
@@ -109,7 +111,7 @@ fn words_that_name_no_settings_touch_nothing(rt: HostRuntime) -> Result<(), Fail
         }
         let mut source = source(alloc, BASE.as_bytes(), 4096, &[])?;
         let mut sink = ListSink::new(alloc, 1 << 16, Vec::new(alloc));
-        let status = cjoin(alloc, &all, &mut source, &mut sink);
+        let status = cjoin(&rt, alloc, &all, &mut source, &mut sink).status;
         assert_eq!(rt; status, wanted, "at {words:?}");
         let written = text(alloc, sink.bytes())?;
         let replies = if wanted == 0 { BASE_REPLIES } else { "" };
@@ -125,7 +127,7 @@ fn the_byte_past_the_limit_is_told(rt: HostRuntime) -> Result<(), Fail> {
         let feeds = vec![in alloc; b'\n'; len]?;
         let mut source = PieceSource::new(feeds, 1 << 16, Vec::new(alloc));
         let mut sink = ListSink::new(alloc, 8, Vec::new(alloc));
-        let status = cjoin(alloc, &[], &mut source, &mut sink);
+        let status = cjoin(&rt, alloc, &[], &mut source, &mut sink).status;
         assert_eq!(rt; status, wanted, "at {len} line feeds");
         assert_eq!(rt; sink.bytes().len(), 0);
     }

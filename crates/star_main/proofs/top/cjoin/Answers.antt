@@ -8,7 +8,7 @@ returns-in-Some-Run-clause-headline g c =
     subst (λ (status : ℕ). Headline status (g.S.Source.ended c.args.source.now) (g.S.Source.ended c.run_script.new.source)
     (g.S.Source.read_faults c.args.source.now) (g.S.Source.read_faults c.run_script.new.source) (g.S.Source.left c.args.source.now)
     (g.S.Source.left c.run_script.new.source) (g.K.Sink.taken c.args.sink.now) (g.K.Sink.taken c.run_script.new.sink))
-    (sym c.status_of.ensures) (headline_of c.run_script.result _ _ _ _ _ _ _ _ c.run_script.ensures.answers)
+    (sym c.done_of.ensures.status) (headline_of c.run_script.result.end _ _ _ _ _ _ _ _ c.run_script.ensures.answers)
 
 pub returns-in-None-clause-headline : goal.returns-in-None-clause-headline
 returns-in-None-clause-headline g c = untouched _ _ _ _

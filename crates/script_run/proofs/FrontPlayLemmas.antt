@@ -1,0 +1,79 @@
+-- A statement that the front gives to a core, or for which no memory was left, and the replies that are written then.
+use Rattle.std.proofs.Common.{◌≡◌, ◌≢◌, ℕ, Bool, true, false, ◌||◌, List, [], ◌∷◌, ◌++◌, take, Option, Result, Ok, Err, refl, sym, ◌∙◌, subst, ⊎_elim}
+use Rattle.std.specs.Prelude.{IfOk, OnErr, OnOk}
+use Rattle.std.specs.Io.KnownBytes.{Appends}
+use Rattle.std.proofs.KnownBytes.{Appends-nil, Appends-trans}
+use Rattle.star_io.specs.Transfer.{AppendsFront}
+use Rattle.script_reader.specs.declared.statement.Statement.{Statement}
+use Rattle.reply_text.specs.Text.{text_of}
+use Rattle.reply_text.specs.declared.reply.Reply.TheVariants.{Memory}
+use Rattle.core_state.specs.Events.{after_event}
+use Rattle.core_state.specs.Sound.{IsSound}
+use Rattle.core_state.specs.State.{State}
+use Rattle.core_state.specs.Submitting.{after_submitting, seat_at}
+use Rattle.core_state.specs.declared.event.Event.TheVariants.{Submit}
+use Rattle.event_core.specs.Chosen.{AreIdle}
+use Rattle.event_core.specs.Took.{Took}
+use Rattle.script_run.specs.Front.{IsRun, PlaysOn, refused_of_played, text_of_played}
+use Rattle.script_run.specs.Played.{Leads, lost}
+use Rattle.script_run.specs.Run.{is_refusal}
+use Rattle.script_run.specs.declared.halt.Halt.{Halt}
+use Rattle.script_run.proofs.FrontHaltLemmas.{halts-behind, halts-due, halts-first, halts-within, refused-more, text-more}
+use Rattle.script_run.proofs.FrontRunLemmas.{idle-submitted, run-submitted}
+use Rattle.script_run.proofs.PlayedLeadLemmas.{leads-lost, leads-then}
+use Rattle.script_run.proofs.PlayedReplyLemmas.{EffectsAgree}
+use Rattle.script_run.proofs.PlayedSubmitLemmas.{NoAnswerChanges, leads-submitted}
+
+-- nothing was written, and something is waited for
+pub plays-due : (halt : Halt) (old new : State) (taken : Option (List ℕ)) → (seat_at old 0).pending ≢ [] → PlaysOn (Err halt) old [] new taken taken
+plays-due halt old new taken waits = ([], Appends-nil taken, halts-due old [] waits)
+
+-- nothing was written, and a statement is given
+pub plays-none : (halt : Halt) (statement : Statement) (old new : State) (taken : Option (List ℕ)) → PlaysOn (Err halt) old (statement ∷ []) new taken taken
+plays-none halt statement old new taken = ([], Appends-nil taken, halts-first old statement [])
+
+-- a statement was submitted
+pub record IsGiven (statement : Statement) (old new : State) : Type 0 where
+  pub leads : Leads old (statement ∷ []) new []
+  pub run : IsRun old new
+  pub idle : AreIdle old → AreIdle new
+
+-- so it is where the core took it
+pub took-given : EffectsAgree → NoAnswerChanges → (statement : Statement) (old new : State) → IsSound old → Took (Submit 0 statement) old new
+    → IsGiven statement old new
+unfolding after_event
+took-given agree stays statement old new sound took =
+    let is : new ≡ after_submitting 0 statement old = ⊎_elim (λ done. done) (λ spoilt. absurd spoilt) took.after in
+    record {
+      leads = subst (λ state. Leads old (statement ∷ []) state []) (sym is) (leads-submitted agree stays statement old sound took.enabled);
+      run = run-submitted statement old new took.enabled is;
+      idle = idle-submitted statement old new is;
+    }
+
+-- what comes of success and of failure comes of every result
+pub by-result : {A E P Q : Type 0} (goal : Type 0) (result : Result A E) → (P → goal) → (Q → goal) → OnOk result P → OnErr result Q → goal
+by-result goal (Ok x) done failed ok err = done ok
+by-result goal (Err e) done failed ok err = failed err
+
+or_true : (a : Bool) → true ≡ (a || true)
+or_true true = refl
+or_true false = refl
+
+-- all was written that was waited for, and then `memory`, or not all of it
+pub plays-lost : (result : Result Bool Halt) (others : Bool) (statement : Statement) (old new : State) (before taken taken' : Option (List ℕ))
+    → PlaysOn (Ok others) old [] new before taken → (seat_at new 0).pending ≡ [] → IfOk result (λ refused. refused ≡ is_refusal Memory)
+    → OnOk result (Appends taken taken' (text_of Memory)) → OnErr result (AppendsFront taken taken' (text_of Memory))
+    → PlaysOn result old (statement ∷ []) new before taken'
+plays-lost (Ok refused) others statement old new before taken taken' (played, took, on, told) idle is_refused wrote halted = (
+  played ++ lost ∷ [],
+  subst (λ text. Appends before taken' text) (sym (text-more played lost))
+      (Appends-trans before taken taken' (text_of_played played) (text_of Memory) took wrote),
+  leads-then old new new [] (statement ∷ []) played (lost ∷ []) on (leads-lost new statement idle),
+  is_refused ∙ or_true (refused_of_played played) ∙ sym (refused-more played lost),
+)
+plays-lost (Err halt) others statement old new before taken taken' (played, took, on, told) idle is_refused wrote halted = (
+  text_of_played played ++ take halted.0 (text_of Memory),
+  Appends-trans before taken taken' (text_of_played played) (take halted.0 (text_of Memory)) took halted.2,
+  halts-behind old new [] (statement ∷ []) played (take halted.0 (text_of Memory)) on
+      (halts-within new new (statement ∷ []) lost halted.0 halted.1 (leads-lost new statement idle)),
+)

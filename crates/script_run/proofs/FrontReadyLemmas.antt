@@ -1,0 +1,117 @@
+-- The replies that may be taken, written one after the other.
+use Rattle.std.proofs.Common.{◌≡◌, ◌<◌, ℕ, Bool, false, ◌||◌, List, [], ◌∷◌, ◌++◌, length, take, Option, Some, None, Ok, Err, slice_get, refl, sym, ap, ◌∙◌, subst}
+use Rattle.std.specs.Prelude.{IfSome, IsSome}
+use Rattle.std.specs.Io.KnownBytes.{Appends}
+use Rattle.std.proofs.KnownBytes.{Appends-nil, Appends-trans}
+use Rattle.star_io.specs.Transfer.{AppendsFront}
+use Rattle.reply_text.specs.Text.{text_of}
+use Rattle.reply_text.specs.declared.reply.Reply.{Reply}
+use Rattle.core_state.specs.Answers.{IsRight}
+use Rattle.core_state.specs.Sound.{IsSound}
+use Rattle.core_state.specs.State.{State}
+use Rattle.core_state.specs.Submitting.{after_taking, next_ready, seat_at}
+use Rattle.event_core.specs.Replies.{IsReplyOf, first_open, ready_of}
+use Rattle.event_core.specs.declared.replies.Ready.{Ready}
+use Rattle.script_run.specs.Front.{IsRun, PlaysOn, refused_of_played, text_of_played}
+use Rattle.script_run.specs.Played.{Leads, Played}
+use Rattle.script_run.specs.Run.{is_refusal}
+use Rattle.script_run.specs.declared.halt.Halt.{Halt}
+use Rattle.script_run.proofs.FrontHaltLemmas.{halts-behind, halts-within, refused-more, text-more}
+use Rattle.script_run.proofs.FrontOpenLemmas.{taken-closed}
+use Rattle.script_run.proofs.FrontRunLemmas.{run-itself, run-taken, run-then}
+use Rattle.script_run.proofs.PlayedLeadLemmas.{leads-itself, leads-then}
+use Rattle.script_run.proofs.PlayedTakenLemmas.{WaitsForOpen, idle-next}
+use Rattle.script_run.proofs.PlayedWholeLemmas.{leads-reply}
+
+-- some replies were taken and written, and these tell whether one of them is a refusal
+pub record IsWriting (old now : State) (refused : Bool) (before taken : Option (List ℕ)) : Type 0 where
+  pub played : List Played
+  pub appended : Appends before taken (text_of_played played)
+  pub leads : Leads old [] now played
+  pub told : refused ≡ refused_of_played played
+  pub run : IsRun old now
+  pub scan : now.scan ≡ old.scan
+  pub closed : first_open old.lives (seat_at old 0) ≡ None → first_open now.lives (seat_at now 0) ≡ None
+
+-- a reply was taken, and this is the reply
+pub record TakesReply (old new : State) (ready : Ready) (reply : Reply) : Type 0 where
+  pub may : Some (ready_of ready) ≡ next_ready old 0
+  pub taken : new ≡ after_taking 0 old
+  pub right : IfSome (slice_get (seat_at old 0).pending 0) (λ pending. IsRight old pending.statement pending.awaited (ready_of ready))
+  pub is : IsReplyOf ready reply
+
+-- what may be taken is there
+pub ready-some : (state : State) (ready : Ready) → Some (ready_of ready) ≡ next_ready state 0 → IsSome (next_ready state 0)
+ready-some state ready may = subst IsSome may refl
+
+-- the same, by what code tells of it
+pub takes-reply : (old new : State) (ready : Ready) (reply : Reply) → Some (ready_of ready) ≡ next_ready old 0 → new ≡ after_taking 0 old
+    → IfSome (slice_get (seat_at old 0).pending 0) (λ pending. IsRight old pending.statement pending.awaited (ready_of ready))
+    → IsReplyOf ready reply → TakesReply old new ready reply
+takes-reply old new ready reply may taken right is = record { may = may; taken = taken; right = right; is = is }
+
+-- nothing was taken yet
+pub starts-writing : (state : State) (taken : Option (List ℕ)) → IsWriting state state false taken taken
+starts-writing state taken = record {
+  played = [];
+  appended = Appends-nil taken;
+  leads = leads-itself state;
+  told = refl;
+  run = run-itself state;
+  scan = refl;
+  closed = λ none. none;
+}
+
+-- one reply more was taken
+taken-more : (old now new : State) (refused : Bool) (before taken : Option (List ℕ)) (ready : Ready) (reply : Reply) → IsWriting old now refused before taken
+    → TakesReply now new ready reply
+    → (one : Played) × (one.reply ≡ reply) × Leads now [] new (one ∷ [])
+taken-more old now new refused before taken ready reply writing takes =
+    let led = leads-reply now new ready reply takes.may takes.taken takes.right takes.is in (led.0, led.1, led.3)
+
+-- one reply more was taken and written
+pub writes-more : (old now new : State) (refused told : Bool) (before taken taken' : Option (List ℕ)) (ready : Ready) (reply : Reply)
+    → IsWriting old now refused before taken → TakesReply now new ready reply → Appends taken taken' (text_of reply) → told ≡ is_refusal reply
+    → IsWriting old new (refused || told) before taken'
+writes-more old now new refused told before taken taken' ready reply writing takes wrote is_told =
+    let one = taken-more old now new refused before taken ready reply writing takes in
+    let may = ready-some now ready takes.may in
+    record {
+      played = writing.played ++ one.0 ∷ [];
+      appended = subst (λ text. Appends before taken' text)
+          (sym (text-more writing.played one.0 ∙ ap (λ r. text_of_played writing.played ++ text_of r) one.1))
+          (Appends-trans before taken taken' (text_of_played writing.played) (text_of reply) writing.appended wrote);
+      leads = leads-then old now new [] [] writing.played (one.0 ∷ []) writing.leads one.2;
+      told = ap (λ test. test || told) writing.told
+          ∙ ap (λ test. refused_of_played writing.played || test) (is_told ∙ ap is_refusal (sym one.1))
+          ∙ sym (refused-more writing.played one.0);
+      run = run-then old now new writing.run (run-taken now new may takes.taken);
+      scan = ap (λ state. state.scan) takes.taken ∙ writing.scan;
+      closed = λ none. taken-closed now new may takes.taken (writing.closed none);
+    }
+
+-- a reply was taken, and not all of it was written
+pub halts-writing : (old now new : State) (refused : Bool) (before taken taken' : Option (List ℕ)) (ready : Ready) (reply : Reply) (halt : Halt)
+    → IsWriting old now refused before taken → TakesReply now new ready reply → AppendsFront taken taken' (text_of reply)
+    → PlaysOn (Err halt) old [] new before taken'
+halts-writing old now new refused before taken taken' ready reply halt writing takes wrote =
+    let one = taken-more old now new refused before taken ready reply writing takes in
+    let short : wrote.0 < length (text_of one.0.reply) = subst (λ r. wrote.0 < length (text_of r)) (sym one.1) wrote.1 in (
+      text_of_played writing.played ++ take wrote.0 (text_of one.0.reply),
+      Appends-trans before taken taken' (text_of_played writing.played) (take wrote.0 (text_of one.0.reply)) writing.appended
+          (subst (λ r. Appends taken taken' (take wrote.0 (text_of r))) (sym one.1) wrote.2),
+      halts-behind old now [] [] writing.played (take wrote.0 (text_of one.0.reply)) writing.leads (halts-within now new [] one.0 wrote.0 short one.2),
+    )
+
+-- no reply is left that may be taken
+pub wrote-all : (old now : State) (refused : Bool) (before taken : Option (List ℕ)) → IsWriting old now refused before taken
+    → PlaysOn (Ok refused) old [] now before taken
+wrote-all old now refused before taken writing = (writing.played, writing.appended, writing.leads, writing.told)
+
+-- where no query that the front waited for could still be answered, it waits for nothing
+pub wrote-idle : WaitsForOpen → (old now new : State) (refused : Bool) (before taken : Option (List ℕ)) → IsWriting old now refused before taken
+    → new ≡ now → None ≡ next_ready now 0 → IsSound new → first_open old.lives (seat_at old 0) ≡ None → (seat_at new 0).pending ≡ []
+wrote-idle waits old now new refused before taken writing same none sound closed =
+    idle-next waits new 0 sound
+    (subst (λ state. first_open state.lives (seat_at state 0) ≡ None) (sym same) (writing.closed closed))
+    (ap (λ state. next_ready state 0) same ∙ sym none)

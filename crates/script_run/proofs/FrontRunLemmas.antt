@@ -1,0 +1,131 @@
+-- The steps that a run makes: none, some and others behind them, a statement, a reply that is taken, and events of the driver.
+use Rattle.std.proofs.Common.{◌≡◌, ℕ, ◌+◌, ◌<◌, List, [], ◌∷◌, ◌++◌, length, Option, Some, None, refl, sym, ap, ◌∙◌, subst}
+use Rattle.std.specs.Prelude.{All, IsSome}
+use Rattle.std.specs.Option.{option_map_or}
+use Rattle.std.proofs.lemmas.List.Elements.{All-append, All-cons, All-head, All-nil, All-tail}
+use Rattle.std.proofs.lemmas.List.Sums.{fold-append}
+use Rattle.script_reader.specs.declared.statement.Statement.{Statement}
+use Rattle.star_history.specs.History.{Change, DimensionDeclared, FactDeclared, Loaded, Ended}
+use Rattle.star_statement.specs.Outcome as outcome
+use Rattle.star_statement.specs.Outcome.{Told, outcome_of}
+use Rattle.core_state.specs.Events.{after_event}
+use Rattle.core_state.specs.State.{Scan, State}
+use Rattle.core_state.specs.Steps.{Done, MayStep, MayStepAll, Replying, Step, Wanting, after_step, after_steps}
+use Rattle.core_state.specs.Submitting.{after_submitting, after_taking, next_ready, with_change, with_query, with_seat, with_statement}
+use Rattle.core_state.specs.Tables.{tables_of}
+use Rattle.core_state.specs.declared.event.Event.{Event}
+use Rattle.core_state.specs.declared.event.Event.TheVariants.{Submit, Reserve, Build, Start, Cut, Take, Give, Distribute, Finish, Clear, Release, Reorder, Abandon}
+use Rattle.event_core.specs.Chosen.{AreIdle}
+use Rattle.event_core.specs.Took.{AreOf, IsLed, IsOf, StepsFor, TookAll}
+use Rattle.core_driver.specs.Driven.{IsDriven}
+use Rattle.script_run.specs.Front.{IsOfRun, IsRun}
+use Rattle.script_run.specs.Played.{LeavesSeats}
+use Rattle.script_run.proofs.PlayedEventLemmas.{driven-leaves}
+
+-- events that a core took are steps
+abbrev pub TakenAreSteps : Type 0
+TakenAreSteps = (events : List Event) (old new : State) → TookAll events old new → StepsFor events old new
+
+-- no step
+pub run-itself : (state : State) → IsRun state state
+run-itself state = record { steps = []; may = tt; each = All-nil IsOfRun; is = refl }
+
+-- one step
+run-step : (step : Step) (old new : State) → MayStep old step → IsOfRun step → new ≡ after_step step old → IsRun old new
+run-step step old new may of same = record {
+  steps = step ∷ [];
+  may = (may, tt);
+  each = All-cons IsOfRun step [] of (All-nil IsOfRun);
+  is = same;
+}
+
+-- steps that may come, and others behind them
+may-append : (steps more : List Step) (state : State) → MayStepAll state steps → MayStepAll (after_steps steps state) more
+    → MayStepAll state (steps ++ more)
+may-append [] more state first second = second
+may-append (step ∷ steps) more state first second = (first.0, may-append steps more (after_step step state) first.1 second)
+
+-- steps of a run, and others behind them
+pub run-then : (old between new : State) → IsRun old between → IsRun between new → IsRun old new
+run-then old between new first second = record {
+  steps = first.steps ++ second.steps;
+  may = may-append first.steps second.steps old first.may (subst (λ state. MayStepAll state second.steps) first.is second.may);
+  each = All-append IsOfRun first.steps second.steps first.each second.each;
+  is = second.is ∙ ap (after_steps second.steps) first.is
+      ∙ sym (fold-append (λ now step. after_step step now) old first.steps second.steps);
+}
+
+-- a statement that the front submits
+pub run-submitted : (statement : Statement) (old new : State) → 0 < length old.seats → new ≡ after_submitting 0 statement old → IsRun old new
+unfolding after_event
+run-submitted statement old new there same = run-step (Done (Submit 0 statement)) old new there refl same
+
+-- a reply that the front takes
+pub run-taken : (old new : State) → IsSome (next_ready old 0) → new ≡ after_taking 0 old → IsRun old new
+run-taken old new ready same = run-step (Replying 0) old new ready refl same
+
+-- an event that leaves the seats is one of a run
+event-run : (event : Event) → LeavesSeats event → IsOfRun (Done event)
+event-run (Submit seat statement) leaves = absurd leaves
+event-run (Reserve query slot) leaves = tt
+event-run (Build query dimension) leaves = tt
+event-run (Start query) leaves = tt
+event-run Cut leaves = tt
+event-run (Take worker batch) leaves = tt
+event-run (Give worker) leaves = tt
+event-run (Distribute batch) leaves = tt
+event-run (Finish slot) leaves = tt
+event-run (Clear slot dimension) leaves = tt
+event-run (Release slot) leaves = tt
+event-run Reorder leaves = tt
+event-run (Abandon query) leaves = leaves
+
+-- so is a step of an event of the driver
+step-run : (event : Event) (step : Step) → IsDriven event → IsOf event step → IsOfRun step
+step-run event (Done other) driven of = event-run other (driven-leaves other (subst IsDriven (sym of) driven))
+step-run event (Wanting other spoiled) driven of = tt
+step-run event (Replying seat) driven of = absurd of
+
+steps-run : (events : List Event) (steps : List Step) → All IsDriven events → AreOf events steps → All IsOfRun steps
+steps-run [] [] driven of = All-nil IsOfRun
+steps-run [] (step ∷ steps) driven of = absurd of
+steps-run (event ∷ events) [] driven of = absurd of
+steps-run (event ∷ events) (step ∷ steps) driven of =
+    All-cons IsOfRun step steps (step-run event step (All-head IsDriven event events driven) of.0)
+    (steps-run events steps (All-tail IsDriven event events driven) of.1)
+
+-- events of the driver
+pub run-driven : TakenAreSteps → (old new : State) → IsLed IsDriven old new → IsRun old new
+run-driven taken old new led =
+    let made = taken led.events old new led.took in
+    record { steps = made.0; may = made.1.0; each = steps-run led.events made.0 led.each made.1.1.0; is = made.1.1.1 }
+
+-- what a statement changes and what is told of it leave the scan
+scan-change : (statement : ℕ) (change : Option Change) (state : State)
+    → (option_map_or (λ change. with_change 0 statement change state) change state).scan ≡ state.scan
+scan-change statement None state = refl
+scan-change statement (Some (DimensionDeclared table)) state = refl
+scan-change statement (Some (FactDeclared table)) state = refl
+scan-change statement (Some (Loaded table rows)) state = refl
+scan-change statement (Some (Ended positions)) state = refl
+
+scan-query : (statement : ℕ) (told : Told) (state : State) → (with_query 0 statement told state).scan ≡ state.scan
+scan-query statement (outcome.Replied reply) state = refl
+scan-query statement (outcome.Accepted query snapshot) state = refl
+
+-- a statement leaves the scan
+scan-submitted : (statement : Statement) (state : State) → (after_submitting 0 statement state).scan ≡ state.scan
+scan-submitted statement state =
+    let found = outcome_of (tables_of state) statement in
+    let number = state.numbers.statement + 1 in
+    let seated : State = with_seat 0 (with_statement number found.told) (record state { numbers = record state.numbers { statement = number } }) in
+    let changed : State = option_map_or (λ change. with_change 0 number change seated) found.change seated in
+    scan-query number found.told changed ∙ scan-change number found.change seated
+
+-- where the scan is as it was, no batch is in a hand if none was
+pub idle-scan : (old new : State) → new.scan ≡ old.scan → AreIdle old → AreIdle new
+idle-scan old new same idle = subst (λ (scan : Scan). All (λ flight. flight.hand ≡ None) scan.flights) (sym same) idle
+
+-- nor where the front submitted a statement
+pub idle-submitted : (statement : Statement) (old new : State) → new ≡ after_submitting 0 statement old → AreIdle old → AreIdle new
+idle-submitted statement old new same = idle-scan old new (ap (λ state. state.scan) same ∙ scan-submitted statement old)

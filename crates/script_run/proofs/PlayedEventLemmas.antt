@@ -1,0 +1,143 @@
+-- Events by which no statement is submitted and no query abandoned leave the history and the seats, and so what may be played.
+use Rattle.std.proofs.Common.{◌≡◌, ℕ, List, [], ◌∷◌, get_or, map, refl, sym, ap, ◌∙◌, subst, ⊎_elim, append-nil}
+use Rattle.std.specs.Prelude.{All, find}
+use Rattle.std.proofs.lemmas.List.Elements.{All-head, All-tail, All-weaker}
+use Rattle.reply_text.specs.declared.reply.Reply.{Reply}
+use Rattle.pipeline_manager.specs.Lives.{slot_of}
+use Rattle.core_state.specs.Admitting.{after_build, with_built}
+use Rattle.core_state.specs.Cutting.{after_distribute, after_give}
+use Rattle.core_state.specs.Events.{after_event, after_want}
+use Rattle.core_state.specs.Found.{accepted_at, flight_at, is_held_by}
+use Rattle.core_state.specs.State.{Entry, Seat, State}
+use Rattle.core_state.specs.Submitting.{empty_seat}
+use Rattle.core_state.specs.Tables.{tables_by}
+use Rattle.core_state.specs.declared.event.Event.{Event}
+use Rattle.core_state.specs.declared.event.Event.TheVariants.{Submit, Reserve, Build, Start, Cut, Take, Give, Distribute, Finish, Clear, Release, Reorder, Abandon}
+use Rattle.core_state.proofs.WholeFrameLemmas.{by-option}
+use Rattle.event_core.specs.Replies.{IsReplyOf, ready_of}
+use Rattle.event_core.specs.Took.{IsLed, IsSpoilt, Took, TookAll}
+use Rattle.event_core.specs.declared.replies.Ready.{Ready}
+use Rattle.event_core.specs.declared.replies.Ready.TheVariants.{Whole, Grouped}
+use Rattle.core_driver.specs.Driven.{IsDriven}
+use Rattle.script_run.specs.Played.{ComeTo, IsTakenAs, Leads, LeavesSeats, Plays}
+use Rattle.script_run.proofs.PlayedLeadLemmas.{asked_in}
+
+-- the history and the seats are as they were
+record Same (old new : State) : Type 0 where
+  entries : new.entries ≡ old.entries
+  seats : new.seats ≡ old.seats
+
+same-itself : (state : State) → Same state state
+same-itself state = record { entries = refl; seats = refl }
+
+same-then : (old between new : State) → Same old between → Same between new → Same old new
+same-then old between new first second = record { entries = second.entries ∙ first.entries; seats = second.seats ∙ first.seats }
+
+-- what may be played is the same, since it hangs on the history and the seats alone
+leads-same : (old new : State) → Same old new → Leads old [] new []
+leads-same old new same = record {
+  plays = λ rest more after may. record {
+    due = may.due;
+    rest = may.rest;
+    all = may.all;
+    come = subst (λ (entries : List Entry). ComeTo (tables_by entries) (seat_in old.seats).pending may.due) same.entries
+        (subst (λ (seats : List Seat). ComeTo (tables_by new.entries) (seat_in seats).pending may.due) same.seats may.come);
+    plays = subst (λ (entries : List Entry). Plays (tables_by entries) rest may.rest after) same.entries may.plays;
+  };
+  taken = ap (λ (seats : List Seat). map (λ t. t.query) (seat_in seats).taken) same.seats ∙ sym (append-nil (asked_in old));
+}
+  where
+    seat_in : List Seat → Seat
+    seat_in seats = get_or seats 0 empty_seat
+
+-- a filter that is built, a batch that is given back, and one that is distributed
+same-built : (query dimension : ℕ) (state : State) → Same state (after_build query dimension state)
+same-built query dimension state =
+    let built : Same state (with_built query dimension state) =
+    by-option (Same state) (slot_of state.lives query) _ state (same-itself state)
+    (λ slot is. by-option (Same state) (accepted_at state.accepted query) _ state (same-itself state) (λ accepted found. record { entries = refl; seats = refl })) in
+    record { entries = built.entries; seats = built.seats }
+
+same-given : (worker : ℕ) (state : State) → Same state (after_give worker state)
+same-given worker state = by-option (Same state) (find (is_held_by worker) state.scan.flights) _ state (same-itself state)
+    (λ flight is. record { entries = refl; seats = refl })
+
+same-distributed : (batch : ℕ) (spoiled : List ℕ) (state : State) → Same state (after_distribute batch spoiled state)
+same-distributed batch spoiled state = by-option (Same state) (flight_at state.scan.flights batch) _ state (same-itself state)
+    (λ flight is. record { entries = refl; seats = refl })
+
+same-done : (event : Event) (state : State) → LeavesSeats event → Same state (after_event event state)
+unfolding after_event
+same-done (Submit seat statement) state leaves = absurd leaves
+same-done (Reserve query slot) state leaves = record { entries = refl; seats = refl }
+same-done (Build query dimension) state leaves = same-built query dimension state
+same-done (Start query) state leaves = record { entries = refl; seats = refl }
+same-done Cut state leaves = record { entries = refl; seats = refl }
+same-done (Take worker batch) state leaves = record { entries = refl; seats = refl }
+same-done (Give worker) state leaves = same-given worker state
+same-done (Distribute batch) state leaves = same-distributed batch [] state
+same-done (Finish slot) state leaves = record { entries = refl; seats = refl }
+same-done (Clear slot dimension) state leaves = record { entries = refl; seats = refl }
+same-done (Release slot) state leaves = record { entries = refl; seats = refl }
+same-done Reorder state leaves = record { entries = refl; seats = refl }
+same-done (Abandon query) state leaves = absurd leaves
+
+-- queries that find no memory
+same-spoilt : (event : Event) (old new : State) → IsSpoilt event old new → Same old new
+unfolding after_want
+same-spoilt (Submit seat statement) old new spoilt = absurd spoilt
+same-spoilt (Reserve query slot) old new spoilt = absurd spoilt
+same-spoilt (Build query dimension) old new spoilt = subst (Same old) (sym spoilt) (record { entries = refl; seats = refl })
+same-spoilt (Start query) old new spoilt = absurd spoilt
+same-spoilt Cut old new spoilt = absurd spoilt
+same-spoilt (Take worker batch) old new spoilt = absurd spoilt
+same-spoilt (Give worker) old new spoilt = absurd spoilt
+same-spoilt (Distribute batch) old new spoilt = subst (Same old) (sym spoilt.2) (same-distributed batch spoilt.0 old)
+same-spoilt (Finish slot) old new spoilt = absurd spoilt
+same-spoilt (Clear slot dimension) old new spoilt = absurd spoilt
+same-spoilt (Release slot) old new spoilt = absurd spoilt
+same-spoilt Reorder old new spoilt = absurd spoilt
+same-spoilt (Abandon query) old new spoilt = absurd spoilt
+
+same-took : (event : Event) (old new : State) → LeavesSeats event → Took event old new → Same old new
+same-took event old new leaves took = ⊎_elim
+    (λ done. subst (Same old) (sym done) (same-done event old leaves))
+    (λ spoilt. same-spoilt event old new spoilt)
+    took.after
+
+same-all : (events : List Event) (old new : State) → All LeavesSeats events → TookAll events old new → Same old new
+same-all [] old new leaves took = subst (Same old) (sym took) (same-itself old)
+same-all (event ∷ events) old new leaves took =
+    same-then old took.0 new (same-took event old took.0 (All-head LeavesSeats event events leaves) took.1)
+    (same-all events took.0 new (All-tail LeavesSeats event events leaves) took.2)
+
+-- events of which each leaves the history and the seats
+pub leads-led : (IsOne : Event → Type 0) → ((event : Event) → IsOne event → LeavesSeats event) → (old new : State) → IsLed IsOne old new
+    → Leads old [] new []
+leads-led IsOne each old new led =
+    leads-same old new (same-all led.events old new (All-weaker IsOne LeavesSeats each led.events led.each) led.took)
+
+-- an event of the driver
+pub driven-leaves : (event : Event) → IsDriven event → LeavesSeats event
+driven-leaves (Submit seat statement) is = ⊎_elim (λ no. no) (λ no. no) is
+driven-leaves (Reserve query slot) is = tt
+driven-leaves (Build query dimension) is = tt
+driven-leaves (Start query) is = tt
+driven-leaves Cut is = tt
+driven-leaves (Take worker batch) is = tt
+driven-leaves (Give worker) is = tt
+driven-leaves (Distribute batch) is = tt
+driven-leaves (Finish slot) is = tt
+driven-leaves (Clear slot dimension) is = tt
+driven-leaves (Release slot) is = tt
+driven-leaves Reorder is = tt
+driven-leaves (Abandon query) is = ⊎_elim (λ no. no) (λ no. no) is
+
+-- events of the driver
+pub leads-driven : (old new : State) → IsLed IsDriven old new → Leads old [] new []
+leads-driven = leads-led IsDriven driven-leaves
+
+-- a reply as code takes it
+pub taken-as : (ready : Ready) (reply : Reply) → IsReplyOf ready reply → IsTakenAs (ready_of ready) reply
+taken-as (Whole given) reply is = is
+taken-as (Grouped snapshot groups) reply is = is

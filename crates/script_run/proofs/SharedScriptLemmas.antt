@@ -1,0 +1,92 @@
+-- What was played of a script, from an empty core on: the replies to all of it, or a front of them.
+use Rattle.std.proofs.Common.{◌≡◌, ℕ, Bool, ◌||◌, List, [], ◌∷◌, ◌++◌, map, refl, sym, ap, ◌∙◌, append-nil}
+use Rattle.std.specs.List.{list_any}
+use Rattle.script_reader.specs.Reading.{MayCome, Reading}
+use Rattle.script_reader.specs.Script.{statements_of}
+use Rattle.star_history.specs.Store.{Store}
+use Rattle.reply_text.specs.Text.{text_of_all}
+use Rattle.core_state.specs.Sound.{empty_core}
+use Rattle.core_state.specs.State.{Seat, State}
+use Rattle.core_state.specs.Submitting.{seat_at}
+use Rattle.core_state.specs.Tables.{tables_of}
+use Rattle.core_state.specs.declared.settings.RunSettings.{RunSettings}
+use Rattle.script_run.specs.Front.{ReadsFront, ReadsInPart, ReadsOn, refused_of_played, text_of_played}
+use Rattle.script_run.specs.Played.{MayPlay, Played}
+use Rattle.script_run.specs.Run.{IsFront, IsProperFront, is_refusal, script_replies, script_text, some_refused}
+use Rattle.script_run.proofs.PlayedLeadLemmas.{may-play-idle, plays-idle}
+use Rattle.script_run.proofs.PlayedReplyLemmas.{ByTables, EffectsAgree, script-replies}
+use Rattle.script_run.proofs.PlayedWholeLemmas.{new-seat}
+use Rattle.script_run.proofs.SharedReadLemmas.{may-behind}
+
+-- what holds of every statement, and of the replies to every script
+pub record AreLaws : Type 0 where
+  pub agree : EffectsAgree
+  pub tables : ByTables
+
+-- the replies to what may be played of a script in an empty core
+replies-new : AreLaws → (settings : RunSettings) (ended : Bool) (script : List ℕ) (played : List Played) (after : Store)
+    → MayPlay (empty_core settings) (statements_of ended script) played after
+    → (wanted : List ℕ) × (map (λ one. one.reply) played ≡ script_replies wanted ended script)
+replies-new laws settings ended script played after may =
+    script-replies laws.agree laws.tables (statements_of ended script) played after
+    (plays-idle (empty_core settings) (statements_of ended script) played after (ap (λ (seat : Seat). seat.pending) (new-seat settings)) may)
+
+-- whether one of the replies is a refusal
+refused-replies : (played : List Played) → refused_of_played played ≡ list_any is_refusal (map (λ one. one.reply) played)
+refused-replies [] = refl
+refused-replies (one ∷ played) = ap (λ test. is_refusal one.reply || test) (refused-replies played)
+
+-- the text of replies that are those of a script
+same-text : (ended : Bool) (script : List ℕ) (played : List Played) (wanted : List ℕ) → map (λ one. one.reply) played ≡ script_replies wanted ended script
+    → text_of_played played ≡ script_text wanted ended script
+same-text ended script played wanted is = ap text_of_all is
+
+-- these are the replies to all of a script
+pub record IsScript (ended : Bool) (script : List ℕ) (played : List Played) : Type 0 where
+  pub wanted : List ℕ
+  pub text : text_of_played played ≡ script_text wanted ended script
+  pub refusals : refused_of_played played ≡ some_refused wanted ended script
+
+-- so they are where each reply is that of the script
+is-script : (ended : Bool) (script : List ℕ) (played : List Played) (wanted : List ℕ) → map (λ one. one.reply) played ≡ script_replies wanted ended script
+    → IsScript ended script played
+is-script ended script played wanted is = record {
+  wanted = wanted;
+  text = same-text ended script played wanted is;
+  refusals = refused-replies played ∙ ap (list_any is_refusal) is;
+}
+
+-- where no whole statement is left and nothing is waited for, all of a script was replied to
+pub whole-script : AreLaws → (settings : RunSettings) (new : State) (waits waits' : Reading) (played : List Played) (last : Bool)
+    → ReadsOn (empty_core settings) waits new waits' played → MayCome waits [] last → statements_of last waits'.waiting ≡ []
+    → (seat_at new 0).pending ≡ [] → IsScript last waits.waiting played
+whole-script laws settings new waits waits' played last reads comes none idle =
+    let may = may-behind (empty_core settings) new waits waits' played reads [] last comes [] (tables_of new)
+    (rw (append-nil waits'.waiting, none) (may-play-idle new [] [] (tables_of new) idle refl)) in
+    let found = replies-new laws settings last waits.waiting played (tables_of new)
+    (rw (append-nil waits.waiting, append-nil played) at may) in
+    is-script last waits.waiting played found.0 found.1
+
+-- the text of the replies to what may be played of a script
+text-script : AreLaws → (settings : RunSettings) (ended : Bool) (script : List ℕ) (played : List Played) (after : Store)
+    → MayPlay (empty_core settings) (statements_of ended (script ++ [])) played after
+    → (wanted : List ℕ) × (text_of_played played ≡ script_text wanted ended script)
+text-script laws settings ended script played after may =
+    let replies = replies-new laws settings ended script played after (rw (append-nil script) at may) in
+    (replies.0, same-text ended script played replies.0 replies.1)
+
+-- a front of what may be played in an empty core is one of a script's replies
+pub front-script : AreLaws → (settings : RunSettings) (waits : Reading) (written : List ℕ) → ReadsFront (empty_core settings) waits written
+    → (last : Bool) → MayCome waits [] last → (wanted : List ℕ) × IsFront written (script_text wanted last waits.waiting)
+front-script laws settings waits written front last comes =
+    let found = front [] last comes in
+    let text = text-script laws settings last waits.waiting found.0 found.1 found.2 in
+    (text.0, (found.3.0, sym text.1 ∙ found.3.1))
+
+-- and so is a proper front
+pub part-script : AreLaws → (settings : RunSettings) (waits : Reading) (written : List ℕ) → ReadsInPart (empty_core settings) waits written
+    → (last : Bool) → MayCome waits [] last → (wanted : List ℕ) × IsProperFront written (script_text wanted last waits.waiting)
+part-script laws settings waits written part last comes =
+    let found = part [] last comes in
+    let text = text-script laws settings last waits.waiting found.0 found.1 found.2 in
+    (text.0, (found.3.0, found.3.1, sym text.1 ∙ found.3.2))

@@ -1,0 +1,128 @@
+-- All statements that are whole: what was given to a core and written so far, and how that goes on and ends.
+use Rattle.std.proofs.Common.{◌≡◌, ℕ, Bool, false, ◌||◌, List, [], ◌∷◌, ◌++◌, length, Option, Ok, Err, refl, sym, ap, ◌∙◌, subst, append-nil}
+use Rattle.std.specs.Io.KnownBytes.{Appends}
+use Rattle.std.proofs.KnownBytes.{Appends-nil, Appends-trans}
+use Rattle.script_reader.specs.Reading.{Reading, StaysFed, TakesFirst, Wants}
+use Rattle.script_reader.specs.Script.{statements_of}
+use Rattle.script_reader.specs.declared.statement.Statement.{Statement}
+use Rattle.core_state.specs.State.{State}
+use Rattle.script_run.specs.Answer.{HasNoStatement}
+use Rattle.script_run.specs.Front.{HaltsReading, PlaysOn, PlaysWhole, ReadsInPart, ReadsOn, refused_of_played, text_of_played}
+use Rattle.script_run.specs.Played.{Played}
+use Rattle.script_run.specs.declared.halt.Halt.{Halt}
+use Rattle.script_run.specs.declared.halt.Halt.TheVariants.{WriteFault, NoMemory}
+use Rattle.script_run.proofs.FrontHaltLemmas.{refused-append, text-append}
+use Rattle.script_run.proofs.SharedReadLemmas.{front-behind, front-wanting, part-behind, part-first, part-front, part-none, part-wanting, reads-first, reads-itself, reads-none, reads-then}
+use Rattle.script_run.proofs.WholeLemmas.{fed_on}
+
+-- the statements that were read so far were given to a core, and the replies that were there were written
+pub record IsPlaying (old now : State) (waits waits' : Reading) (refused : Bool) (taken0 taken : Option (List ℕ)) : Type 0 where
+  pub played : List Played
+  pub appended : Appends taken0 taken (text_of_played played)
+  pub reads : ReadsOn old waits now waits' played
+  pub stays : StaysFed waits waits'
+  pub refusals : refused ≡ refused_of_played played
+
+-- how many statements are left
+abbrev pub statements_left : Reading → ℕ
+statements_left waits = length (statements_of waits.ended (waits.waiting ++ []))
+
+pub starts-playing : (state : State) (waits : Reading) (taken : Option (List ℕ)) → IsPlaying state state waits waits false taken taken
+starts-playing state waits taken = record {
+  played = [];
+  appended = Appends-nil taken;
+  reads = reads-itself state waits;
+  stays = (refl, refl);
+  refusals = refl;
+}
+
+-- one part behind another
+pub playing-then : (old between new : State) (waits waits' waits'' : Reading) (refused some : Bool) (taken0 taken taken' : Option (List ℕ)) (more : List Played)
+    → IsPlaying old between waits waits' refused taken0 taken → ReadsOn between waits' new waits'' more → StaysFed waits' waits''
+    → Appends taken taken' (text_of_played more) → some ≡ refused_of_played more
+    → IsPlaying old new waits waits'' (refused || some) taken0 taken'
+playing-then old between new waits waits' waits'' refused some taken0 taken taken' more way reads stays took are = record {
+  played = way.played ++ more;
+  appended = subst (Appends taken0 taken') (sym (text-append way.played more))
+      (Appends-trans taken0 taken taken' (text_of_played way.played) (text_of_played more) way.appended took);
+  reads = reads-then old between new waits waits' waits'' way.played more way.reads way.stays reads;
+  stays = fed_on waits waits' waits'' way.stays stays;
+  refusals = ap (λ test. test || some) way.refusals ∙ ap (λ test. refused_of_played way.played || test) are
+      ∙ sym (refused-append way.played more);
+}
+
+-- the first statement that waits was given
+pub playing-first : (old between new : State) (waits waits' waits'' : Reading) (statement : Statement) (refused some : Bool) (taken0 taken taken' : Option (List ℕ))
+    → IsPlaying old between waits waits' refused taken0 taken → TakesFirst waits' waits'' statement → StaysFed waits' waits''
+    → PlaysOn (Ok some) between (statement ∷ []) new taken taken' → IsPlaying old new waits waits'' (refused || some) taken0 taken'
+playing-first old between new waits waits' waits'' statement refused some taken0 taken taken' way first stays plays =
+    playing-then old between new waits waits' waits'' refused some taken0 taken taken' plays.0 way
+    (reads-first between new waits' waits'' statement plays.0 first plays.2) stays plays.1 plays.3
+
+-- no statement was given
+pub playing-none : (old between new : State) (waits waits' : Reading) (refused some : Bool) (taken0 taken taken' : Option (List ℕ))
+    → IsPlaying old between waits waits' refused taken0 taken → PlaysOn (Ok some) between [] new taken taken'
+    → IsPlaying old new waits waits' (refused || some) taken0 taken'
+playing-none old between new waits waits' refused some taken0 taken taken' way plays =
+    playing-then old between new waits waits' waits' refused some taken0 taken taken' plays.0 way
+    (reads-none between new waits' plays.0 plays.2) (refl, refl) plays.1 plays.3
+
+-- no whole statement is left
+pub ends-playing : (old new : State) (waits waits' : Reading) (refused : Bool) (taken0 taken : Option (List ℕ))
+    → IsPlaying old new waits waits' refused taken0 taken → HasNoStatement waits' → PlaysWhole (Ok refused) old waits new waits' taken0 taken
+ends-playing old new waits waits' refused taken0 taken way none = (way.played, way.appended, way.reads, way.refusals, none)
+
+-- and the other way round
+pub whole-playing : (old new : State) (waits waits' : Reading) (refused : Bool) (taken0 taken : Option (List ℕ))
+    → PlaysWhole (Ok refused) old waits new waits' taken0 taken → StaysFed waits waits' → IsPlaying old new waits waits' refused taken0 taken
+whole-playing old new waits waits' refused taken0 taken plays stays = record {
+  played = plays.0;
+  appended = plays.1;
+  reads = plays.2;
+  stays = stays;
+  refusals = plays.3;
+}
+
+-- The replies halt.
+
+stops-part : (halt : Halt) (state : State) (waits : Reading) (written : List ℕ) → ReadsInPart state waits written → HaltsReading halt state waits written
+stops-part WriteFault state waits written part = part
+stops-part NoMemory state waits written part = (part-front state waits written part, λ ended. part)
+
+-- behind what was written
+pub stops-behind : (halt : Halt) (old between new : State) (waits waits' waits'' : Reading) (refused : Bool) (taken0 taken taken' : Option (List ℕ)) (written : List ℕ)
+    → IsPlaying old between waits waits' refused taken0 taken → Appends taken taken' written → ReadsInPart between waits' written
+    → PlaysWhole (Err halt) old waits new waits'' taken0 taken'
+stops-behind halt old between new waits waits' waits'' refused taken0 taken taken' written way took part = (
+  text_of_played way.played ++ written,
+  Appends-trans taken0 taken taken' (text_of_played way.played) written way.appended took,
+  stops-part halt old waits (text_of_played way.played ++ written) (part-behind old between waits waits' way.played written way.reads way.stays part),
+)
+
+-- at a statement that was read
+pub stops-first : (halt : Halt) (old between new : State) (waits waits' waits'' : Reading) (statement : Statement) (refused : Bool) (taken0 taken taken' : Option (List ℕ))
+    → IsPlaying old between waits waits' refused taken0 taken → TakesFirst waits' waits'' statement
+    → PlaysOn (Err halt) between (statement ∷ []) new taken taken' → PlaysWhole (Err halt) old waits new waits'' taken0 taken'
+stops-first halt old between new waits waits' waits'' statement refused taken0 taken taken' way first plays =
+    stops-behind halt old between new waits waits' waits'' refused taken0 taken taken' plays.0 way plays.1
+    (part-first between waits' waits'' statement plays.0 first plays.2)
+
+-- behind the last statement
+pub stops-none : (halt : Halt) (old between new : State) (waits waits' : Reading) (refused : Bool) (taken0 taken taken' : Option (List ℕ))
+    → IsPlaying old between waits waits' refused taken0 taken
+    → PlaysOn (Err halt) between [] new taken taken' → PlaysWhole (Err halt) old waits new waits' taken0 taken'
+stops-none halt old between new waits waits' refused taken0 taken taken' way plays =
+    stops-behind halt old between new waits waits' waits' refused taken0 taken taken' plays.0 way plays.1
+    (part-none between waits' plays.0 plays.2)
+
+-- at the reader
+pub stops-wanting : (old between : State) (waits waits' waits'' : Reading) (refused : Bool) (taken0 taken : Option (List ℕ))
+    → IsPlaying old between waits waits' refused taken0 taken → Wants waits' waits'' → PlaysWhole (Err NoMemory) old waits between waits'' taken0 taken
+stops-wanting old between waits waits' waits'' refused taken0 taken way wants = (
+  text_of_played way.played ++ [],
+  rw (append-nil (text_of_played way.played)) way.appended,
+  (
+    front-behind old between waits waits' way.played [] way.reads way.stays (front-wanting between waits'),
+    λ ended. part-behind old between waits waits' way.played [] way.reads way.stays (part-wanting between waits' waits'' wants (way.stays.1 ∙ ended)),
+  ),
+)

@@ -1,0 +1,15 @@
+use Rattle.std.proofs.Common.{◌≡◌, length}
+use Rattle.core_state.specs.Submitting.{seat_at}
+use Rattle.event_core.specs.Seen.{state_of}
+use Rattle.script_run.proofs.FrontReadyLemmas.{IsWriting}
+use Rattle.script_run.proofs.front.write_ready.Given as goal
+
+-- the replies so far were written, and no write failed
+abbrev pub invariant-replies : goal.invariant-replies
+invariant-replies g l = record {
+  writing : IsWriting (state_of l.initial.core) (state_of l.core) l.refused (g.K.Sink.taken l.initial.sink) (g.K.Sink.taken l.sink);
+  unfailed : g.K.Sink.write_faults l.sink ≡ g.K.Sink.write_faults l.initial.sink;
+}
+
+abbrev pub decreases-replies : goal.decreases-replies
+decreases-replies g l = length (seat_at (state_of l.core) 0).pending

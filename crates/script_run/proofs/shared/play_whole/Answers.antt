@@ -1,0 +1,39 @@
+use Rattle.std.proofs.Common.{◌∙◌, refl}
+use Rattle.std.proofs.lemmas.Result.{err_from_is_err_and}
+use Rattle.event_core.specs.Seen.{state_of}
+use Rattle.script_run.proofs.FrontRunLemmas.{run-itself, run-then}
+use Rattle.script_run.proofs.SharedWholeLemmas.{stops-first, stops-wanting, playing-first, starts-playing}
+use Rattle.script_run.proofs.shared.play_whole.Goals as goal
+
+pub statements-init : goal.statements-init
+statements-init g c = record {
+  way = starts-playing _ _ _;
+  run = run-itself _;
+  idle = c.requires.idle;
+  unfailed = refl;
+}
+
+pub returns-in_err-statement-clause-plays : goal.returns-in_err-statement-clause-plays
+returns-in_err-statement-clause-plays g c =
+    let failed = err_from_is_err_and c.from_residual.result c.from_residual.ensures.1 in
+    rw (failed.1, failed.2) (stops-wanting _ _ _ _ c.next_statement.new.self _ _ _ c.statements.invariant.way c.in_err-statement.ensures.wanted)
+
+pub returns-in_err-refused-clause-plays : goal.returns-in_err-refused-clause-plays
+returns-in_err-refused-clause-plays g c =
+    let first = rw c.in-Got.is at c.in_ok-statement.ensures.answers in
+    let failed = err_from_is_err_and c.from_residual-in_err-refused.result c.from_residual-in_err-refused.ensures.1 in
+    rw failed.1 (stops-first failed.0 _ _ (state_of c.play.new.self.core) _ _ c.next_statement.new.self c.in-Got.statement _ _ _ _
+    c.statements.invariant.way first c.in_err-refused.ensures.plays)
+
+pub returns-in_err-refused-clause-run : goal.returns-in_err-refused-clause-run
+returns-in_err-refused-clause-run g c = run-then _ _ _ c.statements.invariant.run c.in_err-refused.ensures.run
+
+pub statements-preserved : goal.statements-preserved
+statements-preserved g c =
+    let first = rw c.in-Got.is at c.in_ok-statement.ensures.answers in
+    record {
+      way = playing-first _ _ _ _ _ _ c.in-Got.statement _ _ _ _ _ c.statements.invariant.way first c.in_ok-statement.ensures.stays c.in_ok-refused.ensures.plays;
+      run = run-then _ _ _ c.statements.invariant.run c.in_ok-refused.ensures.run;
+      idle = c.in_ok-refused.ensures.idle;
+      unfailed = c.in_ok-refused.ensures.faults ∙ c.statements.invariant.unfailed;
+    }

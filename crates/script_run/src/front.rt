@@ -1,0 +1,194 @@
+//! The front of a run: it gives statements to a core, lets their queries come to their end, and writes the replies.
+ghost use Rattle.std.specs.Prelude.{◌≡◌, ◌≢◌, [], ◌∷◌, None, Some, Ok, IfOk, OnErr, OnOk};
+ghost use Rattle.std.specs.Io.KnownBytes.{Appends};
+ghost use Rattle.star_io.specs.Transfer.{AppendsFront};
+ghost use Rattle.reply_text.specs.Text.{text_of};
+ghost use Rattle.script_reader.specs.declared.statement.Statement.{Statement};
+ghost use Rattle.core_state.specs.Settings.{AreWithin};
+ghost use Rattle.core_state.specs.Sound.{empty_core};
+ghost use Rattle.core_state.specs.Submitting.{next_ready, seat_at};
+ghost use Rattle.event_core.specs.Chosen.{AreIdle};
+ghost use Rattle.event_core.specs.Replies.{first_open};
+ghost use Rattle.event_core.specs.Seen.{state_of};
+ghost use Rattle.script_run.specs.Answer.{CountsHalt};
+ghost use Rattle.script_run.specs.Front.{IsRun, PlaysOn};
+ghost use Rattle.script_run.specs.Played.{Leads};
+ghost use Rattle.script_run.specs.Run.{is_refusal};
+
+use crate::halt::Halt;
+use crate::reply::{is_refusal, text_of};
+use crate::waiting::is_wait;
+use core_driver::finish_all;
+use core_state::{
+    Event, RunSettings, a_reply_that_may_be_taken_is_right, later_steps_change_no_answer,
+};
+use event_core::{Core, StepFault, every_core_is_sound, taken_events_are_steps};
+use pipeline_manager::Life;
+use reply_text::Reply;
+use script_reader::Statement;
+use star_io::{Sink, write_all};
+use star_statement::replies_agree_with_the_tables;
+use star_values::NoMemory;
+use std::alloc::Global;
+use std::thread::Threads;
+
+/// A core, and how many of its queries are unfinished.
+#[derive(Debug, Drop)]
+pub(crate) struct Front {
+    alloc: Global,
+    pub(crate) core: Core,
+    settings: RunSettings,
+
+    /// How many statements the core has.
+    submitted: u64,
+
+    /// How many queries the core accepted since all were last let come to their end.
+    unfinished: u32,
+}
+
+impl Front {
+    /// A core of these settings, to which nothing was given.
+    pub(crate) fn new(alloc: Global, settings: RunSettings) -> Result<Front, NoMemory>
+        requires { AreWithin settings }
+        ensures core { IfOk result (λ front. state_of front.core ≡ empty_core front.settings) }
+        ensures settings { IfOk result (λ front. front.settings ≡ settings) }
+    {
+        let core = Core::new(alloc, settings)?;
+        Ok(Front {
+            alloc,
+            core,
+            settings,
+            submitted: 0,
+            unfinished: 0,
+        })
+    }
+
+    /// Gives a statement to the core, and writes the replies that are there. At a `wait`, as soon as as many queries are
+    /// unfinished as there are slots, and before the reply to a statement for which no memory was left, all queries come to
+    /// their end first. Tells whether one of the replies is a refusal.
+    pub(crate) fn play<R: Threads + Sync, K: Sink>(
+        &mut self,
+        rt: &R,
+        statement: Statement,
+        sink: &mut K,
+    ) -> Result<bool, Halt>
+        requires idle { AreIdle (state_of self.old.core) }
+        ensures plays { PlaysOn result (state_of self.old.core) (statement ∷ []) (state_of self.new.core)
+            (K.taken sink.old) (K.taken sink.new) }
+        ensures run { IsRun (state_of self.old.core) (state_of self.new.core) }
+        ensures idle { OnOk result (AreIdle (state_of self.new.core)) }
+        ensures faults { CountsHalt result (K.write_faults sink.old) (K.write_faults sink.new) (K.write_failed sink.new) }
+    {
+        let waits = self.unfinished > 0 && is_wait(self.alloc, &statement)?;
+        let Ok(()) = submit(&mut self.core, statement) else {
+            return self.lose(rt, sink);
+        };
+        self.count();
+        if waits || self.unfinished >= self.settings.slots {
+            self.play_out(rt, sink)
+        } else {
+            write_ready(self.alloc, &mut self.core, sink)
+        }
+    }
+
+    /// Counts the statement that was submitted last: it may be a query.
+    fn count(&mut self)
+        ensures core { self.new.core ≡ self.old.core }
+        ensures settings { self.new.settings ≡ self.old.settings }
+    {
+        self.submitted = self.submitted.saturating_add(1);
+        if self.core.life(self.submitted) == Some(Life::Waiting) {
+            self.unfinished = self.unfinished.saturating_add(1);
+        }
+    }
+
+    /// A statement for which no memory was left: the replies before its own are written, and its own is `memory`.
+    fn lose<R: Threads + Sync, K: Sink>(&mut self, rt: &R, sink: &mut K) -> Result<bool, Halt>
+        requires idle { AreIdle (state_of self.old.core) }
+        ensures plays { (statement : Statement) → PlaysOn result (state_of self.old.core) (statement ∷ []) (state_of self.new.core)
+            (K.taken sink.old) (K.taken sink.new) }
+        ensures run { IsRun (state_of self.old.core) (state_of self.new.core) }
+        ensures idle { OnOk result (AreIdle (state_of self.new.core)) }
+        ensures faults { CountsHalt result (K.write_faults sink.old) (K.write_faults sink.new) (K.write_failed sink.new) }
+    {
+        self.play_out(rt, sink)?;
+        write_reply(self.alloc, &Reply::Memory, sink)
+    }
+
+    /// Lets every query come to its end, and writes all replies that the front waits for.
+    pub(crate) fn play_out<R: Threads + Sync, K: Sink>(
+        &mut self,
+        rt: &R,
+        sink: &mut K,
+    ) -> Result<bool, Halt>
+        requires idle { AreIdle (state_of self.old.core) }
+        ensures plays { PlaysOn result (state_of self.old.core) [] (state_of self.new.core) (K.taken sink.old) (K.taken sink.new) }
+        ensures all { OnOk result ((seat_at (state_of self.new.core) 0).pending ≡ []) }
+        ensures run { IsRun (state_of self.old.core) (state_of self.new.core) }
+        ensures idle { OnOk result (AreIdle (state_of self.new.core)) }
+        ensures faults { CountsHalt result (K.write_faults sink.old) (K.write_faults sink.new) (K.write_failed sink.new) }
+    {
+        finish(rt, &mut self.core)?;
+        self.unfinished = 0;
+        write_ready(self.alloc, &mut self.core, sink)
+    }
+}
+
+/// Gives a statement to a core as that of the front. Where no memory was left for it, nothing has changed.
+fn submit(core: &mut Core, statement: Statement) -> Result<(), StepFault>
+    ensures leads { OnOk result (Leads (state_of core.old) (statement ∷ []) (state_of core.new) []) }
+    ensures run { OnOk result (IsRun (state_of core.old) (state_of core.new)) }
+    ensures idle { AreIdle (state_of core.old) → AreIdle (state_of core.new) }
+    ensures err { OnErr result (core.new ≡ core.old) }
+{
+    replies_agree_with_the_tables();
+    later_steps_change_no_answer();
+    every_core_is_sound(core);
+    core.step(Event::Submit { seat: 0, statement })
+}
+
+/// Lets every query come to its end, if the front waits for one that is unfinished.
+fn finish<R: Threads + Sync>(rt: &R, core: &mut Core) -> Result<(), NoMemory>
+    requires idle { AreIdle (state_of core.old) }
+    ensures leads { Leads (state_of core.old) [] (state_of core.new) [] }
+    ensures closed { OnOk result (first_open (state_of core.new).lives (seat_at (state_of core.new) 0) ≡ None) }
+    ensures waits { OnErr result ((seat_at (state_of core.old) 0).pending ≢ []) }
+    ensures run { IsRun (state_of core.old) (state_of core.new) }
+    ensures idle { OnOk result (AreIdle (state_of core.new)) }
+{
+    taken_events_are_steps();
+    if core.first_pending(0).is_some() {
+        finish_all(rt, core)?;
+    }
+    Ok(())
+}
+
+/// Writes the replies that may be taken, in their order, and tells whether one of them is a refusal.
+fn write_ready<K: Sink>(alloc: Global, core: &mut Core, sink: &mut K) -> Result<bool, Halt>
+    ensures plays { PlaysOn result (state_of core.old) [] (state_of core.new) (K.taken sink.old) (K.taken sink.new) }
+    ensures none { OnOk result (next_ready (state_of core.new) 0 ≡ None) }
+    ensures all { OnOk result (first_open (state_of core.old).lives (seat_at (state_of core.old) 0) ≡ None →
+        (seat_at (state_of core.new) 0).pending ≡ []) }
+    ensures run { IsRun (state_of core.old) (state_of core.new) }
+    ensures idle { AreIdle (state_of core.old) → AreIdle (state_of core.new) }
+    ensures faults { CountsHalt result (K.write_faults sink.old) (K.write_faults sink.new) (K.write_failed sink.new) }
+{
+    a_reply_that_may_be_taken_is_right();
+    let mut refused = false;
+    'replies: while let Some(ready) = core.take_reply(0) {
+        refused |= write_reply(alloc, &ready.into_reply(), sink)?;
+    }
+    Ok(refused)
+}
+
+/// Writes a reply, and tells whether it is a refusal. Where that halts, not all of it was written.
+fn write_reply<K: Sink>(alloc: Global, reply: &Reply, sink: &mut K) -> Result<bool, Halt>
+    ensures refused { IfOk result (λ refused. refused ≡ is_refusal reply.now) }
+    ensures ok { OnOk result (Appends (K.taken sink.old) (K.taken sink.new) (text_of reply.now)) }
+    ensures err { OnErr result (AppendsFront (K.taken sink.old) (K.taken sink.new) (text_of reply.now)) }
+    ensures faults { CountsHalt result (K.write_faults sink.old) (K.write_faults sink.new) (K.write_failed sink.new) }
+{
+    let text = text_of(alloc, reply)?;
+    write_all(sink, text.as_bytes())?;
+    Ok(is_refusal(reply))
+}

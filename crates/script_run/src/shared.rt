@@ -1,0 +1,169 @@
+//! A run of a script whose queries share the scan of one core.
+ghost use Rattle.std.specs.Prelude.{◌≡◌, ◌↔◌, [], IfSome, IsNone, OnOk};
+ghost use Rattle.core_state.specs.Settings.{AreWithin};
+ghost use Rattle.core_state.specs.Sound.{empty_core};
+ghost use Rattle.core_state.specs.Submitting.{seat_at};
+ghost use Rattle.event_core.specs.Seen.{state_of};
+ghost use Rattle.script_reader.specs.Reading.{StaysFed};
+ghost use Rattle.star_io.specs.declared.run_end.RunEnd.TheVariants as end;
+ghost use Rattle.event_core.specs.Chosen.{AreIdle};
+ghost use Rattle.script_run.specs.Answer.{CountsHalt};
+ghost use Rattle.script_run.specs.End.{end_behind};
+ghost use Rattle.script_run.specs.Front.{IsRun, PlaysWhole};
+ghost use Rattle.script_run.specs.Run.{AnswersScript, CountsFaults};
+
+use crate::front::Front;
+use crate::halt::Halt;
+use crate::piece::{Piece, read_piece};
+use crate::run::{PIECE_BYTES, end_of_all, end_of_halt};
+use core_state::RunSettings;
+use event_core::Core;
+use script_reader::{Next, ScriptReader};
+use star_io::{RunEnd, Sink, Source};
+use star_statement::{replies_agree_with_the_tables, replies_follow_from_the_tables};
+use star_values::NoMemory;
+use std::alloc::Global;
+use std::thread::Threads;
+
+/// How a run ended, and the core that ran the script. There is none where no memory was left for the run.
+#[derive(Debug, Drop)]
+pub struct RunDone {
+    pub end: RunEnd,
+    pub core: Option<Core>,
+}
+
+/// Reads a script to its end, and writes the reply to each of its statements, in order. The queries go through one core,
+/// those that are unfinished together in one lap: all come to their end at a `wait`, at the end of the input, a read fault or
+/// the script limit, before the reply to a statement for which the core found no memory, and as soon as as many are
+/// unfinished as there are slots. A statement for which the core found no memory replies `memory`, and so does a query that
+/// found none.
+///
+/// At a read that fails, and at the byte past the limit, the statements that are whole before it are answered. After a write
+/// that fails nothing more is written or read.
+pub fn run_script<R: Threads + Sync, S: Source, K: Sink>(
+    rt: &R,
+    alloc: Global,
+    settings: RunSettings,
+    source: &mut S,
+    sink: &mut K,
+) -> RunDone
+    requires { AreWithin settings }
+    ensures answers { AnswersScript result.end (S.ended source.old) (S.ended source.new)
+        (S.read_faults source.old) (S.read_faults source.new)
+        (S.left source.old) (S.left source.new) (K.taken sink.old) (K.taken sink.new) }
+    ensures faults { CountsFaults result.end
+        (S.read_faults source.old) (S.read_faults source.new) (S.read_failed source.new)
+        (K.write_faults sink.old) (K.write_faults sink.new) (K.write_failed sink.new) }
+    ensures core { IsNone result.core ↔ (result.end ≡ end.NoMemory) }
+    ensures run { IfSome result.core (λ core. IsRun (empty_core settings) (state_of core)) }
+{
+    let Ok(mut front) = Front::new(alloc, settings) else {
+        return RunDone {
+            end: RunEnd::NoMemory,
+            core: None,
+        };
+    };
+    let end = play_script(rt, alloc, &mut front, source, sink);
+    let core = match end {
+        RunEnd::NoMemory => None,
+        _ => Some(front.core),
+    };
+    RunDone { end, core }
+}
+
+/// Reads a script to its end, and gives its statements to an empty core.
+fn play_script<R: Threads + Sync, S: Source, K: Sink>(
+    rt: &R,
+    alloc: Global,
+    front: &mut Front,
+    source: &mut S,
+    sink: &mut K,
+) -> RunEnd
+    requires empty { state_of front.old.core ≡ empty_core front.old.settings }
+    ensures answers { AnswersScript result (S.ended source.old) (S.ended source.new)
+        (S.read_faults source.old) (S.read_faults source.new)
+        (S.left source.old) (S.left source.new) (K.taken sink.old) (K.taken sink.new) }
+    ensures faults { CountsFaults result
+        (S.read_faults source.old) (S.read_faults source.new) (S.read_failed source.new)
+        (K.write_faults sink.old) (K.write_faults sink.new) (K.write_failed sink.new) }
+    ensures run { IsRun (state_of front.old.core) (state_of front.new.core) }
+{
+    replies_agree_with_the_tables();
+    replies_follow_from_the_tables();
+    let mut piece = [0u8; PIECE_BYTES];
+    let mut reader = ScriptReader::new(alloc);
+    let mut refused = false;
+    'pieces: loop {
+        match play_whole(rt, front, &mut reader, sink) {
+            Ok(some) => refused |= some,
+            Err(halt) => return end_of_halt(halt),
+        }
+        match read_piece(source, &mut piece, &mut reader) {
+            Piece::Fed => {}
+            Piece::Ended => break 'pieces,
+            Piece::Fault => return end_behind(front.play_out(rt, sink), RunEnd::ReadFault),
+            Piece::Limit => return end_behind(front.play_out(rt, sink), RunEnd::ScriptLimit),
+            Piece::NoMemory => return RunEnd::NoMemory,
+        }
+    }
+    reader.finish();
+    match play_rest(rt, front, &mut reader, sink) {
+        Ok(some) => end_of_all(refused | some),
+        Err(halt) => end_of_halt(halt),
+    }
+}
+
+/// Gives the statements that are whole to the core, one after the other, and tells whether some reply that was written
+/// meanwhile is a refusal.
+fn play_whole<R: Threads + Sync, K: Sink>(
+    rt: &R,
+    front: &mut Front,
+    reader: &mut ScriptReader,
+    sink: &mut K,
+) -> Result<bool, Halt>
+    requires idle { AreIdle (state_of front.old.core) }
+    ensures plays { PlaysWhole result (state_of front.old.core) reader.old (state_of front.new.core) reader.new
+        (K.taken sink.old) (K.taken sink.new) }
+    ensures stays { StaysFed reader.old reader.new }
+    ensures run { IsRun (state_of front.old.core) (state_of front.new.core) }
+    ensures idle { OnOk result (AreIdle (state_of front.new.core)) }
+    ensures faults { CountsHalt result (K.write_faults sink.old) (K.write_faults sink.new) (K.write_failed sink.new) }
+{
+    let mut refused = false;
+    'statements: loop {
+        let Next::Got(statement) = reader.next_statement()? else {
+            return Ok(refused);
+        };
+        refused |= front.play(rt, statement, sink)?;
+    }
+}
+
+/// Gives the last statements to the core, lets all queries come to their end, and writes all replies.
+fn play_rest<R: Threads + Sync, K: Sink>(
+    rt: &R,
+    front: &mut Front,
+    reader: &mut ScriptReader,
+    sink: &mut K,
+) -> Result<bool, Halt>
+    requires idle { AreIdle (state_of front.old.core) }
+    ensures plays { PlaysWhole result (state_of front.old.core) reader.old (state_of front.new.core) reader.new
+        (K.taken sink.old) (K.taken sink.new) }
+    ensures all { OnOk result ((seat_at (state_of front.new.core) 0).pending ≡ []) }
+    ensures stays { StaysFed reader.old reader.new }
+    ensures run { IsRun (state_of front.old.core) (state_of front.new.core) }
+    ensures faults { CountsHalt result (K.write_faults sink.old) (K.write_faults sink.new) (K.write_failed sink.new) }
+{
+    let refused = play_whole(rt, front, reader, sink)?;
+    let others = front.play_out(rt, sink)?;
+    Ok(refused | others)
+}
+
+/// How a run ends whose reading ended so, once its replies were written or halted.
+fn end_behind(written: Result<bool, Halt>, reading: RunEnd) -> RunEnd
+    ensures { result ≡ end_behind written reading }
+{
+    match written {
+        Ok(_) => reading,
+        Err(halt) => end_of_halt(halt),
+    }
+}
