@@ -29,8 +29,19 @@ fn run<R: AllocGlobal + Threads + Sync>(rt: &R, script: &[u8]) -> Result<(u8, St
     let alloc = rt.alloc();
     let mut source = source(alloc, script, 4096, &[])?;
     let mut sink = ListSink::new(alloc, 1 << 16, Vec::new(alloc));
-    let status = cjoin(rt, alloc, &[], &mut source, &mut sink).status;
-    Ok((status, text(alloc, sink.bytes())?))
+    let ended = status(rt, alloc, &[], &mut source, &mut sink);
+    Ok((ended, text(alloc, sink.bytes())?))
+}
+
+/// The status of a run, whose core is dropped.
+fn status<R: Threads + Sync>(
+    rt: &R,
+    alloc: Global,
+    words: &[String],
+    source: &mut PieceSource,
+    sink: &mut ListSink,
+) -> u8 {
+    cjoin(rt, alloc, words, source, sink).status
 }
 
 fn source(
@@ -56,9 +67,9 @@ fn a_refusal_has_a_status(rt: HostRuntime) -> Result<(), Fail> {
         (b"wait;;\nwait", "refused 1 syntax at 5\nwaited\n", 1),
     ];
     for (script, replies, wanted) in cases {
-        let (status, written) = run(&rt, script)?;
+        let (ended, written) = run(&rt, script)?;
         assert_eq!(rt; written.as_str(), replies, "at {script:?}");
-        assert_eq!(rt; status, wanted, "at {script:?}");
+        assert_eq!(rt; ended, wanted, "at {script:?}");
     }
     Ok(())
 }
@@ -69,13 +80,13 @@ fn a_read_fault_leaves_the_statements_before_it(rt: HostRuntime) -> Result<(), F
     // The first dot line ends at byte 121, and the call behind it fails.
     let mut source = source(alloc, BASE.as_bytes(), 121, &[1])?;
     let mut sink = ListSink::new(alloc, 1 << 16, Vec::new(alloc));
-    let status = cjoin(&rt, alloc, &[], &mut source, &mut sink).status;
+    let ended = status(&rt, alloc, &[], &mut source, &mut sink);
     let written = text(alloc, sink.bytes())?;
     assert_eq!(rt;
         written.as_str(),
         "table store\ntable sales\ncommit 1 rows 2\n"
     );
-    assert_eq!(rt; status, 3);
+    assert_eq!(rt; ended, 3);
     Ok(())
 }
 
@@ -84,10 +95,10 @@ fn a_write_fault_leaves_a_front_of_the_replies(rt: HostRuntime) -> Result<(), Fa
     let alloc = rt.alloc();
     let mut source = source(alloc, BASE.as_bytes(), 4096, &[])?;
     let mut sink = ListSink::new(alloc, 8, [1].to_vec(alloc)?);
-    let status = cjoin(&rt, alloc, &[], &mut source, &mut sink).status;
+    let ended = status(&rt, alloc, &[], &mut source, &mut sink);
     let written = text(alloc, sink.bytes())?;
     assert_eq!(rt; written.as_str(), "table st");
-    assert_eq!(rt; status, 4);
+    assert_eq!(rt; ended, 4);
     Ok(())
 }
 
@@ -111,8 +122,8 @@ fn words_that_name_no_settings_touch_nothing(rt: HostRuntime) -> Result<(), Fail
         }
         let mut source = source(alloc, BASE.as_bytes(), 4096, &[])?;
         let mut sink = ListSink::new(alloc, 1 << 16, Vec::new(alloc));
-        let status = cjoin(&rt, alloc, &all, &mut source, &mut sink).status;
-        assert_eq!(rt; status, wanted, "at {words:?}");
+        let ended = status(&rt, alloc, &all, &mut source, &mut sink);
+        assert_eq!(rt; ended, wanted, "at {words:?}");
         let written = text(alloc, sink.bytes())?;
         let replies = if wanted == 0 { BASE_REPLIES } else { "" };
         assert_eq!(rt; written.as_str(), replies, "at {words:?}");
@@ -127,8 +138,8 @@ fn the_byte_past_the_limit_is_told(rt: HostRuntime) -> Result<(), Fail> {
         let feeds = vec![in alloc; b'\n'; len]?;
         let mut source = PieceSource::new(feeds, 1 << 16, Vec::new(alloc));
         let mut sink = ListSink::new(alloc, 8, Vec::new(alloc));
-        let status = cjoin(&rt, alloc, &[], &mut source, &mut sink).status;
-        assert_eq!(rt; status, wanted, "at {len} line feeds");
+        let ended = status(&rt, alloc, &[], &mut source, &mut sink);
+        assert_eq!(rt; ended, wanted, "at {len} line feeds");
         assert_eq!(rt; sink.bytes().len(), 0);
     }
     Ok(())
