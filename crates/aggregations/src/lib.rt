@@ -5,6 +5,7 @@ mod crossing;
 mod ending;
 mod flat_cell;
 mod groups;
+mod guesses;
 mod keys;
 mod laws;
 mod ordered;
