@@ -4,11 +4,12 @@ use Rattle.std.proofs.lemmas.Grind.{flat_map-append}
 use Rattle.std.proofs.lemmas.List.{length-drop, map-append}
 use Rattle.std.proofs.lemmas.List.Folds.{list_any-append}
 use Rattle.script_reader.specs.declared.statement.Statement.{Statement}
+use Rattle.star_history.specs.History.{Change}
 use Rattle.star_history.specs.Store.{Store}
 use Rattle.reply_text.specs.Text.{text_of, text_of_all}
 use Rattle.core_state.specs.State.{Pending, State}
 use Rattle.core_state.specs.Submitting.{seat_at}
-use Rattle.core_state.specs.Tables.{tables_of}
+use Rattle.core_state.specs.Tables.{changes_of, tables_of}
 use Rattle.script_run.specs.Front.{HaltsPlay, PlaysOn, refused_of_played, text_of_played}
 use Rattle.script_run.specs.Played.{ComeTo, Leads, MayPlay, Played, Plays}
 use Rattle.script_run.specs.Run.{is_refusal}
@@ -49,15 +50,15 @@ due-some store (first ∷ pending) [] more some come = absurd come
 due-some store (first ∷ pending) (one ∷ due) more some come = first-some one (due ++ more)
 
 -- the text of the replies to a statement and to others, behind those that are due
-plays-some-text : (store : Store) (statement : Statement) (statements : List Statement) (due played : List Played) (after : Store)
-    → Plays store (statement ∷ statements) played after → 0 < length (text_of_played (due ++ played))
-plays-some-text store statement statements (one ∷ due) played after plays = first-some one (due ++ played)
-plays-some-text store statement statements [] [] after plays = absurd plays
-plays-some-text store statement statements [] (one ∷ played) after plays = first-some one played
+plays-some-text : (history : List Change) (statement : Statement) (statements : List Statement) (due played : List Played) (after : List Change)
+    → Plays history (statement ∷ statements) played after → 0 < length (text_of_played (due ++ played))
+plays-some-text history statement statements (one ∷ due) played after plays = first-some one (due ++ played)
+plays-some-text history statement statements [] [] after plays = absurd plays
+plays-some-text history statement statements [] (one ∷ played) after plays = first-some one played
 
 -- nothing was written, and some reply may come to what is given to a core
 halts-some : (state : State) (statements : List Statement)
-    → ((rest : List Statement) (played : List Played) (after : Store) → MayPlay state (statements ++ rest) played after → 0 < length (text_of_played played))
+    → ((rest : List Statement) (played : List Played) (after : List Change) → MayPlay state (statements ++ rest) played after → 0 < length (text_of_played played))
     → HaltsPlay state statements []
 halts-some state statements some rest =
     let may = may-play-some state (statements ++ rest) in
@@ -73,7 +74,7 @@ halts-due state statements waits = halts-some state statements
 pub halts-first : (state : State) (statement : Statement) (statements : List Statement) → HaltsPlay state (statement ∷ statements) []
 halts-first state statement statements = halts-some state (statement ∷ statements)
     (λ rest played after may. subst (λ ps. 0 < length (text_of_played ps)) (sym may.all)
-    (plays-some-text (tables_of state) statement (statements ++ rest) may.due may.rest after may.plays))
+    (plays-some-text (changes_of state.entries) statement (statements ++ rest) may.due may.rest after may.plays))
 
 -- a proper front of a reply was written
 pub halts-within : (old new : State) (statements : List Statement) (one : Played) (n : ℕ) → n < length (text_of one.reply)

@@ -1,5 +1,5 @@
 -- Whether the front waits for a query that may still be answered, and how much it waits for.
-use Rattle.std.proofs.Common.{◌≡◌, ℕ, ◌<◌, Bool, true, false, eqb, cond, List, [], ◌∷◌, length, drop, Option, Some, None, option_map, slice_get, refl, sym, ap, ◌∙◌, arith}
+use Rattle.std.proofs.Common.{◌≡◌, ℕ, Bool, true, false, eqb, cond, List, [], ◌∷◌, drop, Option, Some, None, option_map, slice_get, refl, sym, ap, ◌∙◌}
 use Rattle.std.specs.Prelude.{All, IsSome, find}
 use Rattle.std.specs.Option.{option_and_then, option_map_or}
 use Rattle.std.proofs.lemmas.List.Elements.{All-head, All-tail}
@@ -76,15 +76,6 @@ taken-behind old new ready same =
             ∙ ap (λ (seat : Seat). seat.pending) (taken-seat 0 old (seat-waits old 0 waits.0 waits.1)) ∙ ap (drop 1) split.1;
       },
     )
-
--- the front waits for one statement less
-pub taken-fewer : (old new : State) → IsSome (next_ready old 0) → new ≡ after_taking 0 old
-    → length (seat_at new 0).pending < length (seat_at old 0).pending
-taken-fewer old new ready same =
-    let behind = taken-behind old new ready same in
-    let before = ap length behind.2.before in
-    let now = ap length behind.2.now in
-    omega arith
 
 -- the first query that may still be answered, of those that are waited for
 abbrev first_in : Lives → List Pending → Option ℕ

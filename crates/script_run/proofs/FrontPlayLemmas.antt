@@ -1,6 +1,6 @@
 -- A statement that the front gives to a core, or for which no memory was left, and the replies that are written then.
-use Rattle.std.proofs.Common.{◌≡◌, ◌≢◌, ℕ, Bool, true, false, ◌||◌, List, [], ◌∷◌, ◌++◌, take, Option, Result, Ok, Err, refl, sym, ◌∙◌, subst, ⊎_elim}
-use Rattle.std.specs.Prelude.{IfOk, OnErr, OnOk}
+use Rattle.std.proofs.Common.{◌≡◌, ◌≢◌, ℕ, ◌<◌, ◌≤◌, inl, inr, Bool, true, false, ◌||◌, List, [], ◌∷◌, ◌++◌, take, Option, Result, Ok, Err, refl, sym, ◌∙◌, subst, ⊎_elim}
+use Rattle.std.specs.Prelude.{◌⊎◌, IfOk, IsTrue, OnErr, OnOk}
 use Rattle.std.specs.Io.KnownBytes.{Appends}
 use Rattle.std.proofs.KnownBytes.{Appends-nil, Appends-trans}
 use Rattle.star_io.specs.Transfer.{AppendsFront}
@@ -14,12 +14,16 @@ use Rattle.core_state.specs.Submitting.{after_submitting, seat_at}
 use Rattle.core_state.specs.declared.event.Event.TheVariants.{Submit}
 use Rattle.event_core.specs.Chosen.{AreIdle}
 use Rattle.event_core.specs.Took.{Took}
-use Rattle.script_run.specs.Front.{IsRun, PlaysOn, refused_of_played, text_of_played}
+use Rattle.script_run.specs.Front.{IsRun, PlaysIn, PlaysOn, refused_of_played, text_of_played}
+use Rattle.script_run.specs.Counted.{CountsOne, GoesRound, queries_awaited}
 use Rattle.script_run.specs.Played.{Leads, lost}
 use Rattle.script_run.specs.Run.{is_refusal}
+use Rattle.script_run.specs.Waiting.{is_wait}
 use Rattle.script_run.specs.declared.halt.Halt.{Halt}
 use Rattle.script_run.proofs.FrontHaltLemmas.{halts-behind, halts-due, halts-first, halts-within, refused-more, text-more}
 use Rattle.script_run.proofs.FrontRunLemmas.{idle-submitted, run-submitted}
+use Rattle.script_run.proofs.LapLemmas.{IsWorth, laps-lost, laps-quiet, laps-round, laps-then, waits-fill}
+use Rattle.script_run.proofs.LapSubmitLemmas.{counts-submitted}
 use Rattle.script_run.proofs.PlayedLeadLemmas.{leads-lost, leads-then}
 use Rattle.script_run.proofs.PlayedReplyLemmas.{EffectsAgree}
 use Rattle.script_run.proofs.PlayedSubmitLemmas.{NoAnswerChanges, leads-submitted}
@@ -29,7 +33,7 @@ pub plays-due : (halt : Halt) (old new : State) (taken : Option (List ℕ)) → 
 plays-due halt old new taken waits = ([], Appends-nil taken, halts-due old [] waits)
 
 -- nothing was written, and a statement is given
-pub plays-none : (halt : Halt) (statement : Statement) (old new : State) (taken : Option (List ℕ)) → PlaysOn (Err halt) old (statement ∷ []) new taken taken
+pub plays-none : (halt : Halt) (statement : Statement) (old new : State) (taken : Option (List ℕ)) → PlaysIn (Err halt) old (statement ∷ []) new taken taken
 plays-none halt statement old new taken = ([], Appends-nil taken, halts-first old statement [])
 
 -- a statement was submitted
@@ -37,6 +41,7 @@ pub record IsGiven (statement : Statement) (old new : State) : Type 0 where
   pub leads : Leads old (statement ∷ []) new []
   pub run : IsRun old new
   pub idle : AreIdle old → AreIdle new
+  pub counts : CountsOne statement old new
 
 -- so it is where the core took it
 pub took-given : EffectsAgree → NoAnswerChanges → (statement : Statement) (old new : State) → IsSound old → Took (Submit 0 statement) old new
@@ -48,6 +53,7 @@ took-given agree stays statement old new sound took =
       leads = subst (λ state. Leads old (statement ∷ []) state []) (sym is) (leads-submitted agree stays statement old sound took.enabled);
       run = run-submitted statement old new took.enabled is;
       idle = idle-submitted statement old new is;
+      counts = subst (CountsOne statement old) (sym is) (counts-submitted statement old sound took.enabled);
     }
 
 -- what comes of success and of failure comes of every result
@@ -55,25 +61,56 @@ pub by-result : {A E P Q : Type 0} (goal : Type 0) (result : Result A E) → (P 
 by-result goal (Ok x) done failed ok err = done ok
 by-result goal (Err e) done failed ok err = failed err
 
+-- what holds whatever the result is holds of a failure
+pub on-err : {A E Q : Type 0} (result : Result A E) → Q → OnErr result Q
+on-err (Ok x) is = tt
+on-err (Err e) is = is
+
 or_true : (a : Bool) → true ≡ (a || true)
 or_true true = refl
 or_true false = refl
 
 -- all was written that was waited for, and then `memory`, or not all of it
 pub plays-lost : (result : Result Bool Halt) (others : Bool) (statement : Statement) (old new : State) (before taken taken' : Option (List ℕ))
-    → PlaysOn (Ok others) old [] new before taken → (seat_at new 0).pending ≡ [] → IfOk result (λ refused. refused ≡ is_refusal Memory)
+    → 0 < old.settings.slots → GoesRound old new → PlaysOn (Ok others) old [] new before taken → (seat_at new 0).pending ≡ [] → IfOk result (λ refused. refused ≡ is_refusal Memory)
     → OnOk result (Appends taken taken' (text_of Memory)) → OnErr result (AppendsFront taken taken' (text_of Memory))
-    → PlaysOn result old (statement ∷ []) new before taken'
-plays-lost (Ok refused) others statement old new before taken taken' (played, took, on, told) idle is_refused wrote halted = (
+    → PlaysIn result old (statement ∷ []) new before taken'
+plays-lost (Ok refused) others statement old new before taken taken' some round (played, took, on, told) idle is_refused wrote halted = (
   played ++ lost ∷ [],
   subst (λ text. Appends before taken' text) (sym (text-more played lost))
       (Appends-trans before taken taken' (text_of_played played) (text_of Memory) took wrote),
   leads-then old new new [] (statement ∷ []) played (lost ∷ []) on (leads-lost new statement idle),
   is_refused ∙ or_true (refused_of_played played) ∙ sym (refused-more played lost),
+  laps-lost old new played some round,
 )
-plays-lost (Err halt) others statement old new before taken taken' (played, took, on, told) idle is_refused wrote halted = (
+plays-lost (Err halt) others statement old new before taken taken' some round (played, took, on, told) idle is_refused wrote halted = (
   text_of_played played ++ take halted.0 (text_of Memory),
   Appends-trans before taken taken' (text_of_played played) (take halted.0 (text_of Memory)) took halted.2,
   halts-behind old new [] (statement ∷ []) played (take halted.0 (text_of Memory)) on
       (halts-within new new (statement ∷ []) lost halted.0 halted.1 (leads-lost new statement idle)),
 )
+
+-- a statement was given, before any reply
+pub plays-quiet : (statement : Statement) (old new : State) (taken : Option (List ℕ)) → Leads old (statement ∷ []) new [] → CountsOne statement old new
+    → PlaysIn (Ok false) old (statement ∷ []) new taken taken
+plays-quiet statement old new taken leads counts = ([], Appends-nil taken, leads, refl, laps-quiet statement old new counts)
+
+-- a statement was given, and the queries came to their end, since it waits for some, none is open, or they are as many as there are slots
+pub plays-given : (result : Result Bool Halt) (statement : Statement) (old mid new : State) (taken taken' : Option (List ℕ)) → 0 < mid.settings.slots
+    → Leads old (statement ∷ []) mid [] → CountsOne statement old mid
+    → (IsTrue (is_wait statement) × (0 < queries_awaited old)) ⊎ ((queries_awaited mid ≡ 0) ⊎ (mid.settings.slots ≤ queries_awaited mid))
+    → PlaysOn result mid [] new taken taken' → OnOk result (GoesRound mid new) → OnOk result ((seat_at new 0).pending ≡ [])
+    → PlaysIn result old (statement ∷ []) new taken taken'
+plays-given (Ok refused) statement old mid new taken taken' some leads counts due (played, took, on, told) round idle = (
+  played,
+  took,
+  leads-then old mid new (statement ∷ []) [] [] played leads on,
+  told,
+  laps-then old mid new [] played (laps-quiet statement old mid counts) (laps-round mid new played some round on idle worth),
+)
+  where
+    worth : IsWorth mid.settings.slots mid played
+    worth = ⊎_elim (λ waits. inr (inr (waits-fill statement old mid new played some counts waits.0 waits.1 on idle)))
+        (⊎_elim (λ none. inl none) (λ many. inr (inl many))) due
+plays-given (Err halt) statement old mid new taken taken' some leads counts due (written, took, halts) round idle =
+    (written, took, halts-behind old mid (statement ∷ []) [] [] written leads halts)

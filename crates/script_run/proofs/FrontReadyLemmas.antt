@@ -1,5 +1,5 @@
 -- The replies that may be taken, written one after the other.
-use Rattle.std.proofs.Common.{◌≡◌, ◌<◌, ℕ, Bool, false, ◌||◌, List, [], ◌∷◌, ◌++◌, length, take, Option, Some, None, Ok, Err, slice_get, refl, sym, ap, ◌∙◌, subst}
+use Rattle.std.proofs.Common.{◌≡◌, ◌<◌, ℕ, Bool, false, ◌||◌, List, [], ◌∷◌, ◌++◌, length, take, Option, Some, None, Err, slice_get, refl, sym, ap, ◌∙◌, subst}
 use Rattle.std.specs.Prelude.{IfSome, IsSome}
 use Rattle.std.specs.Io.KnownBytes.{Appends}
 use Rattle.std.proofs.KnownBytes.{Appends-nil, Appends-trans}
@@ -13,6 +13,7 @@ use Rattle.core_state.specs.Submitting.{after_taking, next_ready, seat_at}
 use Rattle.event_core.specs.Replies.{IsReplyOf, first_open, ready_of}
 use Rattle.event_core.specs.declared.replies.Ready.{Ready}
 use Rattle.script_run.specs.Front.{IsRun, PlaysOn, refused_of_played, text_of_played}
+use Rattle.script_run.specs.Counted.{Beside}
 use Rattle.script_run.specs.Played.{Leads, Played}
 use Rattle.script_run.specs.Run.{is_refusal}
 use Rattle.script_run.specs.declared.halt.Halt.{Halt}
@@ -30,7 +31,7 @@ pub record IsWriting (old now : State) (refused : Bool) (before taken : Option (
   pub leads : Leads old [] now played
   pub told : refused ≡ refused_of_played played
   pub run : IsRun old now
-  pub scan : now.scan ≡ old.scan
+  pub beside : Beside old now
   pub closed : first_open old.lives (seat_at old 0) ≡ None → first_open now.lives (seat_at now 0) ≡ None
 
 -- a reply was taken, and this is the reply
@@ -50,6 +51,16 @@ pub takes-reply : (old new : State) (ready : Ready) (reply : Reply) → Some (re
     → IsReplyOf ready reply → TakesReply old new ready reply
 takes-reply old new ready reply may taken right is = record { may = may; taken = taken; right = right; is = is }
 
+-- a reply that is taken leaves all else
+pub beside-taken : (old now new : State) → new ≡ after_taking 0 now → Beside old now → Beside old new
+beside-taken old now new taken beside = record {
+  settings = ap (λ state. state.settings) taken ∙ beside.settings;
+  entries = ap (λ state. state.entries) taken ∙ beside.entries;
+  lives = ap (λ state. state.lives) taken ∙ beside.lives;
+  scan = ap (λ state. state.scan) taken ∙ beside.scan;
+  numbers = ap (λ state. state.numbers) taken ∙ beside.numbers;
+}
+
 -- nothing was taken yet
 pub starts-writing : (state : State) (taken : Option (List ℕ)) → IsWriting state state false taken taken
 starts-writing state taken = record {
@@ -58,7 +69,7 @@ starts-writing state taken = record {
   leads = leads-itself state;
   told = refl;
   run = run-itself state;
-  scan = refl;
+  beside = record { settings = refl; entries = refl; lives = refl; scan = refl; numbers = refl };
   closed = λ none. none;
 }
 
@@ -86,7 +97,7 @@ writes-more old now new refused told before taken taken' ready reply writing tak
           ∙ ap (λ test. refused_of_played writing.played || test) (is_told ∙ ap is_refusal (sym one.1))
           ∙ sym (refused-more writing.played one.0);
       run = run-then old now new writing.run (run-taken now new may takes.taken);
-      scan = ap (λ state. state.scan) takes.taken ∙ writing.scan;
+      beside = beside-taken old now new takes.taken writing.beside;
       closed = λ none. taken-closed now new may takes.taken (writing.closed none);
     }
 
@@ -102,11 +113,6 @@ halts-writing old now new refused before taken taken' ready reply halt writing t
           (subst (λ r. Appends taken taken' (take wrote.0 (text_of r))) (sym one.1) wrote.2),
       halts-behind old now [] [] writing.played (take wrote.0 (text_of one.0.reply)) writing.leads (halts-within now new [] one.0 wrote.0 short one.2),
     )
-
--- no reply is left that may be taken
-pub wrote-all : (old now : State) (refused : Bool) (before taken : Option (List ℕ)) → IsWriting old now refused before taken
-    → PlaysOn (Ok refused) old [] now before taken
-wrote-all old now refused before taken writing = (writing.played, writing.appended, writing.leads, writing.told)
 
 -- where no query that the front waited for could still be answered, it waits for nothing
 pub wrote-idle : WaitsForOpen → (old now new : State) (refused : Bool) (before taken : Option (List ℕ)) → IsWriting old now refused before taken

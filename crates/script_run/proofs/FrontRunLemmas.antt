@@ -114,7 +114,7 @@ scan-query statement (outcome.Replied reply) state = refl
 scan-query statement (outcome.Accepted query snapshot) state = refl
 
 -- a statement leaves the scan
-scan-submitted : (statement : Statement) (state : State) → (after_submitting 0 statement state).scan ≡ state.scan
+pub scan-submitted : (statement : Statement) (state : State) → (after_submitting 0 statement state).scan ≡ state.scan
 scan-submitted statement state =
     let found = outcome_of (tables_of state) statement in
     let number = state.numbers.statement + 1 in

@@ -2,6 +2,10 @@
 mod NextLemmas
 mod WholeLemmas
 mod RunLemmas
+pub mod ToldLivesLemmas
+pub mod ToldFollowLemmas
+pub mod ToldSubmitLemmas
+pub mod PlayedQuietLemmas
 pub mod PlayedReplyLemmas
 pub mod PlayedSomeLemmas
 pub mod PlayedLeadLemmas
@@ -9,6 +13,15 @@ pub mod PlayedSubmitLemmas
 pub mod PlayedTakenLemmas
 pub mod PlayedEventLemmas
 pub mod PlayedWholeLemmas
+mod LapRowLemmas
+mod LapEventLemmas
+mod LapLemmas
+mod LapSubmitLemmas
+pub mod ToldWantedLemmas
+pub mod ToldPlayLemmas
+pub mod ToldLemmas
+mod ToldScriptLemmas
+mod FrontCountLemmas
 mod FrontWaitingLemmas
 mod FrontRunLemmas
 mod FrontHaltLemmas

@@ -1,6 +1,6 @@
 -- One statement more: its reply comes first.
 use Rattle.std.proofs.Common.{◌≡◌, ◌≢◌, ℕ, suc, Bool, true, List, [], ◌∷◌, ◌++◌, refl, ap, ◌∙◌, append-nil}
-use Rattle.script_reader.specs.Reading.{MayCome, MeansTheSame, Reading, TakesFirst, Wants}
+use Rattle.script_reader.specs.Reading.{MayCome, Reading, TakesFirst, Wants}
 use Rattle.script_reader.specs.Script.{statements_of}
 use Rattle.script_reader.specs.declared.statement.Statement.{Statement}
 use Rattle.star_history.specs.Store.{Store}
@@ -39,8 +39,3 @@ pub reply_first : (store : Store) (old new : Reading) (statement : Statement) �
     ≡ (effect_of store statement).reply ∷ replies_left (store_after store statement) last (new.waiting ++ more)
 reply_first store old new statement first more last comes =
     ap (replies_at [] 0 store) (first more last comes) ∙ first_reply store statement (statements_of last (new.waiting ++ more))
-
--- what means the same has the same replies
-pub same_replies : (store : Store) (old new : Reading) → MeansTheSame old new → (more : List ℕ) (last : Bool) → MayCome old more last
-    → replies_left store last (new.waiting ++ more) ≡ replies_left store last (old.waiting ++ more)
-same_replies store old new same more last comes = ap (replies_at [] 0 store) (same more last comes)

@@ -1,37 +1,54 @@
--- Events by which no statement is submitted and no query abandoned leave the history and the seats, and so what may be played.
-use Rattle.std.proofs.Common.{◌≡◌, ℕ, List, [], ◌∷◌, get_or, map, refl, sym, ap, ◌∙◌, subst, ⊎_elim, append-nil}
+-- Events by which no statement is submitted and no query abandoned leave the history, the seats and what is asked, and so what may be played.
+use Rattle.std.proofs.Common.{◌≡◌, ℕ, ◌-◌, true, false, List, [], ◌∷◌, get_or, map, Some, refl, sym, ap, ◌∙◌, subst, ⊎_elim, append-nil}
 use Rattle.std.specs.Prelude.{All, find}
-use Rattle.std.proofs.lemmas.List.Elements.{All-head, All-tail, All-weaker}
+use Rattle.std.specs.Option.{option_map_or}
+use Rattle.std.proofs.lemmas.List.Elements.{All-head, All-nil, All-tail, All-weaker}
 use Rattle.reply_text.specs.declared.reply.Reply.{Reply}
-use Rattle.pipeline_manager.specs.Lives.{slot_of}
+use Rattle.continuous_scan.specs.Range.{first_of}
+use Rattle.pipeline_manager.specs.Changes.{started}
+use Rattle.pipeline_manager.specs.Lives.{extent_in, life_in, slot_of}
+use Rattle.pipeline_manager.specs.Sound.{AreRising}
+use Rattle.pipeline_manager.specs.declared.life.Life.TheVariants.{Answered, Building, Spoiled}
 use Rattle.core_state.specs.Admitting.{after_build, with_built}
-use Rattle.core_state.specs.Cutting.{after_distribute, after_give}
-use Rattle.core_state.specs.Events.{after_event, after_want}
+use Rattle.core_state.specs.Cutting.{after_distribute, after_give, end_in, fed, first_in, gets_rows, unkept}
+use Rattle.core_state.specs.Events.{IsEnabled, IsFed, after_event, after_want}
 use Rattle.core_state.specs.Found.{accepted_at, flight_at, is_held_by}
 use Rattle.core_state.specs.State.{Entry, Seat, State}
-use Rattle.core_state.specs.Submitting.{empty_seat}
-use Rattle.core_state.specs.Tables.{tables_by}
+use Rattle.core_state.specs.Submitting.{empty_seat, forgotten}
+use Rattle.core_state.specs.Tables.{changes_of, tables_by, tables_of, versions_in}
 use Rattle.core_state.specs.declared.event.Event.{Event}
 use Rattle.core_state.specs.declared.event.Event.TheVariants.{Submit, Reserve, Build, Start, Cut, Take, Give, Distribute, Finish, Clear, Release, Reorder, Abandon}
-use Rattle.core_state.proofs.WholeFrameLemmas.{by-option}
+use Rattle.core_state.proofs.AnewLemmas.{forgets}
+use Rattle.core_state.proofs.LandedLemmas.{feeds}
+use Rattle.core_state.proofs.WholeFrameLemmas.{by-option, unkeeps}
 use Rattle.event_core.specs.Replies.{IsReplyOf, ready_of}
 use Rattle.event_core.specs.Took.{IsLed, IsSpoilt, Took, TookAll}
 use Rattle.event_core.specs.declared.replies.Ready.{Ready}
 use Rattle.event_core.specs.declared.replies.Ready.TheVariants.{Whole, Grouped}
 use Rattle.core_driver.specs.Driven.{IsDriven}
-use Rattle.script_run.specs.Played.{ComeTo, IsTakenAs, Leads, LeavesSeats, Plays}
-use Rattle.script_run.proofs.PlayedLeadLemmas.{asked_in}
+use Rattle.script_run.specs.Played.{ComeTo, IsTakenAs, Leads, LeavesSeats, Plays, accepted_by, given_in, queries_among}
+use Rattle.script_run.proofs.ToldFollowLemmas.{asked-anew}
+use Rattle.script_run.proofs.ToldLivesLemmas.{LivesOn, lives-built, lives-cut, lives-ended, lives-reserved, lives-same, lives-spoiled}
+use Rattle.script_run.proofs.ToldLivesLemmas.{lives-then, lives-written, not-answered}
 
--- the history and the seats are as they were
+-- the history, the seats and what is asked are as they were, and who was answered is so
 record Same (old new : State) : Type 0 where
   entries : new.entries ≡ old.entries
   seats : new.seats ≡ old.seats
+  asked : map accepted_by new.accepted ≡ map accepted_by old.accepted
+  lives : AreRising old.lives.queries → LivesOn old.lives.queries new.lives.queries
 
 same-itself : (state : State) → Same state state
-same-itself state = record { entries = refl; seats = refl }
+same-itself state = record { entries = refl; seats = refl; asked = refl; lives = lives-same state.lives.queries }
 
 same-then : (old between new : State) → Same old between → Same between new → Same old new
-same-then old between new first second = record { entries = second.entries ∙ first.entries; seats = second.seats ∙ first.seats }
+same-then old between new first second = record {
+  entries = second.entries ∙ first.entries;
+  seats = second.seats ∙ first.seats;
+  asked = second.asked ∙ first.asked;
+  lives = λ rising. let on = first.lives rising in
+      lives-then old.lives.queries between.lives.queries new.lives.queries on (second.lives on.rising);
+}
 
 -- what may be played is the same, since it hangs on the history and the seats alone
 leads-same : (old new : State) → Same old new → Leads old [] new []
@@ -42,9 +59,18 @@ leads-same old new same = record {
     all = may.all;
     come = subst (λ (entries : List Entry). ComeTo (tables_by entries) (seat_in old.seats).pending may.due) same.entries
         (subst (λ (seats : List Seat). ComeTo (tables_by new.entries) (seat_in seats).pending may.due) same.seats may.come);
-    plays = subst (λ (entries : List Entry). Plays (tables_by entries) rest may.rest after) same.entries may.plays;
+    plays = subst (λ (entries : List Entry). Plays (changes_of entries) rest may.rest after) same.entries may.plays;
   };
-  taken = ap (λ (seats : List Seat). map (λ t. t.query) (seat_in seats).taken) same.seats ∙ sym (append-nil (asked_in old));
+  follows = λ listed. let on = same.lives listed.rising in record {
+    listed = record {
+      queries = same.asked ∙ listed.queries ∙ ap (λ (seats : List Seat). queries_among (given_in (seat_in seats))) (sym same.seats);
+      rising = on.rising;
+    };
+    stay = on.stay;
+    since = [];
+    taken = ap (λ (seats : List Seat). (seat_in seats).taken) same.seats ∙ sym (append-nil (seat_in old.seats).taken);
+    told = tt;
+  };
 }
   where
     seat_in : List Seat → Seat
@@ -55,54 +81,86 @@ same-built : (query dimension : ℕ) (state : State) → Same state (after_build
 same-built query dimension state =
     let built : Same state (with_built query dimension state) =
     by-option (Same state) (slot_of state.lives query) _ state (same-itself state)
-    (λ slot is. by-option (Same state) (accepted_at state.accepted query) _ state (same-itself state) (λ accepted found. record { entries = refl; seats = refl })) in
-    record { entries = built.entries; seats = built.seats }
+    (λ slot is. by-option (Same state) (accepted_at state.accepted query) _ state (same-itself state)
+    (λ accepted found. record { entries = refl; seats = refl; asked = refl; lives = lives-same state.lives.queries })) in
+    record { entries = built.entries; seats = built.seats; asked = built.asked; lives = lives-built query dimension state.lives }
 
 same-given : (worker : ℕ) (state : State) → Same state (after_give worker state)
 same-given worker state = by-option (Same state) (find (is_held_by worker) state.scan.flights) _ state (same-itself state)
-    (λ flight is. record { entries = refl; seats = refl })
+    (λ flight is. record { entries = refl; seats = refl; asked = refl; lives = lives-same state.lives.queries })
 
-same-distributed : (batch : ℕ) (spoiled : List ℕ) (state : State) → Same state (after_distribute batch spoiled state)
-same-distributed batch spoiled state = by-option (Same state) (flight_at state.scan.flights batch) _ state (same-itself state)
-    (λ flight is. record { entries = refl; seats = refl })
+-- who gets rows was not answered
+fed-never : (batch query : ℕ) (state : State) → IsFed batch query state → life_in state.lives.queries query ≡ Some Answered → ⊥
+fed-never batch query state is_fed was =
+    let both : false ≡ true = sym (ap (λ o. option_map_or gets_rows o false) was) ∙ is_fed.gets in cc
 
-same-done : (event : Event) (state : State) → LeavesSeats event → Same state (after_event event state)
+same-distributed : (batch : ℕ) (spoiled : List ℕ) (state : State) → All (λ query. IsFed batch query state) spoiled
+    → Same state (after_distribute batch spoiled state)
+same-distributed batch spoiled state each = by-option (Same state) (flight_at state.scan.flights batch) _ state (same-itself state)
+    (λ flight is. record {
+      entries = refl;
+      seats = refl;
+      asked = asked-anew (unkept spoiled) (unkeeps spoiled) (map (fed (tables_of state) state.lives flight.rows flight.roster) state.accepted)
+          ∙ asked-anew (fed (tables_of state) state.lives flight.rows flight.roster) (feeds state flight) state.accepted;
+      lives = lives-spoiled spoiled state.lives
+          (All-weaker (λ query. IsFed batch query state) (λ query. life_in state.lives.queries query ≡ Some Answered → ⊥)
+          (λ query is_fed. fed-never batch query state is_fed) spoiled each);
+    })
+
+same-done : (event : Event) (state : State) → LeavesSeats event → IsEnabled state event → Same state (after_event event state)
 unfolding after_event
-same-done (Submit seat statement) state leaves = absurd leaves
-same-done (Reserve query slot) state leaves = record { entries = refl; seats = refl }
-same-done (Build query dimension) state leaves = same-built query dimension state
-same-done (Start query) state leaves = record { entries = refl; seats = refl }
-same-done Cut state leaves = record { entries = refl; seats = refl }
-same-done (Take worker batch) state leaves = record { entries = refl; seats = refl }
-same-done (Give worker) state leaves = same-given worker state
-same-done (Distribute batch) state leaves = same-distributed batch [] state
-same-done (Finish slot) state leaves = record { entries = refl; seats = refl }
-same-done (Clear slot dimension) state leaves = record { entries = refl; seats = refl }
-same-done (Release slot) state leaves = record { entries = refl; seats = refl }
-same-done Reorder state leaves = record { entries = refl; seats = refl }
-same-done (Abandon query) state leaves = absurd leaves
+same-done (Submit seat statement) state leaves may = absurd leaves
+same-done (Reserve query slot) state leaves may =
+    record { entries = refl; seats = refl; asked = refl; lives = lives-reserved slot state.lives }
+same-done (Build query dimension) state leaves may = same-built query dimension state
+same-done (Start query) state leaves may = record {
+  entries = refl;
+  seats = refl;
+  asked = refl;
+  lives = lives-written query (started (first_of state.scan.position (versions_in state)) (extent_in state.lives.queries query)) state.lives.queries
+      (not-answered state.lives.queries query Building may.building (λ is. cc));
+}
+same-done Cut state leaves may =
+    record { entries = refl; seats = refl; asked = refl; lives = lives-cut (first_in state) (end_in state - 1) state.lives.queries }
+same-done (Take worker batch) state leaves may =
+    record { entries = refl; seats = refl; asked = refl; lives = lives-same state.lives.queries }
+same-done (Give worker) state leaves may = same-given worker state
+same-done (Distribute batch) state leaves may = same-distributed batch [] state (All-nil (λ query. IsFed batch query state))
+same-done (Finish slot) state leaves may = record { entries = refl; seats = refl; asked = refl; lives = lives-ended slot state.lives }
+same-done (Clear slot dimension) state leaves may =
+    record { entries = refl; seats = refl; asked = refl; lives = lives-same state.lives.queries }
+same-done (Release slot) state leaves may =
+    record { entries = refl; seats = refl; asked = refl; lives = lives-same state.lives.queries }
+same-done Reorder state leaves may =
+    record { entries = refl; seats = refl; asked = refl; lives = lives-same state.lives.queries }
+same-done (Abandon query) state leaves may = absurd leaves
 
 -- queries that find no memory
-same-spoilt : (event : Event) (old new : State) → IsSpoilt event old new → Same old new
+same-spoilt : (event : Event) (old new : State) → IsEnabled old event → IsSpoilt event old new → Same old new
 unfolding after_want
-same-spoilt (Submit seat statement) old new spoilt = absurd spoilt
-same-spoilt (Reserve query slot) old new spoilt = absurd spoilt
-same-spoilt (Build query dimension) old new spoilt = subst (Same old) (sym spoilt) (record { entries = refl; seats = refl })
-same-spoilt (Start query) old new spoilt = absurd spoilt
-same-spoilt Cut old new spoilt = absurd spoilt
-same-spoilt (Take worker batch) old new spoilt = absurd spoilt
-same-spoilt (Give worker) old new spoilt = absurd spoilt
-same-spoilt (Distribute batch) old new spoilt = subst (Same old) (sym spoilt.2) (same-distributed batch spoilt.0 old)
-same-spoilt (Finish slot) old new spoilt = absurd spoilt
-same-spoilt (Clear slot dimension) old new spoilt = absurd spoilt
-same-spoilt (Release slot) old new spoilt = absurd spoilt
-same-spoilt Reorder old new spoilt = absurd spoilt
-same-spoilt (Abandon query) old new spoilt = absurd spoilt
+same-spoilt (Submit seat statement) old new may spoilt = absurd spoilt
+same-spoilt (Reserve query slot) old new may spoilt = absurd spoilt
+same-spoilt (Build query dimension) old new may spoilt = subst (Same old) (sym spoilt) (record {
+  entries = refl;
+  seats = refl;
+  asked = asked-anew (forgotten query) (forgets query) old.accepted;
+  lives = lives-written query Spoiled old.lives.queries (not-answered old.lives.queries query Building may.building (λ is. cc));
+})
+same-spoilt (Start query) old new may spoilt = absurd spoilt
+same-spoilt Cut old new may spoilt = absurd spoilt
+same-spoilt (Take worker batch) old new may spoilt = absurd spoilt
+same-spoilt (Give worker) old new may spoilt = absurd spoilt
+same-spoilt (Distribute batch) old new may spoilt = subst (Same old) (sym spoilt.2) (same-distributed batch spoilt.0 old spoilt.1.each)
+same-spoilt (Finish slot) old new may spoilt = absurd spoilt
+same-spoilt (Clear slot dimension) old new may spoilt = absurd spoilt
+same-spoilt (Release slot) old new may spoilt = absurd spoilt
+same-spoilt Reorder old new may spoilt = absurd spoilt
+same-spoilt (Abandon query) old new may spoilt = absurd spoilt
 
 same-took : (event : Event) (old new : State) → LeavesSeats event → Took event old new → Same old new
 same-took event old new leaves took = ⊎_elim
-    (λ done. subst (Same old) (sym done) (same-done event old leaves))
-    (λ spoilt. same-spoilt event old new spoilt)
+    (λ done. subst (Same old) (sym done) (same-done event old leaves took.enabled))
+    (λ spoilt. same-spoilt event old new took.enabled spoilt)
     took.after
 
 same-all : (events : List Event) (old new : State) → All LeavesSeats events → TookAll events old new → Same old new

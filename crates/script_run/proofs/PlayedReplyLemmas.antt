@@ -6,29 +6,26 @@ use Rattle.std.proofs.lemmas.List.Elements.{All-cons, All-head, All-nil, All-tai
 use Rattle.script_reader.specs.declared.statement.Statement.{Statement}
 use Rattle.star_plan.specs.declared.answer.Answer.{Answer}
 use Rattle.star_plan.specs.declared.answer.Answer.TheVariants.{Rows, Overflow}
-use Rattle.star_history.specs.Alone.{alone}
-use Rattle.star_history.specs.Store.{Store, empty_store}
+use Rattle.star_history.specs.History.{Change, store_of}
+use Rattle.star_history.specs.Store.{Store}
 use Rattle.reply_text.specs.declared.reply.Reply.{Reply}
 use Rattle.reply_text.specs.declared.reply.Reply.TheVariants.{Memory}
 use Rattle.star_statement.specs.Effect.{answer_reply, effect_of, reply_to, store_after}
 use Rattle.star_statement.specs.Laws.{AgreesWith}
 use Rattle.star_statement.specs.Outcome.{Accepted, Replied, Told, outcome_of}
-use Rattle.star_statement.specs.Script.{is_wanted_at, replies_at, replies_of}
+use Rattle.star_statement.specs.Script.{history_after, is_wanted_at, replies_after, replies_of}
 use Rattle.core_state.specs.Submitting.{awaited_by}
 use Rattle.script_run.specs.Played.{ComesTo, Played, Plays}
+use Rattle.script_run.proofs.PlayedQuietLemmas.{history-asked}
 
 -- every effect agrees with the tables that it leaves
 abbrev pub EffectsAgree : Type 0
 EffectsAgree = (store : Store) (statement : Statement) → AgreesWith store (store_after store statement) (effect_of store statement).reply
 
--- the replies to a script are those over its tables
-abbrev pub ByTables : Type 0
-ByTables = (wanted : List ℕ) (statements : List Statement) → replies_of wanted statements ≡ replies_at wanted 0 empty_store statements
-
 -- these are the replies to statements from a place on, where memory was wanted at places that are not before it
-abbrev pub RepliesFrom : (place : ℕ) → Store → List Statement → List Reply → Type 0
-RepliesFrom place store statements replies =
-    (wanted : List ℕ) × All (λ p. place ≤ p) wanted × (replies ≡ replies_at wanted place store statements)
+abbrev pub RepliesFrom : (place : ℕ) → List Change → List Statement → List Reply → Type 0
+RepliesFrom place history statements replies =
+    (wanted : List ℕ) × All (λ p. place ≤ p) wanted × (replies ≡ replies_after wanted place history statements)
 
 -- replies by whether memory was wanted at the first place
 by_test : (test : Bool) (first : Reply) {left left' right right' : List Reply} → left ≡ left' → right ≡ right'
@@ -36,20 +33,28 @@ by_test : (test : Bool) (first : Reply) {left left' right right' : List Reply} �
 by_test true first e f = ap (λ replies. Memory ∷ replies) e
 by_test false first e f = ap (λ replies. first ∷ replies) f
 
+-- a place before is none where memory is wanted now
+pub past-wanted : (past : ℕ) (wanted : List ℕ) (place : ℕ) → past < place → is_wanted_at (past ∷ wanted) place ≡ is_wanted_at wanted place
+past-wanted past wanted place before = ap (λ t. t || is_wanted_at wanted place) (ne_eqb past place (λ same. omega arith))
+
+-- and the first place is one where it is
+pub first-wanted : (wanted : List ℕ) (place : ℕ) → is_wanted_at (place ∷ wanted) place ≡ true
+first-wanted wanted place = ap (λ t. t || is_wanted_at wanted place) (eq-eqb place place refl)
+
 -- a place before makes no difference
-past-place : (past : ℕ) (wanted : List ℕ) (place : ℕ) (store : Store) (statements : List Statement) → past < place
-    → replies_at (past ∷ wanted) place store statements ≡ replies_at wanted place store statements
-past-place past wanted place store [] before = refl
-past-place past wanted place store (statement ∷ statements) before =
-    ap (λ t. if (t || is_wanted_at wanted place) then Memory ∷ replies_at (past ∷ wanted) (suc place) store statements
-    else ((effect_of store statement).reply ∷ replies_at (past ∷ wanted) (suc place) (store_after store statement) statements))
-    (ne_eqb past place (λ same. omega arith))
-    ∙ by_test (is_wanted_at wanted place) (effect_of store statement).reply
-    (past-place past wanted (suc place) store statements (omega arith))
-    (past-place past wanted (suc place) (store_after store statement) statements (omega arith))
+pub past-place : (past : ℕ) (wanted : List ℕ) (place : ℕ) (history : List Change) (statements : List Statement) → past < place
+    → replies_after (past ∷ wanted) place history statements ≡ replies_after wanted place history statements
+past-place past wanted place history [] before = refl
+past-place past wanted place history (statement ∷ statements) before =
+    ap (λ t. if t then Memory ∷ replies_after (past ∷ wanted) (suc place) history statements
+    else ((effect_of (store_of history) statement).reply ∷ replies_after (past ∷ wanted) (suc place) (history_after history statement) statements))
+    (past-wanted past wanted place before)
+    ∙ by_test (is_wanted_at wanted place) (effect_of (store_of history) statement).reply
+    (past-place past wanted (suc place) history statements (omega arith))
+    (past-place past wanted (suc place) (history_after history statement) statements (omega arith))
 
 -- a place that is before all where memory was wanted is none of them
-not-wanted : (wanted : List ℕ) (place : ℕ) → All (λ p. suc place ≤ p) wanted → is_wanted_at wanted place ≡ false
+pub not-wanted : (wanted : List ℕ) (place : ℕ) → All (λ p. suc place ≤ p) wanted → is_wanted_at wanted place ≡ false
 not-wanted [] place behind = refl
 not-wanted (first ∷ wanted) place behind =
     let above : suc place ≤ first = All-head (λ p. suc place ≤ p) first wanted behind in
@@ -57,33 +62,45 @@ not-wanted (first ∷ wanted) place behind =
     ∙ not-wanted wanted place (All-tail (λ p. suc place ≤ p) first wanted behind)
 
 -- the places are not before an earlier one
-earlier : (place : ℕ) (wanted : List ℕ) → All (λ p. suc place ≤ p) wanted → All (λ p. place ≤ p) wanted
+pub earlier : (place : ℕ) (wanted : List ℕ) → All (λ p. suc place ≤ p) wanted → All (λ p. place ≤ p) wanted
 earlier place wanted = All-weaker (λ p. suc place ≤ p) (λ p. place ≤ p) (λ p low. omega arith) wanted
 
+-- nor is the place itself
+pub with-place : (place : ℕ) (wanted : List ℕ) → All (λ p. suc place ≤ p) wanted → All (λ p. place ≤ p) (place ∷ wanted)
+with-place place wanted behind = All-cons (λ p. place ≤ p) place wanted (omega arith) (earlier place wanted behind)
+
+-- the replies where the first statement has its effect
+pub replies-effect : (wanted : List ℕ) (place : ℕ) (history : List Change) (statement : Statement) (statements : List Statement) (replies : List Reply)
+    → All (λ p. suc place ≤ p) wanted → replies ≡ replies_after wanted (suc place) (history_after history statement) statements
+    → (effect_of (store_of history) statement).reply ∷ replies ≡ replies_after wanted place history (statement ∷ statements)
+replies-effect wanted place history statement statements replies behind are =
+    ap (λ rest. (effect_of (store_of history) statement).reply ∷ rest) are
+    ∙ sym (ap (λ t. if t then Memory ∷ replies_after wanted (suc place) history statements
+    else ((effect_of (store_of history) statement).reply ∷ replies_after wanted (suc place) (history_after history statement) statements))
+    (not-wanted wanted place behind))
+
+-- and where memory was wanted for it
+pub replies-wanted : (wanted : List ℕ) (place : ℕ) (history : List Change) (statement : Statement) (statements : List Statement) (replies : List Reply)
+    → replies ≡ replies_after wanted (suc place) history statements
+    → Memory ∷ replies ≡ replies_after (place ∷ wanted) place history (statement ∷ statements)
+replies-wanted wanted place history statement statements replies are =
+    ap (λ rest. Memory ∷ rest) (are ∙ sym (past-place place wanted (suc place) history statements (omega arith)))
+    ∙ sym (ap (λ t. if t then Memory ∷ replies_after (place ∷ wanted) (suc place) history statements
+    else ((effect_of (store_of history) statement).reply ∷ replies_after (place ∷ wanted) (suc place) (history_after history statement) statements))
+    (first-wanted wanted place))
+
 -- a statement that has its effect
-effect-first : (place : ℕ) (store : Store) (statement : Statement) (statements : List Statement) (replies : List Reply)
-    → RepliesFrom (suc place) (store_after store statement) statements replies
-    → RepliesFrom place store (statement ∷ statements) ((effect_of store statement).reply ∷ replies)
-effect-first place store statement statements replies (wanted, behind, are) = (
-  wanted,
-  earlier place wanted behind,
-  ap (λ rest. (effect_of store statement).reply ∷ rest) are
-      ∙ sym (ap (λ t. if t then Memory ∷ replies_at wanted (suc place) store statements
-      else ((effect_of store statement).reply ∷ replies_at wanted (suc place) (store_after store statement) statements))
-      (not-wanted wanted place behind)),
-)
+effect-first : (place : ℕ) (history : List Change) (statement : Statement) (statements : List Statement) (replies : List Reply)
+    → RepliesFrom (suc place) (history_after history statement) statements replies
+    → RepliesFrom place history (statement ∷ statements) ((effect_of (store_of history) statement).reply ∷ replies)
+effect-first place history statement statements replies (wanted, behind, are) =
+    (wanted, earlier place wanted behind, replies-effect wanted place history statement statements replies behind are)
 
 -- a statement for which memory was wanted
-wanted-first : (place : ℕ) (store : Store) (statement : Statement) (statements : List Statement) (replies : List Reply)
-    → RepliesFrom (suc place) store statements replies → RepliesFrom place store (statement ∷ statements) (Memory ∷ replies)
-wanted-first place store statement statements replies (wanted, behind, are) = (
-  place ∷ wanted,
-  All-cons (λ p. place ≤ p) place wanted (omega arith) (earlier place wanted behind),
-  ap (λ rest. Memory ∷ rest) (are ∙ sym (past-place place wanted (suc place) store statements (omega arith)))
-      ∙ sym (ap (λ t. if (t || is_wanted_at wanted place) then Memory ∷ replies_at (place ∷ wanted) (suc place) store statements
-      else ((effect_of store statement).reply ∷ replies_at (place ∷ wanted) (suc place) (store_after store statement) statements))
-      (eq-eqb place place refl)),
-)
+wanted-first : (place : ℕ) (history : List Change) (statement : Statement) (statements : List Statement) (replies : List Reply)
+    → RepliesFrom (suc place) history statements replies → RepliesFrom place history (statement ∷ statements) (Memory ∷ replies)
+wanted-first place history statement statements replies (wanted, behind, are) =
+    (place ∷ wanted, with-place place wanted behind, replies-wanted wanted place history statement statements replies are)
 
 -- an answer leaves the tables as they were
 pub asked-unchanged : (store after : Store) (snapshot : ℕ) (answer : Answer) → AgreesWith store after (answer_reply snapshot answer) → after ≡ store
@@ -91,45 +108,42 @@ asked-unchanged store after snapshot (Rows rows) agrees = agrees.1
 asked-unchanged store after snapshot Overflow agrees = agrees.1
 
 -- what is told of a statement comes to the reply of its effect, or memory was wanted and it changes nothing
-effect-comes : EffectsAgree → (store : Store) (statement : Statement) (one : Played)
-    → ComesTo store (awaited_by (outcome_of store statement).told) one
-    → (one.reply ≡ (effect_of store statement).reply) ⊎ ((one.reply ≡ Memory) × (store_after store statement ≡ store))
-effect-comes agree store statement one comes =
-    by_told (outcome_of store statement).told (store_after store statement) (agree store statement) comes
+effect-comes : (history : List Change) (statement : Statement) (one : Played)
+    → ComesTo (store_of history) (awaited_by (outcome_of (store_of history) statement).told) one
+    → (one.reply ≡ (effect_of (store_of history) statement).reply) ⊎ ((one.reply ≡ Memory) × (history_after history statement ≡ history))
+effect-comes history statement one comes = by_told (outcome_of (store_of history) statement).told refl comes
   where
-    by_told : (told : Told) (after : Store) → AgreesWith store after (reply_to store told) → ComesTo store (awaited_by told) one
-        → (one.reply ≡ reply_to store told) ⊎ ((one.reply ≡ Memory) × (after ≡ store))
-    by_told (Replied reply) after agrees comes = inl comes.1
-    by_told (Accepted query snapshot) after agrees comes = ⊎_elim (λ same. inl same)
-        (λ wants. inr (wants, asked-unchanged store after snapshot (alone store query snapshot) agrees)) comes.2
+    by_told : (told : Told) → (outcome_of (store_of history) statement).told ≡ told → ComesTo (store_of history) (awaited_by told) one
+        → (one.reply ≡ reply_to (store_of history) told) ⊎ ((one.reply ≡ Memory) × (history_after history statement ≡ history))
+    by_told (Replied reply) is comes = inl comes.1
+    by_told (Accepted query snapshot) is comes =
+        ⊎_elim (λ same. inl same) (λ wants. inr (wants, history-asked history statement query snapshot is)) comes.2
 
 -- the replies to statements that were played, from any place on
-pub plays-replies : EffectsAgree → (place : ℕ) (store : Store) (statements : List Statement) (played : List Played) (after : Store)
-    → Plays store statements played after → RepliesFrom place store statements (map (λ one. one.reply) played)
-plays-replies agree place store [] [] after plays = ([], All-nil (λ p. place ≤ p), refl)
-plays-replies agree place store [] (one ∷ played) after plays = absurd plays
-plays-replies agree place store (statement ∷ statements) [] after plays = absurd plays
-plays-replies agree place store (statement ∷ statements) (one ∷ played) after (inl came) =
-    by_effect (effect-comes agree store statement one came.0)
-    (plays-replies agree (suc place) (store_after store statement) statements played after came.1)
+pub plays-replies : (place : ℕ) (history : List Change) (statements : List Statement) (played : List Played) (after : List Change)
+    → Plays history statements played after → RepliesFrom place history statements (map (λ one. one.reply) played)
+plays-replies place history [] [] after plays = ([], All-nil (λ p. place ≤ p), refl)
+plays-replies place history [] (one ∷ played) after plays = absurd plays
+plays-replies place history (statement ∷ statements) [] after plays = absurd plays
+plays-replies place history (statement ∷ statements) (one ∷ played) after (inl came) =
+    by_effect (effect-comes history statement one came.0)
+    (plays-replies (suc place) (history_after history statement) statements played after came.1)
   where
-    by_effect : (one.reply ≡ (effect_of store statement).reply) ⊎ ((one.reply ≡ Memory) × (store_after store statement ≡ store))
-        → RepliesFrom (suc place) (store_after store statement) statements (map (λ one. one.reply) played)
-        → RepliesFrom place store (statement ∷ statements) (one.reply ∷ map (λ one. one.reply) played)
-    by_effect (inl same) rest = subst (λ reply. RepliesFrom place store (statement ∷ statements) (reply ∷ map (λ one. one.reply) played)) (sym same)
-        (effect-first place store statement statements (map (λ one. one.reply) played) rest)
-    by_effect (inr wants) rest = subst (λ reply. RepliesFrom place store (statement ∷ statements) (reply ∷ map (λ one. one.reply) played)) (sym wants.0)
-        (wanted-first place store statement statements (map (λ one. one.reply) played)
-        (subst (λ s. RepliesFrom (suc place) s statements (map (λ one. one.reply) played)) wants.1 rest))
-plays-replies agree place store (statement ∷ statements) (one ∷ played) after (inr was) =
-    subst (λ reply. RepliesFrom place store (statement ∷ statements) (reply ∷ map (λ one. one.reply) played)) (sym (ap (λ o. o.reply) was.0))
-    (wanted-first place store statement statements (map (λ one. one.reply) played)
-    (plays-replies agree (suc place) store statements played after was.1))
+    by_effect : (one.reply ≡ (effect_of (store_of history) statement).reply) ⊎ ((one.reply ≡ Memory) × (history_after history statement ≡ history))
+        → RepliesFrom (suc place) (history_after history statement) statements (map (λ one. one.reply) played)
+        → RepliesFrom place history (statement ∷ statements) (one.reply ∷ map (λ one. one.reply) played)
+    by_effect (inl same) rest = subst (λ reply. RepliesFrom place history (statement ∷ statements) (reply ∷ map (λ one. one.reply) played)) (sym same)
+        (effect-first place history statement statements (map (λ one. one.reply) played) rest)
+    by_effect (inr wants) rest = subst (λ reply. RepliesFrom place history (statement ∷ statements) (reply ∷ map (λ one. one.reply) played)) (sym wants.0)
+        (wanted-first place history statement statements (map (λ one. one.reply) played)
+        (subst (λ h. RepliesFrom (suc place) h statements (map (λ one. one.reply) played)) wants.1 rest))
+plays-replies place history (statement ∷ statements) (one ∷ played) after (inr was) =
+    subst (λ reply. RepliesFrom place history (statement ∷ statements) (reply ∷ map (λ one. one.reply) played)) (sym (ap (λ o. o.reply) was.0))
+    (wanted-first place history statement statements (map (λ one. one.reply) played)
+    (plays-replies (suc place) history statements played after was.1))
 
--- the replies to the statements of a script that were played from no tables on
-pub script-replies : EffectsAgree → ByTables → (statements : List Statement) (played : List Played) (after : Store)
-    → Plays empty_store statements played after
+-- the replies to the statements of a script that were played from no history on
+pub script-replies : (statements : List Statement) (played : List Played) (after : List Change) → Plays [] statements played after
     → (wanted : List ℕ) × (map (λ one. one.reply) played ≡ replies_of wanted statements)
-script-replies agree by_tables statements played after plays =
-    let found = plays-replies agree 0 empty_store statements played after plays in
-    (found.0, found.2 ∙ sym (by_tables found.0 statements))
+script-replies statements played after plays =
+    let found = plays-replies 0 [] statements played after plays in (found.0, found.2)

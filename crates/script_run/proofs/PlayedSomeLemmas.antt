@@ -2,13 +2,15 @@
 use Rattle.std.proofs.Common.{◌≡◌, List, [], ◌∷◌, ◌++◌, refl, ap, subst, inl, inr}
 use Rattle.script_reader.specs.declared.statement.Statement.{Statement}
 use Rattle.star_history.specs.Alone.{alone}
+use Rattle.star_history.specs.History.{Change, store_of}
 use Rattle.star_history.specs.Store.{Store}
 use Rattle.reply_text.specs.declared.reply.Reply.{Reply}
-use Rattle.star_statement.specs.Effect.{answer_reply, store_after}
+use Rattle.star_statement.specs.Effect.{answer_reply}
 use Rattle.star_statement.specs.Outcome.{outcome_of}
+use Rattle.star_statement.specs.Script.{history_after}
 use Rattle.core_state.specs.State.{Asked, Awaited, Pending, Replied, State}
 use Rattle.core_state.specs.Submitting.{awaited_by, seat_at}
-use Rattle.core_state.specs.Tables.{tables_of}
+use Rattle.core_state.specs.Tables.{changes_of, tables_of}
 use Rattle.script_run.specs.Played.{ComeTo, ComesTo, MayPlay, Played, Plays, played_as}
 
 -- the reply itself, or a query's answer alone
@@ -24,13 +26,14 @@ comes-some : (store : Store) (awaited : Awaited) → ComesTo store awaited (play
 comes-some store (Replied reply) = (refl, refl, refl)
 comes-some store (Asked query snapshot) = (refl, refl, inl refl)
 
--- statements may be played over any tables
-pub plays-some : (store : Store) (statements : List Statement) → (played : List Played) × (after : Store) × Plays store statements played after
-plays-some store [] = ([], store, refl)
-plays-some store (statement ∷ statements) =
-    let first = awaited_by (outcome_of store statement).told in
-    let rest = plays-some (store_after store statement) statements in
-    (played_by store first ∷ rest.0, rest.1, inl (comes-some store first, rest.2))
+-- statements may be played behind any history
+pub plays-some : (history : List Change) (statements : List Statement)
+    → (played : List Played) × (after : List Change) × Plays history statements played after
+plays-some history [] = ([], history, refl)
+plays-some history (statement ∷ statements) =
+    let first = awaited_by (outcome_of (store_of history) statement).told in
+    let rest = plays-some (history_after history statement) statements in
+    (played_by (store_of history) first ∷ rest.0, rest.1, inl (comes-some (store_of history) first, rest.2))
 
 -- what is waited for comes to something
 pub come-some : (store : Store) (pending : List Pending) → (played : List Played) × ComeTo store pending played
@@ -40,23 +43,23 @@ come-some store (first ∷ pending) =
     (played_by store first.awaited ∷ rest.0, (comes-some store first.awaited, rest.1))
 
 -- statements may be played in every core
-pub may-play-some : (state : State) (statements : List Statement) → (played : List Played) × (after : Store) × MayPlay state statements played after
+pub may-play-some : (state : State) (statements : List Statement) → (played : List Played) × (after : List Change) × MayPlay state statements played after
 may-play-some state statements =
     let due = come-some (tables_of state) (seat_at state 0).pending in
-    let rest = plays-some (tables_of state) statements in
+    let rest = plays-some (changes_of state.entries) statements in
     (due.0 ++ rest.0, rest.1, record { due = due.0; rest = rest.0; all = refl; come = due.1; plays = rest.2 })
 
 -- statements that are played one list after the other are played together
-pub plays-append : (store : Store) (statements : List Statement) (played : List Played) (between : Store) (others : List Statement) (more : List Played)
-    (after : Store) → Plays store statements played between → Plays between others more after
-    → Plays store (statements ++ others) (played ++ more) after
-plays-append store [] [] between others more after first second = subst (λ s. Plays s others more after) first second
-plays-append store [] (one ∷ played) between others more after first second = absurd first
-plays-append store (statement ∷ statements) [] between others more after first second = absurd first
-plays-append store (statement ∷ statements) (one ∷ played) between others more after (inl came) second =
-    inl (came.0, plays-append (store_after store statement) statements played between others more after came.1 second)
-plays-append store (statement ∷ statements) (one ∷ played) between others more after (inr was) second =
-    inr (was.0, plays-append store statements played between others more after was.1 second)
+pub plays-append : (history : List Change) (statements : List Statement) (played : List Played) (between : List Change) (others : List Statement)
+    (more : List Played) (after : List Change) → Plays history statements played between → Plays between others more after
+    → Plays history (statements ++ others) (played ++ more) after
+plays-append history [] [] between others more after first second = subst (λ h. Plays h others more after) first second
+plays-append history [] (one ∷ played) between others more after first second = absurd first
+plays-append history (statement ∷ statements) [] between others more after first second = absurd first
+plays-append history (statement ∷ statements) (one ∷ played) between others more after (inl came) second =
+    inl (came.0, plays-append (history_after history statement) statements played between others more after came.1 second)
+plays-append history (statement ∷ statements) (one ∷ played) between others more after (inr was) second =
+    inr (was.0, plays-append history statements played between others more after was.1 second)
 
 -- what is waited for last comes to something behind what is waited for before
 pub come-push : (store : Store) (pending : List Pending) (last : Pending) (played : List Played) (one : Played) → ComeTo store pending played

@@ -1,6 +1,6 @@
 -- A statement that the front gives to a core: what it comes to then it could come to before, and so could what was waited for.
-use Rattle.std.proofs.Common.{◌≡◌, ℕ, ◌+◌, ◌<◌, ◌≤◌, eqb, List, [], ◌∷◌, ◌++◌, length, get_or, map, Option, Some, None, refl, sym, ap, ◌∙◌, subst, ⊎_elim, inl, inr, append-nil, append_assoc}
-use Rattle.std.specs.Prelude.{All, IsSomeAnd}
+use Rattle.std.proofs.Common.{◌≡◌, ℕ, ◌+◌, ◌<◌, ◌≤◌, eqb, List, [], ◌∷◌, ◌++◌, length, get_or, Option, Some, None, refl, sym, ap, ◌∙◌, subst, ⊎_elim, inl, inr, append-nil, append_assoc}
+use Rattle.std.specs.Prelude.{All, IsSomeAnd, option_to_list}
 use Rattle.std.specs.Option.{option_map_or}
 use Rattle.std.proofs.lemmas.List.{get_or-set_same}
 use Rattle.std.proofs.lemmas.List.Elements.{All-head, All-tail}
@@ -13,21 +13,23 @@ use Rattle.star_statement.specs.Effect.{answer_reply, reply_to, store_after}
 use Rattle.star_statement.specs.Laws.{AgreesWith}
 use Rattle.star_statement.specs.Outcome as outcome
 use Rattle.star_statement.specs.Outcome.{Told, outcome_of}
+use Rattle.star_statement.specs.Script.{history_after}
 use Rattle.core_state.specs.Events.{after_event}
 use Rattle.core_state.specs.Found.{accepted_at}
 use Rattle.core_state.specs.Sound.{HasAccepted, IsAwaited, IsSound, IsSoundQuery}
 use Rattle.core_state.specs.State.{Accepted, Asked, Awaited, Pending, Replied, Seat, State}
 use Rattle.core_state.specs.Steps.{Done, MayStepAll, Step, after_steps}
 use Rattle.core_state.specs.Submitting.{after_outcome, after_submitting, awaited_by, empty_seat, seat_at, with_statement}
-use Rattle.core_state.specs.Tables.{tables_by, tables_of}
+use Rattle.core_state.specs.Tables.{changes_of, tables_by, tables_of}
 use Rattle.core_state.specs.declared.event.Event.TheVariants.{Submit}
 use Rattle.core_state.proofs.AcceptedLemmas.{find-holds}
-use Rattle.core_state.proofs.GrownLemmas.{tables-with}
+use Rattle.core_state.proofs.GrownLemmas.{changes-with, tables-with}
 use Rattle.core_state.proofs.LaterLemmas.{entries-by}
 use Rattle.core_state.proofs.StepSeatLemmas.{aside-outcome}
 use Rattle.script_run.specs.Played.{ComeTo, ComesTo, Leads, MayPlay, Played, Plays}
 use Rattle.script_run.proofs.PlayedReplyLemmas.{EffectsAgree, asked-unchanged}
 use Rattle.script_run.proofs.PlayedSomeLemmas.{CameLast, come-last}
+use Rattle.script_run.proofs.ToldSubmitLemmas.{follows-submitted}
 
 -- no later step changes an answer
 abbrev pub NoAnswerChanges : Type 0
@@ -97,6 +99,21 @@ outcome-tables seat (Some change) (outcome.Replied reply) state = ap tables_by (
 outcome-tables seat (Some change) (outcome.Accepted query snapshot) state = ap tables_by (entries-by change _)
     ∙ tables-with state.entries (record { seat = seat; statement = state.numbers.statement + 1; change = change })
 
+-- the history after a statement
+outcome-changes : (seat : ℕ) (change : Option Change) (told : Told) (state : State)
+    → changes_of (after_outcome seat (record { change = change; told = told }) state).entries ≡ changes_of state.entries ++ option_to_list change
+outcome-changes seat None (outcome.Replied reply) state = sym (append-nil (changes_of state.entries))
+outcome-changes seat None (outcome.Accepted query snapshot) state = sym (append-nil (changes_of state.entries))
+outcome-changes seat (Some change) (outcome.Replied reply) state = ap changes_of (entries-by change _)
+    ∙ changes-with state.entries (record { seat = seat; statement = state.numbers.statement + 1; change = change })
+outcome-changes seat (Some change) (outcome.Accepted query snapshot) state = ap changes_of (entries-by change _)
+    ∙ changes-with state.entries (record { seat = seat; statement = state.numbers.statement + 1; change = change })
+
+pub submitted-changes : (seat : ℕ) (statement : Statement) (state : State)
+    → changes_of (after_submitting seat statement state).entries ≡ history_after (changes_of state.entries) statement
+submitted-changes seat statement state =
+    let found = outcome_of (tables_of state) statement in outcome-changes seat found.change found.told state
+
 pub submitted-tables : (seat : ℕ) (statement : Statement) (state : State)
     → tables_of (after_submitting seat statement state) ≡ store_after (tables_of state) statement
 submitted-tables seat statement state =
@@ -119,7 +136,7 @@ leads-submitted agree stays statement old sound there = record {
   plays = λ rest more after may. played_before rest more after may
       (come-last (tables_of new) here.pending last may.due
       (subst (λ (s : Seat). ComeTo (tables_of new) s.pending may.due) (submitted-seat 0 statement old there) may.come));
-  taken = ap (λ (s : Seat). map (λ t. t.query) s.taken) (submitted-seat 0 statement old there) ∙ sym (append-nil (map (λ t. t.query) here.taken));
+  follows = follows-submitted statement old sound (submitted-seat 0 statement old there);
 }
   where
     new : State
@@ -137,7 +154,7 @@ leads-submitted agree stays statement old sound there = record {
     same : SameAnswers (tables_of old) (tables_of new)
     same query snapshot low = stays (Done (Submit 0 statement) ∷ []) old query snapshot (there, tt) sound low
 
-    played_before : (rest : List Statement) (more : List Played) (after : Store) → (may : MayPlay new rest more after)
+    played_before : (rest : List Statement) (more : List Played) (after : List Change) → (may : MayPlay new rest more after)
         → CameLast (tables_of new) here.pending last may.due → MayPlay old (statement ∷ rest) more after
     played_before rest more after may came = record {
       due = came.before;
@@ -147,6 +164,6 @@ leads-submitted agree stays statement old sound there = record {
       plays = inl (
         comes-own agree (tables_of old) statement came.one
             (subst (λ s. ComesTo s (awaited_by told) came.one) (submitted-tables 0 statement old) came.comes),
-        subst (λ s. Plays s rest may.rest after) (submitted-tables 0 statement old) may.plays,
+        subst (λ history. Plays history rest may.rest after) (submitted-changes 0 statement old) may.plays,
       );
     }

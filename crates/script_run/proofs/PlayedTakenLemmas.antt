@@ -3,7 +3,7 @@ use Rattle.std.proofs.Common.{◌≡◌, ℕ, ◌<◌, true, false, cond, List, 
 use Rattle.std.specs.Prelude.{IsSome, IsSomeAnd, IsTrue, find}
 use Rattle.std.specs.Option.{option_map_or}
 use Rattle.std.proofs.lemmas.Bool.{cases_lt}
-use Rattle.std.proofs.lemmas.List.{get_or-set_same, get_or_past, map-append}
+use Rattle.std.proofs.lemmas.List.{get_or-set_same, get_or_past}
 use Rattle.star_plan.specs.Answer.{answer_of}
 use Rattle.star_plan.specs.Test.{Query}
 use Rattle.reply_text.specs.declared.reply.Reply.{Reply}
@@ -14,10 +14,11 @@ use Rattle.pipeline_manager.specs.declared.life.Life.{Life}
 use Rattle.core_state.specs.Answers.{IsRight}
 use Rattle.core_state.specs.Sound.{IsSound}
 use Rattle.core_state.specs.State.{Asked, Awaited, Pending, Replied, Seat, State}
-use Rattle.core_state.specs.Submitting.{Grouping, Ready, Whole, after_taking, empty_seat, next_ready, seat_at, taken_by, with_taken}
+use Rattle.core_state.specs.Submitting.{Grouping, Ready, Whole, after_taking, asked_by, empty_seat, next_ready, seat_at, taken_by, with_taken}
 use Rattle.core_state.specs.Tables.{tables_of}
 use Rattle.event_core.specs.Replies.{first_open}
-use Rattle.script_run.specs.Played.{ComeTo, ComesTo, IsTakenAs, Leads, Played, played_as}
+use Rattle.script_run.specs.Played.{ComeTo, ComesTo, IsTakenAs, IsToldAs, Leads, Played, given_in, played_as, queries_among}
+use Rattle.script_run.proofs.ToldFollowLemmas.{asked-without, given-taken}
 
 -- what a seat waits for comes to a reply that was taken, where what was taken is right
 comes-taken : (state : State) (statement : ℕ) (awaited : Awaited) (ready : Ready) (reply : Reply) → IsRight state statement awaited ready
@@ -49,6 +50,13 @@ pub split-first : (waits : List Pending) (pending : Pending) → slice_get waits
 split-first [] pending is = absurd (let both : None ≡ Some pending = is in cc)
 split-first (first ∷ rest) pending is = let same : first ≡ pending = cc in (rest, ap (λ p. p ∷ rest) same)
 
+-- and it is told so
+told-taken : (state : State) (statement : ℕ) (awaited : Awaited) (ready : Ready) (reply : Reply) → IsRight state statement awaited ready
+    → IsTakenAs ready reply → IsToldAs state.lives (record { statement = statement; query = asked_by awaited }) (played_as awaited reply)
+told-taken state statement (Replied told) ready reply right is = record { same = refl; answered = inr tt }
+told-taken state statement (Asked query snapshot) (Whole given) reply right is = record { same = refl; answered = inl (is ∙ right.0) }
+told-taken state statement (Asked query snapshot) (Grouping at groups) reply right is = record { same = refl; answered = inr right.1 }
+
 -- a reply that is taken
 pub leads-taken : (old : State) (pending : Pending) (ready : Ready) (reply : Reply) → slice_get (seat_at old 0).pending 0 ≡ Some pending
     → IsRight old pending.statement pending.awaited ready → IsTakenAs ready reply
@@ -64,9 +72,17 @@ leads-taken old pending ready reply is right taken = record {
     );
     plays = may.plays;
   };
-  taken = ap (λ (s : Seat). map (λ t. t.query) s.taken) seat_now
-      ∙ ap (λ waits. map (λ t. t.query) (here.taken ++ map taken_by (take 1 waits))) behind.1
-      ∙ map-append (λ t. t.query) here.taken (taken_by pending ∷ []);
+  follows = λ listed. record {
+    listed = record {
+      queries = asked-without (take 1 here.pending) old.accepted ∙ listed.queries
+          ∙ sym (ap queries_among (ap given_in seat_now ∙ given-taken here.taken here.pending));
+      rising = listed.rising;
+    };
+    stay = λ query was. was;
+    since = taken_by pending ∷ [];
+    taken = ap (λ (s : Seat). s.taken) seat_now ∙ ap (λ waits. here.taken ++ map taken_by (take 1 waits)) behind.1;
+    told = (told-taken old pending.statement pending.awaited ready reply right taken, tt);
+  };
 }
   where
     here : Seat

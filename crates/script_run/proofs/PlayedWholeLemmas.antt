@@ -1,25 +1,21 @@
 -- What a core that is new has come to where it was given statements: the replies are those to a script, or the first of them.
-use Rattle.std.proofs.Common.{◌≡◌, ℕ, zero, suc, true, List, [], ◌∷◌, ◌++◌, get_or, map, replicate, Option, Some, None, slice_get, refl, sym, ap, ◌∙◌, subst, append-nil}
+use Rattle.std.proofs.Common.{◌≡◌, ℕ, zero, suc, true, List, [], ◌∷◌, ◌++◌, get_or, replicate, Option, Some, None, slice_get, refl, sym, ap, subst, append-nil}
 use Rattle.std.specs.Prelude.{IfSome}
 use Rattle.std.specs.Option.{option_and_then}
-use Rattle.std.proofs.lemmas.List.{map-append}
 use Rattle.script_reader.specs.declared.statement.Statement.{Statement}
-use Rattle.star_history.specs.Store.{Store, empty_store}
+use Rattle.star_history.specs.History.{Change}
 use Rattle.reply_text.specs.declared.reply.Reply.{Reply}
-use Rattle.star_statement.specs.Script.{replies_of}
 use Rattle.core_state.specs.Answers.{IsRight}
 use Rattle.core_state.specs.Sound.{empty_core}
 use Rattle.core_state.specs.State.{Pending, Seat, State}
 use Rattle.core_state.specs.Submitting.{after_taking, empty_seat, next_ready, ready_to, seat_at}
-use Rattle.core_state.specs.Tables.{tables_of}
+use Rattle.core_state.specs.Tables.{changes_of}
 use Rattle.core_state.specs.declared.settings.RunSettings.{RunSettings}
 use Rattle.event_core.specs.Replies.{IsReplyOf, ready_of}
 use Rattle.event_core.specs.declared.replies.Ready.{Ready}
-use Rattle.script_run.specs.Played.{Leads, MayPlay, Played, Plays, asked_of, played_as}
+use Rattle.script_run.specs.Played.{Leads, MayPlay, Played, Plays, played_as}
 use Rattle.script_run.proofs.PlayedEventLemmas.{taken-as}
-use Rattle.script_run.proofs.PlayedLeadLemmas.{asked_in, may-play-idle, plays-idle}
-use Rattle.script_run.proofs.PlayedReplyLemmas.{ByTables, EffectsAgree, script-replies}
-use Rattle.script_run.proofs.PlayedSomeLemmas.{may-play-some}
+use Rattle.script_run.proofs.PlayedLeadLemmas.{may-play-idle, plays-idle}
 use Rattle.script_run.proofs.PlayedTakenLemmas.{leads-taken}
 
 -- the front of a new core waits for nothing, and took nothing
@@ -30,39 +26,22 @@ new-seat settings = by_count settings.seats
     by_count zero = refl
     by_count (suc n) = refl
 
--- what may be played behind statements that a new core was given is played from no tables on
+-- what may be played behind statements that a new core was given is played from no history on
 behind-new : (settings : RunSettings) (statements : List Statement) (new : State) (played : List Played) → Leads (empty_core settings) statements new played
-    → (rest : List Statement) (more : List Played) (after : Store) → MayPlay new rest more after
-    → Plays empty_store (statements ++ rest) (played ++ more) after
+    → (rest : List Statement) (more : List Played) (after : List Change) → MayPlay new rest more after
+    → Plays [] (statements ++ rest) (played ++ more) after
 behind-new settings statements new played leads rest more after may =
     plays-idle (empty_core settings) (statements ++ rest) (played ++ more) after (ap (λ (s : Seat). s.pending) (new-seat settings))
     (leads.plays rest more after may)
 
--- where nothing is waited for all were replied to, as a script's statements are
-pub whole-replies : EffectsAgree → ByTables → (settings : RunSettings) (statements : List Statement) (new : State) (played : List Played)
-    → Leads (empty_core settings) statements new played → (seat_at new 0).pending ≡ []
-    → (wanted : List ℕ) × (map (λ one. one.reply) played ≡ replies_of wanted statements)
-whole-replies agree by_tables settings statements new played leads idle =
-    script-replies agree by_tables statements played (tables_of new)
-    (subst (λ ss. Plays empty_store ss played (tables_of new)) (append-nil statements)
-    (subst (λ ps. Plays empty_store (statements ++ []) ps (tables_of new)) (append-nil played)
-    (behind-new settings statements new played leads [] [] (tables_of new) (may-play-idle new [] [] (tables_of new) idle refl))))
-
--- whatever statements come, the replies that came are the first ones
-pub first-replies : EffectsAgree → ByTables → (settings : RunSettings) (statements : List Statement) (new : State) (played : List Played)
-    → Leads (empty_core settings) statements new played → (rest : List Statement)
-    → (wanted : List ℕ) × (more : List Reply) × (map (λ one. one.reply) played ++ more ≡ replies_of wanted (statements ++ rest))
-first-replies agree by_tables settings statements new played leads rest =
-    let later = may-play-some new rest in
-    let all = script-replies agree by_tables (statements ++ rest) (played ++ later.0) later.1
-    (behind-new settings statements new played leads rest later.0 later.1 later.2) in
-    (all.0, map (λ one. one.reply) later.0, sym (map-append (λ one. one.reply) played later.0) ∙ all.1)
-
--- the front took the queries of the statements that the core has and that were replied to
-pub whole-asked : (settings : RunSettings) (statements : List Statement) (new : State) (played : List Played)
-    → Leads (empty_core settings) statements new played → asked_in new ≡ asked_of played
-whole-asked settings statements new played leads =
-    leads.taken ∙ ap (λ (s : Seat). map (λ t. t.query) s.taken ++ asked_of played) (new-seat settings)
+-- where nothing is waited for all were played
+pub whole-plays : (settings : RunSettings) (statements : List Statement) (new : State) (played : List Played)
+    → Leads (empty_core settings) statements new played → (seat_at new 0).pending ≡ [] → Plays [] statements played (changes_of new.entries)
+whole-plays settings statements new played leads idle =
+    subst (λ ss. Plays [] ss played (changes_of new.entries)) (append-nil statements)
+    (subst (λ ps. Plays [] (statements ++ []) ps (changes_of new.entries)) (append-nil played)
+    (behind-new settings statements new played leads [] [] (changes_of new.entries)
+    (may-play-idle new [] [] (changes_of new.entries) idle refl)))
 
 -- a reply that code took leads on
 pub leads-reply : (old new : State) (ready : Ready) (reply : Reply) → Some (ready_of ready) ≡ next_ready old 0 → new ≡ after_taking 0 old

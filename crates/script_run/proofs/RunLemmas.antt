@@ -16,7 +16,7 @@ use Rattle.star_io.specs.Faults.{FailedOnce}
 use Rattle.script_run.specs.Answer.{AnswersWhole, CountsHalt, HaltsBehind, HasNoStatement, Replies, RepliesInPart, refused_left, text_left}
 use Rattle.script_run.specs.End.{end_of_all, end_of_halt}
 use Rattle.script_run.specs.Pieces.{fed_with}
-use Rattle.script_run.specs.Run.{AnswersScript, CountsFaults, HasEnded, IsFront, IsProperFront, is_refusal, script_text, some_refused, within_limit}
+use Rattle.script_run.specs.Run.{AnswersAlone, CountsFaults, HasEnded, IsFront, IsProperFront, is_refusal, script_text, some_refused, within_limit}
 use Rattle.script_run.specs.declared.halt.Halt.{Halt}
 use Rattle.script_run.specs.declared.halt.Halt.TheVariants.{WriteFault, NoMemory}
 use Rattle.script_run.proofs.WholeLemmas.{follows}
@@ -128,54 +128,63 @@ whole_text law store waits refused left0 left taken0 taken run none =
 -- a read failed
 pub fault_run : IsLaw → (store : Store) (waits : Reading) (refused was ended : Bool) (read read' : ℕ) (left0 left left' taken0 taken : Option (List ℕ)) (piece : List ℕ)
     → IsRunning store waits refused left0 left taken0 taken → HasNoStatement waits → Consumes left left' piece → piece ≡ []
-    → AnswersScript end.ReadFault was ended read read' left0 left' taken0 taken
+    → AnswersAlone end.ReadFault was ended read read' left0 left' taken0 taken
 fault_run law store waits refused was ended read read' left0 left left' taken0 taken piece run none gave nothing =
-    let within = run.within in let counted = run.counted in record {
-      given = run.given;
-      written = run.written;
-      wanted = [];
-      gave = rw (append-nil run.given) at (Consumes-trans left0 left left' run.given [] run.gave (rw nothing at gave));
-      took = run.took;
-      reads = omega arith;
-      writes = whole_text law store waits refused left0 left taken0 taken run none;
-      memory = λ h. cc;
-    }
+    let within = run.within in let counted = run.counted in (
+      record {
+        given = run.given;
+        written = run.written;
+        wanted = [];
+        gave = rw (append-nil run.given) at (Consumes-trans left0 left left' run.given [] run.gave (rw nothing at gave));
+        took = run.took;
+        reads = omega arith;
+        writes = whole_text law store waits refused left0 left taken0 taken run none;
+        memory = λ h. cc;
+      },
+      refl,
+    )
 
 -- the byte past the limit came
 pub limit_run : IsLaw → (store : Store) (waits : Reading) (refused was ended : Bool) (read read' : ℕ) (left0 left left' taken0 taken : Option (List ℕ)) (piece : List ℕ)
     → IsRunning store waits refused left0 left taken0 taken → HasNoStatement waits → Consumes left left' piece → waits.fed ≡ SCRIPT_LIMIT → length piece ≡ 1
-    → AnswersScript end.ScriptLimit was ended read read' left0 left' taken0 taken
+    → AnswersAlone end.ScriptLimit was ended read read' left0 left' taken0 taken
 limit_run law store waits refused was ended read read' left0 left left' taken0 taken piece run none gave full one =
-    let counted = run.counted in record {
-      given = run.given ++ piece;
-      written = run.written;
-      wanted = [];
-      gave = Consumes-trans left0 left left' run.given piece run.gave gave;
-      took = run.took;
-      reads = omega (arith, length-append run.given piece);
-      writes = whole_text law store waits refused left0 left taken0 taken run none ∙ ap (script_text [] false) (sym (within_more run.given piece (omega arith)));
-      memory = λ h. cc;
-    }
+    let counted = run.counted in (
+      record {
+        given = run.given ++ piece;
+        written = run.written;
+        wanted = [];
+        gave = Consumes-trans left0 left left' run.given piece run.gave gave;
+        took = run.took;
+        reads = omega (arith, length-append run.given piece);
+        writes = whole_text law store waits refused left0 left taken0 taken run none ∙ ap (script_text [] false) (sym (within_more run.given piece (omega arith)));
+        memory = λ h. cc;
+      },
+      refl,
+    )
 
 -- no memory was left for a piece
 pub unfed_run : IsLaw → (store : Store) (waits : Reading) (refused was ended : Bool) (read read' : ℕ) (left0 left left' taken0 taken : Option (List ℕ)) (piece : List ℕ)
     → IsRunning store waits refused left0 left taken0 taken → Consumes left left' piece → waits.fed + length piece ≤ SCRIPT_LIMIT
-    → ended ≡ was → read' ≡ read → AnswersScript end.NoMemory was ended read read' left0 left' taken0 taken
+    → ended ≡ was → read' ≡ read → AnswersAlone end.NoMemory was ended read read' left0 left' taken0 taken
 unfed_run law store waits refused was ended read read' left0 left left' taken0 taken piece run gave few same unfailed =
     let counted = run.counted in
-    let within : length (run.given ++ piece) ≤ SCRIPT_LIMIT = omega (arith, length-append run.given piece) in record {
-      given = run.given ++ piece;
-      written = run.written;
-      wanted = [];
-      gave = Consumes-trans left0 left left' run.given piece run.gave gave;
-      took = run.took;
-      reads = omega (arith, within);
-      writes = (
-        text_left store ended (waits.waiting ++ piece),
-        ap (script_text [] ended) (within_all (run.given ++ piece) within) ∙ script_text-left law ended (run.given ++ piece) ∙ run.replies.text piece ended (λ e. cc),
-      );
-      memory = λ h. inr (same, unfailed, within);
-    }
+    let within : length (run.given ++ piece) ≤ SCRIPT_LIMIT = omega (arith, length-append run.given piece) in (
+      record {
+        given = run.given ++ piece;
+        written = run.written;
+        wanted = [];
+        gave = Consumes-trans left0 left left' run.given piece run.gave gave;
+        took = run.took;
+        reads = omega (arith, within);
+        writes = (
+          text_left store ended (waits.waiting ++ piece),
+          ap (script_text [] ended) (within_all (run.given ++ piece) within) ∙ script_text-left law ended (run.given ++ piece) ∙ run.replies.text piece ended (λ e. cc),
+        );
+        memory = λ h. inr (same, unfailed, within);
+      },
+      refl,
+    )
 
 -- Where the replies halt.
 
@@ -202,33 +211,39 @@ proper_on law last store waits given front written refused way part = (
 -- the replies halt before the input has ended
 pub halted_run : IsLaw → (halt : Halt) (store store' : Store) (waits waits' : Reading) (refused was ended : Bool) (read read' : ℕ) (left0 left taken0 taken taken' : Option (List ℕ))
     → IsRunning store waits refused left0 left taken0 taken → AnswersWhole (Err halt) store waits store' waits' taken taken'
-    → ended ≡ was → read' ≡ read → AnswersScript (end_of_halt halt) was ended read read' left0 left taken0 taken'
+    → ended ≡ was → read' ≡ read → AnswersAlone (end_of_halt halt) was ended read read' left0 left taken0 taken'
 halted_run law WriteFault store store' waits waits' refused was ended read read' left0 left taken0 taken taken' run answers same unfailed =
     let counted = run.counted in let within = run.within in
-    let few : length run.given ≤ SCRIPT_LIMIT = omega arith in record {
-      given = run.given;
-      written = run.written ++ answers.0;
-      wanted = [];
-      gave = run.gave;
-      took = Appends-trans taken0 taken taken' run.written answers.0 run.took answers.1;
-      reads = omega arith;
-      writes = rw (within_all run.given few) (proper_on law ended store waits run.given run.written answers.0 refused run.replies
-          (answers.2 [] ended (λ e. let wrong = sym run.not_ended ∙ e in cc)));
-      memory = λ h. cc;
-    }
+    let few : length run.given ≤ SCRIPT_LIMIT = omega arith in (
+      record {
+        given = run.given;
+        written = run.written ++ answers.0;
+        wanted = [];
+        gave = run.gave;
+        took = Appends-trans taken0 taken taken' run.written answers.0 run.took answers.1;
+        reads = omega arith;
+        writes = rw (within_all run.given few) (proper_on law ended store waits run.given run.written answers.0 refused run.replies
+            (answers.2 [] ended (λ e. let wrong = sym run.not_ended ∙ e in cc)));
+        memory = λ h. cc;
+      },
+      refl,
+    )
 halted_run law NoMemory store store' waits waits' refused was ended read read' left0 left taken0 taken taken' run answers same unfailed =
     let counted = run.counted in let within = run.within in
-    let few : length run.given ≤ SCRIPT_LIMIT = omega arith in record {
-      given = run.given;
-      written = run.written ++ answers.0;
-      wanted = [];
-      gave = run.gave;
-      took = Appends-trans taken0 taken taken' run.written answers.0 run.took answers.1;
-      reads = omega arith;
-      writes = rw (within_all run.given few) (front_on law ended ended store waits run.given run.written answers.0 refused run.replies
-          (answers.2.0 [] ended (λ e. let wrong = sym run.not_ended ∙ e in cc)));
-      memory = λ h. inr (same, unfailed, few);
-    }
+    let few : length run.given ≤ SCRIPT_LIMIT = omega arith in (
+      record {
+        given = run.given;
+        written = run.written ++ answers.0;
+        wanted = [];
+        gave = run.gave;
+        took = Appends-trans taken0 taken taken' run.written answers.0 run.took answers.1;
+        reads = omega arith;
+        writes = rw (within_all run.given few) (front_on law ended ended store waits run.given run.written answers.0 refused run.replies
+            (answers.2.0 [] ended (λ e. let wrong = sym run.not_ended ∙ e in cc)));
+        memory = λ h. inr (same, unfailed, few);
+      },
+      refl,
+    )
 
 -- The end of the input.
 
@@ -243,7 +258,7 @@ at_end waits e = (refl, refl)
 pub ended_run : IsLaw → (store store' : Store) (waits waits' : Reading) (refused some was ended : Bool) (read read' : ℕ) (left0 left left' taken0 taken taken' : Option (List ℕ)) (piece : List ℕ)
     → IsRunning store waits refused left0 left taken0 taken → Consumes left left' piece → piece ≡ [] → HasEnded ended left'
     → AnswersWhole (Ok some) store (finished waits) store' waits' taken taken' → StaysFed (finished waits) waits'
-    → AnswersScript (end_of_all (refused || some)) was ended read read' left0 left' taken0 taken'
+    → AnswersAlone (end_of_all (refused || some)) was ended read read' left0 left' taken0 taken'
 ended_run law store store' waits waits' refused some was ended read read' left0 left left' taken0 taken taken' piece run gave nothing has_ended answers stays =
     by_refused (refused || some) refl
   where
@@ -274,33 +289,39 @@ ended_run law store store' waits waits' refused some was ended read read' left0 
     few : length run.given ≤ SCRIPT_LIMIT
     few = let counted = run.counted in let within = run.within in omega arith
 
-    by_refused : (test : Bool) → (refused || some) ≡ test → AnswersScript (end_of_all test) was ended read read' left0 left' taken0 taken'
-    by_refused false e = record {
-      given = run.given;
-      written = run.written ++ answers.0;
-      wanted = [];
-      gave = gave_all;
-      took = Appends-trans taken0 taken taken' run.written answers.0 run.took answers.1;
-      reads = few;
-      writes = (has_ended, text, refusals ∙ e);
-      memory = λ h. cc;
-    }
-    by_refused true e = record {
-      given = run.given;
-      written = run.written ++ answers.0;
-      wanted = [];
-      gave = gave_all;
-      took = Appends-trans taken0 taken taken' run.written answers.0 run.took answers.1;
-      reads = few;
-      writes = (has_ended, text, refusals ∙ e);
-      memory = λ h. cc;
-    }
+    by_refused : (test : Bool) → (refused || some) ≡ test → AnswersAlone (end_of_all test) was ended read read' left0 left' taken0 taken'
+    by_refused false e = (
+      record {
+        given = run.given;
+        written = run.written ++ answers.0;
+        wanted = [];
+        gave = gave_all;
+        took = Appends-trans taken0 taken taken' run.written answers.0 run.took answers.1;
+        reads = few;
+        writes = (has_ended, text, refusals ∙ e);
+        memory = λ h. cc;
+      },
+      refl,
+    )
+    by_refused true e = (
+      record {
+        given = run.given;
+        written = run.written ++ answers.0;
+        wanted = [];
+        gave = gave_all;
+        took = Appends-trans taken0 taken taken' run.written answers.0 run.took answers.1;
+        reads = few;
+        writes = (has_ended, text, refusals ∙ e);
+        memory = λ h. cc;
+      },
+      refl,
+    )
 
 -- the replies halt behind the end of the input
 pub ended_halted : IsLaw → (halt : Halt) (store store' : Store) (waits waits' : Reading) (refused was ended : Bool) (read read' : ℕ) (left0 left left' taken0 taken taken' : Option (List ℕ)) (piece : List ℕ)
     → IsRunning store waits refused left0 left taken0 taken → Consumes left left' piece → piece ≡ [] → HasEnded ended left'
     → AnswersWhole (Err halt) store (finished waits) store' waits' taken taken'
-    → AnswersScript (end_of_halt halt) was ended read read' left0 left' taken0 taken'
+    → AnswersAlone (end_of_halt halt) was ended read read' left0 left' taken0 taken'
 ended_halted law halt store store' waits waits' refused was ended read read' left0 left left' taken0 taken taken' piece run gave nothing has_ended answers =
     by_halt halt answers.2
   where
@@ -314,28 +335,34 @@ ended_halted law halt store store' waits waits' refused was ended read read' lef
     proper part = rw (within_all run.given few, has_ended.0)
         (proper_on law true store waits run.given run.written answers.0 refused run.replies (part [] true (at_end waits)))
 
-    by_halt : (why : Halt) → HaltsBehind why store (finished waits) answers.0 → AnswersScript (end_of_halt why) was ended read read' left0 left' taken0 taken'
-    by_halt WriteFault part = record {
-      given = run.given;
-      written = run.written ++ answers.0;
-      wanted = [];
-      gave = gave_all;
-      took = Appends-trans taken0 taken taken' run.written answers.0 run.took answers.1;
-      reads = omega (arith, few);
-      writes = proper part;
-      memory = λ h. cc;
-    }
+    by_halt : (why : Halt) → HaltsBehind why store (finished waits) answers.0 → AnswersAlone (end_of_halt why) was ended read read' left0 left' taken0 taken'
+    by_halt WriteFault part = (
+      record {
+        given = run.given;
+        written = run.written ++ answers.0;
+        wanted = [];
+        gave = gave_all;
+        took = Appends-trans taken0 taken taken' run.written answers.0 run.took answers.1;
+        reads = omega (arith, few);
+        writes = proper part;
+        memory = λ h. cc;
+      },
+      refl,
+    )
     by_halt NoMemory part =
-        let whole = proper (part.1 refl) in record {
-          given = run.given;
-          written = run.written ++ answers.0;
-          wanted = [];
-          gave = gave_all;
-          took = Appends-trans taken0 taken taken' run.written answers.0 run.took answers.1;
-          reads = omega (arith, few);
-          writes = (whole.0, whole.2);
-          memory = λ h. inl whole;
-        }
+        let whole = proper (part.1 refl) in (
+          record {
+            given = run.given;
+            written = run.written ++ answers.0;
+            wanted = [];
+            gave = gave_all;
+            took = Appends-trans taken0 taken taken' run.written answers.0 run.took answers.1;
+            reads = omega (arith, few);
+            writes = (whole.0, whole.2);
+            memory = λ h. inl whole;
+          },
+          refl,
+        )
 
 -- The faults that came.
 

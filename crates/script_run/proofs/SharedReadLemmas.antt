@@ -3,7 +3,7 @@ use Rattle.std.proofs.Common.{◌≡◌, ◌≢◌, ℕ, Bool, true, List, [], �
 use Rattle.script_reader.specs.Reading.{MayCome, Reading, StaysFed, TakesFirst, Wants}
 use Rattle.script_reader.specs.Script.{statements_of}
 use Rattle.script_reader.specs.declared.statement.Statement.{Statement}
-use Rattle.star_history.specs.Store.{Store}
+use Rattle.star_history.specs.History.{Change}
 use Rattle.core_state.specs.State.{State}
 use Rattle.script_run.specs.Front.{HaltsPlay, ReadsFront, ReadsInPart, ReadsOn, text_of_played}
 use Rattle.script_run.specs.Played.{Leads, MayPlay, Played}
@@ -42,7 +42,7 @@ reads-then old between new waits waits' waits'' played more first stays second =
 
 -- what may be played behind what was read could be played before
 pub may-behind : (old new : State) (waits waits' : Reading) (played : List Played) → ReadsOn old waits new waits' played
-    → (more : List ℕ) (last : Bool) → MayCome waits more last → (later : List Played) (after : Store)
+    → (more : List ℕ) (last : Bool) → MayCome waits more last → (later : List Played) (after : List Change)
     → MayPlay new (statements_of last (waits'.waiting ++ more)) later after → MayPlay old (statements_of last (waits.waiting ++ more)) (played ++ later) after
 may-behind old new waits waits' played reads more last comes later after may =
     subst (λ statements. MayPlay old statements (played ++ later) after) (sym (reads.reads more last comes))
@@ -97,7 +97,7 @@ front-wanting state waits more last comes =
     (later.0, later.1, later.2, (text_of_played later.0, refl))
 
 -- statements that are left have replies of which nothing was written
-left-some : (state : State) (statements : List Statement) → statements ≢ [] → (played : List Played) × (after : Store)
+left-some : (state : State) (statements : List Statement) → statements ≢ [] → (played : List Played) × (after : List Change)
     × MayPlay state statements played after × IsProperFront [] (text_of_played played)
 left-some state [] some = absurd (some refl)
 left-some state (statement ∷ statements) some = halts-first state statement [] statements

@@ -1,15 +1,13 @@
 -- A run over a core, from what was read and written so far.
-use Rattle.std.proofs.Common.{◌≡◌, ℕ, ◌+◌, ◌≤◌, Bool, false, ◌||◌, List, [], ◌++◌, length, Option, None, Ok, refl, sym, ap, subst, ◌∙◌, append_assoc, length-append, arith}
+use Rattle.std.proofs.Common.{◌≡◌, ℕ, ◌+◌, ◌≤◌, Bool, false, ◌||◌, List, [], ◌++◌, length, Option, Ok, refl, sym, ap, subst, ◌∙◌, append_assoc, length-append, arith}
 use Rattle.std.specs.Io.KnownBytes.{Consumes}
-use Rattle.std.proofs.lemmas.List.Elements.{All-nil}
 use Rattle.std.proofs.KnownBytes.{Consumes-nil, Consumes-trans}
 use Rattle.script_reader.specs.Reading.{Reading, StaysFed}
 use Rattle.script_reader.specs.Script.{statements_of}
 use Rattle.script_reader.specs.declared.reader.TheConstants.{SCRIPT_LIMIT}
 use Rattle.core_state.specs.Sound.{empty_core}
-use Rattle.core_state.specs.State.{Flight, State}
+use Rattle.core_state.specs.State.{State}
 use Rattle.core_state.specs.declared.settings.RunSettings.{RunSettings}
-use Rattle.event_core.specs.Chosen.{AreIdle}
 use Rattle.script_run.specs.Front.{PlaysWhole, ReadsOn}
 use Rattle.script_run.specs.Pieces.{fed_with}
 use Rattle.script_run.specs.Played.{Played}
@@ -40,7 +38,7 @@ whole-shared settings now new waits waits' refused some left0 left taken0 taken 
   given = run.given;
   gave = run.gave;
   within = subst (λ fed. fed ≤ SCRIPT_LIMIT) (sym stays.0) run.within;
-  way = playing-then (empty_core settings) now new (came run.given) waits waits' refused some taken0 taken taken' plays.0 run.way plays.2 stays plays.1 plays.3;
+  way = playing-then (empty_core settings) now new (came run.given) waits waits' refused some taken0 taken taken' plays.0 run.way plays.2 stays plays.1 plays.3 plays.5;
 }
 
 -- what was read of some bytes was read of them and those behind them
@@ -67,6 +65,7 @@ fed-shared settings now waits waits' refused left0 left left' taken0 taken piece
     reads = fed-reads (empty_core settings) now run.given piece waits run.way.played run.way.reads;
     stays = (ap (λ n. n + length piece) run.way.stays.0 ∙ sym (length-append run.given piece), run.way.stays.1);
     refusals = run.way.refusals;
+    laps = run.way.laps;
   });
 }
 
@@ -79,6 +78,7 @@ finished-way old now given waits refused taken0 taken way = record {
   reads = record { statements = way.reads.statements; reads = λ more last comes. way.reads.reads more last (λ e. cc); leads = way.reads.leads };
   stays = (way.stays.0, refl);
   refusals = way.refusals;
+  laps = way.laps;
 }
 
 -- as many bytes were given as the limit at most
@@ -86,6 +86,10 @@ pub few-given : (settings : RunSettings) (now : State) (waits : Reading) (refuse
     → (run : IsShared settings now waits refused left0 left taken0 taken) → length run.given ≤ SCRIPT_LIMIT
 few-given settings now waits refused left0 left taken0 taken run = subst (λ n. n ≤ SCRIPT_LIMIT) run.way.stays.0 run.within
 
--- in an empty core no batch is in a hand
-pub empty-idle : (settings : RunSettings) (now : State) → now ≡ empty_core settings → AreIdle now
-empty-idle settings now is = rw is (All-nil (λ (flight : Flight). flight.hand ≡ None))
+-- the last statements were given to the core
+pub ended-way : (settings : RunSettings) (now mid : State) (waits waits' : Reading) (refused some : Bool) (left0 left taken0 taken taken' : Option (List ℕ))
+    → (run : IsShared settings now waits refused left0 left taken0 taken) → PlaysWhole (Ok some) now (finished waits) mid waits' taken taken'
+    → StaysFed (finished waits) waits' → IsPlaying (empty_core settings) mid (finished (came run.given)) waits' (refused || some) taken0 taken'
+ended-way settings now mid waits waits' refused some left0 left taken0 taken taken' run whole stays =
+    playing-then (empty_core settings) now mid (finished (came run.given)) (finished waits) waits' refused some taken0 taken taken' whole.0
+    (finished-way (empty_core settings) now run.given waits refused taken0 taken run.way) whole.2 stays whole.1 whole.3 whole.5

@@ -3,32 +3,27 @@ use Rattle.std.proofs.Common.{◌≡◌, ℕ, Bool, ◌||◌, List, [], ◌∷�
 use Rattle.std.specs.List.{list_any}
 use Rattle.script_reader.specs.Reading.{MayCome, Reading}
 use Rattle.script_reader.specs.Script.{statements_of}
-use Rattle.star_history.specs.Store.{Store}
+use Rattle.star_history.specs.History.{Change}
 use Rattle.reply_text.specs.Text.{text_of_all}
 use Rattle.core_state.specs.Sound.{empty_core}
 use Rattle.core_state.specs.State.{Seat, State}
 use Rattle.core_state.specs.Submitting.{seat_at}
-use Rattle.core_state.specs.Tables.{tables_of}
 use Rattle.core_state.specs.declared.settings.RunSettings.{RunSettings}
 use Rattle.script_run.specs.Front.{ReadsFront, ReadsInPart, ReadsOn, refused_of_played, text_of_played}
 use Rattle.script_run.specs.Played.{MayPlay, Played}
+use Rattle.script_run.specs.Told.{Tells}
 use Rattle.script_run.specs.Run.{IsFront, IsProperFront, is_refusal, script_replies, script_text, some_refused}
-use Rattle.script_run.proofs.PlayedLeadLemmas.{may-play-idle, plays-idle}
-use Rattle.script_run.proofs.PlayedReplyLemmas.{ByTables, EffectsAgree, script-replies}
+use Rattle.script_run.proofs.PlayedLeadLemmas.{plays-idle}
+use Rattle.script_run.proofs.PlayedReplyLemmas.{script-replies}
 use Rattle.script_run.proofs.PlayedWholeLemmas.{new-seat}
-use Rattle.script_run.proofs.SharedReadLemmas.{may-behind}
-
--- what holds of every statement, and of the replies to every script
-pub record AreLaws : Type 0 where
-  pub agree : EffectsAgree
-  pub tables : ByTables
+use Rattle.script_run.proofs.ToldScriptLemmas.{whole-told}
 
 -- the replies to what may be played of a script in an empty core
-replies-new : AreLaws → (settings : RunSettings) (ended : Bool) (script : List ℕ) (played : List Played) (after : Store)
+replies-new : (settings : RunSettings) (ended : Bool) (script : List ℕ) (played : List Played) (after : List Change)
     → MayPlay (empty_core settings) (statements_of ended script) played after
     → (wanted : List ℕ) × (map (λ one. one.reply) played ≡ script_replies wanted ended script)
-replies-new laws settings ended script played after may =
-    script-replies laws.agree laws.tables (statements_of ended script) played after
+replies-new settings ended script played after may =
+    script-replies (statements_of ended script) played after
     (plays-idle (empty_core settings) (statements_of ended script) played after (ap (λ (seat : Seat). seat.pending) (new-seat settings)) may)
 
 -- whether one of the replies is a refusal
@@ -44,6 +39,7 @@ same-text ended script played wanted is = ap text_of_all is
 -- these are the replies to all of a script
 pub record IsScript (ended : Bool) (script : List ℕ) (played : List Played) : Type 0 where
   pub wanted : List ℕ
+  pub replies : map (λ one. one.reply) played ≡ script_replies wanted ended script
   pub text : text_of_played played ≡ script_text wanted ended script
   pub refusals : refused_of_played played ≡ some_refused wanted ended script
 
@@ -52,41 +48,40 @@ is-script : (ended : Bool) (script : List ℕ) (played : List Played) (wanted : 
     → IsScript ended script played
 is-script ended script played wanted is = record {
   wanted = wanted;
+  replies = is;
   text = same-text ended script played wanted is;
   refusals = refused-replies played ∙ ap (list_any is_refusal) is;
 }
 
--- where no whole statement is left and nothing is waited for, all of a script was replied to
-pub whole-script : AreLaws → (settings : RunSettings) (new : State) (waits waits' : Reading) (played : List Played) (last : Bool)
+-- where no whole statement is left and nothing is waited for, all of a script was replied to, and the core tells of it
+pub whole-script : (settings : RunSettings) (new : State) (waits waits' : Reading) (played : List Played) (last : Bool)
     → ReadsOn (empty_core settings) waits new waits' played → MayCome waits [] last → statements_of last waits'.waiting ≡ []
-    → (seat_at new 0).pending ≡ [] → IsScript last waits.waiting played
-whole-script laws settings new waits waits' played last reads comes none idle =
-    let may = may-behind (empty_core settings) new waits waits' played reads [] last comes [] (tables_of new)
-    (rw (append-nil waits'.waiting, none) (may-play-idle new [] [] (tables_of new) idle refl)) in
-    let found = replies-new laws settings last waits.waiting played (tables_of new)
-    (rw (append-nil waits.waiting, append-nil played) at may) in
-    is-script last waits.waiting played found.0 found.1
+    → (seat_at new 0).pending ≡ [] → (script : IsScript last waits.waiting played) × Tells script.wanted (statements_of last waits.waiting) new
+unfolding is-script
+whole-script settings new waits waits' played last reads comes none idle =
+    let found = whole-told settings new waits waits' played last reads comes none idle in
+    (is-script last waits.waiting played found.0 found.1, found.2)
 
 -- the text of the replies to what may be played of a script
-text-script : AreLaws → (settings : RunSettings) (ended : Bool) (script : List ℕ) (played : List Played) (after : Store)
+text-script : (settings : RunSettings) (ended : Bool) (script : List ℕ) (played : List Played) (after : List Change)
     → MayPlay (empty_core settings) (statements_of ended (script ++ [])) played after
     → (wanted : List ℕ) × (text_of_played played ≡ script_text wanted ended script)
-text-script laws settings ended script played after may =
-    let replies = replies-new laws settings ended script played after (rw (append-nil script) at may) in
+text-script settings ended script played after may =
+    let replies = replies-new settings ended script played after (rw (append-nil script) at may) in
     (replies.0, same-text ended script played replies.0 replies.1)
 
 -- a front of what may be played in an empty core is one of a script's replies
-pub front-script : AreLaws → (settings : RunSettings) (waits : Reading) (written : List ℕ) → ReadsFront (empty_core settings) waits written
+pub front-script : (settings : RunSettings) (waits : Reading) (written : List ℕ) → ReadsFront (empty_core settings) waits written
     → (last : Bool) → MayCome waits [] last → (wanted : List ℕ) × IsFront written (script_text wanted last waits.waiting)
-front-script laws settings waits written front last comes =
+front-script settings waits written front last comes =
     let found = front [] last comes in
-    let text = text-script laws settings last waits.waiting found.0 found.1 found.2 in
+    let text = text-script settings last waits.waiting found.0 found.1 found.2 in
     (text.0, (found.3.0, sym text.1 ∙ found.3.1))
 
 -- and so is a proper front
-pub part-script : AreLaws → (settings : RunSettings) (waits : Reading) (written : List ℕ) → ReadsInPart (empty_core settings) waits written
+pub part-script : (settings : RunSettings) (waits : Reading) (written : List ℕ) → ReadsInPart (empty_core settings) waits written
     → (last : Bool) → MayCome waits [] last → (wanted : List ℕ) × IsProperFront written (script_text wanted last waits.waiting)
-part-script laws settings waits written part last comes =
+part-script settings waits written part last comes =
     let found = part [] last comes in
-    let text = text-script laws settings last waits.waiting found.0 found.1 found.2 in
+    let text = text-script settings last waits.waiting found.0 found.1 found.2 in
     (text.0, (found.3.0, found.3.1, sym text.1 ∙ found.3.2))

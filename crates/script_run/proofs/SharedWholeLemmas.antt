@@ -6,13 +6,14 @@ use Rattle.script_reader.specs.Reading.{Reading, StaysFed, TakesFirst, Wants}
 use Rattle.script_reader.specs.Script.{statements_of}
 use Rattle.script_reader.specs.declared.statement.Statement.{Statement}
 use Rattle.core_state.specs.State.{State}
-use Rattle.script_run.specs.Answer.{HasNoStatement}
-use Rattle.script_run.specs.Front.{HaltsReading, PlaysOn, PlaysWhole, ReadsInPart, ReadsOn, refused_of_played, text_of_played}
+use Rattle.script_run.specs.Front.{HaltsReading, PlaysIn, PlaysWhole, ReadsInPart, ReadsOn, refused_of_played, text_of_played}
+use Rattle.script_run.specs.Counted.{LapsOn}
 use Rattle.script_run.specs.Played.{Played}
 use Rattle.script_run.specs.declared.halt.Halt.{Halt}
 use Rattle.script_run.specs.declared.halt.Halt.TheVariants.{WriteFault, NoMemory}
 use Rattle.script_run.proofs.FrontHaltLemmas.{refused-append, text-append}
-use Rattle.script_run.proofs.SharedReadLemmas.{front-behind, front-wanting, part-behind, part-first, part-front, part-none, part-wanting, reads-first, reads-itself, reads-none, reads-then}
+use Rattle.script_run.proofs.LapLemmas.{laps-itself, laps-then}
+use Rattle.script_run.proofs.SharedReadLemmas.{front-behind, front-wanting, part-behind, part-first, part-front, part-wanting, reads-first, reads-itself, reads-then}
 use Rattle.script_run.proofs.WholeLemmas.{fed_on}
 
 -- the statements that were read so far were given to a core, and the replies that were there were written
@@ -22,6 +23,7 @@ pub record IsPlaying (old now : State) (waits waits' : Reading) (refused : Bool)
   pub reads : ReadsOn old waits now waits' played
   pub stays : StaysFed waits waits'
   pub refusals : refused ≡ refused_of_played played
+  pub laps : LapsOn old now played
 
 -- how many statements are left
 abbrev pub statements_left : Reading → ℕ
@@ -34,14 +36,15 @@ starts-playing state waits taken = record {
   reads = reads-itself state waits;
   stays = (refl, refl);
   refusals = refl;
+  laps = laps-itself state;
 }
 
 -- one part behind another
 pub playing-then : (old between new : State) (waits waits' waits'' : Reading) (refused some : Bool) (taken0 taken taken' : Option (List ℕ)) (more : List Played)
     → IsPlaying old between waits waits' refused taken0 taken → ReadsOn between waits' new waits'' more → StaysFed waits' waits''
-    → Appends taken taken' (text_of_played more) → some ≡ refused_of_played more
+    → Appends taken taken' (text_of_played more) → some ≡ refused_of_played more → LapsOn between new more
     → IsPlaying old new waits waits'' (refused || some) taken0 taken'
-playing-then old between new waits waits' waits'' refused some taken0 taken taken' more way reads stays took are = record {
+playing-then old between new waits waits' waits'' refused some taken0 taken taken' more way reads stays took are laps = record {
   played = way.played ++ more;
   appended = subst (Appends taken0 taken') (sym (text-append way.played more))
       (Appends-trans taken0 taken taken' (text_of_played way.played) (text_of_played more) way.appended took);
@@ -49,39 +52,16 @@ playing-then old between new waits waits' waits'' refused some taken0 taken take
   stays = fed_on waits waits' waits'' way.stays stays;
   refusals = ap (λ test. test || some) way.refusals ∙ ap (λ test. refused_of_played way.played || test) are
       ∙ sym (refused-append way.played more);
+  laps = laps-then old between new way.played more way.laps laps;
 }
 
 -- the first statement that waits was given
 pub playing-first : (old between new : State) (waits waits' waits'' : Reading) (statement : Statement) (refused some : Bool) (taken0 taken taken' : Option (List ℕ))
     → IsPlaying old between waits waits' refused taken0 taken → TakesFirst waits' waits'' statement → StaysFed waits' waits''
-    → PlaysOn (Ok some) between (statement ∷ []) new taken taken' → IsPlaying old new waits waits'' (refused || some) taken0 taken'
+    → PlaysIn (Ok some) between (statement ∷ []) new taken taken' → IsPlaying old new waits waits'' (refused || some) taken0 taken'
 playing-first old between new waits waits' waits'' statement refused some taken0 taken taken' way first stays plays =
     playing-then old between new waits waits' waits'' refused some taken0 taken taken' plays.0 way
-    (reads-first between new waits' waits'' statement plays.0 first plays.2) stays plays.1 plays.3
-
--- no statement was given
-pub playing-none : (old between new : State) (waits waits' : Reading) (refused some : Bool) (taken0 taken taken' : Option (List ℕ))
-    → IsPlaying old between waits waits' refused taken0 taken → PlaysOn (Ok some) between [] new taken taken'
-    → IsPlaying old new waits waits' (refused || some) taken0 taken'
-playing-none old between new waits waits' refused some taken0 taken taken' way plays =
-    playing-then old between new waits waits' waits' refused some taken0 taken taken' plays.0 way
-    (reads-none between new waits' plays.0 plays.2) (refl, refl) plays.1 plays.3
-
--- no whole statement is left
-pub ends-playing : (old new : State) (waits waits' : Reading) (refused : Bool) (taken0 taken : Option (List ℕ))
-    → IsPlaying old new waits waits' refused taken0 taken → HasNoStatement waits' → PlaysWhole (Ok refused) old waits new waits' taken0 taken
-ends-playing old new waits waits' refused taken0 taken way none = (way.played, way.appended, way.reads, way.refusals, none)
-
--- and the other way round
-pub whole-playing : (old new : State) (waits waits' : Reading) (refused : Bool) (taken0 taken : Option (List ℕ))
-    → PlaysWhole (Ok refused) old waits new waits' taken0 taken → StaysFed waits waits' → IsPlaying old new waits waits' refused taken0 taken
-whole-playing old new waits waits' refused taken0 taken plays stays = record {
-  played = plays.0;
-  appended = plays.1;
-  reads = plays.2;
-  stays = stays;
-  refusals = plays.3;
-}
+    (reads-first between new waits' waits'' statement plays.0 first plays.2) stays plays.1 plays.3 plays.4
 
 -- The replies halt.
 
@@ -102,18 +82,10 @@ stops-behind halt old between new waits waits' waits'' refused taken0 taken take
 -- at a statement that was read
 pub stops-first : (halt : Halt) (old between new : State) (waits waits' waits'' : Reading) (statement : Statement) (refused : Bool) (taken0 taken taken' : Option (List ℕ))
     → IsPlaying old between waits waits' refused taken0 taken → TakesFirst waits' waits'' statement
-    → PlaysOn (Err halt) between (statement ∷ []) new taken taken' → PlaysWhole (Err halt) old waits new waits'' taken0 taken'
+    → PlaysIn (Err halt) between (statement ∷ []) new taken taken' → PlaysWhole (Err halt) old waits new waits'' taken0 taken'
 stops-first halt old between new waits waits' waits'' statement refused taken0 taken taken' way first plays =
     stops-behind halt old between new waits waits' waits'' refused taken0 taken taken' plays.0 way plays.1
     (part-first between waits' waits'' statement plays.0 first plays.2)
-
--- behind the last statement
-pub stops-none : (halt : Halt) (old between new : State) (waits waits' : Reading) (refused : Bool) (taken0 taken taken' : Option (List ℕ))
-    → IsPlaying old between waits waits' refused taken0 taken
-    → PlaysOn (Err halt) between [] new taken taken' → PlaysWhole (Err halt) old waits new waits' taken0 taken'
-stops-none halt old between new waits waits' refused taken0 taken taken' way plays =
-    stops-behind halt old between new waits waits' waits' refused taken0 taken taken' plays.0 way plays.1
-    (part-none between waits' plays.0 plays.2)
 
 -- at the reader
 pub stops-wanting : (old between : State) (waits waits' waits'' : Reading) (refused : Bool) (taken0 taken : Option (List ℕ))

@@ -3,7 +3,7 @@ use Rattle.std.proofs.Common.{◌≡◌, ◌≢◌, ℕ, ◌<◌, Bool, true, fa
 use Rattle.std.specs.List.{list_any}
 use Rattle.std.specs.Io.KnownBytes.{Appends}
 use Rattle.std.proofs.lemmas.List.{length-drop}
-use Rattle.std.proofs.KnownBytes.{Appends-nil, Appends-trans}
+use Rattle.std.proofs.KnownBytes.{Appends-trans}
 use Rattle.star_io.specs.Transfer.{AppendsFront}
 use Rattle.script_reader.specs.Reading.{MayCome, Reading, StaysFed}
 use Rattle.star_history.specs.Store.{Store}
@@ -108,9 +108,6 @@ pub record IsOnItsWay (a b : Store) (w w' : Reading) (refused : Bool) (taken0 ta
 abbrev pub left_count : Store → Reading → ℕ
 left_count store waits = length (replies_left store waits.ended (waits.waiting ++ []))
 
-pub starts_whole : (store : Store) (waits : Reading) (taken : Option (List ℕ)) → IsOnItsWay store store waits waits false taken taken
-starts_whole store waits taken = record { written = []; appended = Appends-nil taken; way = starts store waits; fed = (refl, refl) }
-
 -- what may come behind the rest
 comes_on : (w w' : Reading) → StaysFed w w' → (more : List ℕ) (last : Bool) → MayCome w more last → MayCome w' more last
 comes_on w w' fed more last comes e = comes (sym fed.1 ∙ e)
@@ -128,13 +125,6 @@ goes_on a b c w w' w'' refused taken0 taken taken' answered way first stays took
   way = follows a b c w w' w'' way.written answered.text refused answered.refused way.way (first_written b c w' w'' answered first) (comes_on w w' way.fed);
   fed = fed_on w w' w'' way.fed stays;
 }
-
--- one reply less is left
-pub fewer_left : (b c : Store) (w' w'' : Reading) (answered : Answered) → RepliesFirst b w' c w'' answered → StaysFed w' w'' → left_count c w'' < left_count b w'
-fewer_left b c w' w'' answered first stays =
-    let one = ap length (first.replies [] w'.ended (λ e. (refl, e))) in
-    let same = ap (λ ended. length (replies_left c ended (w''.waiting ++ []))) stays.1 in
-    omega arith
 
 pub or_false : (a : Bool) → (a || false) ≡ a
 or_false true = refl

@@ -5,12 +5,13 @@ use Rattle.std.specs.Io.KnownBytes.{Appends}
 use Rattle.script_reader.specs.Reading.{MayCome, Reading}
 use Rattle.script_reader.specs.Script.{statements_of}
 use Rattle.script_reader.specs.declared.statement.Statement.{Statement}
-use Rattle.star_history.specs.Store.{Store}
+use Rattle.star_history.specs.History.{Change}
 use Rattle.reply_text.specs.Text.{text_of_all}
 use Rattle.core_state.specs.State.{State}
 use Rattle.core_state.specs.Steps.{Done, MayStepAll, Replying, Step, Wanting, after_steps}
 use Rattle.core_state.specs.declared.event.Event.TheVariants.{Abandon, Submit}
 use Rattle.script_run.specs.Answer.{HasNoStatement}
+use Rattle.script_run.specs.Counted.{LapsOn}
 use Rattle.script_run.specs.Played.{Leads, MayPlay, Played}
 use Rattle.script_run.specs.Run.{IsFront, IsProperFront, is_refusal}
 use Rattle.script_run.specs.declared.halt.Halt.{Halt}
@@ -41,7 +42,7 @@ refused_of_played played = list_any (λ one. is_refusal one.reply) played
 
 -- whatever is given to a core behind these statements, a proper front of replies that may come was written
 abbrev pub HaltsPlay : State → List Statement → (written : List ℕ) → Type 0
-HaltsPlay old statements written = (rest : List Statement) → (played : List Played) × (after : Store)
+HaltsPlay old statements written = (rest : List Statement) → (played : List Played) × (after : List Change)
     × MayPlay old (statements ++ rest) played after × IsProperFront written (text_of_played played)
 
 -- a core was given statements, and the replies that were there were written; or the replies halted
@@ -49,6 +50,13 @@ abbrev pub PlaysOn : Result Bool Halt → (old : State) → List Statement → (
 PlaysOn (Ok refused) old statements new taken taken' = (played : List Played) × Appends taken taken' (text_of_played played)
     × Leads old statements new played × (refused ≡ refused_of_played played)
 PlaysOn (Err halt) old statements new taken taken' =
+    (written : List ℕ) × Appends taken taken' written × HaltsPlay old statements written
+
+-- the same where a whole statement was given: the scan went no further than the replies tell
+abbrev pub PlaysIn : Result Bool Halt → (old : State) → List Statement → (new : State) → (taken taken' : Option (List ℕ)) → Type 0
+PlaysIn (Ok refused) old statements new taken taken' = (played : List Played) × Appends taken taken' (text_of_played played)
+    × Leads old statements new played × (refused ≡ refused_of_played played) × LapsOn old new played
+PlaysIn (Err halt) old statements new taken taken' =
     (written : List ℕ) × Appends taken taken' written × HaltsPlay old statements written
 
 -- the statements between two readers were given to a core, and these were replied to
@@ -60,11 +68,11 @@ pub record ReadsOn (old : State) (waits : Reading) (new : State) (waits' : Readi
 
 -- whatever bytes come, a front of replies that may come was written, or a proper one
 abbrev pub ReadsFront : State → Reading → (written : List ℕ) → Type 0
-ReadsFront old waits written = (more : List ℕ) (last : Bool) → MayCome waits more last → (played : List Played) × (after : Store)
+ReadsFront old waits written = (more : List ℕ) (last : Bool) → MayCome waits more last → (played : List Played) × (after : List Change)
     × MayPlay old (statements_of last (waits.waiting ++ more)) played after × IsFront written (text_of_played played)
 
 abbrev pub ReadsInPart : State → Reading → (written : List ℕ) → Type 0
-ReadsInPart old waits written = (more : List ℕ) (last : Bool) → MayCome waits more last → (played : List Played) × (after : Store)
+ReadsInPart old waits written = (more : List ℕ) (last : Bool) → MayCome waits more last → (played : List Played) × (after : List Change)
     × MayPlay old (statements_of last (waits.waiting ++ more)) played after × IsProperFront written (text_of_played played)
 
 -- what was written where the replies halt: at a write that failed not all of a reply, and where memory was wanted at the
@@ -76,6 +84,6 @@ HaltsReading NoMemory old waits written = ReadsFront old waits written × (waits
 -- every statement that is whole was given to a core, or the replies halted
 abbrev pub PlaysWhole : Result Bool Halt → State → Reading → State → Reading → (taken taken' : Option (List ℕ)) → Type 0
 PlaysWhole (Ok refused) old waits new waits' taken taken' = (played : List Played) × Appends taken taken' (text_of_played played)
-    × ReadsOn old waits new waits' played × (refused ≡ refused_of_played played) × HasNoStatement waits'
+    × ReadsOn old waits new waits' played × (refused ≡ refused_of_played played) × HasNoStatement waits' × LapsOn old new played
 PlaysWhole (Err halt) old waits new waits' taken taken' =
     (written : List ℕ) × Appends taken taken' written × HaltsReading halt old waits written

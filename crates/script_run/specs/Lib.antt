@@ -1,8 +1,12 @@
 -- What a run of a script writes, and why it ends.
 pub mod Run
 pub mod Played
+pub mod Laps
+pub mod Counted
+pub mod Told
 pub mod Front
 pub mod Waiting
+pub mod Shared
 pub mod End
 pub mod Answer
 pub mod Pieces

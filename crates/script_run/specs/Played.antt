@@ -1,20 +1,25 @@
 -- What becomes of the statements that a core is given, one after the other.
-use Rattle.std.specs.Prelude.{◌≡◌, ◌⊎◌, ℕ, Bool, true, false, List, [], ◌∷◌, ◌++◌, filter, map, Option, Some, None}
+use Rattle.std.specs.Prelude.{◌≡◌, ◌⊎◌, ℕ, Bool, true, false, List, [], ◌∷◌, ◌++◌, filter, filter_map, map, Option, Some, None, option_map, IfSome}
 use Rattle.script_reader.specs.declared.statement.Statement.{Statement}
 use Rattle.star_plan.specs.Answer.{answer_of}
 use Rattle.star_plan.specs.Joined.{Joined}
 use Rattle.star_plan.specs.Test.{Query}
 use Rattle.star_history.specs.Alone.{alone}
+use Rattle.star_history.specs.History.{Change, store_of}
 use Rattle.star_history.specs.Store.{Store}
 use Rattle.reply_text.specs.declared.reply.Reply.{Reply}
 use Rattle.reply_text.specs.declared.reply.Reply.TheVariants.{Memory}
-use Rattle.star_statement.specs.Effect.{answer_reply, store_after}
+use Rattle.star_statement.specs.Effect.{answer_reply}
 use Rattle.star_statement.specs.Outcome.{outcome_of}
+use Rattle.star_statement.specs.Script.{history_after}
 use Rattle.aggregations.specs.Grouped.{grouped_of}
+use Rattle.pipeline_manager.specs.Lives.{Lives, life_of}
+use Rattle.pipeline_manager.specs.Sound.{AreRising}
+use Rattle.pipeline_manager.specs.declared.life.Life.TheVariants.{Answered}
 use Rattle.core_state.specs.State as state
-use Rattle.core_state.specs.State.{Asked, Awaited, Pending, State}
-use Rattle.core_state.specs.Submitting.{Grouping, Ready, Whole, asked_by, awaited_by, seat_at}
-use Rattle.core_state.specs.Tables.{tables_of}
+use Rattle.core_state.specs.State.{Accepted, Asked, Awaited, Pending, Seat, State, Taken}
+use Rattle.core_state.specs.Submitting.{Grouping, Ready, Whole, asked_by, awaited_by, seat_at, taken_by}
+use Rattle.core_state.specs.Tables.{changes_of, tables_of}
 use Rattle.core_state.specs.declared.event.Event.{Event}
 use Rattle.core_state.specs.declared.event.Event.TheVariants.{Submit, Reserve, Build, Start, Cut, Take, Give, Distribute, Finish, Clear, Release, Reorder, Abandon}
 
@@ -45,14 +50,15 @@ ComesTo store (state.Replied reply) played = (played.had ≡ true) × (played.re
 ComesTo store (Asked query snapshot) played = (played.had ≡ true) × (played.asked ≡ Some (query, snapshot))
     × ((played.reply ≡ answer_reply snapshot (alone store query snapshot)) ⊎ (played.reply ≡ Memory))
 
--- statements were played over these tables, one after the other, and these are the tables behind them
-abbrev pub Plays : Store → List Statement → List Played → (after : Store) → Type 0
-Plays store [] [] after = after ≡ store
-Plays store [] (one ∷ played) after = ⊥
-Plays store (statement ∷ statements) [] after = ⊥
-Plays store (statement ∷ statements) (one ∷ played) after =
-    (ComesTo store (awaited_by (outcome_of store statement).told) one × Plays (store_after store statement) statements played after)
-    ⊎ ((one ≡ lost) × Plays store statements played after)
+-- statements were played behind this history, one after the other, and this is the history behind them
+abbrev pub Plays : List Change → List Statement → List Played → (after : List Change) → Type 0
+Plays history [] [] after = after ≡ history
+Plays history [] (one ∷ played) after = ⊥
+Plays history (statement ∷ statements) [] after = ⊥
+Plays history (statement ∷ statements) (one ∷ played) after =
+    (ComesTo (store_of history) (awaited_by (outcome_of (store_of history) statement).told) one
+    × Plays (history_after history statement) statements played after)
+    ⊎ ((one ≡ lost) × Plays history statements played after)
 
 -- what a seat waits for comes to these
 abbrev pub ComeTo : Store → List Pending → List Played → Type 0
@@ -62,24 +68,65 @@ ComeTo store (pending ∷ rest) [] = ⊥
 ComeTo store (pending ∷ rest) (one ∷ played) = ComesTo store pending.awaited one × ComeTo store rest played
 
 -- what the front, which is seat 0, waits for in a core, and statements that it gives to the core then, may be played so
-pub record MayPlay (state : State) (statements : List Statement) (played : List Played) (after : Store) : Type 0 where
+pub record MayPlay (state : State) (statements : List Statement) (played : List Played) (after : List Change) : Type 0 where
   pub due : List Played
   pub rest : List Played
   pub all : played ≡ due ++ rest
   pub come : ComeTo (tables_of state) (seat_at state 0).pending due
-  pub plays : Plays (tables_of state) statements rest after
+  pub plays : Plays (changes_of state.entries) statements rest after
 
--- the queries of statements that the core has, in their order
-abbrev pub asked_of : List Played → List (Option (Query × ℕ))
-asked_of played = map (λ one. one.asked) (filter (λ one. one.had) played)
+-- the statements that the core has
+abbrev pub had_of : List Played → List Played
+had_of played = filter (λ one. one.had) played
+
+-- what a seat took and waits for, in the order of its statements
+abbrev pub given_in : Seat → List Taken
+given_in seat = seat.taken ++ map taken_by seat.pending
+
+-- a statement that is a query: its number, and the query with its snapshot
+abbrev pub query_by : Taken → Option (ℕ × (Query × ℕ))
+query_by taken = option_map (λ asked. (taken.statement, asked)) taken.query
+
+-- the queries among statements, in their order
+abbrev pub queries_among : List Taken → List (ℕ × (Query × ℕ))
+queries_among statements = filter_map query_by statements
+
+-- the same of an accepted query
+abbrev pub accepted_by : Accepted → ℕ × (Query × ℕ)
+accepted_by accepted = (accepted.number, (accepted.query, accepted.snapshot))
+
+-- the queries of a core are those that its front took and waits for, in their order, and their numbers rise
+pub record IsListed (state : State) : Type 0 where
+  pub queries : map accepted_by state.accepted ≡ queries_among (given_in (seat_at state 0))
+  pub rising : AreRising state.lives.queries
+
+-- a reply that was taken is that to what was played: to the same query, which was answered if the reply is not `memory`
+pub record IsToldAs (lives : Lives) (taken : Taken) (one : Played) : Type 0 where
+  pub same : taken.query ≡ one.asked
+  pub answered : (one.reply ≡ Memory) ⊎ IfSome taken.query (λ asked. life_of lives taken.statement ≡ Some Answered)
+
+-- the replies that were taken are those to what was played, one after the other
+abbrev pub AreToldAs : Lives → List Taken → List Played → Type 0
+AreToldAs lives [] [] = Unit {0}
+AreToldAs lives [] (one ∷ played) = ⊥
+AreToldAs lives (taken ∷ rest) [] = ⊥
+AreToldAs lives (taken ∷ rest) (one ∷ played) = IsToldAs lives taken one × AreToldAs lives rest played
+
+-- from one core to a later one the queries stay listed, a query that was answered stays so, and the front took the replies to those of
+-- what was played that the core has
+pub record Follows (old new : State) (played : List Played) : Type 0 where
+  pub listed : IsListed new
+  pub stay : (query : ℕ) → life_of old.lives query ≡ Some Answered → life_of new.lives query ≡ Some Answered
+  pub since : List Taken
+  pub taken : (seat_at new 0).taken ≡ (seat_at old 0).taken ++ since
+  pub told : AreToldAs new.lives since (had_of played)
 
 -- a core to which these statements were given is this one, and these were replied to: what it may play then it could play behind them before,
--- and the front took the replies to those that the core has
+-- and it follows the core where the queries of that are listed
 pub record Leads (old : State) (statements : List Statement) (new : State) (played : List Played) : Type 0 where
-  pub plays : (rest : List Statement) (more : List Played) (after : Store) → MayPlay new rest more after
+  pub plays : (rest : List Statement) (more : List Played) (after : List Change) → MayPlay new rest more after
       → MayPlay old (statements ++ rest) (played ++ more) after
-  pub taken : map (λ taken. taken.query) (seat_at new 0).taken
-      ≡ map (λ taken. taken.query) (seat_at old 0).taken ++ asked_of played
+  pub follows : IsListed old → Follows old new played
 
 -- an event that leaves the history and the seats: no statement is submitted, and no query abandoned
 abbrev pub LeavesSeats : Event → Type 0

@@ -1,5 +1,5 @@
 -- What a run of a script writes, and why it ends.
-use Rattle.std.specs.Prelude.{◌≡◌, ℕ, ◌+◌, ◌<◌, ◌≤◌, ◌⊎◌, Bool, true, false, List, ◌++◌, length, take, Option}
+use Rattle.std.specs.Prelude.{◌≡◌, ℕ, ◌+◌, ◌<◌, ◌≤◌, ◌⊎◌, Bool, true, false, List, [], ◌++◌, length, take, Option}
 use Rattle.std.specs.List.{list_any}
 use Rattle.std.specs.Io.KnownBytes.{Appends, Consumes, IsAtEnd}
 use Rattle.star_io.specs.Faults.{FailedOnce, FailedOnceAtMost}
@@ -87,7 +87,8 @@ CountsFaults NoMemory read read' read_failed write write' write_failed =
     FailedOnceAtMost read read' read_failed × (write' ≡ write)
 
 -- in a run the source gave these bytes and the sink took those, and they belong together as its end says, where memory was
--- wanted for the statements at some places, which the replies tell. Want of memory of the run itself is told in place of no other end: some reply was still to be written, or the reading met no end
+-- wanted for the statements at some places, which the replies tell. Want of memory of the run itself is told in place of no
+-- other end: some reply was still to be written, or the reading met no end
 pub record AnswersScript (end : RunEnd) (ended ended' : Bool) (read read' : ℕ) (left left' taken taken' : Option (List ℕ)) : Type 0 where
   pub given : List ℕ
   pub written : List ℕ
@@ -98,3 +99,8 @@ pub record AnswersScript (end : RunEnd) (ended ended' : Bool) (read read' : ℕ)
   pub writes : Writes wanted end ended' left' given written
   pub memory : end ≡ NoMemory → IsProperFront written (script_text wanted ended' (within_limit given))
       ⊎ MetNoEnd ended ended' read read' given
+
+-- the same of a run that replies to no statement that memory was wanted for it: where it was, such a run ends
+abbrev pub AnswersAlone : (end : RunEnd) → (ended ended' : Bool) → (read read' : ℕ) → (left left' taken taken' : Option (List ℕ)) → Type 0
+AnswersAlone end ended ended' read read' left left' taken taken' =
+    (answers : AnswersScript end ended ended' read read' left left' taken taken') × (answers.wanted ≡ [])

@@ -1,5 +1,5 @@
 //! The front of a run: it gives statements to a core, lets their queries come to their end, and writes the replies.
-ghost use Rattle.std.specs.Prelude.{◌≡◌, ◌≢◌, [], ◌∷◌, None, Some, Ok, IfOk, OnErr, OnOk};
+ghost use Rattle.std.specs.Prelude.{◌≡◌, ◌≢◌, ◌⊎◌, ◌<◌, ◌≤◌, [], ◌∷◌, All, IsTrue, None, Some, Ok, false, IfOk, OnErr, OnOk};
 ghost use Rattle.std.specs.Io.KnownBytes.{Appends};
 ghost use Rattle.star_io.specs.Transfer.{AppendsFront};
 ghost use Rattle.reply_text.specs.Text.{text_of};
@@ -11,9 +11,12 @@ ghost use Rattle.event_core.specs.Chosen.{AreIdle};
 ghost use Rattle.event_core.specs.Replies.{first_open};
 ghost use Rattle.event_core.specs.Seen.{state_of};
 ghost use Rattle.script_run.specs.Answer.{CountsHalt};
-ghost use Rattle.script_run.specs.Front.{IsRun, PlaysOn};
+ghost use Rattle.pipeline_manager.specs.Conditions.{is_open};
+ghost use Rattle.script_run.specs.Front.{IsRun, PlaysIn, PlaysOn};
+ghost use Rattle.script_run.specs.Counted.{Beside, CountsOne, GoesRound, IsCalm, IsCounted, open_in};
 ghost use Rattle.script_run.specs.Played.{Leads};
 ghost use Rattle.script_run.specs.Run.{is_refusal};
+ghost use Rattle.script_run.specs.Waiting.{is_wait as means_to_wait};
 
 use crate::halt::Halt;
 use crate::reply::{is_refusal, text_of};
@@ -42,7 +45,7 @@ pub(crate) struct Front {
     /// How many statements the core has.
     submitted: u64,
 
-    /// How many queries the core accepted since all were last let come to their end.
+    /// How many queries of the core have not come to their end, each of which waits for a slot.
     unfinished: u32,
 }
 
@@ -52,6 +55,8 @@ impl Front {
         requires { AreWithin settings }
         ensures core { IfOk result (λ front. state_of front.core ≡ empty_core front.settings) }
         ensures settings { IfOk result (λ front. front.settings ≡ settings) }
+        ensures counted { IfOk result IsCounted }
+        ensures free { IfOk result (λ front. front.unfinished ≡ 0) }
     {
         let core = Core::new(alloc, settings)?;
         Ok(Front {
@@ -72,43 +77,76 @@ impl Front {
         statement: Statement,
         sink: &mut K,
     ) -> Result<bool, Halt>
-        requires idle { AreIdle (state_of self.old.core) }
-        ensures plays { PlaysOn result (state_of self.old.core) (statement ∷ []) (state_of self.new.core)
+        requires counted { IsCounted self.old }
+        requires free { self.old.unfinished < self.old.settings.slots }
+        ensures plays { PlaysIn result (state_of self.old.core) (statement ∷ []) (state_of self.new.core)
             (K.taken sink.old) (K.taken sink.new) }
         ensures run { IsRun (state_of self.old.core) (state_of self.new.core) }
-        ensures idle { OnOk result (AreIdle (state_of self.new.core)) }
+        ensures counted { OnOk result (IsCounted self.new) }
+        ensures free { OnOk result (self.new.unfinished < self.new.settings.slots) }
+        ensures settings { self.new.settings ≡ self.old.settings }
         ensures faults { CountsHalt result (K.write_faults sink.old) (K.write_faults sink.new) (K.write_failed sink.new) }
     {
-        let waits = self.unfinished > 0 && is_wait(self.alloc, &statement)?;
-        let Ok(()) = submit(&mut self.core, statement) else {
+        let waits = self.waits_at(&statement)?;
+        if !self.give(statement) {
             return self.lose(rt, sink);
-        };
-        self.count();
-        if waits || self.unfinished >= self.settings.slots {
+        }
+        if self.is_due(waits) {
             self.play_out(rt, sink)
         } else {
-            write_ready(self.alloc, &mut self.core, sink)
+            Ok(false)
         }
     }
 
-    /// Counts the statement that was submitted last: it may be a query.
-    fn count(&mut self)
-        ensures core { self.new.core ≡ self.old.core }
-        ensures settings { self.new.settings ≡ self.old.settings }
+    /// Whether a statement is a `wait` before which some query is open.
+    fn waits_at(&self, statement: &Statement) -> Result<bool, NoMemory>
+        ensures { IfOk result (λ waits. IsTrue waits → IsTrue (means_to_wait statement.now) × (0 < self.now.unfinished)) }
     {
-        self.submitted = self.submitted.saturating_add(1);
-        if self.core.life(self.submitted) == Some(Life::Waiting) {
-            self.unfinished = self.unfinished.saturating_add(1);
+        Ok(self.unfinished > 0 && is_wait(self.alloc, statement)?)
+    }
+
+    /// Whether the queries are to come to their end, behind a statement that waits for them or not. Where none is open, the
+    /// replies may be written, and else none can be before.
+    fn is_due(&self, waits: bool) -> bool
+        ensures due { IsTrue result → IsTrue waits ⊎ ((self.now.unfinished ≡ 0) ⊎ (self.now.settings.slots ≤ self.now.unfinished)) }
+        ensures not_yet { (result ≡ false) → self.now.unfinished < self.now.settings.slots }
+    {
+        waits || self.unfinished == 0 || self.unfinished >= self.settings.slots
+    }
+
+    /// Gives a statement to the core, and counts it. Answers whether there was memory for it; else nothing has changed.
+    fn give(&mut self, statement: Statement) -> bool
+        requires counted { IsCounted self.old }
+        requires free { self.old.unfinished < self.old.settings.slots }
+        ensures leads { IsTrue result → Leads (state_of self.old.core) (statement ∷ []) (state_of self.new.core) [] }
+        ensures run { IsTrue result → IsRun (state_of self.old.core) (state_of self.new.core) }
+        ensures counts { IsTrue result → CountsOne statement (state_of self.old.core) (state_of self.new.core) }
+        ensures counted { IsTrue result → IsCounted self.new }
+        ensures settings { IsTrue result → self.new.settings ≡ self.old.settings }
+        ensures lost { (result ≡ false) → self.new ≡ self.old }
+    {
+        let Some(number) = self.submitted.checked_add(1) else {
+            return false;
+        };
+        if submit(&mut self.core, statement).is_err() {
+            return false;
         }
+        self.submitted = number;
+        if matches!(self.core.life(number), Some(Life::Waiting)) {
+            self.unfinished += 1;
+        }
+        true
     }
 
     /// A statement for which no memory was left: the replies before its own are written, and its own is `memory`.
     fn lose<R: Threads + Sync, K: Sink>(&mut self, rt: &R, sink: &mut K) -> Result<bool, Halt>
-        requires idle { AreIdle (state_of self.old.core) }
-        ensures plays { (statement : Statement) → PlaysOn result (state_of self.old.core) (statement ∷ []) (state_of self.new.core)
+        requires counted { IsCounted self.old }
+        ensures plays { (statement : Statement) → PlaysIn result (state_of self.old.core) (statement ∷ []) (state_of self.new.core)
             (K.taken sink.old) (K.taken sink.new) }
         ensures run { IsRun (state_of self.old.core) (state_of self.new.core) }
-        ensures idle { OnOk result (AreIdle (state_of self.new.core)) }
+        ensures counted { OnOk result (IsCounted self.new) }
+        ensures free { OnOk result (self.new.unfinished ≡ 0) }
+        ensures settings { self.new.settings ≡ self.old.settings }
         ensures faults { CountsHalt result (K.write_faults sink.old) (K.write_faults sink.new) (K.write_failed sink.new) }
     {
         self.play_out(rt, sink)?;
@@ -121,16 +159,40 @@ impl Front {
         rt: &R,
         sink: &mut K,
     ) -> Result<bool, Halt>
-        requires idle { AreIdle (state_of self.old.core) }
+        requires counted { IsCounted self.old }
         ensures plays { PlaysOn result (state_of self.old.core) [] (state_of self.new.core) (K.taken sink.old) (K.taken sink.new) }
         ensures all { OnOk result ((seat_at (state_of self.new.core) 0).pending ≡ []) }
+        ensures round { OnOk result (GoesRound (state_of self.old.core) (state_of self.new.core)) }
         ensures run { IsRun (state_of self.old.core) (state_of self.new.core) }
-        ensures idle { OnOk result (AreIdle (state_of self.new.core)) }
+        ensures counted { OnOk result (IsCounted self.new) }
+        ensures free { OnOk result (self.new.unfinished ≡ 0) }
+        ensures settings { self.new.settings ≡ self.old.settings }
         ensures faults { CountsHalt result (K.write_faults sink.old) (K.write_faults sink.new) (K.write_failed sink.new) }
     {
+        self.finish_open(rt)?;
+        write_ready(self.alloc, &mut self.core, sink)
+    }
+
+    /// Lets every query come to its end, if some is open.
+    fn finish_open<R: Threads + Sync>(&mut self, rt: &R) -> Result<(), NoMemory>
+        requires counted { IsCounted self.old }
+        ensures leads { Leads (state_of self.old.core) [] (state_of self.new.core) [] }
+        ensures round { GoesRound (state_of self.old.core) (state_of self.new.core) }
+        ensures number { (state_of self.new.core).numbers.statement ≡ (state_of self.old.core).numbers.statement }
+        ensures closed { OnOk result (All (λ entry. is_open entry.life ≡ false) (state_of self.new.core).lives.queries) }
+        ensures waits { OnErr result ((seat_at (state_of self.old.core) 0).pending ≢ []) }
+        ensures run { IsRun (state_of self.old.core) (state_of self.new.core) }
+        ensures idle { OnOk result (AreIdle (state_of self.new.core)) }
+        ensures settings { self.new.settings ≡ self.old.settings }
+        ensures submitted { self.new.submitted ≡ self.old.submitted }
+        ensures unfinished { OnOk result (self.new.unfinished ≡ 0) }
+    {
+        if self.unfinished == 0 {
+            return Ok(());
+        }
         finish(rt, &mut self.core)?;
         self.unfinished = 0;
-        write_ready(self.alloc, &mut self.core, sink)
+        Ok(())
     }
 }
 
@@ -138,6 +200,7 @@ impl Front {
 fn submit(core: &mut Core, statement: Statement) -> Result<(), StepFault>
     ensures leads { OnOk result (Leads (state_of core.old) (statement ∷ []) (state_of core.new) []) }
     ensures run { OnOk result (IsRun (state_of core.old) (state_of core.new)) }
+    ensures counts { OnOk result (CountsOne statement (state_of core.old) (state_of core.new)) }
     ensures idle { AreIdle (state_of core.old) → AreIdle (state_of core.new) }
     ensures err { OnErr result (core.new ≡ core.old) }
 {
@@ -147,20 +210,22 @@ fn submit(core: &mut Core, statement: Statement) -> Result<(), StepFault>
     core.step(Event::Submit { seat: 0, statement })
 }
 
-/// Lets every query come to its end, if the front waits for one that is unfinished.
+/// Lets every query come to its end, where each waits and they are no more than there are slots.
 fn finish<R: Threads + Sync>(rt: &R, core: &mut Core) -> Result<(), NoMemory>
-    requires idle { AreIdle (state_of core.old) }
+    requires calm { IsCalm (open_in (state_of core.old)) (state_of core.old) }
+    requires some { 0 < open_in (state_of core.old) }
+    requires few { open_in (state_of core.old) ≤ (state_of core.old).settings.slots }
     ensures leads { Leads (state_of core.old) [] (state_of core.new) [] }
-    ensures closed { OnOk result (first_open (state_of core.new).lives (seat_at (state_of core.new) 0) ≡ None) }
+    ensures round { GoesRound (state_of core.old) (state_of core.new) }
+    ensures number { (state_of core.new).numbers.statement ≡ (state_of core.old).numbers.statement }
+    ensures closed { OnOk result (All (λ entry. is_open entry.life ≡ false) (state_of core.new).lives.queries) }
     ensures waits { OnErr result ((seat_at (state_of core.old) 0).pending ≢ []) }
     ensures run { IsRun (state_of core.old) (state_of core.new) }
     ensures idle { OnOk result (AreIdle (state_of core.new)) }
 {
     taken_events_are_steps();
-    if core.first_pending(0).is_some() {
-        finish_all(rt, core)?;
-    }
-    Ok(())
+    every_core_is_sound(core);
+    finish_all(rt, core)
 }
 
 /// Writes the replies that may be taken, in their order, and tells whether one of them is a refusal.
@@ -170,7 +235,7 @@ fn write_ready<K: Sink>(alloc: Global, core: &mut Core, sink: &mut K) -> Result<
     ensures all { OnOk result (first_open (state_of core.old).lives (seat_at (state_of core.old) 0) ≡ None →
         (seat_at (state_of core.new) 0).pending ≡ []) }
     ensures run { IsRun (state_of core.old) (state_of core.new) }
-    ensures idle { AreIdle (state_of core.old) → AreIdle (state_of core.new) }
+    ensures beside { Beside (state_of core.old) (state_of core.new) }
     ensures faults { CountsHalt result (K.write_faults sink.old) (K.write_faults sink.new) (K.write_failed sink.new) }
 {
     a_reply_that_may_be_taken_is_right();

@@ -1,7 +1,7 @@
 //! A run of a script in which each query is answered by itself: each statement is replied to as soon as it is whole, before
 //! more is read.
 ghost use Rattle.std.specs.Prelude.{◌≡◌};
-ghost use Rattle.script_run.specs.Run.{AnswersScript, CountsFaults};
+ghost use Rattle.script_run.specs.Run.{AnswersAlone, CountsFaults};
 ghost use Rattle.script_run.specs.End.{end_of_all, end_of_halt};
 
 use crate::answer::answer_whole;
@@ -17,12 +17,12 @@ use std::alloc::Global;
 pub(crate) const PIECE_BYTES: usize = 64 * 1024;
 
 /// Reads a script to its end, and writes the reply to each of its statements, in order, before it reads on.
-/// Each query is answered by itself, at its place.
+/// Each query is answered by itself, at its place. Where memory is wanted the run ends, and no reply tells it.
 ///
 /// At a read that fails, and at the byte past the limit, the statements that are whole before it
 /// are answered. After a write that fails nothing more is written or read.
 pub fn run_alone<S: Source, K: Sink>(alloc: Global, source: &mut S, sink: &mut K) -> RunEnd
-    ensures answers { AnswersScript result (S.ended source.old) (S.ended source.new)
+    ensures answers { AnswersAlone result (S.ended source.old) (S.ended source.new)
         (S.read_faults source.old) (S.read_faults source.new)
         (S.left source.old) (S.left source.new) (K.taken sink.old) (K.taken sink.new) }
     ensures faults { CountsFaults result

@@ -1,16 +1,16 @@
 //! A run of a script whose queries share the scan of one core.
-ghost use Rattle.std.specs.Prelude.{◌≡◌, ◌↔◌, [], IfSome, IsNone, OnOk};
+ghost use Rattle.std.specs.Prelude.{◌≡◌, ◌↔◌, ◌<◌, IfSome, IsNone, OnOk};
 ghost use Rattle.core_state.specs.Settings.{AreWithin};
 ghost use Rattle.core_state.specs.Sound.{empty_core};
-ghost use Rattle.core_state.specs.Submitting.{seat_at};
 ghost use Rattle.event_core.specs.Seen.{state_of};
 ghost use Rattle.script_reader.specs.Reading.{StaysFed};
 ghost use Rattle.star_io.specs.declared.run_end.RunEnd.TheVariants as end;
-ghost use Rattle.event_core.specs.Chosen.{AreIdle};
 ghost use Rattle.script_run.specs.Answer.{CountsHalt};
-ghost use Rattle.script_run.specs.End.{end_behind};
+ghost use Rattle.script_run.specs.End.{end_behind, end_of_rest};
 ghost use Rattle.script_run.specs.Front.{IsRun, PlaysWhole};
-ghost use Rattle.script_run.specs.Run.{AnswersScript, CountsFaults};
+ghost use Rattle.script_run.specs.Counted.{IsCounted};
+ghost use Rattle.script_run.specs.Run.{CountsFaults};
+ghost use Rattle.script_run.specs.Shared.{AnswersBy, AnswersShared};
 
 use crate::front::Front;
 use crate::halt::Halt;
@@ -20,7 +20,6 @@ use core_state::RunSettings;
 use event_core::Core;
 use script_reader::{Next, ScriptReader};
 use star_io::{RunEnd, Sink, Source};
-use star_statement::{replies_agree_with_the_tables, replies_follow_from_the_tables};
 use star_values::NoMemory;
 use std::alloc::Global;
 use std::thread::Threads;
@@ -48,7 +47,7 @@ pub fn run_script<R: Threads + Sync, S: Source, K: Sink>(
     sink: &mut K,
 ) -> RunDone
     requires { AreWithin settings }
-    ensures answers { AnswersScript result.end (S.ended source.old) (S.ended source.new)
+    ensures answers { AnswersShared settings.slots result.core result.end (S.ended source.old) (S.ended source.new)
         (S.read_faults source.old) (S.read_faults source.new)
         (S.left source.old) (S.left source.new) (K.taken sink.old) (K.taken sink.new) }
     ensures faults { CountsFaults result.end
@@ -64,11 +63,21 @@ pub fn run_script<R: Threads + Sync, S: Source, K: Sink>(
         };
     };
     let end = play_script(rt, alloc, &mut front, source, sink);
-    let core = match end {
+    RunDone {
+        end,
+        core: core_of(end, front),
+    }
+}
+
+/// The core of a run that ended so, unless no memory was left for the run.
+fn core_of(run_end: RunEnd, front: Front) -> Option<Core>
+    ensures none { IsNone result ↔ (run_end ≡ end.NoMemory) }
+    ensures own { IfSome result (λ core. core ≡ front.core) }
+{
+    match run_end {
         RunEnd::NoMemory => None,
         _ => Some(front.core),
-    };
-    RunDone { end, core }
+    }
 }
 
 /// Reads a script to its end, and gives its statements to an empty core.
@@ -80,7 +89,9 @@ fn play_script<R: Threads + Sync, S: Source, K: Sink>(
     sink: &mut K,
 ) -> RunEnd
     requires empty { state_of front.old.core ≡ empty_core front.old.settings }
-    ensures answers { AnswersScript result (S.ended source.old) (S.ended source.new)
+    requires counted { IsCounted front.old }
+    requires free { front.old.unfinished ≡ 0 }
+    ensures answers { AnswersBy front.old.settings.slots (state_of front.new.core) result (S.ended source.old) (S.ended source.new)
         (S.read_faults source.old) (S.read_faults source.new)
         (S.left source.old) (S.left source.new) (K.taken sink.old) (K.taken sink.new) }
     ensures faults { CountsFaults result
@@ -88,8 +99,6 @@ fn play_script<R: Threads + Sync, S: Source, K: Sink>(
         (K.write_faults sink.old) (K.write_faults sink.new) (K.write_failed sink.new) }
     ensures run { IsRun (state_of front.old.core) (state_of front.new.core) }
 {
-    replies_agree_with_the_tables();
-    replies_follow_from_the_tables();
     let mut piece = [0u8; PIECE_BYTES];
     let mut reader = ScriptReader::new(alloc);
     let mut refused = false;
@@ -107,8 +116,8 @@ fn play_script<R: Threads + Sync, S: Source, K: Sink>(
         }
     }
     reader.finish();
-    match play_rest(rt, front, &mut reader, sink) {
-        Ok(some) => end_of_all(refused | some),
+    match play_whole(rt, front, &mut reader, sink) {
+        Ok(some) => end_of_rest(refused | some, front.play_out(rt, sink)),
         Err(halt) => end_of_halt(halt),
     }
 }
@@ -121,12 +130,15 @@ fn play_whole<R: Threads + Sync, K: Sink>(
     reader: &mut ScriptReader,
     sink: &mut K,
 ) -> Result<bool, Halt>
-    requires idle { AreIdle (state_of front.old.core) }
+    requires counted { IsCounted front.old }
+    requires free { front.old.unfinished < front.old.settings.slots }
     ensures plays { PlaysWhole result (state_of front.old.core) reader.old (state_of front.new.core) reader.new
         (K.taken sink.old) (K.taken sink.new) }
     ensures stays { StaysFed reader.old reader.new }
     ensures run { IsRun (state_of front.old.core) (state_of front.new.core) }
-    ensures idle { OnOk result (AreIdle (state_of front.new.core)) }
+    ensures counted { OnOk result (IsCounted front.new) }
+    ensures free { OnOk result (front.new.unfinished < front.new.settings.slots) }
+    ensures settings { front.new.settings ≡ front.old.settings }
     ensures faults { CountsHalt result (K.write_faults sink.old) (K.write_faults sink.new) (K.write_failed sink.new) }
 {
     let mut refused = false;
@@ -138,24 +150,15 @@ fn play_whole<R: Threads + Sync, K: Sink>(
     }
 }
 
-/// Gives the last statements to the core, lets all queries come to their end, and writes all replies.
-fn play_rest<R: Threads + Sync, K: Sink>(
-    rt: &R,
-    front: &mut Front,
-    reader: &mut ScriptReader,
-    sink: &mut K,
-) -> Result<bool, Halt>
-    requires idle { AreIdle (state_of front.old.core) }
-    ensures plays { PlaysWhole result (state_of front.old.core) reader.old (state_of front.new.core) reader.new
-        (K.taken sink.old) (K.taken sink.new) }
-    ensures all { OnOk result ((seat_at (state_of front.new.core) 0).pending ≡ []) }
-    ensures stays { StaysFed reader.old reader.new }
-    ensures run { IsRun (state_of front.old.core) (state_of front.new.core) }
-    ensures faults { CountsHalt result (K.write_faults sink.old) (K.write_faults sink.new) (K.write_failed sink.new) }
+/// How a run ends whose input was read to its end and whose statements were given to the core, once the other replies were
+/// written or halted.
+fn end_of_rest(refused: bool, written: Result<bool, Halt>) -> RunEnd
+    ensures { result ≡ end_of_rest refused written }
 {
-    let refused = play_whole(rt, front, reader, sink)?;
-    let others = front.play_out(rt, sink)?;
-    Ok(refused | others)
+    match written {
+        Ok(others) => end_of_all(refused | others),
+        Err(halt) => end_of_halt(halt),
+    }
 }
 
 /// How a run ends whose reading ended so, once its replies were written or halted.

@@ -2,8 +2,8 @@
 ghost use Rattle.std.specs.Prelude.{◌≡◌, ◌&&◌, ◌==◌, ◌<◌, ◌≤◌, not, length, IfOk, IsNone, count_by};
 ghost use Rattle.std.specs.List.{list_all};
 ghost use Rattle.core_state.specs.Settings.{AreWithin};
-ghost use Rattle.script_run.specs.Run.{AnswersScript};
-ghost use Rattle.star_cases.specs.Outcome.{Answers, IsWithin, is_right};
+ghost use Rattle.star_cases.specs.Outcome.{Answers, IsWithin, Runs, is_right};
+ghost use Rattle.star_cases.specs.declared.outcome.Way.TheVariants.{Alone};
 
 use crate::case::{Case, read_case};
 use crate::judge::{Fault, fault_of};
@@ -15,8 +15,10 @@ use std::fmt;
 use std::rt::Files;
 use std::thread::Threads;
 
-/// The bytes at which a script comes and its replies go at once: all that is asked for, and few.
-const PIECES: [usize; 3] = [65_536, 7, 1];
+/// As how many bytes at once a script comes and its replies go: few, and all that is asked for.
+const FEW_BYTES: [usize; 2] = [1, 7];
+
+const ALL_BYTES: usize = 65_536;
 
 /// How a script is run: each query by itself, or in a core of these settings.
 #[derive(Clone, Copy, Debug)]
@@ -25,19 +27,19 @@ enum Way {
     Shared(RunSettings),
 }
 
-/// How many ways there are.
-const WAYS: u32 = 4;
+/// How many settings there are.
+const SETTINGS: u32 = 4;
 
-/// The ways, by their numbers: by itself, in a core as the program has one, in one with a slot and rows that pass alone, and in
-/// one whose batches pass on several threads.
-fn way_of(number: u32) -> Way
-    ensures { IsWithin result }
+/// The settings, by their numbers: those of the program, the same with rows that pass alone, a slot with rows that pass alone,
+/// and some whose batches pass on several threads.
+fn settings_of(number: u32) -> RunSettings
+    ensures { AreWithin result }
 {
     match number {
-        0 => Way::Alone,
-        1 => Way::Shared(settings(0, 64, 256)),
-        2 => Way::Shared(settings(0, 1, 1)),
-        _ => Way::Shared(settings(2, 3, 2)),
+        0 => settings(0, 64, 256),
+        1 => settings(0, 64, 1),
+        2 => settings(0, 1, 1),
+        _ => settings(2, 3, 2),
     }
 }
 
@@ -112,19 +114,41 @@ pub(crate) fn check_case<R: Files + AllocGlobal + Threads + Sync>(
     Ok(Outcome { name, wrong })
 }
 
-/// What is wrong with the first run of a case that is wrong.
+/// What is wrong with the first run of a case that is wrong: first each query by itself, then in a core.
 fn wrong_in<R: AllocGlobal + Threads + Sync>(
     rt: &R,
     case: &Case,
-) -> Result<Option<String>, AllocError> {
-    for number in 0..WAYS {
-        for piece in PIECES {
-            if let Some(wrong) = wrong_in_pieces(rt, case, way_of(number), piece)? {
-                return Ok(Some(wrong));
-            }
+) -> Result<Option<String>, AllocError>
+    ensures { IfOk result
+        (λ wrong. IsNone wrong → Answers Alone case.now.script.items case.now.replies.items) }
+{
+    if let Some(wrong) = wrong_in_way(rt, case, Way::Alone)? {
+        return Ok(Some(wrong));
+    }
+    for number in 0..SETTINGS {
+        if let Some(wrong) = wrong_in_way(rt, case, Way::Shared(settings_of(number)))? {
+            return Ok(Some(wrong));
         }
     }
     Ok(None)
+}
+
+/// What is wrong with the first run in a way that is wrong.
+fn wrong_in_way<R: AllocGlobal + Threads + Sync>(
+    rt: &R,
+    case: &Case,
+    way: Way,
+) -> Result<Option<String>, AllocError>
+    requires { IsWithin way }
+    ensures { IfOk result
+        (λ wrong. IsNone wrong → Answers way case.now.script.items case.now.replies.items) }
+{
+    for piece in FEW_BYTES {
+        if let Some(wrong) = wrong_in_pieces(rt, case, way, piece)? {
+            return Ok(Some(wrong));
+        }
+    }
+    wrong_in_pieces(rt, case, way, ALL_BYTES)
 }
 
 /// What is wrong with a run whose bytes come and go in pieces of this size.
@@ -137,7 +161,7 @@ fn wrong_in_pieces<R: AllocGlobal + Threads + Sync>(
     requires piece { 0 < piece }
     requires within { IsWithin way }
     ensures { IfOk result
-        (λ wrong. IsNone wrong → Answers case.now.script.items case.now.replies.items) }
+        (λ wrong. IsNone wrong → Answers way case.now.script.items case.now.replies.items) }
 {
     let alloc = rt.alloc();
     let mut source = PieceSource::new(case.script.clone()?, piece, Vec::new(alloc));
@@ -158,7 +182,7 @@ fn run<R: Threads + Sync, S: Source, K: Sink>(
     sink: &mut K,
 ) -> RunEnd
     requires { IsWithin way }
-    ensures { AnswersScript result (S.ended source.old) (S.ended source.new)
+    ensures { Runs way result (S.ended source.old) (S.ended source.new)
         (S.read_faults source.old) (S.read_faults source.new)
         (S.left source.old) (S.left source.new) (K.taken sink.old) (K.taken sink.new) }
 {

@@ -1,121 +1,146 @@
 -- The headline and the causes of a status, from what a run promises by its end.
-use Rattle.std.proofs.Common.{ℕ, Bool, List, [], Option, refl, sym, ◌∙◌, arith}
+use Rattle.std.specs.Prelude.{IfSome}
+use Rattle.std.proofs.Common.{ℕ, Bool, List, [], Option, Some, None, refl, sym, ◌∙◌, arith}
 use Rattle.std.proofs.KnownBytes.{Appends-nil, Consumes-nil}
 use Rattle.star_io.specs.declared.run_end.RunEnd.{RunEnd}
 use Rattle.star_io.specs.declared.run_end.RunEnd.TheVariants.{Clean, SomeRefused, ReadFault, WriteFault, NoMemory, ScriptLimit}
-use Rattle.script_run.specs.Run.{AnswersScript, CountsFaults}
-use Rattle.star_main.specs.Headline.{Headline, HasCause, status_of}
+use Rattle.core_state.specs.State.{State}
+use Rattle.event_core.specs.Parts.{Parts}
+use Rattle.event_core.specs.Seen.{state_of}
+use Rattle.script_run.specs.Run.{CountsFaults}
+use Rattle.script_run.specs.Shared.{AnswersShared, TellsRun}
+use Rattle.star_main.specs.Headline.{Headline, HasCause, TellsBy, status_of}
+
+-- what a core tells by the end of a run it tells by its status
+tells_of : (end : RunEnd) (wanted given : List ℕ) (slots : ℕ) (core : State) → TellsRun end wanted given slots core → TellsBy (status_of end) wanted given slots core
+tells_of Clean wanted given slots core tells = record { answered = λ _. tells; read_fault = λ h. absurd (omega arith); past_limit = λ h. absurd (omega arith) }
+tells_of SomeRefused wanted given slots core tells = record { answered = λ _. tells; read_fault = λ h. absurd (omega arith); past_limit = λ h. absurd (omega arith) }
+tells_of ReadFault wanted given slots core tells = record { answered = λ h. absurd (omega arith); read_fault = λ _. tells; past_limit = λ h. absurd (omega arith) }
+tells_of WriteFault wanted given slots core tells = record { answered = λ h. absurd (omega arith); read_fault = λ h. absurd (omega arith); past_limit = λ h. absurd (omega arith) }
+tells_of NoMemory wanted given slots core tells = record { answered = λ h. absurd (omega arith); read_fault = λ h. absurd (omega arith); past_limit = λ h. absurd (omega arith) }
+tells_of ScriptLimit wanted given slots core tells = record { answered = λ h. absurd (omega arith); read_fault = λ h. absurd (omega arith); past_limit = λ _. tells }
+
+tells_by : (end : RunEnd) (wanted given : List ℕ) (slots : ℕ) (core : Option Parts) → IfSome core (λ parts. TellsRun end wanted given slots (state_of parts))
+    → IfSome core (λ parts. TellsBy (status_of end) wanted given slots (state_of parts))
+tells_by end wanted given slots None tells = tt
+tells_by end wanted given slots (Some parts) tells = tells_of end wanted given slots (state_of parts) tells
 
 -- the status of a run tells what its end tells
-pub headline_of : (end : RunEnd) (ended ended' : Bool) (read read' : ℕ) (left left' taken taken' : Option (List ℕ))
-    → AnswersScript end ended ended' read read' left left' taken taken'
-    → Headline (status_of end) ended ended' read read' left left' taken taken'
-headline_of Clean ended ended' read read' left left' taken taken' run =
+pub headline_of : (slots : ℕ) (core : Option Parts) (end : RunEnd) (ended ended' : Bool) (read read' : ℕ) (left left' taken taken' : Option (List ℕ))
+    → AnswersShared slots core end ended ended' read read' left left' taken taken'
+    → Headline slots core (status_of end) ended ended' read read' left left' taken taken'
+headline_of slots core Clean ended ended' read read' left left' taken taken' run =
     record {
-      given = run.given;
-      written = run.written;
-      wanted = run.wanted;
-      gave = run.gave;
-      took = run.took;
-      answered = λ _. (run.writes.0, run.reads, run.writes.1);
-      refused = λ _. (λ h. absurd (omega arith), λ h. let wrong = sym run.writes.2 ∙ h in cc);
+      given = run.0.given;
+      written = run.0.written;
+      wanted = run.0.wanted;
+      gave = run.0.gave;
+      took = run.0.took;
+      answered = λ _. (run.0.writes.0, run.0.reads, run.0.writes.1);
+      refused = λ _. (λ h. absurd (omega arith), λ h. let wrong = sym run.0.writes.2 ∙ h in cc);
       no_settings = λ h. absurd (omega arith);
       read_fault = λ h. absurd (omega arith);
       write_fault = λ h. absurd (omega arith);
       no_memory = λ h. absurd (omega arith);
       past_limit = λ h. absurd (omega arith);
-      bounded = let reads = run.reads in omega arith;
+      bounded = let reads = run.0.reads in omega arith;
       known = omega arith;
+      told = tells_by Clean run.0.wanted run.0.given slots core run.1;
     }
-headline_of SomeRefused ended ended' read read' left left' taken taken' run =
+headline_of slots core SomeRefused ended ended' read read' left left' taken taken' run =
     record {
-      given = run.given;
-      written = run.written;
-      wanted = run.wanted;
-      gave = run.gave;
-      took = run.took;
-      answered = λ _. (run.writes.0, run.reads, run.writes.1);
-      refused = λ _. (λ _. run.writes.2, λ _. refl);
+      given = run.0.given;
+      written = run.0.written;
+      wanted = run.0.wanted;
+      gave = run.0.gave;
+      took = run.0.took;
+      answered = λ _. (run.0.writes.0, run.0.reads, run.0.writes.1);
+      refused = λ _. (λ _. run.0.writes.2, λ _. refl);
       no_settings = λ h. absurd (omega arith);
       read_fault = λ h. absurd (omega arith);
       write_fault = λ h. absurd (omega arith);
       no_memory = λ h. absurd (omega arith);
       past_limit = λ h. absurd (omega arith);
-      bounded = let reads = run.reads in omega arith;
+      bounded = let reads = run.0.reads in omega arith;
       known = omega arith;
+      told = tells_by SomeRefused run.0.wanted run.0.given slots core run.1;
     }
-headline_of ReadFault ended ended' read read' left left' taken taken' run =
+headline_of slots core ReadFault ended ended' read read' left left' taken taken' run =
     record {
-      given = run.given;
-      written = run.written;
-      wanted = run.wanted;
-      gave = run.gave;
-      took = run.took;
+      given = run.0.given;
+      written = run.0.written;
+      wanted = run.0.wanted;
+      gave = run.0.gave;
+      took = run.0.took;
       answered = λ h. absurd (omega arith);
       refused = λ h. absurd (omega arith);
       no_settings = λ h. absurd (omega arith);
-      read_fault = λ _. (run.reads, run.writes);
+      read_fault = λ _. (run.0.reads, run.0.writes);
       write_fault = λ h. absurd (omega arith);
       no_memory = λ h. absurd (omega arith);
       past_limit = λ h. absurd (omega arith);
-      bounded = let reads = run.reads in omega arith;
+      bounded = let reads = run.0.reads in omega arith;
       known = omega arith;
+      told = tells_by ReadFault run.0.wanted run.0.given slots core run.1;
     }
-headline_of WriteFault ended ended' read read' left left' taken taken' run =
+headline_of slots core WriteFault ended ended' read read' left left' taken taken' run =
     record {
-      given = run.given;
-      written = run.written;
-      wanted = run.wanted;
-      gave = run.gave;
-      took = run.took;
-      answered = λ h. absurd (omega arith);
-      refused = λ h. absurd (omega arith);
-      no_settings = λ h. absurd (omega arith);
-      read_fault = λ h. absurd (omega arith);
-      write_fault = λ _. run.writes;
-      no_memory = λ h. absurd (omega arith);
-      past_limit = λ h. absurd (omega arith);
-      bounded = let reads = run.reads in omega arith;
-      known = omega arith;
-    }
-headline_of NoMemory ended ended' read read' left left' taken taken' run =
-    record {
-      given = run.given;
-      written = run.written;
-      wanted = run.wanted;
-      gave = run.gave;
-      took = run.took;
+      given = run.0.given;
+      written = run.0.written;
+      wanted = run.0.wanted;
+      gave = run.0.gave;
+      took = run.0.took;
       answered = λ h. absurd (omega arith);
       refused = λ h. absurd (omega arith);
       no_settings = λ h. absurd (omega arith);
       read_fault = λ h. absurd (omega arith);
-      write_fault = λ h. absurd (omega arith);
-      no_memory = λ _. (run.writes, run.memory refl);
+      write_fault = λ _. run.0.writes;
+      no_memory = λ h. absurd (omega arith);
       past_limit = λ h. absurd (omega arith);
-      bounded = let reads = run.reads in omega arith;
+      bounded = let reads = run.0.reads in omega arith;
       known = omega arith;
+      told = tells_by WriteFault run.0.wanted run.0.given slots core run.1;
     }
-headline_of ScriptLimit ended ended' read read' left left' taken taken' run =
+headline_of slots core NoMemory ended ended' read read' left left' taken taken' run =
     record {
-      given = run.given;
-      written = run.written;
-      wanted = run.wanted;
-      gave = run.gave;
-      took = run.took;
+      given = run.0.given;
+      written = run.0.written;
+      wanted = run.0.wanted;
+      gave = run.0.gave;
+      took = run.0.took;
       answered = λ h. absurd (omega arith);
       refused = λ h. absurd (omega arith);
       no_settings = λ h. absurd (omega arith);
       read_fault = λ h. absurd (omega arith);
       write_fault = λ h. absurd (omega arith);
-      no_memory = λ h. absurd (omega arith);
-      past_limit = λ _. (run.reads, run.writes);
-      bounded = let reads = run.reads in omega arith;
+      no_memory = λ _. (run.0.writes, run.0.memory refl);
+      past_limit = λ h. absurd (omega arith);
+      bounded = let reads = run.0.reads in omega arith;
       known = omega arith;
+      told = tells_by NoMemory run.0.wanted run.0.given slots core run.1;
+    }
+headline_of slots core ScriptLimit ended ended' read read' left left' taken taken' run =
+    record {
+      given = run.0.given;
+      written = run.0.written;
+      wanted = run.0.wanted;
+      gave = run.0.gave;
+      took = run.0.took;
+      answered = λ h. absurd (omega arith);
+      refused = λ h. absurd (omega arith);
+      no_settings = λ h. absurd (omega arith);
+      read_fault = λ h. absurd (omega arith);
+      write_fault = λ h. absurd (omega arith);
+      no_memory = λ h. absurd (omega arith);
+      past_limit = λ _. (run.0.reads, run.0.writes);
+      bounded = let reads = run.0.reads in omega arith;
+      known = omega arith;
+      told = tells_by ScriptLimit run.0.wanted run.0.given slots core run.1;
     }
 
 -- where there are no settings nothing is read or written
-pub untouched : (ended : Bool) (read : ℕ) (left taken : Option (List ℕ)) → Headline 2 ended ended read read left left taken taken
-untouched ended read left taken =
+pub untouched : (slots : ℕ) (ended : Bool) (read : ℕ) (left taken : Option (List ℕ)) → Headline slots None 2 ended ended read read left left taken taken
+untouched slots ended read left taken =
     record {
       given = [];
       written = [];
@@ -131,6 +156,7 @@ untouched ended read left taken =
       past_limit = λ h. absurd (omega arith);
       bounded = omega arith;
       known = omega arith;
+      told = tt;
     }
 
 -- the status of a run has the causes of its end

@@ -1,7 +1,9 @@
 //! What the top call does with words, faults and the limit. Scripts with their replies are the cases of `star_cases`.
-ghost use Rattle.std.specs.Prelude.{◌<◌};
+ghost use Rattle.std.specs.Prelude.{◌<◌, ◌≤◌};
 
 use crate::top::cjoin;
+use core_state::RunSettings;
+use script_run::run_script;
 use star_io::{ListSink, PieceSource};
 use std::alloc::{AllocError, Global};
 use std::test::Fail;
@@ -142,5 +144,41 @@ fn the_byte_past_the_limit_is_told(rt: HostRuntime) -> Result<(), Fail> {
         assert_eq!(rt; ended, wanted, "at {len} line feeds");
         assert_eq!(rt; sink.bytes().len(), 0);
     }
+    Ok(())
+}
+
+/// How many positions of the fact table are cut for a script, in a core of so many slots whose batches have a row.
+fn positions_cut<R: AllocGlobal + Threads + Sync>(
+    rt: &R,
+    script: &[u8],
+    slots: u32,
+) -> Result<Option<u64>, Fail>
+    requires { (1 ≤ slots) × (slots ≤ 64) }
+{
+    let alloc = rt.alloc();
+    let settings = RunSettings {
+        workers: 0,
+        slots,
+        batch: 1,
+        seats: 1,
+    };
+    let mut source = source(alloc, script, 4096, &[])?;
+    let mut sink = ListSink::new(alloc, 1 << 16, Vec::new(alloc));
+    let core = run_script(rt, alloc, settings, &mut source, &mut sink).core;
+    Ok(core.map(|core| core.positions_cut()))
+}
+
+#[test]
+fn queries_that_are_unfinished_together_share_a_lap(rt: HostRuntime) -> Result<(), Fail> {
+    let alloc = rt.alloc();
+    let all = "select count(*) from sales";
+    let oslo = "select count(*) from sales, store where store_id = id and city = 'Oslo'";
+    let rome = "select count(*) from sales, store where store_id = id and city = 'Rome'";
+    let together = format!(in alloc; "{BASE}{all}\n{oslo}\n{rome}\n")?;
+    let apart = format!(in alloc; "{BASE}{all}\nwait\n{oslo}\nwait\n{rome}\n")?;
+    assert_eq!(rt; positions_cut(&rt, together.as_bytes(), 64)?, Some(4));
+    assert_eq!(rt; positions_cut(&rt, together.as_bytes(), 2)?, Some(8));
+    assert_eq!(rt; positions_cut(&rt, together.as_bytes(), 1)?, Some(12));
+    assert_eq!(rt; positions_cut(&rt, apart.as_bytes(), 64)?, Some(12));
     Ok(())
 }

@@ -52,7 +52,7 @@ pub fn cjoin<R: Threads + Sync, S: Source, K: Sink>(
 ) -> TopDone
     ensures settings { (result.status ≡ 2) ↔ IsNone (settings_of (map string_bytes words.now)) }
     ensures untouched { result.status ≡ 2 → (source.new ≡ source.old) × (sink.new ≡ sink.old) }
-    ensures headline { Headline result.status (S.ended source.old) (S.ended source.new)
+    ensures headline { Headline SETTINGS.slots result.core result.status (S.ended source.old) (S.ended source.new)
         (S.read_faults source.old) (S.read_faults source.new)
         (S.left source.old) (S.left source.new) (K.taken sink.old) (K.taken sink.new) }
     ensures causes { HasCause result.status

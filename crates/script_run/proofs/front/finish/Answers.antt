@@ -1,24 +1,31 @@
-use Rattle.core_state.specs.Submitting.{seat_at}
+use Rattle.std.proofs.Common.{arith}
+use Rattle.std.proofs.lemmas.Result.{on_ok_weaker}
 use Rattle.event_core.specs.Seen.{state_of}
-use Rattle.script_run.proofs.FrontOpenLemmas.{none-open}
+use Rattle.script_run.proofs.FrontCountLemmas.{awaited-some}
+use Rattle.script_run.proofs.FrontPlayLemmas.{on-err}
 use Rattle.script_run.proofs.FrontRunLemmas.{run-driven}
+use Rattle.script_run.proofs.LapEventLemmas.{goes-round, keeps-driven}
 use Rattle.script_run.proofs.PlayedEventLemmas.{leads-driven}
 use Rattle.script_run.proofs.front.finish.Goals as goal
 
-pub returns-in_err-finish_all-clause-leads : goal.returns-in_err-finish_all-clause-leads
-returns-in_err-finish_all-clause-leads g c = leads-driven (state_of c.args.core.now) (state_of c.finish_all.new.core) c.finish_all.ensures.driven
+pub returns-clause-leads : goal.returns-clause-leads
+returns-clause-leads g c = leads-driven (state_of c.args.core.now) (state_of c.finish_all.new.core) c.finish_all.ensures.driven
 
-pub returns-in_err-finish_all-clause-run : goal.returns-in_err-finish_all-clause-run
-returns-in_err-finish_all-clause-run g c =
-    run-driven c.taken_events_are_steps.ensures (state_of c.args.core.now) (state_of c.finish_all.new.core) c.finish_all.ensures.driven
+pub returns-clause-round : goal.returns-clause-round
+returns-clause-round g c =
+    goes-round (state_of c.args.core.now) (state_of c.finish_all.new.core) c.every_core_is_sound.ensures c.requires.calm c.requires.some c.requires.few
+    c.finish_all.ensures.driven c.finish_all.ensures.lap
 
-pub returns-in_ok-finish_all-clause-leads : goal.returns-in_ok-finish_all-clause-leads
-returns-in_ok-finish_all-clause-leads g c = leads-driven (state_of c.args.core.now) (state_of c.finish_all.new.core) c.finish_all.ensures.driven
+pub returns-clause-number : goal.returns-clause-number
+returns-clause-number g c = (keeps-driven (state_of c.args.core.now) (state_of c.finish_all.new.core) c.finish_all.ensures.driven).statement
 
-pub returns-in_ok-finish_all-clause-closed : goal.returns-in_ok-finish_all-clause-closed
-returns-in_ok-finish_all-clause-closed g c =
-    none-open c.finish_all.new.core.lives (seat_at (state_of c.finish_all.new.core) 0) c.in_ok-finish_all.ensures.finished.none_open
+pub returns-clause-closed : goal.returns-clause-closed
+returns-clause-closed g c = on_ok_weaker c.finish_all.result (λ finished. finished.none_open) c.finish_all.ensures.finished
 
-pub returns-in_ok-finish_all-clause-run : goal.returns-in_ok-finish_all-clause-run
-returns-in_ok-finish_all-clause-run g c =
+pub returns-clause-waits : goal.returns-clause-waits
+returns-clause-waits g c = on-err c.finish_all.result
+    (awaited-some (state_of c.args.core.now) (let some = c.requires.some in let unfinished = c.requires.calm.awaited in omega arith))
+
+pub returns-clause-run : goal.returns-clause-run
+returns-clause-run g c =
     run-driven c.taken_events_are_steps.ensures (state_of c.args.core.now) (state_of c.finish_all.new.core) c.finish_all.ensures.driven

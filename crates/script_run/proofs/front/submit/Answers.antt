@@ -26,3 +26,9 @@ returns-clause-idle c idle =
     (took-given c.replies_agree_with_the_tables.ensures c.later_steps_change_no_answer.ensures c.args.statement (state_of c.args.core.now) (state_of c.step.new.self) c.every_core_is_sound.ensures took).idle idle)
     (λ same. subst (λ core. AreIdle (state_of core)) (sym same) idle)
     c.step.ensures.taken c.step.ensures.err
+
+pub returns-clause-counts : goal.returns-clause-counts
+returns-clause-counts c =
+    on_ok_weaker c.step.result
+    (λ took. (took-given c.replies_agree_with_the_tables.ensures c.later_steps_change_no_answer.ensures c.args.statement (state_of c.args.core.now) (state_of c.step.new.self) c.every_core_is_sound.ensures took).counts)
+    c.step.ensures.taken

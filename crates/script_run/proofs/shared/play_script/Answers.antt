@@ -1,9 +1,9 @@
-use Rattle.std.proofs.Common.{refl, ◌∙◌}
+use Rattle.std.proofs.Common.{refl, sym, subst, ◌∙◌}
+use Rattle.std.specs.Prelude.{◌<◌}
 use Rattle.event_core.specs.Seen.{state_of}
 use Rattle.script_run.proofs.SharedDoneLemmas.{ended-shared, fault-shared, limit-shared}
-use Rattle.script_run.proofs.SharedEndLemmas.{ended-halted, halted-shared, unfed-shared}
-use Rattle.script_run.proofs.SharedRunLemmas.{empty-idle, fed-shared, starts-shared, whole-shared}
-use Rattle.script_run.proofs.SharedScriptLemmas.{AreLaws}
+use Rattle.script_run.proofs.SharedEndLemmas.{ended-halted, halted-shared, halts-by, unfed-shared}
+use Rattle.script_run.proofs.SharedRunLemmas.{fed-shared, starts-shared, whole-shared}
 use Rattle.script_run.proofs.FrontRunLemmas.{run-itself, run-then}
 use Rattle.script_run.proofs.shared.play_script.Goals as goal
 
@@ -11,7 +11,9 @@ pub pieces-init : goal.pieces-init
 pieces-init g c = record {
   run = starts-shared _ _ _ _ _ c.requires.empty c.new-reader.ensures;
   steps = run-itself _;
-  idle = empty-idle _ _ c.requires.empty;
+  counted = c.requires.counted;
+  free = subst (λ n. n < c.args.front.now.settings.slots) (sym c.requires.free) c.requires.counted.some;
+  settings = refl;
   ended = refl;
   unread = refl;
   unwritten = refl;
@@ -19,9 +21,9 @@ pieces-init g c = record {
 
 pub returns-in-Err-clause-answers : goal.returns-in-Err-clause-answers
 returns-in-Err-clause-answers g c =
-    let laws : AreLaws = record { agree = c.replies_agree_with_the_tables.ensures; tables = c.replies_follow_from_the_tables.ensures.script } in
-    rw c.end_of_halt.ensures (halted-shared laws c.in-Err.halt _ _ (state_of c.play_whole.new.front.core) _ c.play_whole.new.reader _ _ _ _ _ _ _ _ _ _ c.pieces.invariant.run c.in-Err.ensures.plays
-    c.pieces.invariant.ended c.pieces.invariant.unread)
+    rw c.end_of_halt.ensures (halts-by c.in-Err.halt _ _ _ _ _ _ _ _ _ _
+    (halted-shared c.in-Err.halt _ _ (state_of c.play_whole.new.front.core) _ c.play_whole.new.reader _ _ _ _ _ _ _ _ _ _ c.pieces.invariant.run c.in-Err.ensures.plays
+    c.pieces.invariant.ended c.pieces.invariant.unread))
 
 pub returns-in-Err-clause-run : goal.returns-in-Err-clause-run
 returns-in-Err-clause-run g c = run-then _ _ _ c.pieces.invariant.steps c.in-Err.ensures.run
@@ -33,7 +35,9 @@ pieces-preserved g c =
     record {
       run = fed-shared _ _ _ _ _ _ _ _ _ _ takes.0 run takes.1 takes.2.0 takes.2.2;
       steps = run-then _ _ _ c.pieces.invariant.steps c.in-Ok.ensures.run;
-      idle = c.in-Ok.ensures.idle;
+      counted = c.in-Ok.ensures.counted;
+      free = c.in-Ok.ensures.free;
+      settings = c.play_whole.ensures.settings ∙ c.pieces.invariant.settings;
       ended = c.in-Fed.ensures.end ∙ c.pieces.invariant.ended;
       unread = c.in-Fed.ensures.faults ∙ c.pieces.invariant.unread;
       unwritten = c.in-Ok.ensures.faults ∙ c.pieces.invariant.unwritten;
@@ -41,60 +45,59 @@ pieces-preserved g c =
 
 pub returns-in-Fault-clause-answers : goal.returns-in-Fault-clause-answers
 returns-in-Fault-clause-answers g c =
-    let laws : AreLaws = record { agree = c.replies_agree_with_the_tables.ensures; tables = c.replies_follow_from_the_tables.ensures.script } in
     let plays = c.in-Ok.ensures.plays in
     let run = whole-shared _ _ _ _ _ _ _ _ _ _ _ _ c.pieces.invariant.run plays c.in-Ok.ensures.stays in
     let takes = c.in-Fault.ensures.takes in
-    rw c.end_behind.ensures (fault-shared laws _ _ (state_of c.play_out.new.self.core) _ c.play_out.result _ _ _ _ _ _ _ _ _ _ _ takes.0 run plays.4 takes.1 takes.2.1
-    c.play_out.ensures.plays c.play_out.ensures.all)
+    rw c.end_behind.ensures (fault-shared _ _ (state_of c.play_out.new.self.core) _ c.play_out.result _ _ _ _ _ _ _ _ _ _ _ takes.0 c.requires.counted.some run plays.4 takes.1 takes.2.1
+    c.play_out.ensures.plays c.play_out.ensures.round c.play_out.ensures.all)
 
 pub returns-in-Fault-clause-run : goal.returns-in-Fault-clause-run
 returns-in-Fault-clause-run g c = run-then _ _ _ (run-then _ _ _ c.pieces.invariant.steps c.in-Ok.ensures.run) c.play_out.ensures.run
 
 pub returns-in-Limit-clause-answers : goal.returns-in-Limit-clause-answers
 returns-in-Limit-clause-answers g c =
-    let laws : AreLaws = record { agree = c.replies_agree_with_the_tables.ensures; tables = c.replies_follow_from_the_tables.ensures.script } in
     let plays = c.in-Ok.ensures.plays in
     let run = whole-shared _ _ _ _ _ _ _ _ _ _ _ _ c.pieces.invariant.run plays c.in-Ok.ensures.stays in
     let takes = c.in-Limit.ensures.takes in
-    rw c.end_behind-in-Limit.ensures (limit-shared laws _ _ (state_of c.play_out-in-Limit.new.self.core) _ c.play_out-in-Limit.result _ _ _ _ _ _ _ _ _ _ _ takes.0 run plays.4 takes.1 takes.2.1 takes.2.2
-    c.play_out-in-Limit.ensures.plays c.play_out-in-Limit.ensures.all)
+    rw c.end_behind-in-Limit.ensures (limit-shared _ _ (state_of c.play_out-in-Limit.new.self.core) _ c.play_out-in-Limit.result _ _ _ _ _ _ _ _ _ _ _ takes.0 c.requires.counted.some run plays.4 takes.1 takes.2.1 takes.2.2
+    c.play_out-in-Limit.ensures.plays c.play_out-in-Limit.ensures.round c.play_out-in-Limit.ensures.all)
 
 pub returns-in-Limit-clause-run : goal.returns-in-Limit-clause-run
 returns-in-Limit-clause-run g c = run-then _ _ _ (run-then _ _ _ c.pieces.invariant.steps c.in-Ok.ensures.run) c.play_out-in-Limit.ensures.run
 
 pub returns-in-NoMemory-clause-answers : goal.returns-in-NoMemory-clause-answers
 returns-in-NoMemory-clause-answers g c =
-    let laws : AreLaws = record { agree = c.replies_agree_with_the_tables.ensures; tables = c.replies_follow_from_the_tables.ensures.script } in
     let run = whole-shared _ _ _ _ _ _ _ _ _ _ _ _ c.pieces.invariant.run c.in-Ok.ensures.plays c.in-Ok.ensures.stays in
-    let takes = c.in-NoMemory.ensures.takes in
-    unfed-shared laws _ _ _ _ _ _ _ _ _ _ _ _ _ takes.0 run takes.1 takes.2.1 (c.in-NoMemory.ensures.end ∙ c.pieces.invariant.ended)
-    (c.in-NoMemory.ensures.faults ∙ c.pieces.invariant.unread)
+    let takes = c.in-NoMemory.ensures.takes in (
+      unfed-shared _ _ _ _ _ _ _ _ _ _ _ _ _ takes.0 run takes.1 takes.2.1 (c.in-NoMemory.ensures.end ∙ c.pieces.invariant.ended)
+          (c.in-NoMemory.ensures.faults ∙ c.pieces.invariant.unread),
+      tt,
+    )
 
 pub returns-in-NoMemory-clause-run : goal.returns-in-NoMemory-clause-run
 returns-in-NoMemory-clause-run g c = run-then _ _ _ c.pieces.invariant.steps c.in-Ok.ensures.run
 
-pub returns-in-Ok-play_rest-clause-answers : goal.returns-in-Ok-play_rest-clause-answers
-returns-in-Ok-play_rest-clause-answers g c =
-    let laws : AreLaws = record { agree = c.replies_agree_with_the_tables.ensures; tables = c.replies_follow_from_the_tables.ensures.script } in
+pub returns-in-Ok-play_whole-clause-answers : goal.returns-in-Ok-play_whole-clause-answers
+returns-in-Ok-play_whole-clause-answers g c =
     let run = whole-shared _ _ _ _ _ _ _ _ _ _ _ _ c.pieces.invariant.run c.in-Ok.ensures.plays c.in-Ok.ensures.stays in
     let takes = c.in-Ended.ensures.takes in
-    let plays = rw (c.finish.ensures, takes.2.0) at c.in-Ok-play_rest.ensures.plays in
-    let stays = rw (c.finish.ensures, takes.2.0) at c.in-Ok-play_rest.ensures.stays in
-    rw c.end_of_all.ensures (ended-shared laws _ _ _ _ _ _ _ _ _ _ _ _ _ _ _ _ _ takes.0 run takes.1 takes.2.1 c.in-Ended.ensures.end plays stays
-    c.in-Ok-play_rest.ensures.all)
+    let whole = rw (c.finish.ensures, takes.2.0) at c.in-Ok-play_whole.ensures.plays in
+    let stays = rw (c.finish.ensures, takes.2.0) at c.in-Ok-play_whole.ensures.stays in
+    rw c.end_of_rest.ensures (ended-shared _ _ (state_of c.play_whole-2.new.front.core) (state_of c.play_out-in-Ok-play_whole.new.self.core) _ _ c.play_out-in-Ok-play_whole.result _ _ _ _ _ _ _ _ _ _ _ _ _ takes.0
+    c.requires.counted.some run takes.1 takes.2.1 c.in-Ended.ensures.end whole stays c.play_out-in-Ok-play_whole.ensures.plays c.play_out-in-Ok-play_whole.ensures.round c.play_out-in-Ok-play_whole.ensures.all)
 
-pub returns-in-Ok-play_rest-clause-run : goal.returns-in-Ok-play_rest-clause-run
-returns-in-Ok-play_rest-clause-run g c = run-then _ _ _ (run-then _ _ _ c.pieces.invariant.steps c.in-Ok.ensures.run) c.in-Ok-play_rest.ensures.run
+pub returns-in-Ok-play_whole-clause-run : goal.returns-in-Ok-play_whole-clause-run
+returns-in-Ok-play_whole-clause-run g c =
+    run-then _ _ _ (run-then _ _ _ (run-then _ _ _ c.pieces.invariant.steps c.in-Ok.ensures.run) c.in-Ok-play_whole.ensures.run) c.play_out-in-Ok-play_whole.ensures.run
 
 pub returns-clause-answers : goal.returns-clause-answers
 returns-clause-answers g c =
-    let laws : AreLaws = record { agree = c.replies_agree_with_the_tables.ensures; tables = c.replies_follow_from_the_tables.ensures.script } in
     let run = whole-shared _ _ _ _ _ _ _ _ _ _ _ _ c.pieces.invariant.run c.in-Ok.ensures.plays c.in-Ok.ensures.stays in
     let takes = c.in-Ended.ensures.takes in
-    let plays = rw (c.finish.ensures, takes.2.0) at c.in-Err-play_rest.ensures.plays in
-    rw c.end_of_halt-in-Err-play_rest.ensures (ended-halted laws c.in-Err-play_rest.halt _ _ (state_of c.play_rest.new.front.core) _ c.play_rest.new.reader _ _ _ _ _ _ _ _ _ _ _ takes.0 run takes.1 takes.2.1
-    c.in-Ended.ensures.end plays)
+    let plays = rw (c.finish.ensures, takes.2.0) at c.in-Err-play_whole.ensures.plays in
+    rw c.end_of_halt-in-Err-play_whole.ensures (halts-by c.in-Err-play_whole.halt _ _ _ _ _ _ _ _ _ _
+    (ended-halted c.in-Err-play_whole.halt _ _ (state_of c.play_whole-2.new.front.core) _ c.play_whole-2.new.reader _ _ _ _ _ _ _ _ _ _ _ takes.0 run takes.1 takes.2.1
+    c.in-Ended.ensures.end plays))
 
 pub returns-clause-run : goal.returns-clause-run
-returns-clause-run g c = run-then _ _ _ (run-then _ _ _ c.pieces.invariant.steps c.in-Ok.ensures.run) c.in-Err-play_rest.ensures.run
+returns-clause-run g c = run-then _ _ _ (run-then _ _ _ c.pieces.invariant.steps c.in-Ok.ensures.run) c.in-Err-play_whole.ensures.run

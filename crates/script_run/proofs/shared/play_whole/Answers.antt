@@ -9,7 +9,9 @@ pub statements-init : goal.statements-init
 statements-init g c = record {
   way = starts-playing _ _ _;
   run = run-itself _;
-  idle = c.requires.idle;
+  counted = c.requires.counted;
+  free = c.requires.free;
+  settings = refl;
   unfailed = refl;
 }
 
@@ -34,6 +36,8 @@ statements-preserved g c =
     record {
       way = playing-first _ _ _ _ _ _ c.in-Got.statement _ _ _ _ _ c.statements.invariant.way first c.in_ok-statement.ensures.stays c.in_ok-refused.ensures.plays;
       run = run-then _ _ _ c.statements.invariant.run c.in_ok-refused.ensures.run;
-      idle = c.in_ok-refused.ensures.idle;
+      counted = c.in_ok-refused.ensures.counted;
+      free = c.in_ok-refused.ensures.free;
+      settings = c.play.ensures.settings ∙ c.statements.invariant.settings;
       unfailed = c.in_ok-refused.ensures.faults ∙ c.statements.invariant.unfailed;
     }

@@ -1,7 +1,7 @@
-use Rattle.std.proofs.Common.{◌≡◌}
-use Rattle.event_core.specs.Chosen.{AreIdle}
+use Rattle.std.proofs.Common.{◌≡◌, ◌<◌}
 use Rattle.event_core.specs.Seen.{state_of}
 use Rattle.script_run.specs.Front.{IsRun}
+use Rattle.script_run.specs.Counted.{IsCounted}
 use Rattle.script_run.proofs.SharedWholeLemmas.{IsPlaying, statements_left}
 use Rattle.script_run.proofs.shared.play_whole.Given as goal
 
@@ -10,7 +10,9 @@ abbrev pub invariant-statements : goal.invariant-statements
 invariant-statements g l = record {
   way : IsPlaying (state_of l.initial.front.core) (state_of l.front.core) l.initial.reader l.reader l.refused (g.K.Sink.taken l.initial.sink) (g.K.Sink.taken l.sink);
   run : IsRun (state_of l.initial.front.core) (state_of l.front.core);
-  idle : AreIdle (state_of l.front.core);
+  counted : IsCounted l.front;
+  free : l.front.unfinished < l.front.settings.slots;
+  settings : l.front.settings ≡ l.initial.front.settings;
   unfailed : g.K.Sink.write_faults l.sink ≡ g.K.Sink.write_faults l.initial.sink;
 }
 

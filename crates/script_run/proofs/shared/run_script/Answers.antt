@@ -1,5 +1,11 @@
-use Rattle.script_run.proofs.SharedEndLemmas.{none-shared}
+use Rattle.std.proofs.Common.{ap}
+use Rattle.script_run.proofs.SharedEndLemmas.{none-shared, shared-by}
 use Rattle.script_run.proofs.shared.run_script.Goals as goal
 
 pub returns-in_default-clause-answers : goal.returns-in_default-clause-answers
-returns-in_default-clause-answers g c = none-shared _ _ _ _
+returns-in_default-clause-answers g c = (none-shared _ _ _ _, tt)
+
+pub returns-clause-answers : goal.returns-clause-answers
+returns-clause-answers g c =
+    shared-by _ _ c.core_of.result c.play_script-end.new.front.core c.play_script-end.result _ _ _ _ _ _ _ _ c.core_of.ensures.own
+    (ap (λ s. s.slots) c.in-Ok.ensures.settings) c.play_script-end.ensures.answers

@@ -1,3 +1,5 @@
+use Rattle.std.proofs.Common.{sym, subst, ap}
+use Rattle.std.specs.Prelude.{◌<◌}
 use Rattle.event_core.specs.Seen.{state_of}
 use Rattle.script_run.proofs.FrontPlayLemmas.{plays-lost}
 use Rattle.script_run.proofs.front.Front.lose.Goals as goal
@@ -6,4 +8,6 @@ pub returns-clause-plays : goal.returns-clause-plays
 returns-clause-plays g c statement =
     let all = c.in_ok-play_out.ensures in
     let reply = c.write_reply.ensures in
-    plays-lost c.write_reply.result c.in_ok-play_out.field-0 statement (state_of c.args.self.now.core) (state_of c.play_out.new.self.core) _ _ _ all.plays all.all reply.refused reply.ok reply.err
+    let counted = c.requires.counted in
+    plays-lost c.write_reply.result c.in_ok-play_out.field-0 statement (state_of c.args.self.now.core) (state_of c.play_out.new.self.core) _ _ _
+    (subst (λ n. 0 < n) (sym (ap (λ s. s.slots) counted.settings)) counted.some) all.round all.plays all.all reply.refused reply.ok reply.err

@@ -1,0 +1,62 @@
+-- What the front counts: a statement more, and none once all queries came to their end.
+use Rattle.std.proofs.Common.{◌≡◌, ⊎_elim, inl, inr, ◌<◌, ◌≤◌, Bool, false, [], None, sym, ap, ◌∙◌, subst, arith}
+use Rattle.std.specs.Prelude.{◌⊎◌, All, IsTrue, count_by}
+use Rattle.script_reader.specs.declared.statement.Statement.{Statement}
+use Rattle.pipeline_manager.specs.Conditions.{is_open}
+use Rattle.pipeline_manager.specs.Lives.{Lives}
+use Rattle.core_state.specs.State.{Pending, Scan, State}
+use Rattle.core_state.specs.Submitting.{seat_at}
+use Rattle.core_state.specs.declared.settings.RunSettings.{RunSettings}
+use Rattle.event_core.specs.Chosen.{AreIdle}
+use Rattle.event_core.specs.Seen.{state_of}
+use Rattle.script_run.specs.Counted.{Beside, GoesRound, IsCounted, IsOverOrWaits, is_query, queries_awaited}
+use Rattle.script_run.specs.Waiting.{is_wait}
+use Rattle.script_run.specs.declared.front.Front.{Front}
+use Rattle.script_run.proofs.LapEventLemmas.{closed-count, closed-over, keeps-versions}
+
+-- all queries came to their end, and all replies were written
+pub counted-out : (old new : Front) (mid : State) → IsCounted old → mid.settings ≡ (state_of old.core).settings
+    → mid.numbers.statement ≡ (state_of old.core).numbers.statement → All (λ entry. is_open entry.life ≡ false) mid.lives.queries → AreIdle mid
+    → Beside mid (state_of new.core) → (seat_at (state_of new.core) 0).pending ≡ [] → new.settings ≡ old.settings → new.submitted ≡ old.submitted
+    → new.unfinished ≡ 0 → IsCounted new
+counted-out old new mid counted kept number closed idle beside none settings submitted unfinished = record {
+  some = subst (λ (s : RunSettings). 0 < s.slots) (sym settings) counted.some;
+  settings = beside.settings ∙ kept ∙ counted.settings ∙ sym settings;
+  submitted = ap (λ n. n.statement) beside.numbers ∙ number ∙ counted.submitted ∙ sym submitted;
+  calm = record {
+    idle = subst (λ (scan : Scan). All (λ flight. flight.hand ≡ None) scan.flights) (sym beside.scan) idle;
+    waits = subst (λ (lives : Lives). All (λ entry. IsOverOrWaits entry.life) lives.queries) (sym beside.lives) (closed-over mid.lives.queries closed);
+    unfinished = ap (λ (lives : Lives). count_by (λ entry. is_open entry.life) lives.queries) beside.lives ∙ closed-count mid.lives.queries closed ∙ sym unfinished;
+    awaited = ap (count_by (λ (p : Pending). is_query p.awaited)) none ∙ sym unfinished;
+  };
+  few = subst (λ n. n ≤ new.settings.slots) (sym unfinished) (omega arith);
+}
+
+-- the scan went no further where replies were taken
+pub round-beside : (old mid new : State) → GoesRound old mid → Beside mid new → GoesRound old new
+round-beside old mid new round beside = record {
+  settings = beside.settings ∙ round.settings;
+  versions = keeps-versions mid new beside.entries ∙ round.versions;
+  none = λ none. ap (λ (scan : Scan). scan.cut) beside.scan ∙ round.none none;
+  once = let same : new.scan.cut ≡ mid.scan.cut = ap (λ (scan : Scan). scan.cut) beside.scan in let once = round.once in omega arith;
+}
+
+-- the front waits for something where it waits for a query
+pub awaited-some : (state : State) → 0 < queries_awaited state → (seat_at state 0).pending ≡ [] → ⊥
+awaited-some state some none =
+    let zero : queries_awaited state ≡ 0 = ap (count_by (λ (p : Pending). is_query p.awaited)) none in omega (arith, some, zero)
+
+-- there are slots
+pub slots-some : (front : Front) → IsCounted front → 0 < (state_of front.core).settings.slots
+slots-some front counted = subst (λ (s : RunSettings). 0 < s.slots) (sym counted.settings) counted.some
+
+-- the queries are to come to their end: the statement waits for some, none is open, or they are as many as there are slots
+pub due-by : (statement : Statement) (old mid : Front) (waits : Bool) → IsCounted old → IsCounted mid
+    → (IsTrue waits → IsTrue (is_wait statement) × (0 < old.unfinished)) → IsTrue waits ⊎ ((mid.unfinished ≡ 0) ⊎ (mid.settings.slots ≤ mid.unfinished))
+    → (IsTrue (is_wait statement) × (0 < queries_awaited (state_of old.core)))
+    ⊎ ((queries_awaited (state_of mid.core) ≡ 0) ⊎ ((state_of mid.core).settings.slots ≤ queries_awaited (state_of mid.core)))
+due-by statement old mid waits before counted told due = ⊎_elim
+    (λ is. inl (let asked = told is in (asked.0, subst (λ n. 0 < n) (sym before.calm.awaited) asked.1)))
+    (⊎_elim (λ none. inr (inl (counted.calm.awaited ∙ none)))
+    (λ many. inr (inr (subst (λ n. (state_of mid.core).settings.slots ≤ n) (sym counted.calm.awaited)
+    (subst (λ (s : RunSettings). s.slots ≤ mid.unfinished) (sym counted.settings) many))))) due

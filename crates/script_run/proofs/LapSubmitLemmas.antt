@@ -1,0 +1,159 @@
+-- A statement that is given to a core: what it leaves, and what it counts.
+use Rattle.std.proofs.Common.{◌≡◌, ℕ, ◌+◌, ◌<◌, ◌≤◌, Bool, false, cond, eqb, eq-eqb, List, [], ◌∷◌, length, map, find, Option, Some, None, option_map, refl, sym, ap, ◌∙◌, subst, length-append, arith}
+use Rattle.std.specs.Prelude.{All, count_by, if◌then◌else◌}
+use Rattle.std.specs.Option.{option_map_or, option_or}
+use Rattle.std.proofs.lemmas.Bool.{ne_eqb}
+use Rattle.std.proofs.lemmas.List.Elements.{All-append, All-cons, All-head, All-map, All-nil, All-tail, All-weaker}
+use Rattle.std.proofs.lemmas.List.Folds.{find-append}
+use Rattle.std.proofs.lemmas.List.Sums.{sum_by-append}
+use Rattle.script_reader.specs.declared.statement.Statement.{Statement}
+use Rattle.star_plan.specs.declared.table.Table.TheVariants as table
+use Rattle.star_history.specs.History.{Change, DimensionDeclared, FactDeclared, Loaded, Ended, after_change, versions_by}
+use Rattle.star_history.specs.Store.{Store}
+use Rattle.star_statement.specs.Effect.{store_by}
+use Rattle.star_statement.specs.Outcome as outcome
+use Rattle.star_statement.specs.Outcome.{Outcome, Told, outcome_of}
+use Rattle.pipeline_manager.specs.Conditions.{is_open}
+use Rattle.pipeline_manager.specs.Lives.{life_in}
+use Rattle.pipeline_manager.specs.declared.life.Life.TheVariants.{Waiting}
+use Rattle.pipeline_manager.specs.declared.life.QueryLife.{QueryLife}
+use Rattle.core_state.specs.Sound.{IsSound, IsSoundQuery}
+use Rattle.core_state.specs.State.{Accepted, Pending, Seat, State}
+use Rattle.core_state.specs.Submitting.{after_submitting, awaited_by, seat_at, with_change, with_query, with_seat, with_statement}
+use Rattle.core_state.specs.Tables.{tables_of, versions_in}
+use Rattle.core_state.proofs.CutFoundLemmas.{none-found}
+use Rattle.core_state.proofs.LoggedPlaceLemmas.{length-all-ended}
+use Rattle.script_run.specs.Counted.{CountsOne, IsOverOrWaits, is_query, one_if, queries_awaited, told_of}
+use Rattle.script_run.proofs.FrontRunLemmas.{scan-submitted}
+use Rattle.script_run.proofs.PlayedSubmitLemmas.{submitted-seat, submitted-tables}
+
+-- no change takes versions away
+change-versions : (store : Store) (change : Change) → length store.versions ≤ length (after_change store change).versions
+change-versions store (DimensionDeclared table) = omega arith
+change-versions store (FactDeclared table) = omega arith
+change-versions store (Loaded table.Fact rows) = omega (arith, length-append store.versions (versions_by (store.commits + 1) rows))
+change-versions store (Loaded (table.Dimension dimension) rows) = omega arith
+change-versions store (Ended positions) = omega (arith, length-all-ended (store.commits + 1) store.versions positions)
+
+outcome-versions : (store : Store) (found : Outcome) → length store.versions ≤ length (store_by store found).versions
+outcome-versions store found = by_change found.change
+  where
+    by_change : (change : Option Change) → length store.versions ≤ length (option_map_or (after_change store) change store).versions
+    by_change None = omega arith
+    by_change (Some change) = change-versions store change
+
+submitted-versions : (statement : Statement) (old : State) → versions_in old ≤ versions_in (after_submitting 0 statement old)
+submitted-versions statement old = subst (λ (store : Store). versions_in old ≤ length store.versions) (sym (submitted-tables 0 statement old))
+    (outcome-versions (tables_of old) (outcome_of (tables_of old) statement))
+
+-- what a change leaves
+record Leaves (old new : State) : Type 0 where
+  settings : new.settings ≡ old.settings
+  statement : new.numbers.statement ≡ old.numbers.statement
+  queries : new.lives.queries ≡ old.lives.queries
+
+leaves-change : (statement : ℕ) (change : Option Change) (state : State)
+    → Leaves state (option_map_or (λ change. with_change 0 statement change state) change state)
+leaves-change statement None state = record { settings = refl; statement = refl; queries = refl }
+leaves-change statement (Some (DimensionDeclared table)) state = record { settings = refl; statement = refl; queries = refl }
+leaves-change statement (Some (FactDeclared table)) state = record { settings = refl; statement = refl; queries = refl }
+leaves-change statement (Some (Loaded table rows)) state = record { settings = refl; statement = refl; queries = refl }
+leaves-change statement (Some (Ended positions)) state = record { settings = refl; statement = refl; queries = refl }
+
+-- what is told leaves the settings and the number
+query-settings : (statement : ℕ) (told : Told) (state : State) → (with_query 0 statement told state).settings ≡ state.settings
+query-settings statement (outcome.Replied reply) state = refl
+query-settings statement (outcome.Accepted query snapshot) state = refl
+
+query-number : (statement : ℕ) (told : Told) (state : State) → (with_query 0 statement told state).numbers.statement ≡ state.numbers.statement
+query-number statement (outcome.Replied reply) state = refl
+query-number statement (outcome.Accepted query snapshot) state = refl
+
+-- an accepted query waits behind the others
+record Asks (number : ℕ) (told : Told) (queries new : List QueryLife) : Type 0 where
+  counts : count_by (λ entry. is_open entry.life) new
+      ≡ count_by (λ entry. is_open entry.life) queries + one_if (is_query (awaited_by told))
+  waits : All (λ entry. IsOverOrWaits entry.life) queries → All (λ entry. IsOverOrWaits entry.life) new
+  life : All (λ entry. eqb entry.query number ≡ false) queries
+      → life_in new number ≡ (if is_query (awaited_by told) then Some Waiting else None)
+
+query-asks : (number : ℕ) (told : Told) (state : State) → Asks number told state.lives.queries (with_query 0 number told state).lives.queries
+query-asks number (outcome.Replied reply) state = record {
+  counts = omega arith;
+  waits = λ waits. waits;
+  life = λ new. ap (option_map (λ (e : QueryLife). e.life)) (none-found (λ (e : QueryLife). eqb e.query number) state.lives.queries new);
+}
+query-asks number (outcome.Accepted query snapshot) state = record {
+  counts = sum_by-append (λ (e : QueryLife). one_if (is_open e.life)) state.lives.queries (last ∷ []);
+  waits = λ waits. All-append (λ (e : QueryLife). IsOverOrWaits e.life) state.lives.queries (last ∷ []) waits
+      (All-cons (λ (e : QueryLife). IsOverOrWaits e.life) last [] tt (All-nil (λ (e : QueryLife). IsOverOrWaits e.life)));
+  life = λ new. ap (option_map (λ (e : QueryLife). e.life))
+      (find-append (λ (e : QueryLife). eqb e.query number) state.lives.queries (last ∷ [])
+      ∙ ap (λ o. option_or o (find (λ (e : QueryLife). eqb e.query number) (last ∷ [])))
+      (none-found (λ (e : QueryLife). eqb e.query number) state.lives.queries new)
+      ∙ ap (λ t. cond {A = Option QueryLife} t (Some last) None) (eq-eqb number number refl));
+}
+  where
+    last : QueryLife
+    last = record { query = number; extent = versions_in state; life = Waiting }
+
+-- no query has a number that was not given yet
+numbers-low : (state : State) → IsSound state → All (λ entry. entry.query ≤ state.numbers.statement) state.lives.queries
+numbers-low state sound = from-map state.lives.queries
+    (subst (All (λ n. n ≤ state.numbers.statement)) sound.queries.same
+    (All-map (λ n. n ≤ state.numbers.statement) (λ (a : Accepted). a.number) state.accepted
+    (All-weaker (IsSoundQuery state) (λ (a : Accepted). a.number ≤ state.numbers.statement) (λ a of. of.number) state.accepted sound.queries.each)))
+  where
+    from-map : (queries : List QueryLife) → All (λ n. n ≤ state.numbers.statement) (map (λ (e : QueryLife). e.query) queries)
+        → All (λ (e : QueryLife). e.query ≤ state.numbers.statement) queries
+    from-map [] low = All-nil (λ (e : QueryLife). e.query ≤ state.numbers.statement)
+    from-map (entry ∷ queries) low = All-cons (λ (e : QueryLife). e.query ≤ state.numbers.statement) entry queries
+        (All-head (λ n. n ≤ state.numbers.statement) entry.query (map (λ (e : QueryLife). e.query) queries) low)
+        (from-map queries (All-tail (λ n. n ≤ state.numbers.statement) entry.query (map (λ (e : QueryLife). e.query) queries) low))
+
+next-new : (state : State) → IsSound state → All (λ entry. eqb entry.query (state.numbers.statement + 1) ≡ false) state.lives.queries
+next-new state sound = All-weaker (λ (e : QueryLife). e.query ≤ state.numbers.statement) (λ (e : QueryLife). eqb e.query (state.numbers.statement + 1) ≡ false)
+    (λ e low. ne_eqb e.query (state.numbers.statement + 1) (λ same. omega arith)) state.lives.queries (numbers-low state sound)
+
+-- a statement that a core is given
+pub counts-submitted : (statement : Statement) (old : State) → IsSound old → 0 < length old.seats → CountsOne statement old (after_submitting 0 statement old)
+counts-submitted statement old sound there = record {
+  settings = query-settings number found.told changed ∙ leaves.settings;
+  scan = scan-submitted statement old;
+  versions = submitted-versions statement old;
+  number = query-number number found.told changed ∙ leaves.statement;
+  pending = ap (λ (s : Seat). s.pending) (submitted-seat 0 statement old there);
+  unfinished = asks.counts ∙ ap (λ queries. count_by (λ entry. is_open entry.life) queries + one_if (is_query (awaited_by found.told))) leaves.queries;
+  waits = λ waits. asks.waits (subst (All (λ entry. IsOverOrWaits entry.life)) (sym leaves.queries) waits);
+  life = asks.life (subst (All (λ entry. eqb entry.query number ≡ false)) (sym leaves.queries) (next-new old sound));
+}
+  where
+    found : Outcome
+    found = outcome_of (tables_of old) statement
+
+    number : ℕ
+    number = old.numbers.statement + 1
+
+    seated : State
+    seated = with_seat 0 (with_statement number found.told) (record old { numbers = record old.numbers { statement = number } })
+
+    changed : State
+    changed = option_map_or (λ change. with_change 0 number change seated) found.change seated
+
+    leaves : Leaves seated changed
+    leaves = leaves-change number found.change seated
+
+    asks : Asks number found.told changed.lives.queries (with_query 0 number found.told changed).lives.queries
+    asks = query-asks number found.told changed
+
+-- how many queries the front waits for then
+pub awaited-submitted : (statement : Statement) (old new : State) → CountsOne statement old new
+    → queries_awaited new ≡ queries_awaited old + one_if (is_query (awaited_by (told_of old statement)))
+awaited-submitted statement old new counts =
+    let last : Pending = record { statement = old.numbers.statement + 1; awaited = awaited_by (told_of old statement) } in
+    ap (count_by (λ (p : Pending). is_query p.awaited)) counts.pending
+    ∙ sum_by-append (λ (p : Pending). one_if (is_query p.awaited)) (seat_at old 0).pending (last ∷ [])
+    ∙ only (count_by (λ (p : Pending). is_query p.awaited) (seat_at old 0).pending) (is_query (awaited_by (told_of old statement)))
+  where
+    only : (n : ℕ) (test : Bool) → n + (0 + one_if test) ≡ n + one_if test
+    only n test = omega arith

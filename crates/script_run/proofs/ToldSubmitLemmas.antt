@@ -1,0 +1,129 @@
+-- What a core tells where the front gives it a statement.
+use Rattle.std.proofs.Common.{◌≡◌, ℕ, ◌+◌, ◌<◌, [], ◌∷◌, ◌++◌, map, Option, Some, None, refl, sym, ap, ◌∙◌, subst, append-nil, append_assoc, arith}
+use Rattle.std.specs.Prelude.{All}
+use Rattle.std.specs.Option.{option_map_or}
+use Rattle.std.proofs.lemmas.List.{map-append}
+use Rattle.std.proofs.lemmas.List.Elements.{All-weaker, filter_map-append}
+use Rattle.std.proofs.lemmas.List.Quantifiers.{all_pairs_push}
+use Rattle.script_reader.specs.declared.statement.Statement.{Statement}
+use Rattle.star_history.specs.History.{Change, DimensionDeclared, FactDeclared, Loaded, Ended}
+use Rattle.star_statement.specs.Outcome as outcome
+use Rattle.star_statement.specs.Outcome.{Told, outcome_of}
+use Rattle.aggregations.specs.Grouped.{grouped_of}
+use Rattle.pipeline_manager.specs.Conditions.{IsNew}
+use Rattle.pipeline_manager.specs.Sound.{AreRising}
+use Rattle.pipeline_manager.specs.declared.life.Life.TheVariants.{Waiting}
+use Rattle.pipeline_manager.specs.declared.life.QueryLife.{QueryLife}
+use Rattle.core_state.specs.Sound.{IsSound, IsSoundQuery}
+use Rattle.core_state.specs.State.{Pending, Seat, State}
+use Rattle.core_state.specs.Submitting.{after_submitting, awaited_by, seat_at, taken_by, with_change, with_query, with_seat, with_statement}
+use Rattle.core_state.specs.Tables.{tables_of, versions_in}
+use Rattle.core_state.proofs.AskLemmas.{of-numbers}
+use Rattle.script_run.specs.Played.{Follows, IsListed, accepted_by, given_in, queries_among, query_by}
+use Rattle.script_run.proofs.ToldLivesLemmas.{LivesOn, lives-behind, lives-same}
+
+-- a statement of this number, of which this is told
+abbrev pub waits_for : (statement : ℕ) → Told → Pending
+waits_for statement told = record { statement = statement; awaited = awaited_by told }
+
+-- what a statement changes leaves the queries and their lives
+abbrev changed_by : (seat statement : ℕ) → Option Change → State → State
+changed_by seat statement change state = option_map_or (λ change. with_change seat statement change state) change state
+
+accepted-changed : (seat statement : ℕ) (change : Option Change) (state : State) → (changed_by seat statement change state).accepted ≡ state.accepted
+accepted-changed seat statement None state = refl
+accepted-changed seat statement (Some (DimensionDeclared table)) state = refl
+accepted-changed seat statement (Some (FactDeclared table)) state = refl
+accepted-changed seat statement (Some (Loaded table rows)) state = refl
+accepted-changed seat statement (Some (Ended positions)) state = refl
+
+lives-changed : (seat statement : ℕ) (change : Option Change) (state : State)
+    → (changed_by seat statement change state).lives.queries ≡ state.lives.queries
+lives-changed seat statement None state = refl
+lives-changed seat statement (Some (DimensionDeclared table)) state = refl
+lives-changed seat statement (Some (FactDeclared table)) state = refl
+lives-changed seat statement (Some (Loaded table rows)) state = refl
+lives-changed seat statement (Some (Ended positions)) state = refl
+
+-- a query is the last one
+accepted-asked : (seat statement : ℕ) (told : Told) (state : State) → map accepted_by (with_query seat statement told state).accepted
+    ≡ map accepted_by state.accepted ++ queries_among (taken_by (waits_for statement told) ∷ [])
+accepted-asked seat statement (outcome.Replied reply) state = sym (append-nil (map accepted_by state.accepted))
+accepted-asked seat statement (outcome.Accepted query snapshot) state =
+    map-append accepted_by state.accepted
+    (record { number = statement; seat = seat; query = query; snapshot = snapshot; groups = Some (grouped_of query []) } ∷ [])
+
+-- and it waits
+lives-asked : (seat statement : ℕ) (told : Told) (state : State) → AreRising state.lives.queries → IsNew statement state.lives
+    → LivesOn state.lives.queries (with_query seat statement told state).lives.queries
+lives-asked seat statement (outcome.Replied reply) state rising new = lives-same state.lives.queries rising
+lives-asked seat statement (outcome.Accepted query snapshot) state rising new =
+    let added : QueryLife = record { query = statement; extent = versions_in state; life = Waiting } in
+    lives-behind state.lives.queries added
+    (all_pairs_push (λ entry later. entry.query < later.query) state.lives.queries added rising new)
+
+-- the next number is that of no query
+is-new : (state : State) → IsSound state → IsNew (state.numbers.statement + 1) state.lives
+is-new state sound =
+    of-numbers (λ number. number < state.numbers.statement + 1) (λ accepted. accepted.number) (λ entry. entry.query) state.accepted state.lives.queries
+    sound.queries.same
+    (All-weaker (IsSoundQuery state) (λ accepted. accepted.number < state.numbers.statement + 1)
+    (λ accepted is. let low = is.number in omega arith) state.accepted sound.queries.each)
+
+-- the core in which a seat has the next statement
+abbrev seated : (seat : ℕ) → Told → State → State
+seated seat told state =
+    with_seat seat (with_statement (state.numbers.statement + 1) told)
+    (record state { numbers = record state.numbers { statement = state.numbers.statement + 1 } })
+
+pub lives-submitted : (seat : ℕ) (statement : Statement) (state : State) → IsSound state
+    → LivesOn state.lives.queries (after_submitting seat statement state).lives.queries
+lives-submitted seat statement state sound =
+    let found = outcome_of (tables_of state) statement in
+    let number = state.numbers.statement + 1 in
+    let changed : State = changed_by seat number found.change (seated seat found.told state) in
+    let same : changed.lives.queries ≡ state.lives.queries = lives-changed seat number found.change (seated seat found.told state) in
+    subst (λ queries. LivesOn queries (with_query seat number found.told changed).lives.queries) same
+    (lives-asked seat number found.told changed
+    (subst AreRising (sym same) sound.slots.lives.rising)
+    (subst (All (λ entry. entry.query < number)) (sym same) (is-new state sound)))
+
+pub accepted-submitted : (seat : ℕ) (statement : Statement) (state : State) → map accepted_by (after_submitting seat statement state).accepted
+    ≡ map accepted_by state.accepted
+    ++ queries_among (taken_by (waits_for (state.numbers.statement + 1) (outcome_of (tables_of state) statement).told) ∷ [])
+accepted-submitted seat statement state =
+    let found = outcome_of (tables_of state) statement in
+    let number = state.numbers.statement + 1 in
+    let changed : State = changed_by seat number found.change (seated seat found.told state) in
+    accepted-asked seat number found.told changed
+    ∙ ap (λ accepted. map accepted_by accepted ++ queries_among (taken_by (waits_for number found.told) ∷ []))
+    (accepted-changed seat number found.change (seated seat found.told state))
+
+-- what a seat was given, with a statement more
+given-more : (statement : ℕ) (told : Told) (seat : Seat)
+    → given_in (with_statement statement told seat) ≡ given_in seat ++ taken_by (waits_for statement told) ∷ []
+given-more statement told seat =
+    ap (λ pending. seat.taken ++ pending) (map-append taken_by seat.pending (waits_for statement told ∷ []))
+    ∙ sym (append_assoc seat.taken (map taken_by seat.pending) (taken_by (waits_for statement told) ∷ []))
+
+-- what follows where a statement is submitted to the front
+pub follows-submitted : (statement : Statement) (old : State) → IsSound old
+    → seat_at (after_submitting 0 statement old) 0
+    ≡ with_statement (old.numbers.statement + 1) (outcome_of (tables_of old) statement).told (seat_at old 0)
+    → IsListed old → Follows old (after_submitting 0 statement old) []
+follows-submitted statement old sound seat listed =
+    let told = (outcome_of (tables_of old) statement).told in
+    let number = old.numbers.statement + 1 in
+    let last = taken_by (waits_for number told) in
+    let on = lives-submitted 0 statement old sound in record {
+      listed = record {
+        queries = accepted-submitted 0 statement old ∙ ap (λ queries. queries ++ queries_among (last ∷ [])) listed.queries
+            ∙ sym (filter_map-append query_by (given_in (seat_at old 0)) (last ∷ []))
+            ∙ sym (ap queries_among (ap given_in seat ∙ given-more number told (seat_at old 0)));
+        rising = on.rising;
+      };
+      stay = on.stay;
+      since = [];
+      taken = ap (λ (s : Seat). s.taken) seat ∙ sym (append-nil (seat_at old 0).taken);
+      told = tt;
+    }

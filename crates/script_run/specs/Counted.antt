@@ -1,0 +1,100 @@
+-- What the front of a run counts: the queries that are open, and how far the scan goes for them.
+use Rattle.std.specs.Prelude.{◌≡◌, ℕ, ◌+◌, ◌*◌, ◌/◌, ◌<◌, ◌≤◌, Bool, true, false, List, [], ◌∷◌, ◌++◌, All, Some, None, count_by, map, if◌then◌else◌}
+use Rattle.core_state.specs.State.{Asked, Awaited, Replied, State}
+use Rattle.core_state.specs.Submitting.{awaited_by, seat_at}
+use Rattle.core_state.specs.Tables.{tables_of, versions_in}
+use Rattle.script_reader.specs.declared.statement.Statement.{Statement}
+use Rattle.star_statement.specs.Outcome.{Told, outcome_of}
+use Rattle.pipeline_manager.specs.Lives.{life_of}
+use Rattle.pipeline_manager.specs.Conditions.{is_open}
+use Rattle.pipeline_manager.specs.declared.life.Life.{Life}
+use Rattle.pipeline_manager.specs.declared.life.Life.TheVariants.{Waiting, Building, Running, Ending, Answered, Spoiled, Abandoned}
+use Rattle.event_core.specs.Chosen.{AreIdle}
+use Rattle.event_core.specs.Seen.{state_of}
+use Rattle.script_run.specs.Laps.{places_of}
+use Rattle.script_run.specs.Played.{Played}
+use Rattle.script_run.specs.declared.front.Front.{Front}
+
+-- what was played, in rows behind places that were taken before
+abbrev pub places_played : (slots places : ℕ) → List Played → ℕ
+places_played slots places played = places_of slots places (map (λ one. one.reply) played)
+
+-- a seat waits for a query
+abbrev pub is_query : Awaited → Bool
+is_query (Replied reply) = false
+is_query (Asked query snapshot) = true
+
+-- how many queries the front waits for
+abbrev pub queries_awaited : State → ℕ
+queries_awaited state = count_by (λ pending. is_query pending.awaited) (seat_at state 0).pending
+
+-- the scan goes round once at most, and not at all where the front waits for no query
+pub record GoesRound (old new : State) : Type 0 where
+  pub settings : new.settings ≡ old.settings
+  pub versions : versions_in new ≡ versions_in old
+  pub none : queries_awaited old ≡ 0 → new.scan.cut ≡ old.scan.cut
+  pub once : new.scan.cut ≤ old.scan.cut + versions_in old
+
+-- where no more was cut than a lap for each full row of the replies before, no more is cut with these behind them
+pub record LapsOn (old new : State) (played : List Played) : Type 0 where
+  pub settings : new.settings ≡ old.settings
+  pub cut : (places : ℕ) → old.scan.cut ≤ versions_in old * (places / old.settings.slots)
+      → new.scan.cut ≤ versions_in new * (places_played old.settings.slots places played / old.settings.slots)
+
+-- whether a query with this life is over, or waits
+abbrev pub IsOverOrWaits : Life → Type 0
+IsOverOrWaits Waiting = Unit {0}
+IsOverOrWaits Building = ⊥
+IsOverOrWaits (Running start left) = ⊥
+IsOverOrWaits Ending = ⊥
+IsOverOrWaits Answered = Unit {0}
+IsOverOrWaits Spoiled = Unit {0}
+IsOverOrWaits Abandoned = Unit {0}
+
+-- how many queries of a core are open
+abbrev pub open_in : State → ℕ
+open_in state = count_by (λ entry. is_open entry.life) state.lives.queries
+
+-- a core between two statements: no batch is in a hand, and so many queries are open, each of which waits for a slot and is waited for
+pub record IsCalm (count : ℕ) (state : State) : Type 0 where
+  pub idle : AreIdle state
+  pub waits : All (λ entry. IsOverOrWaits entry.life) state.lives.queries
+  pub unfinished : open_in state ≡ count
+  pub awaited : queries_awaited state ≡ count
+
+-- the front counted the statements of its core, and the queries that are open, which are no more than there are slots
+pub record IsCounted (front : Front) : Type 0 where
+  pub some : 0 < front.settings.slots
+  pub settings : (state_of front.core).settings ≡ front.settings
+  pub submitted : (state_of front.core).numbers.statement ≡ front.submitted
+  pub calm : IsCalm front.unfinished (state_of front.core)
+  pub few : front.unfinished ≤ front.settings.slots
+
+-- what the front is told of a statement that it gives to a core
+abbrev pub told_of : State → Statement → Told
+told_of state statement = (outcome_of (tables_of state) statement).told
+
+-- one, if it holds
+abbrev pub one_if : Bool → ℕ
+one_if test = if test then 1 else 0
+
+-- a statement was given to a core: the front waits for it too, and a query waits and is open
+pub record CountsOne (statement : Statement) (old new : State) : Type 0 where
+  pub settings : new.settings ≡ old.settings
+  pub scan : new.scan ≡ old.scan
+  pub versions : versions_in old ≤ versions_in new
+  pub number : new.numbers.statement ≡ old.numbers.statement + 1
+  pub pending : (seat_at new 0).pending ≡ (seat_at old 0).pending
+      ++ record { statement = old.numbers.statement + 1; awaited = awaited_by (told_of old statement) } ∷ []
+  pub unfinished : open_in new ≡ open_in old + one_if (is_query (awaited_by (told_of old statement)))
+  pub waits : All (λ entry. IsOverOrWaits entry.life) old.lives.queries → All (λ entry. IsOverOrWaits entry.life) new.lives.queries
+  pub life : life_of new.lives (old.numbers.statement + 1)
+      ≡ (if is_query (awaited_by (told_of old statement)) then Some Waiting else None)
+
+-- replies were taken from a core: nothing has changed but the seats and what is kept for them
+pub record Beside (old new : State) : Type 0 where
+  pub settings : new.settings ≡ old.settings
+  pub entries : new.entries ≡ old.entries
+  pub lives : new.lives ≡ old.lives
+  pub scan : new.scan ≡ old.scan
+  pub numbers : new.numbers ≡ old.numbers
