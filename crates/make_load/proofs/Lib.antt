@@ -1,0 +1,2 @@
+-- Lemmas on the text of replies.
+pub mod ReplyLemmas

@@ -1,0 +1,17 @@
+//! The made workload, as a script of statements, and the summary of the replies to a script.
+#![tactic(auto)]
+
+mod counts;
+mod draft;
+mod lines;
+mod printing;
+mod reading;
+mod script;
+#[cfg(test)]
+mod tests;
+mod totals;
+
+pub use printing::print_summary;
+pub use reading::summary;
+pub use script::make_script;
+pub use totals::Summary;
