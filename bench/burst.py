@@ -1,0 +1,93 @@
+#!/usr/bin/env python3
+"""Writes a script to the standard output: five dimensions, one load of sales, and a burst of star queries.
+
+    python3 bench/burst.py ROWS QUERIES > burst
+    time ./cjoin < burst
+
+The time of the queries alone is that of the script less that of the same script with 0 queries. All numbers are drawn
+by one linear congruence, so the same arguments write the same bytes. Python's standard library is all it needs.
+"""
+
+import sys
+
+HEAD = """dimension store (id int key, region text, size int)
+dimension product (id int key, brand text, cost int)
+dimension customer (id int key, city text, age int)
+dimension day (id int key, month int, weekday int)
+dimension promo (id int key, channel text, level int)
+fact sales (store_id int references store, product_id int references product, \
+customer_id int references customer, day_id int references day, promo_id int references promo, units int, price int)
+"""
+
+
+class Draws:
+    """A linear congruence modulo 2^31, of which the lowest 16 bits are dropped."""
+
+    def __init__(self, seed):
+        self.state = seed
+
+    def pick(self, bound):
+        """The next number below a bound."""
+        self.state = (self.state * 1103515245 + 12345) % (1 << 31)
+        return (self.state >> 16) % bound
+
+
+def dimensions(draws):
+    """The rows of each dimension, by its name."""
+    return {
+        "store": [(key, f"R{draws.pick(8)}", draws.pick(1000)) for key in range(40)],
+        "product": [(key, f"B{draws.pick(25)}", draws.pick(500)) for key in range(200)],
+        "customer": [(key, f"C{draws.pick(50)}", 18 + draws.pick(70)) for key in range(500)],
+        "day": [(key, 1 + key // 31, key % 7) for key in range(365)],
+        "promo": [(key, f"P{draws.pick(4)}", draws.pick(5)) for key in range(10)],
+    }
+
+
+def sale(draws):
+    """A row of the fact table: five keys, units and a price."""
+    keys = [draws.pick(bound) for bound in (40, 200, 500, 365, 10)]
+    return (*keys, 1 + draws.pick(20), 1 + draws.pick(1000))
+
+
+def query(form, draws):
+    """A query of one of five forms, from 0 to 4."""
+    pick = draws.pick
+    if form == 0:
+        return ("select region, count(*), sum(units) from sales, store where store_id = store.id"
+                f" and size < {pick(1000)} group by region")
+    if form == 1:
+        return ("select brand, sum(price), max(units) from sales, product where product_id = product.id"
+                f" and cost between 100 and {100 + pick(400)} group by brand")
+    if form == 2:
+        return ("select month, count(*) from sales, day, customer where day_id = day.id"
+                f" and customer_id = customer.id and age >= {18 + pick(70)} group by month")
+    if form == 3:
+        return f"select count(*), sum(units), min(price) from sales where units > {pick(20)}"
+    return ("select channel, region, sum(price) from sales, promo, store where promo_id = promo.id"
+            f" and store_id = store.id and channel in ('P0','P{pick(4)}') and price <= {1 + pick(1000)}"
+            " group by channel, region")
+
+
+def load(name, rows):
+    """A load of these rows."""
+    lines = "".join(",".join(map(str, row)) + "\n" for row in rows)
+    return f"load {name}\n{lines}.\n"
+
+
+def main():
+    if len(sys.argv) != 3:
+        sys.exit("usage: burst.py ROWS QUERIES")
+    rows, queries = map(int, sys.argv[1:])
+    draws, asked = Draws(7), Draws(1000010)
+    sys.stdout.write(HEAD)
+    for name, members in dimensions(draws).items():
+        sys.stdout.write(load(name, members))
+    sys.stdout.write(load("sales", (sale(draws) for _ in range(rows))))
+    sys.stdout.write("wait\n")
+    for number in range(queries):
+        sys.stdout.write(query(number % 5, asked) + "\n")
+    sys.stdout.write("wait\n")
+
+
+if __name__ == "__main__":
+    main()
