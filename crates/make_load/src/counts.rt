@@ -118,10 +118,5 @@ fn byte_sum(bytes: &[u8]) -> u64
 fn capped_sum(sum: u64, byte: u8) -> u64
     ensures { result ≡ capped (sum + byte) }
 {
-    let byte = u64::from(byte);
-    if sum < u64::MAX - byte {
-        sum + byte
-    } else {
-        u64::MAX
-    }
+    sum.saturating_add(u64::from(byte))
 }
