@@ -6,3 +6,5 @@ pub mod FollowLemmas
 pub mod WriteLemmas
 pub mod BitLemmas
 pub mod SeenLemmas
+pub mod KeptLemmas
+pub mod FlatLemmas

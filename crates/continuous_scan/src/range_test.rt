@@ -1,0 +1,76 @@
+//! Ranges of integers in columns of the fact table. Which conditions are made of them is in `condition`.
+ghost use Rattle.std.specs.Prelude.{◌≡◌, ◌↔◌, ◌++◌, ◌∷◌, [], ◌<◌, ◌≤◌, IsTrue, length};
+
+use crate::bounds::Bounds;
+use std::marker::Model;
+
+/// How many range tests a condition may be made of.
+pub(crate) const MAX_RANGE_TESTS: usize = 8;
+
+/// A column, and between which integers it lets a value pass.
+#[derive(Clone, Copy, Debug)]
+pub(crate) struct RangeTest {
+    pub(crate) column: u8,
+    pub(crate) bounds: Bounds,
+}
+
+/// Range tests that all have to let a row pass.
+#[derive(Debug, Drop)]
+pub(crate) struct RangeTests {
+    tests: [RangeTest; MAX_RANGE_TESTS],
+    count: usize,
+}
+
+impl Model for RangeTests {
+    ghost use Rattle.std.specs.Prelude.{◌≡◌, ◌≤◌, List, length, take};
+    ghost use Rattle.continuous_scan.specs.declared.range_test.RangeTest.{RangeTest};
+
+    ghost Value = { List RangeTest };
+
+    ghost view = { λ list. take list.count list.tests };
+
+    ghost invariant = { λ list. (list.count ≤ 8) × (length list.tests ≡ 8) };
+}
+
+impl RangeTests {
+    /// No range test.
+    pub(crate) fn none() -> RangeTests
+        ensures { result ≡ [] }
+    {
+        let any = RangeTest {
+            column: 0,
+            bounds: Bounds {
+                least: None,
+                greatest: None,
+            },
+        };
+        RangeTests {
+            tests: [any; MAX_RANGE_TESTS],
+            count: 0,
+        }
+    }
+
+    /// Whether there is no room for one more.
+    pub(crate) fn is_full(&self) -> bool
+        ensures full { IsTrue result ↔ (length self.now ≡ 8) }
+        ensures few { length self.now ≤ 8 }
+    {
+        self.count == MAX_RANGE_TESTS
+    }
+
+    /// Adds a range test.
+    pub(crate) fn push(&mut self, test: RangeTest)
+        requires { length self.old < 8 }
+        ensures { self.new ≡ self.old ++ test ∷ [] }
+    {
+        self.tests[self.count] = test;
+        self.count += 1;
+    }
+
+    /// The range tests.
+    pub(crate) fn as_slice(&self) -> &[RangeTest]
+        ensures { result.now ≡ self.now }
+    {
+        &self.tests[..self.count]
+    }
+}
