@@ -4,8 +4,11 @@ mod FoldLemmas
 mod ListLemmas
 mod PlainLemmas
 mod CellLemmas
-mod StepLemmas
 mod GroupLemmas
 mod KeptLemmas
 mod EndLemmas
 mod OrderLemmas
+mod CodeLemmas
+mod RowsLemmas
+mod OrderedRowsLemmas
+mod FoundLemmas

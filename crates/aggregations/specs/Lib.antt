@@ -3,3 +3,5 @@ pub mod Grouped
 pub mod Folding
 pub mod Cells
 pub mod Finish
+pub mod Codes
+pub mod Numbered

@@ -1,18 +1,25 @@
 //! What does a query compute of its rows? It folds them into groups, in any order, exactly.
 #![tactic(auto)]
 
+mod code_entry;
+mod codes;
 mod crossing;
 mod ending;
+mod finding;
 mod flat_cell;
 mod groups;
 mod guesses;
+mod kept_groups;
 mod keys;
 mod laws;
 mod ordered;
 mod read;
+mod row_codes;
 mod taking;
+mod taking_rows;
 mod texts;
 
 pub use crossing::groups_may_be_sent;
 pub use groups::Groups;
 pub use laws::{one_row_more_is_folded, values_by_key_fold_the_same};
+pub use row_codes::{PLACES, ROWS, RowCodes};

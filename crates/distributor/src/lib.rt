@@ -2,6 +2,7 @@
 #![tactic(auto)]
 
 mod blocks;
+mod coding;
 mod crossing;
 mod distributor;
 mod folding;
