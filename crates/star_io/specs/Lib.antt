@@ -1,8 +1,15 @@
 -- What the contracts of this crate, and of those above it, say of the outside.
 pub mod Faults
 pub mod Transfer
+pub mod Link
 pub mod Source
+pub mod Door
 pub mod PieceSource
 pub mod ListSink
 pub mod StdSource
 pub mod StdSink
+pub mod SureSource
+pub mod PairLink
+pub mod ListDoor
+pub mod TcpLink
+pub mod TcpDoor

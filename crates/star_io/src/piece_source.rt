@@ -113,7 +113,7 @@ impl Source for PieceSource {
 }
 
 /// Copies the first bytes of `from` to the front of `to`, at most `piece` of them.
-fn copy_piece(from: &[u8], piece: usize, to: &mut [u8]) -> usize
+pub(crate) fn copy_piece(from: &[u8], piece: usize, to: &mut [u8]) -> usize
     ensures count { result ≡ min (min piece (length to.old)) (length from.now) }
     ensures copied { take result to.new ≡ take result from.now }
 {

@@ -1,7 +1,8 @@
 //! Where bytes go. A sink in memory is in `list_sink`, a real one in `std_sink`.
-ghost use Rattle.std.specs.Prelude.{ℕ, ◌<◌, ◌≤◌, List, Bool, Option, None, length, IfOk};
+ghost use Rattle.std.specs.Prelude.{◌≡◌, ℕ, ◌<◌, ◌≤◌, List, Bool, Option, None, length, IfOk};
 ghost use Rattle.std.specs.Io.KnownBytes.{WriteAppends};
 ghost use Rattle.star_io.specs.Faults.{CountsFault, NotesFault};
+ghost use Rattle.star_io.specs.Link.{ReadingSide};
 
 use crate::failed::Failed;
 
@@ -16,6 +17,9 @@ pub trait Sink {
     // Whether the last write failed.
     ghost write_failed: { Self → Bool };
 
+    // What the sink tells as a source, where it is the writing side of a link.
+    ghost reading_side: { Self → Option ReadingSide } = { λ _. None };
+
     /// Takes bytes from the front of `bytes`, at least one, and answers how many.
     fn write(&mut self, bytes: &[u8]) -> Result<usize, Failed>
         requires { 0 < length bytes.now }
@@ -23,5 +27,6 @@ pub trait Sink {
         ensures bound { IfOk result (λ n. n ≤ length bytes.now) }
         ensures bytes { WriteAppends (taken self.old) (taken self.new) result bytes.now }
         ensures faults { CountsFault (write_faults self.old) (write_faults self.new) result }
-        ensures last { NotesFault (write_failed self.new) result };
+        ensures last { NotesFault (write_failed self.new) result }
+        ensures apart { reading_side self.new ≡ reading_side self.old };
 }

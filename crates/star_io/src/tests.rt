@@ -4,7 +4,7 @@ use crate::{Failed, ListSink, PieceSource, Sink, Source, StdSink, StdSource, wri
 use std::test::Fail;
 
 /// Whether a read into four bytes gives these.
-fn gives<S: Source>(source: &mut S, given: Result<&str, Failed>) -> bool {
+pub(crate) fn gives<S: Source>(source: &mut S, given: Result<&str, Failed>) -> bool {
     let mut into = [0; 4];
     match (source.read(&mut into), given) {
         (Ok(n), Ok(text)) => &into[..n] == text.as_bytes(),

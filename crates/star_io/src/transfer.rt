@@ -13,6 +13,7 @@ pub fn write_all<K: Sink>(sink: &mut K, text: &[u8]) -> Result<(), Failed>
     ensures err { OnErr result (AppendsFront (K.taken sink.old) (K.taken sink.new) text.now) }
     ensures faults { CountsFault (K.write_faults sink.old) (K.write_faults sink.new) result }
     ensures last { OnErr result (K.write_failed sink.new ≡ true) }
+    ensures apart { K.reading_side sink.new ≡ K.reading_side sink.old }
 {
     let mut rest = text;
     'pieces: while !rest.is_empty() {

@@ -1,15 +1,16 @@
 -- Each write moves bytes from the rest to what is written; one that fails leaves a proper front.
-use Rattle.std.proofs.Common.{rules}
+use Rattle.std.proofs.Common.{refl, rules}
 use Rattle.star_io.proofs.BytesLemmas.{Written-none, Written-piece, Written-front}
 use Rattle.star_io.proofs.transfer.write_all.Goals as goal
 
 pub pieces-init : goal.pieces-init
-pieces-init g c = record { written = Written-none _ _; same_faults = search rules }
+pieces-init g c = record { written = Written-none _ _; same_faults = search rules; same_reading = refl }
 
 pub pieces-preserved : goal.pieces-preserved
 pieces-preserved g c = record {
   written = Written-piece _ c.in-Ok.n c.pieces.invariant.written c.in-Ok.ensures.bytes;
   same_faults = search rules;
+  same_reading = search rules;
 }
 
 pub returns-in_default-clause-err : goal.returns-in_default-clause-err

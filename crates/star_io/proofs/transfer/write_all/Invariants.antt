@@ -1,4 +1,4 @@
--- All of the text but the rest was appended, and no write failed so far.
+-- All of the text but the rest was appended, no write failed so far, and the reading side is left.
 use Rattle.std.proofs.Common.{◌≡◌, length}
 use Rattle.star_io.proofs.BytesLemmas.{Written}
 use Rattle.star_io.proofs.transfer.write_all.Given as goal
@@ -7,6 +7,7 @@ abbrev pub invariant-pieces : goal.invariant-pieces
 invariant-pieces g l = record {
   written : Written (g.K.Sink.taken l.initial.sink) (g.K.Sink.taken l.sink) l.text l.rest;
   same_faults : g.K.Sink.write_faults l.sink ≡ g.K.Sink.write_faults l.initial.sink;
+  same_reading : g.K.Sink.reading_side l.sink ≡ g.K.Sink.reading_side l.initial.sink;
 }
 
 abbrev pub decreases-pieces : goal.decreases-pieces

@@ -1,0 +1,136 @@
+//! A door in memory that hands out links that it was given, and fails where it is told to.
+ghost use Rattle.std.specs.Prelude.{◌≡◌, ◌↔◌, true, false, None, Contains, IfOk, IsOk, IsErr};
+ghost use Rattle.star_io.specs.Faults.{CountsFault, NotesFault};
+ghost use Rattle.star_io.specs.Door.{given_after, ended_after};
+
+use crate::door::Door;
+use crate::failed::Failed;
+use crate::pair_link::PairLink;
+use std::marker::Model;
+use std::vec::IntoIter;
+
+/// A door that hands out its links in order, each once, and has ended after the last of them. The
+/// calls of `accept` whose numbers, counted from 0, are listed fail, and lose no link.
+///
+/// Numbers and counts stand still at the last value of a `u64`.
+#[derive(Drop)]
+pub struct ListDoor {
+    links: IntoIter<PairLink>,
+    fails: Vec<u64>,
+    calls: u64,
+    faults: u64,
+    failed: bool,
+    asked: Option<u16>,
+    listening: bool,
+    given: u64,
+    ended: bool,
+}
+
+impl Model for ListDoor {
+    ghost use Rattle.std.specs.Vec.Iter.{into_iter_items};
+    ghost use Rattle.star_io.specs.ListDoor.{DoorState};
+
+    ghost Value = { DoorState };
+
+    ghost view = { λ s. record {
+      links = into_iter_items s.links;
+      fails = s.fails.items;
+      calls = s.calls;
+      faults = s.faults;
+      failed = s.failed;
+      asked = s.asked;
+      listening = s.listening;
+      given = s.given;
+      ended = s.ended;
+    } };
+}
+
+impl ListDoor {
+    /// A door to `links`, on which no call was made yet.
+    pub fn new(links: Vec<PairLink>, fails: Vec<u64>) -> ListDoor
+        ensures { result ≡ record {
+          links = links.items;
+          fails = fails.items;
+          calls = 0;
+          faults = 0;
+          failed = false;
+          asked = None;
+          listening = false;
+          given = 0;
+          ended = false;
+        } }
+    {
+        ListDoor {
+            links: links.into_iter(),
+            fails,
+            calls: 0,
+            faults: 0,
+            failed: false,
+            asked: None,
+            listening: false,
+            given: 0,
+            ended: false,
+        }
+    }
+}
+
+impl Door for ListDoor {
+    ghost use Rattle.star_io.specs.ListDoor.{after_listen, after_accept, next_link};
+
+    type Link = PairLink;
+
+    ghost door_faults = { λ s. s.faults };
+
+    ghost door_failed = { λ s. s.failed };
+
+    ghost asked = { λ s. s.asked };
+
+    ghost listening = { λ s. s.listening };
+
+    ghost given = { λ s. s.given };
+
+    ghost ended = { λ s. s.ended };
+
+    // It never fails.
+    fn listen(&mut self, port: u16) -> Result<(), Failed>
+        ensures ok { IsOk result }
+        ensures state { self.new ≡ after_listen self.old port }
+    {
+        self.asked = Some(port);
+        self.listening = true;
+        self.failed = false;
+        Ok(())
+    }
+
+    fn accept(&mut self) -> Result<Option<PairLink>, Failed>
+        requires { self.old.listening ≡ true }
+
+        // As every door.
+        ensures faults { CountsFault self.old.faults self.new.faults result }
+        ensures last { NotesFault self.new.failed result }
+        ensures asked { self.new.asked ≡ self.old.asked }
+        ensures listening { self.new.listening ≡ self.old.listening }
+        ensures given { self.new.given ≡ given_after self.old.given result }
+        ensures ended { self.new.ended ≡ ended_after self.old.ended result }
+
+        // The listed calls fail, another hands out the next link, or tells the end.
+        ensures fails { IsErr result ↔ Contains self.old.fails self.old.calls }
+        ensures next { IfOk result (λ link. link ≡ next_link self.old.links) }
+        ensures state { self.new ≡ after_accept self.old result }
+    {
+        let number = self.calls;
+        self.calls = number.saturating_add(1);
+        if self.fails.contains(&number) {
+            self.faults = self.faults.saturating_add(1);
+            self.failed = true;
+            return Err(Failed);
+        }
+        self.failed = false;
+        let link = self.links.next();
+        match link {
+            Some(_) => self.given = self.given.saturating_add(1),
+            None => self.ended = true,
+        }
+        Ok(link)
+    }
+}

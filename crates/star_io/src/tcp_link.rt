@@ -1,0 +1,104 @@
+//! A real link, over one of the system's TCP connections.
+use crate::failed::Failed;
+use crate::link::Link;
+use crate::sink::Sink;
+use crate::source::Source;
+use std::io::{Read, Write};
+use std::net::TcpStream;
+
+/// A link over a TCP connection. A read or a write that fails, for whatever reason, is a fault, and
+/// so is a write that takes nothing.
+///
+/// The counts of faults stand still at the last value of a `u64`.
+#[derive(Drop)]
+pub struct TcpLink {
+    stream: TcpStream,
+    read_faults: u64,
+    read_failed: bool,
+    ended: bool,
+    write_faults: u64,
+    write_failed: bool,
+}
+
+impl TcpLink {
+    /// A link over `stream`, from which it read nothing yet, and to which it wrote nothing.
+    pub(crate) fn new(stream: TcpStream) -> TcpLink {
+        TcpLink {
+            stream,
+            read_faults: 0,
+            read_failed: false,
+            ended: false,
+            write_faults: 0,
+            write_failed: false,
+        }
+    }
+}
+
+impl Source for TcpLink {
+    ghost use Rattle.star_io.specs.TcpLink.{tcp_failed_reads, tcp_last_read_failed, tcp_has_ended, tcp_writing};
+
+    ghost read_faults = { tcp_failed_reads };
+
+    ghost read_failed = { tcp_last_read_failed };
+
+    ghost ended = { tcp_has_ended };
+
+    ghost writing_side = { tcp_writing };
+
+    fn read(&mut self, into: &mut [u8]) -> Result<usize, Failed> {
+        match self.stream.read(into) {
+            Ok(n) => {
+                self.read_failed = false;
+                self.ended = n == 0 || self.ended;
+                Ok(n)
+            }
+            Err(_) => {
+                self.read_faults = self.read_faults.saturating_add(1);
+                self.read_failed = true;
+                Err(Failed)
+            }
+        }
+    }
+}
+
+impl Sink for TcpLink {
+    ghost use Rattle.star_io.specs.TcpLink.{tcp_failed_writes, tcp_last_write_failed, tcp_reading};
+
+    ghost write_faults = { tcp_failed_writes };
+
+    ghost write_failed = { tcp_last_write_failed };
+
+    ghost reading_side = { tcp_reading };
+
+    fn write(&mut self, bytes: &[u8]) -> Result<usize, Failed> {
+        match self.stream.write(bytes) {
+            Ok(n) if n > 0 => {
+                self.write_failed = false;
+                Ok(n)
+            }
+            _ => {
+                self.write_faults = self.write_faults.saturating_add(1);
+                self.write_failed = true;
+                Err(Failed)
+            }
+        }
+    }
+}
+
+impl Link for TcpLink {
+    ghost use Rattle.std.proofs.Common.{rules};
+
+    ghost taken_apart = { Prim.search rules };
+
+    ghost write_faults_apart = { Prim.search rules };
+
+    ghost write_failed_apart = { Prim.search rules };
+
+    ghost left_apart = { Prim.search rules };
+
+    ghost read_faults_apart = { Prim.search rules };
+
+    ghost read_failed_apart = { Prim.search rules };
+
+    ghost ended_apart = { Prim.search rules };
+}
