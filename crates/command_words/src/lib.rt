@@ -1,0 +1,17 @@
+//! The settings that the words of the command line name.
+#![tactic(auto)]
+
+mod laws;
+mod limits;
+mod options;
+mod reading;
+mod settings;
+mod table;
+#[cfg(test)]
+mod tests;
+mod values;
+
+pub use laws::{settings_are_in_range, two_hyphens_name_no_settings};
+pub use limits::{ACCEPT, BATCH, Numbers, PORT, ROWS, SEED, SLOTS, WORKERS};
+pub use reading::read_words;
+pub use settings::{Mode, Settings};
