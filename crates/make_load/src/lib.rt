@@ -3,6 +3,7 @@
 
 mod counts;
 mod draft;
+mod laws;
 mod lines;
 mod printing;
 mod reading;
@@ -11,6 +12,7 @@ mod script;
 mod tests;
 mod totals;
 
+pub use laws::made_scripts_are_within_the_limit;
 pub use printing::print_summary;
 pub use reading::summary;
 pub use script::make_script;

@@ -1,0 +1,2 @@
+-- What a run of the made workload writes and tells.
+pub mod Made
