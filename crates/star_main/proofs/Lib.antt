@@ -1,2 +1,3 @@
 -- The headline from what a run promises.
 mod HeadlineLemmas
+mod MadeLemmas

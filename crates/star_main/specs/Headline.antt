@@ -1,5 +1,5 @@
 -- The headline: what the program writes is the replies to its script, each query answered as if alone.
-use Rattle.std.specs.Prelude.{◌≡◌, ℕ, ◌+◌, ◌≤◌, ◌⊎◌, ◌↔◌, Bool, true, false, List, [], length, Option, IfSome}
+use Rattle.std.specs.Prelude.{◌≡◌, ◌≢◌, ℕ, ◌+◌, ◌≤◌, ◌⊎◌, ◌↔◌, Bool, true, false, List, length, Option, IfSome}
 use Rattle.std.specs.Io.KnownBytes.{Appends, Consumes}
 use Rattle.star_io.specs.Faults.{FailedOnce, FailedOnceAtMost}
 use Rattle.star_io.specs.declared.run_end.RunEnd.{RunEnd}
@@ -30,8 +30,9 @@ pub record TellsBy (status : ℕ) (wanted given : List ℕ) (slots : ℕ) (core 
 -- The source gave these bytes in the call, the sink took those, and the status says how they belong together: all
 -- replies to the statements of the bytes, in order, where nothing is left at the source; where a read failed or the
 -- limit was passed, to those that were whole by then; where a write failed, a proper front of the replies; where no
--- memory was left for the run, a front of them, and a proper one unless the reading had met no end. At some places memory
--- was wanted for the statement alone; the replies tell which. The core that is handed back, if one is, tells of the same script.
+-- memory was left for the words or the run, a front of them, and a proper one unless the reading had met no end. At some
+-- places memory was wanted for the statement alone; the replies tell which. The core that is handed back, if one is,
+-- tells of the same script. No run has the status 2: it tells that there are no settings.
 pub record Headline (slots : ℕ) (core : Option Parts) (status : ℕ) (ended ended' : Bool) (read read' : ℕ) (left left' taken taken' : Option (List ℕ)) : Type 0 where
   pub given : List ℕ
   pub written : List ℕ
@@ -40,14 +41,13 @@ pub record Headline (slots : ℕ) (core : Option Parts) (status : ℕ) (ended en
   pub took : Appends taken taken' written
   pub answered : status ≤ 1 → HasEnded ended' left' × (length given ≤ SCRIPT_LIMIT) × (written ≡ script_text wanted true given)
   pub refused : status ≤ 1 → ((status ≡ 1) ↔ (some_refused wanted true given ≡ true))
-  pub no_settings : status ≡ 2 → (given ≡ []) × (written ≡ [])
   pub read_fault : status ≡ 3 → (length given ≤ SCRIPT_LIMIT) × (written ≡ script_text wanted false given)
   pub write_fault : status ≡ 4 → IsProperFront written (script_text wanted ended' (within_limit given))
   pub no_memory : status ≡ 5 → IsFront written (script_text wanted ended' (within_limit given))
       × (IsProperFront written (script_text wanted ended' (within_limit given)) ⊎ MetNoEnd ended ended' read read' given)
   pub past_limit : status ≡ 6 → (length given ≡ SCRIPT_LIMIT + 1) × (written ≡ script_text wanted false (within_limit given))
   pub bounded : length given ≤ SCRIPT_LIMIT + 1
-  pub known : status ≤ 6
+  pub known : (status ≤ 6) × (status ≢ 2)
   pub told : IfSome core (λ parts. TellsBy status wanted given slots (state_of parts))
 
 -- A status that tells a fault has its cause in the call: one read or one write failed, the last one, and no other did.

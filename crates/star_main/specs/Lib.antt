@@ -1,4 +1,5 @@
--- What the command line means, the headline, and what is told of a run that was cut short.
+-- What the modes make of settings, the headline, and what is told of a run that was cut short.
 pub mod Headline
-pub mod Settings
+pub mod Made
+pub mod Modes
 pub mod Fault

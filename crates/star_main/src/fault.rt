@@ -7,7 +7,7 @@ use thiserror::Error;
 /// Why there are no replies to a whole script.
 #[derive(Debug, Drop, Error)]
 pub(crate) enum Fault {
-    #[error("usage: cjoin [--mode run]")]
+    #[error("usage: cjoin [--mode run|alone|make] [--workers N] [--slots N] [--batch N] [--seed N] [--rows N] [--port N] [--accept N]")]
     Words,
     #[error("read fault")]
     Read,

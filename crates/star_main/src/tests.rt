@@ -1,9 +1,7 @@
 //! What the top call does with words, faults and the limit. Scripts with their replies are the cases of `star_cases`.
-ghost use Rattle.std.specs.Prelude.{◌<◌, ◌≤◌};
+ghost use Rattle.std.specs.Prelude.{◌<◌};
 
 use crate::top::cjoin;
-use core_state::RunSettings;
-use script_run::run_script;
 use star_io::{ListSink, PieceSource};
 use std::alloc::{AllocError, Global};
 use std::test::Fail;
@@ -26,14 +24,9 @@ load sales
 
 const BASE_REPLIES: &str = "table store\ntable sales\ncommit 1 rows 2\ncommit 2 rows 4\n";
 
-/// The status of a script, and the bytes written.
-fn run<R: AllocGlobal + Threads + Sync>(rt: &R, script: &[u8]) -> Result<(u8, String), Fail> {
-    let alloc = rt.alloc();
-    let mut source = source(alloc, script, 4096, &[])?;
-    let mut sink = ListSink::new(alloc, 1 << 16, Vec::new(alloc));
-    let ended = status(rt, alloc, &[], &mut source, &mut sink);
-    Ok((ended, text(alloc, sink.bytes())?))
-}
+/// What is written of the made workload without sales, as another program reckoned it.
+const MADE_LINE: &str =
+    "summary statements 85 commits 18 answers 60 rows 12 overflows 0 refused 0 memory 0 bytes 1531 sum 125847\n";
 
 /// The status of a run, whose core is dropped.
 fn status<R: Threads + Sync>(
@@ -57,6 +50,14 @@ fn source(
     Ok(PieceSource::new(script.to_vec(alloc)?, piece, fails.to_vec(alloc)?))
 }
 
+fn words_of(alloc: Global, texts: &[&str]) -> Result<Vec<String>, AllocError> {
+    let mut words = Vec::new(alloc);
+    for text in texts {
+        words.push(String::from_str(alloc, text)?)?;
+    }
+    Ok(words)
+}
+
 fn text(alloc: Global, bytes: &[u8]) -> Result<String, Fail> {
     let text = std::str::from_utf8(bytes).map_err(|_| "no text")?;
     Ok(String::from_str(alloc, text)?)
@@ -64,12 +65,16 @@ fn text(alloc: Global, bytes: &[u8]) -> Result<String, Fail> {
 
 #[test]
 fn a_refusal_has_a_status(rt: HostRuntime) -> Result<(), Fail> {
+    let alloc = rt.alloc();
     let cases: [(&[u8], &str, u8); 2] = [
         (b"wait", "waited\n", 0),
         (b"wait;;\nwait", "refused 1 syntax at 5\nwaited\n", 1),
     ];
     for (script, replies, wanted) in cases {
-        let (ended, written) = run(&rt, script)?;
+        let mut source = source(alloc, script, 4096, &[])?;
+        let mut sink = ListSink::new(alloc, 1 << 16, Vec::new(alloc));
+        let ended = status(&rt, alloc, &[], &mut source, &mut sink);
+        let written = text(alloc, sink.bytes())?;
         assert_eq!(rt; written.as_str(), replies, "at {script:?}");
         assert_eq!(rt; ended, wanted, "at {script:?}");
     }
@@ -105,30 +110,43 @@ fn a_write_fault_leaves_a_front_of_the_replies(rt: HostRuntime) -> Result<(), Fa
 }
 
 #[test]
-fn words_that_name_no_settings_touch_nothing(rt: HostRuntime) -> Result<(), Fail> {
+fn words_say_what_is_run_and_other_words_touch_nothing(rt: HostRuntime) -> Result<(), Fail> {
     let alloc = rt.alloc();
-    let cases: [(&[&str], u8); 8] = [
-        (&[], 0),
-        (&["--mode", "run"], 0),
-        (&["--mode"], 2),
-        (&["run"], 2),
-        (&["--mode", "Run"], 2),
-        (&["--mode", "alone"], 2),
-        (&["--mode", "run", "--mode"], 2),
-        (&["--help"], 2),
+    let cases: [(&[&str], u8, &str); 9] = [
+        (&[], 0, BASE_REPLIES),
+        (
+            &["--mode", "run", "--slots=1", "--batch", "3"],
+            0,
+            BASE_REPLIES,
+        ),
+        (
+            &[
+                "--workers=16",
+                "--seed",
+                "1",
+                "--rows=0",
+                "--port=1",
+                "--accept",
+                "1",
+            ],
+            0,
+            BASE_REPLIES,
+        ),
+        (&["--mode=alone"], 0, BASE_REPLIES),
+        (&["--mode", "make", "--rows=0"], 0, MADE_LINE),
+        (&["--mode", "serve"], 2, ""),
+        (&["--slots", "65"], 2, ""),
+        (&["run"], 2, ""),
+        (&["--help"], 2, ""),
     ];
-    for (words, wanted) in cases {
-        let mut all = Vec::new(alloc);
-        for word in words {
-            all.push(String::from_str(alloc, word)?)?;
-        }
+    for (texts, wanted, replies) in cases {
+        let words = words_of(alloc, texts)?;
         let mut source = source(alloc, BASE.as_bytes(), 4096, &[])?;
         let mut sink = ListSink::new(alloc, 1 << 16, Vec::new(alloc));
-        let ended = status(&rt, alloc, &all, &mut source, &mut sink);
-        assert_eq!(rt; ended, wanted, "at {words:?}");
+        let ended = status(&rt, alloc, &words, &mut source, &mut sink);
+        assert_eq!(rt; ended, wanted, "at {texts:?}");
         let written = text(alloc, sink.bytes())?;
-        let replies = if wanted == 0 { BASE_REPLIES } else { "" };
-        assert_eq!(rt; written.as_str(), replies, "at {words:?}");
+        assert_eq!(rt; written.as_str(), replies, "at {texts:?}");
     }
     Ok(())
 }
@@ -151,20 +169,13 @@ fn the_byte_past_the_limit_is_told(rt: HostRuntime) -> Result<(), Fail> {
 fn positions_cut<R: AllocGlobal + Threads + Sync>(
     rt: &R,
     script: &[u8],
-    slots: u32,
-) -> Result<Option<u64>, Fail>
-    requires { (1 ≤ slots) × (slots ≤ 64) }
-{
+    slots: &str,
+) -> Result<Option<u64>, Fail> {
     let alloc = rt.alloc();
-    let settings = RunSettings {
-        workers: 0,
-        slots,
-        batch: 1,
-        seats: 1,
-    };
+    let words = words_of(alloc, &["--batch", "1", "--slots", slots])?;
     let mut source = source(alloc, script, 4096, &[])?;
     let mut sink = ListSink::new(alloc, 1 << 16, Vec::new(alloc));
-    let core = run_script(rt, alloc, settings, &mut source, &mut sink).core;
+    let core = cjoin(rt, alloc, &words, &mut source, &mut sink).core;
     Ok(core.map(|core| core.positions_cut()))
 }
 
@@ -176,9 +187,9 @@ fn queries_that_are_unfinished_together_share_a_lap(rt: HostRuntime) -> Result<(
     let rome = "select count(*) from sales, store where store_id = id and city = 'Rome'";
     let together = format!(in alloc; "{BASE}{all}\n{oslo}\n{rome}\n")?;
     let apart = format!(in alloc; "{BASE}{all}\nwait\n{oslo}\nwait\n{rome}\n")?;
-    assert_eq!(rt; positions_cut(&rt, together.as_bytes(), 64)?, Some(4));
-    assert_eq!(rt; positions_cut(&rt, together.as_bytes(), 2)?, Some(8));
-    assert_eq!(rt; positions_cut(&rt, together.as_bytes(), 1)?, Some(12));
-    assert_eq!(rt; positions_cut(&rt, apart.as_bytes(), 64)?, Some(12));
+    assert_eq!(rt; positions_cut(&rt, together.as_bytes(), "64")?, Some(4));
+    assert_eq!(rt; positions_cut(&rt, together.as_bytes(), "2")?, Some(8));
+    assert_eq!(rt; positions_cut(&rt, together.as_bytes(), "1")?, Some(12));
+    assert_eq!(rt; positions_cut(&rt, apart.as_bytes(), "64")?, Some(12));
     Ok(())
 }

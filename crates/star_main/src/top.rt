@@ -1,16 +1,21 @@
 //! The top call, on which the headline stands.
-ghost use Rattle.std.specs.Prelude.{◌≡◌, ◌↔◌, ◌⊎◌, IfSome, IsNone, map, string_bytes};
+ghost use Rattle.std.specs.Prelude.{◌≡◌, ◌↔◌, ◌⊎◌, ℕ, Bool, None, IfSome, IsNone, IsSomeAnd, map, string_bytes};
+ghost use Rattle.command_words.specs.Ranges.{AreInRange};
+ghost use Rattle.command_words.specs.Table.{settings_of};
 ghost use Rattle.core_state.specs.Sound.{empty_core};
 ghost use Rattle.event_core.specs.Seen.{state_of};
 ghost use Rattle.script_run.specs.Front.{IsRun};
-ghost use Rattle.star_main.specs.Settings.{settings_of};
 ghost use Rattle.star_main.specs.Headline.{Headline, HasCause, status_of as run_status};
+ghost use Rattle.star_main.specs.Made.{MadeHeadline, made_status_of};
+ghost use Rattle.star_main.specs.Modes.{IsAlone, IsMade, run_settings_of};
 
-use crate::settings::{Mode, read_words};
+use command_words::{Mode, Settings, read_words};
 use core_state::RunSettings;
 use event_core::Core;
-use script_run::{RunDone, run_script};
+use made_run::{MadeDone, MadeEnd, run_made};
+use script_run::{RunDone, run_alone, run_script};
 use star_io::{RunEnd, Sink, Source};
+use star_values::NoMemory;
 use std::alloc::Global;
 use std::thread::Threads;
 
@@ -20,29 +25,29 @@ pub(crate) const FAULTY_WORDS: u8 = 2;
 /// The status where no memory is left for the words or for the run itself.
 pub(crate) const OUT_OF_MEMORY: u8 = 5;
 
-/// How large the core of a run is: 64 slots, batches of 256 rows, no workers, and the one who reads the script.
-pub(crate) const SETTINGS: RunSettings = RunSettings {
-    workers: 0,
-    slots: 64,
-    batch: 256,
-    seats: 1,
-};
-
 /// What came of the top call.
 #[derive(Debug, Drop)]
 pub struct TopDone {
     /// The status with which the program ends.
     pub status: u8,
 
-    /// The core that ran the script. There is none where the words name no settings, or no memory was left for the run.
+    /// The core that ran the script. There is none where the words name no settings or the mode `alone`, or no memory was
+    /// left for the words or for the run.
     pub core: Option<Core>,
 }
 
 /// Runs a script as the words say, and answers the status with which the program ends, and the core that ran the script.
 ///
 /// 0: the input was read to its end, and every reply was written. 1: the same, and some reply is a refusal or `memory`. 2:
-/// the words name no settings. 3: a read failed. 4: a write failed. 5: no memory was
-/// left for the run itself. 6: the script is longer than 67,108,864 bytes.
+/// the words name no settings, and nothing was read or written. 3: a read failed. 4: a write failed. 5: no memory was left
+/// for the words, and nothing was read or written, or none for the run itself. 6: the script is longer than 67,108,864
+/// bytes.
+///
+/// In the mode `make` the script is the one that seed and rows make, and the line that sums its replies up is written in
+/// their place; the source is not read. Then there is no status 3 or 6.
+///
+/// Of the settings the mode has an effect, in the modes `run` and `make` the slots and the batch, and in `make` the seed and
+/// the rows. Workers, port and accept are read, and have none yet.
 pub fn cjoin<R: Threads + Sync, S: Source, K: Sink>(
     rt: &R,
     alloc: Global,
@@ -50,24 +55,107 @@ pub fn cjoin<R: Threads + Sync, S: Source, K: Sink>(
     source: &mut S,
     sink: &mut K,
 ) -> TopDone
-    ensures settings { (result.status ≡ 2) ↔ IsNone (settings_of (map string_bytes words.now)) }
-    ensures untouched { result.status ≡ 2 → (source.new ≡ source.old) × (sink.new ≡ sink.old) }
-    ensures headline { Headline SETTINGS.slots result.core result.status (S.ended source.old) (S.ended source.new)
+    ensures settings { result.status ≡ 2 → IsNone (settings_of (map string_bytes words.now)) }
+    ensures untouched { IsNone (settings_of (map string_bytes words.now)) →
+        (source.new ≡ source.old) × (sink.new ≡ sink.old) × ((result.status ≡ 2) ⊎ (result.status ≡ 5)) }
+    ensures headline { IfSome (settings_of (map string_bytes words.now)) (λ settings. ¬ IsMade settings →
+        Headline settings.slots result.core result.status (S.ended source.old) (S.ended source.new)
+        (S.read_faults source.old) (S.read_faults source.new)
+        (S.left source.old) (S.left source.new) (K.taken sink.old) (K.taken sink.new)) }
+    ensures made { IfSome (settings_of (map string_bytes words.now)) (λ settings. IsMade settings →
+        (source.new ≡ source.old) × MadeHeadline settings.slots settings.seed settings.rows result.core result.status
+        (K.taken sink.old) (K.taken sink.new)) }
+    ensures causes { HasCause result.status
+        (S.read_faults source.old) (S.read_faults source.new) (S.read_failed source.new)
+        (K.write_faults sink.old) (K.write_faults sink.new) (K.write_failed sink.new) }
+    ensures core { IsNone result.core ↔ (IsNone (settings_of (map string_bytes words.now))
+        ⊎ (IsSomeAnd (settings_of (map string_bytes words.now)) IsAlone ⊎ (result.status ≡ 5))) }
+    ensures run { IfSome result.core (λ core. IfSome (settings_of (map string_bytes words.now)) (λ settings.
+        IsRun (empty_core (run_settings_of settings)) (state_of core))) }
+{
+    match read_words(alloc, words) {
+        Ok(Some(settings)) => match settings.mode {
+            Mode::Run => run_shared(rt, alloc, &settings, source, sink),
+            Mode::Alone => run_each_alone(alloc, source, sink),
+            Mode::Make => run_workload(rt, alloc, &settings, sink),
+        },
+        Ok(None) => without_core(FAULTY_WORDS),
+        Err(NoMemory) => without_core(OUT_OF_MEMORY),
+    }
+}
+
+/// Runs a script whose queries share the scan of one core, and hands the core back.
+fn run_shared<R: Threads + Sync, S: Source, K: Sink>(
+    rt: &R,
+    alloc: Global,
+    settings: &Settings,
+    source: &mut S,
+    sink: &mut K,
+) -> TopDone
+    requires { AreInRange settings.now }
+    ensures headline { Headline settings.now.slots result.core result.status (S.ended source.old) (S.ended source.new)
         (S.read_faults source.old) (S.read_faults source.new)
         (S.left source.old) (S.left source.new) (K.taken sink.old) (K.taken sink.new) }
     ensures causes { HasCause result.status
         (S.read_faults source.old) (S.read_faults source.new) (S.read_failed source.new)
         (K.write_faults sink.old) (K.write_faults sink.new) (K.write_failed sink.new) }
-    ensures core { IsNone result.core ↔ ((result.status ≡ 2) ⊎ (result.status ≡ 5)) }
-    ensures run { IfSome result.core (λ core. IsRun (empty_core SETTINGS) (state_of core)) }
+    ensures core { IsNone result.core ↔ (result.status ≡ 5) }
+    ensures run { IfSome result.core (λ core. IsRun (empty_core (run_settings_of settings.now)) (state_of core)) }
 {
-    match read_words(words) {
-        Some(Mode::Run) => done_of(run_script(rt, alloc, SETTINGS, source, sink)),
-        None => TopDone {
-            status: FAULTY_WORDS,
-            core: None,
-        },
+    done_of(run_script(rt, alloc, run_settings(settings), source, sink))
+}
+
+/// Runs a script each of whose queries is answered by itself, without a core.
+fn run_each_alone<S: Source, K: Sink>(alloc: Global, source: &mut S, sink: &mut K) -> TopDone
+    ensures headline { (slots : ℕ) → Headline slots result.core result.status (S.ended source.old) (S.ended source.new)
+        (S.read_faults source.old) (S.read_faults source.new)
+        (S.left source.old) (S.left source.new) (K.taken sink.old) (K.taken sink.new) }
+    ensures causes { HasCause result.status
+        (S.read_faults source.old) (S.read_faults source.new) (S.read_failed source.new)
+        (K.write_faults sink.old) (K.write_faults sink.new) (K.write_failed sink.new) }
+    ensures core { IsNone result.core }
+{
+    without_core(status_of(run_alone(alloc, source, sink)))
+}
+
+/// Runs the made workload, whose queries share the scan of one core, writes the line that sums its replies up, and hands
+/// the core back.
+fn run_workload<R: Threads + Sync, K: Sink>(
+    rt: &R,
+    alloc: Global,
+    settings: &Settings,
+    sink: &mut K,
+) -> TopDone
+    requires { AreInRange settings.now }
+    ensures made { MadeHeadline settings.now.slots settings.now.seed settings.now.rows result.core result.status
+        (K.taken sink.old) (K.taken sink.new) }
+    ensures causes { (read : ℕ) (read_failed : Bool) → HasCause result.status read read read_failed
+        (K.write_faults sink.old) (K.write_faults sink.new) (K.write_failed sink.new) }
+    ensures core { IsNone result.core ↔ (result.status ≡ 5) }
+    ensures run { IfSome result.core (λ core. IsRun (empty_core (run_settings_of settings.now)) (state_of core)) }
+{
+    let core = run_settings(settings);
+    made_of(run_made(rt, alloc, core, settings.seed, settings.rows, sink))
+}
+
+/// How large the core of a run is: no workers, and one seat, for the one who reads the script.
+fn run_settings(settings: &Settings) -> RunSettings
+    ensures { result ≡ run_settings_of settings.now }
+{
+    RunSettings {
+        workers: 0,
+        slots: settings.slots,
+        batch: settings.batch,
+        seats: 1,
     }
+}
+
+/// A status with no core beside it.
+fn without_core(status: u8) -> TopDone
+    ensures status { result.status ≡ status }
+    ensures core { result.core ≡ None }
+{
+    TopDone { status, core: None }
 }
 
 /// The status of a run, beside its core.
@@ -92,5 +180,22 @@ fn status_of(end: RunEnd) -> u8
         RunEnd::WriteFault => 4,
         RunEnd::NoMemory => OUT_OF_MEMORY,
         RunEnd::ScriptLimit => 6,
+    }
+}
+
+/// The status of a run of the made workload, beside its core.
+fn made_of(done: MadeDone) -> TopDone
+    ensures status { result.status ≡ made_status_of done.end }
+    ensures core { result.core ≡ done.core }
+{
+    let status = match done.end {
+        MadeEnd::Clean => 0,
+        MadeEnd::SomeRefused => 1,
+        MadeEnd::WriteFault => 4,
+        MadeEnd::NoMemory => OUT_OF_MEMORY,
+    };
+    TopDone {
+        status,
+        core: done.core,
     }
 }
