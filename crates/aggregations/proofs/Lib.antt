@@ -9,6 +9,7 @@ mod KeptLemmas
 mod EndLemmas
 mod OrderLemmas
 mod CodeLemmas
+mod IntegerLemmas
 mod RowsLemmas
 mod OrderedRowsLemmas
 mod FoundLemmas

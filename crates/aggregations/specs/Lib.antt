@@ -5,3 +5,4 @@ pub mod Cells
 pub mod Finish
 pub mod Codes
 pub mod Numbered
+pub mod Integers
