@@ -1,15 +1,17 @@
 -- No batch comes into a hand but by an event that takes one.
 use Rattle.std.proofs.Common.{◌≡◌, ℕ, not, eqb, Some, None, refl, sym, subst, ⊎_elim}
 use Rattle.std.specs.Prelude.{All}
-use Rattle.std.proofs.lemmas.List.Elements.{All-filter, All-push}
-use Rattle.core_state.specs.Events.{after_event}
+use Rattle.std.proofs.lemmas.List.Elements.{All-filter, All-push, All-weaker}
+use Rattle.core_state.specs.Events.{IsThrough, after_event}
 use Rattle.core_state.specs.State.{Flight, Scan, State}
 use Rattle.core_state.specs.declared.event.Event.{Event}
 use Rattle.core_state.specs.declared.event.Event.TheVariants.{Submit, Reserve, Build, Start, Cut, Take, Give, Distribute, Finish, Clear, Release, Reorder, Abandon}
 use Rattle.core_state.proofs.CutRowsLemmas.{cut_flight}
 use Rattle.event_core.specs.Chosen.{AreIdle, IsOfKind}
-use Rattle.event_core.specs.Took.{Took}
+use Rattle.event_core.specs.Took.{IsLed, Took}
 use Rattle.event_core.specs.declared.choosing.EventKind.{EventKind}
+use Rattle.core_driver.specs.Driven.{IsReorder}
+use Rattle.core_driver.proofs.LedLemmas.{led-holds}
 use Rattle.core_driver.proofs.TakenLemmas.{IsStill, distributes, still-leaves}
 
 -- the batch is in no hand
@@ -54,3 +56,12 @@ idle-taken kind (Clear slot dimension) old new is took idle = idle-still (Clear 
 idle-taken kind (Release slot) old new is took idle = idle-still (Release slot) old new tt took idle
 idle-taken kind Reorder old new is took idle = absurd (no-kind kind is)
 idle-taken kind (Abandon query) old new is took idle = absurd (no-kind kind is)
+
+-- batches that passed all filters are in no hand
+pub idle-through : (state : State) → All (IsThrough state.filters) state.scan.flights → AreIdle state
+idle-through state through =
+    All-weaker (IsThrough state.filters) IsIdle (λ flight passed. passed.idle) state.scan.flights through
+
+-- nor does one come into a hand where the filters are ordered
+pub idle-reordered : (old new : State) → IsLed IsReorder old new → AreIdle old → AreIdle new
+idle-reordered = led-holds IsReorder AreIdle (λ event old new is took idle. idle-still event old new (subst IsStill (sym is) tt) took idle)

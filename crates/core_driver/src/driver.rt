@@ -30,7 +30,7 @@ const GOING_ON: [EventKind; 4] = [
 
 /// One turn: admits the queries that can be admitted, cuts batches while a frame is free and a query runs, lets them pass
 /// the filters and distributes them, answers the queries whose lap is over, frees their slots, and orders the filters.
-/// No batch is in a hand. Where memory is wanted, the core is as the events before leave it.
+/// No batch is in a hand, before and after it. Where memory is wanted, the core is as the events before leave it.
 pub fn turn<R: Threads + Sync>(rt: &R, core: &mut Core) -> Result<(), NoMemory>
     requires { AreIdle (state_of core.old) }
     ensures driven { IsLed IsDriven (state_of core.old) (state_of core.new) }
@@ -40,6 +40,7 @@ pub fn turn<R: Threads + Sync>(rt: &R, core: &mut Core) -> Result<(), NoMemory>
     ensures admits { OnOk result (AdmitsOldest (state_of core.old) (state_of core.new)) }
     ensures cuts { OnOk result (MayCut (state_of core.old) → Rises (state_of core.old).scan.cut (state_of core.new).scan.cut) }
     ensures less { OnOk result (MayGoOn (state_of core.old) → work_in (state_of core.new) < work_in (state_of core.old)) }
+    ensures idle { AreIdle (state_of core.new) }
 {
     // Both are called for what they ensure.
     every_step_keeps_a_core_sound();
@@ -49,14 +50,15 @@ pub fn turn<R: Threads + Sync>(rt: &R, core: &mut Core) -> Result<(), NoMemory>
 }
 
 /// Lets every query come to its end: each that waits, is built for, runs or is ending is answered, or found no memory, and
-/// every slot is free. Queries that can have slots together share one lap. No batch is in a hand. Where memory is wanted,
-/// the core is as the events before leave it.
+/// every slot is free. Queries that can have slots together share one lap. No batch is in a hand, before and after it. Where
+/// memory is wanted, the core is as the events before leave it.
 pub fn finish_all<R: Threads + Sync>(rt: &R, core: &mut Core) -> Result<(), NoMemory>
     requires { AreIdle (state_of core.old) }
     ensures driven { IsLed IsDriven (state_of core.old) (state_of core.new) }
     ensures finished { OnOk result (IsFinished (state_of core.new)) }
     ensures answers { OnOk result (AnswersAll (state_of core.old) (state_of core.new)) }
     ensures lap { SharesLap (state_of core.old) (state_of core.new) }
+    ensures idle { AreIdle (state_of core.new) }
 {
     // Both are called for what they ensure.
     every_step_keeps_a_core_sound();
@@ -85,6 +87,7 @@ fn go_round<R: Threads + Sync>(rt: &R, core: &mut Core) -> Result<(), NoMemory>
     ensures landed { OnOk result (IsLanded (state_of core.new)) }
     ensures cuts { OnOk result (MayCut (state_of core.old) → Rises (state_of core.old).scan.cut (state_of core.new).scan.cut) }
     ensures less { OnOk result (MayCut (state_of core.old) → work_in (state_of core.new) < work_in (state_of core.old)) }
+    ensures idle { AreIdle (state_of core.new) }
 {
     // Both are called for what they ensure.
     every_step_keeps_a_core_sound();
@@ -113,6 +116,7 @@ fn land<R: Threads + Sync>(rt: &R, core: &mut Core) -> Result<(), NoMemory>
     requires { AreIdle (state_of core.old) }
     ensures led { IsLed IsOfLanding (state_of core.old) (state_of core.new) }
     ensures landed { OnOk result (IsLanded (state_of core.new)) }
+    ensures idle { AreIdle (state_of core.new) }
 {
     // Both are called for what they ensure.
     every_step_keeps_a_core_sound();

@@ -59,3 +59,19 @@ AreOf (event ∷ events) (step ∷ steps) = IsOf event step × AreOf events step
 -- steps of these events, each of which might come, lead from one state to the other
 abbrev pub StepsFor : List Event → (old new : State) → Type 0
 StepsFor events old new = (steps : List Step) × (MayStepAll old steps × (AreOf events steps × (new ≡ after_steps steps old)))
+
+-- the event may find no memory: a statement is submitted, a query begins to run, a batch is taken, or a filter is cleared of a slot
+abbrev pub MayWantMemory : Event → Type 0
+MayWantMemory (Submit seat statement) = Unit {0}
+MayWantMemory (Reserve query slot) = ⊥
+MayWantMemory (Build query dimension) = ⊥
+MayWantMemory (Start query) = Unit {0}
+MayWantMemory Cut = ⊥
+MayWantMemory (Take worker batch) = Unit {0}
+MayWantMemory (Give worker) = ⊥
+MayWantMemory (Distribute batch) = ⊥
+MayWantMemory (Finish slot) = ⊥
+MayWantMemory (Clear slot dimension) = Unit {0}
+MayWantMemory (Release slot) = ⊥
+MayWantMemory Reorder = ⊥
+MayWantMemory (Abandon query) = ⊥

@@ -3,7 +3,7 @@ ghost use Rattle.std.specs.Prelude.{◌≡◌, ◌<◌, ◌↔◌, ℕ, List, le
 ghost use Rattle.core_state.specs.Events.{IsEnabled};
 ghost use Rattle.core_state.specs.Sound.{IsSound};
 ghost use Rattle.event_core.specs.Seen.{state_of};
-ghost use Rattle.event_core.specs.Took.{Took, TookAll};
+ghost use Rattle.event_core.specs.Took.{MayWantMemory, Took, TookAll};
 
 use crate::machine::Core;
 use core_state::Event;
@@ -40,11 +40,13 @@ pub struct EventsFault {
 
 impl Core {
     /// Takes an event, if it may come. A query that finds no memory as its filter is built, or as its rows are folded, is
-    /// spoiled. Where any other event finds none, nothing has changed.
+    /// spoiled. Where any other event finds none, nothing has changed. Only a statement, a query that begins to run, a batch that is
+    /// taken and a filter that is cleared may find none.
     pub fn step(&mut self, event: Event) -> Result<(), StepFault>
         ensures disabled { IsErrOf result StepFault.NotEnabled ↔ (IsEnabled (state_of self.old) event → ⊥) }
         ensures taken { OnOk result (Took event (state_of self.old) (state_of self.new)) }
         ensures err { OnErr result (self.new ≡ self.old) }
+        ensures memory { IsErrOf result StepFault.Memory → MayWantMemory event }
         ensures sound { IsSound (state_of self.new) }
     {
         let taken = self.take_if_enabled(event);
@@ -57,6 +59,7 @@ impl Core {
         ensures disabled { IsErrOf result StepFault.NotEnabled ↔ (IsEnabled (state_of self.old) event → ⊥) }
         ensures taken { OnOk result (Took event (state_of self.old) (state_of self.new)) }
         ensures err { OnErr result (self.new ≡ self.old) }
+        ensures memory { IsErrOf result StepFault.Memory → MayWantMemory event }
     {
         if !self.enabled(&event) {
             return Err(StepFault::NotEnabled);
@@ -70,6 +73,7 @@ impl Core {
         requires { IsEnabled (state_of self.old) event }
         ensures taken { OnOk result (Took event (state_of self.old) (state_of self.new)) }
         ensures err { OnErr result (self.new ≡ self.old) }
+        ensures memory { OnErr result (MayWantMemory event) }
     {
         match event {
             Event::Submit { seat, statement } => self.submit(seat, &statement)?,

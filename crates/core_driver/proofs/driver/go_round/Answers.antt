@@ -2,6 +2,7 @@
 use Rattle.event_core.specs.Seen.{state_of}
 use Rattle.core_driver.specs.Driven.{IsOfRound}
 use Rattle.core_driver.specs.Lap.{IsOfLanding}
+use Rattle.core_driver.proofs.IdleLemmas.{idle-reordered}
 use Rattle.core_driver.proofs.LedLemmas.{led-joined, led-wider}
 use Rattle.core_driver.proofs.PhaseLemmas.{landed-ordered, rest-led, round-landing, stays-fallen, stays-risen}
 use Rattle.core_driver.proofs.driver.go_round.Goals as goal
@@ -33,3 +34,6 @@ returns-clause-less g c =
     c.every_core_is_sound.ensures c.cut.ensures.led
     (rest-led (state_of c.cut.new.core) (state_of c.land.new.core) (state_of c.reorder.new.core) c.land.ensures.led c.reorder.ensures)
     c.in_ok-cut.ensures.less
+
+pub returns-clause-idle : goal.returns-clause-idle
+returns-clause-idle g c = idle-reordered (state_of c.land.new.core) (state_of c.reorder.new.core) c.reorder.ensures c.land.ensures.idle

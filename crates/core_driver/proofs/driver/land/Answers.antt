@@ -4,6 +4,7 @@ use Rattle.std.proofs.lemmas.Result.{on_ok_weaker}
 use Rattle.event_core.specs.Seen.{state_of}
 use Rattle.event_core.specs.declared.choosing.EventKind.TheVariants as kind
 use Rattle.core_driver.specs.Lap.{IsOfLanding}
+use Rattle.core_driver.proofs.IdleLemmas.{idle-through}
 use Rattle.core_driver.proofs.LapKindLemmas.{landing-distributes, landing-frees, landing-led, landing-passes}
 use Rattle.core_driver.proofs.LedLemmas.{led-joined, led-sound}
 use Rattle.core_driver.proofs.RoundLemmas.{round-lands}
@@ -32,3 +33,10 @@ returns-clause-landed g c = on_ok_weaker c.take_all-2.result
     (led-sound c.every_step_keeps_a_core_sound.ensures IsOfLanding (state_of c.args.core.now) (state_of c.take_all-2.new.core)
     (returns-clause-led g c) c.every_core_is_sound.ensures))
     c.take_all-2.ensures.none
+
+pub returns-in_err-take_all-clause-idle : goal.returns-in_err-take_all-clause-idle
+returns-in_err-take_all-clause-idle g c = c.take_all.ensures.idle (idle-through (state_of c.pass_all.new.self) c.pass_all.ensures.through)
+
+pub returns-clause-idle : goal.returns-clause-idle
+returns-clause-idle g c =
+    c.take_all-2.ensures.idle (c.take_all.ensures.idle (idle-through (state_of c.pass_all.new.self) c.pass_all.ensures.through))
