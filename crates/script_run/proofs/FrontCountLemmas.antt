@@ -9,7 +9,7 @@ use Rattle.core_state.specs.Submitting.{seat_at}
 use Rattle.core_state.specs.declared.settings.RunSettings.{RunSettings}
 use Rattle.event_core.specs.Chosen.{AreIdle}
 use Rattle.event_core.specs.Seen.{state_of}
-use Rattle.script_run.specs.Counted.{Beside, GoesRound, IsCounted, IsOverOrWaits, is_query, queries_awaited}
+use Rattle.script_run.specs.Counted.{Beside, GoesRound, IsCounted, IsKnown, IsOverOrWaits, is_query, queries_awaited}
 use Rattle.script_run.specs.Waiting.{is_wait}
 use Rattle.script_run.specs.declared.front.Front.{Front}
 use Rattle.script_run.proofs.LapEventLemmas.{closed-count, closed-over, keeps-versions}
@@ -30,6 +30,21 @@ counted-out old new mid counted kept number closed idle beside none settings sub
     awaited = ap (count_by (λ (p : Pending). is_query p.awaited)) none ∙ sym unfinished;
   };
   few = subst (λ n. n ≤ new.settings.slots) (sym unfinished) (omega arith);
+}
+
+-- what is counted is known
+pub known-counted : (front : Front) → IsCounted front → IsKnown front
+known-counted front counted =
+    record { some = counted.some; settings = counted.settings; submitted = counted.submitted; hands = counted.calm.idle }
+
+-- and so is what is known where replies were taken
+pub known-beside : (old new : Front) → IsKnown old → Beside (state_of old.core) (state_of new.core) → new.settings ≡ old.settings
+    → new.submitted ≡ old.submitted → IsKnown new
+known-beside old new known beside settings submitted = record {
+  some = subst (λ (s : RunSettings). 0 < s.slots) (sym settings) known.some;
+  settings = beside.settings ∙ known.settings ∙ sym settings;
+  submitted = ap (λ n. n.statement) beside.numbers ∙ known.submitted ∙ sym submitted;
+  hands = subst (λ (scan : Scan). All (λ flight. flight.hand ≡ None) scan.flights) (sym beside.scan) known.hands;
 }
 
 -- the scan went no further where replies were taken

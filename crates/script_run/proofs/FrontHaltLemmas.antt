@@ -10,7 +10,7 @@ use Rattle.reply_text.specs.Text.{text_of, text_of_all}
 use Rattle.core_state.specs.State.{Pending, State}
 use Rattle.core_state.specs.Submitting.{seat_at}
 use Rattle.core_state.specs.Tables.{changes_of, tables_of}
-use Rattle.script_run.specs.Front.{HaltsPlay, PlaysOn, refused_of_played, text_of_played}
+use Rattle.script_run.specs.Front.{BreaksIn, HaltsPlay, PlaysOn, refused_of_played, text_of_played}
 use Rattle.script_run.specs.Played.{ComeTo, Leads, MayPlay, Played, Plays}
 use Rattle.script_run.specs.Run.{is_refusal}
 use Rattle.script_run.specs.declared.halt.Halt.{Halt}
@@ -111,10 +111,59 @@ halts-behind old mid statements others played written leads halts rest =
       ),
     )
 
+-- the replies halt before any was written
+pub breaks-none : (old new : State) (statements : List Statement) → Leads old [] new [] → BreaksIn old statements new []
+breaks-none old new statements leads =
+    record { submitted = []; others = statements; played = []; begins = refl; leads = leads; front = ([], refl) }
+
+-- no more of them is given
+pub breaks-more : (old new : State) (statements more : List Statement) (written : List ℕ) → BreaksIn old statements new written
+    → BreaksIn old (statements ++ more) new written
+breaks-more old new statements more written breaks = record {
+  submitted = breaks.submitted;
+  others = breaks.others ++ more;
+  played = breaks.played;
+  begins = ap (λ given. given ++ more) breaks.begins ∙ append_assoc breaks.submitted breaks.others more;
+  leads = breaks.leads;
+  front = breaks.front;
+}
+
+-- within a reply
+pub breaks-within : (old new : State) (statements : List Statement) (one : Played) (n : ℕ) → Leads old statements new (one ∷ [])
+    → BreaksIn old statements new (take n (text_of one.reply))
+breaks-within old new statements one n leads = record {
+  submitted = statements;
+  others = [];
+  played = one ∷ [];
+  begins = sym (append-nil statements);
+  leads = leads;
+  front = (drop n (text_of one.reply), append-nil (text_of one.reply) ∙ sym (take-append-drop n (text_of one.reply)));
+}
+
+-- behind replies that were written
+pub breaks-behind : (old mid new : State) (statements others : List Statement) (played : List Played) (written : List ℕ) → Leads old statements mid played
+    → BreaksIn mid others new written → BreaksIn old (statements ++ others) new (text_of_played played ++ written)
+breaks-behind old mid new statements others played written leads breaks = record {
+  submitted = statements ++ breaks.submitted;
+  others = breaks.others;
+  played = played ++ breaks.played;
+  begins = ap (λ given. statements ++ given) breaks.begins ∙ sym (append_assoc statements breaks.submitted breaks.others);
+  leads = leads-then old mid new statements breaks.submitted played breaks.played leads breaks.leads;
+  front = (
+    breaks.front.0,
+    text-append played breaks.played ∙ ap (λ text. text_of_played played ++ text) breaks.front.1
+        ∙ sym (append_assoc (text_of_played played) written breaks.front.0),
+  );
+}
+
 -- a core that was given statements, and to which others were given before any reply
 pub plays-behind : (result : Result Bool Halt) (old mid new : State) (statements others : List Statement) (taken taken' : Option (List ℕ))
     → Leads old statements mid [] → PlaysOn result mid others new taken taken' → PlaysOn result old (statements ++ others) new taken taken'
 plays-behind (Ok refused) old mid new statements others taken taken' leads (played, took, on, told) =
     (played, took, leads-then old mid new statements others [] played leads on, told)
-plays-behind (Err halt) old mid new statements others taken taken' leads (written, took, halts) =
-    (written, took, halts-behind old mid statements others [] written leads halts)
+plays-behind (Err halt) old mid new statements others taken taken' leads (written, took, halts, breaks) = (
+  written,
+  took,
+  halts-behind old mid statements others [] written leads halts,
+  breaks-behind old mid new statements others [] written leads breaks,
+)

@@ -53,7 +53,7 @@ pub record IsBehind (old new : State) (first : Pending) (rest : List Pending) : 
   pub now : (seat_at new 0).pending ≡ rest
 
 -- where a reply may be taken something is waited for
-first-waits : (state : State) → IsSome (next_ready state 0) → (first : Pending) × (slice_get (seat_at state 0).pending 0 ≡ Some first)
+pub first-waits : (state : State) → IsSome (next_ready state 0) → (first : Pending) × (slice_get (seat_at state 0).pending 0 ≡ Some first)
 first-waits state = by_first (slice_get (seat_at state 0).pending 0) refl
   where
     by_first : (o : Option Pending) → slice_get (seat_at state 0).pending 0 ≡ o

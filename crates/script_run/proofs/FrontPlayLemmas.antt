@@ -20,21 +20,30 @@ use Rattle.script_run.specs.Played.{Leads, lost}
 use Rattle.script_run.specs.Run.{is_refusal}
 use Rattle.script_run.specs.Waiting.{is_wait}
 use Rattle.script_run.specs.declared.halt.Halt.{Halt}
-use Rattle.script_run.proofs.FrontHaltLemmas.{halts-behind, halts-due, halts-first, halts-within, refused-more, text-more}
+use Rattle.script_run.proofs.FrontHaltLemmas.{breaks-behind, breaks-more, breaks-none, breaks-within, halts-behind, halts-due, halts-first, halts-within, refused-more, text-more}
 use Rattle.script_run.proofs.FrontRunLemmas.{idle-submitted, run-submitted}
 use Rattle.script_run.proofs.LapLemmas.{IsWorth, laps-lost, laps-quiet, laps-round, laps-then, waits-fill}
 use Rattle.script_run.proofs.LapSubmitLemmas.{counts-submitted}
-use Rattle.script_run.proofs.PlayedLeadLemmas.{leads-lost, leads-then}
+use Rattle.script_run.proofs.PlayedLeadLemmas.{leads-itself, leads-lost, leads-then}
 use Rattle.script_run.proofs.PlayedReplyLemmas.{EffectsAgree}
 use Rattle.script_run.proofs.PlayedSubmitLemmas.{NoAnswerChanges, leads-submitted}
 
 -- nothing was written, and something is waited for
-pub plays-due : (halt : Halt) (old new : State) (taken : Option (List ℕ)) → (seat_at old 0).pending ≢ [] → PlaysOn (Err halt) old [] new taken taken
-plays-due halt old new taken waits = ([], Appends-nil taken, halts-due old [] waits)
+pub plays-due : (halt : Halt) (old new : State) (taken : Option (List ℕ)) → (seat_at old 0).pending ≢ [] → Leads old [] new []
+    → PlaysOn (Err halt) old [] new taken taken
+plays-due halt old new taken waits leads = ([], Appends-nil taken, halts-due old [] waits, breaks-none old new [] leads)
 
 -- nothing was written, and a statement is given
-pub plays-none : (halt : Halt) (statement : Statement) (old new : State) (taken : Option (List ℕ)) → PlaysIn (Err halt) old (statement ∷ []) new taken taken
-plays-none halt statement old new taken = ([], Appends-nil taken, halts-first old statement [])
+pub plays-none : (halt : Halt) (statement : Statement) (state : State) (taken : Option (List ℕ))
+    → PlaysIn (Err halt) state (statement ∷ []) state taken taken
+plays-none halt statement state taken =
+    ([], Appends-nil taken, halts-first state statement [], breaks-none state state (statement ∷ []) (leads-itself state))
+
+-- the replies halt before a statement is replied to
+pub plays-before : (halt : Halt) (statement : Statement) (old new : State) (taken taken' : Option (List ℕ)) → PlaysOn (Err halt) old [] new taken taken'
+    → PlaysIn (Err halt) old (statement ∷ []) new taken taken'
+plays-before halt statement old new taken taken' (written, took, halts, breaks) =
+    (written, took, λ rest. halts (statement ∷ rest), breaks-more old new [] (statement ∷ []) written breaks)
 
 -- a statement was submitted
 pub record IsGiven (statement : Statement) (old new : State) : Type 0 where
@@ -88,6 +97,8 @@ plays-lost (Err halt) others statement old new before taken taken' some round (p
   Appends-trans before taken taken' (text_of_played played) (take halted.0 (text_of Memory)) took halted.2,
   halts-behind old new [] (statement ∷ []) played (take halted.0 (text_of Memory)) on
       (halts-within new new (statement ∷ []) lost halted.0 halted.1 (leads-lost new statement idle)),
+  breaks-behind old new new [] (statement ∷ []) played (take halted.0 (text_of Memory)) on
+      (breaks-within new new (statement ∷ []) lost halted.0 (leads-lost new statement idle)),
 )
 
 -- a statement was given, before any reply
@@ -112,5 +123,9 @@ plays-given (Ok refused) statement old mid new taken taken' some leads counts du
     worth : IsWorth mid.settings.slots mid played
     worth = ⊎_elim (λ waits. inr (inr (waits-fill statement old mid new played some counts waits.0 waits.1 on idle)))
         (⊎_elim (λ none. inl none) (λ many. inr (inl many))) due
-plays-given (Err halt) statement old mid new taken taken' some leads counts due (written, took, halts) round idle =
-    (written, took, halts-behind old mid (statement ∷ []) [] [] written leads halts)
+plays-given (Err halt) statement old mid new taken taken' some leads counts due (written, took, halts, breaks) round idle = (
+  written,
+  took,
+  halts-behind old mid (statement ∷ []) [] [] written leads halts,
+  breaks-behind old mid new (statement ∷ []) [] [] written leads breaks,
+)

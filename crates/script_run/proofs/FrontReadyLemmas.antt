@@ -17,7 +17,7 @@ use Rattle.script_run.specs.Counted.{Beside}
 use Rattle.script_run.specs.Played.{Leads, Played}
 use Rattle.script_run.specs.Run.{is_refusal}
 use Rattle.script_run.specs.declared.halt.Halt.{Halt}
-use Rattle.script_run.proofs.FrontHaltLemmas.{halts-behind, halts-within, refused-more, text-more}
+use Rattle.script_run.proofs.FrontHaltLemmas.{breaks-behind, breaks-within, halts-behind, halts-within, refused-more, text-more}
 use Rattle.script_run.proofs.FrontOpenLemmas.{taken-closed}
 use Rattle.script_run.proofs.FrontRunLemmas.{run-itself, run-taken, run-then}
 use Rattle.script_run.proofs.PlayedLeadLemmas.{leads-itself, leads-then}
@@ -112,6 +112,7 @@ halts-writing old now new refused before taken taken' ready reply halt writing t
       Appends-trans before taken taken' (text_of_played writing.played) (take wrote.0 (text_of one.0.reply)) writing.appended
           (subst (λ r. Appends taken taken' (take wrote.0 (text_of r))) (sym one.1) wrote.2),
       halts-behind old now [] [] writing.played (take wrote.0 (text_of one.0.reply)) writing.leads (halts-within now new [] one.0 wrote.0 short one.2),
+      breaks-behind old now new [] [] writing.played (take wrote.0 (text_of one.0.reply)) writing.leads (breaks-within now new [] one.0 wrote.0 one.2),
     )
 
 -- where no query that the front waited for could still be answered, it waits for nothing

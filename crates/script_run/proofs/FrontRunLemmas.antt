@@ -40,7 +40,7 @@ run-step step old new may of same = record {
 }
 
 -- steps that may come, and others behind them
-may-append : (steps more : List Step) (state : State) → MayStepAll state steps → MayStepAll (after_steps steps state) more
+pub may-append : (steps more : List Step) (state : State) → MayStepAll state steps → MayStepAll (after_steps steps state) more
     → MayStepAll state (steps ++ more)
 may-append [] more state first second = second
 may-append (step ∷ steps) more state first second = (first.0, may-append steps more (after_step step state) first.1 second)

@@ -28,6 +28,11 @@ mod FrontHaltLemmas
 mod FrontOpenLemmas
 mod FrontReadyLemmas
 mod FrontPlayLemmas
+mod HomeStepLemmas
+mod HomeStepsLemmas
+mod HomeClosedLemmas
+mod HomeLetLemmas
+mod HomeReplyLemmas
 mod SharedReadLemmas
 mod SharedWholeLemmas
 mod SharedScriptLemmas

@@ -9,11 +9,12 @@ use Rattle.pipeline_manager.specs.Changes.{started}
 use Rattle.pipeline_manager.specs.Lives.{extent_in, life_in, slot_of}
 use Rattle.pipeline_manager.specs.Sound.{AreRising}
 use Rattle.pipeline_manager.specs.declared.life.Life.TheVariants.{Answered, Building, Spoiled}
-use Rattle.core_state.specs.Admitting.{after_build, with_built}
+use Rattle.core_state.specs.Admitting.{after_build, after_build_wants, with_built}
 use Rattle.core_state.specs.Cutting.{after_distribute, after_give, end_in, fed, first_in, gets_rows, unkept}
 use Rattle.core_state.specs.Events.{IsEnabled, IsFed, after_event, after_want}
 use Rattle.core_state.specs.Found.{accepted_at, flight_at, is_held_by}
 use Rattle.core_state.specs.State.{Entry, Seat, State}
+use Rattle.core_state.specs.Steps.{MaySpoil}
 use Rattle.core_state.specs.Submitting.{empty_seat, forgotten}
 use Rattle.core_state.specs.Tables.{changes_of, tables_by, tables_of, versions_in}
 use Rattle.core_state.specs.declared.event.Event.{Event}
@@ -26,26 +27,28 @@ use Rattle.event_core.specs.Took.{IsLed, IsSpoilt, Took, TookAll}
 use Rattle.event_core.specs.declared.replies.Ready.{Ready}
 use Rattle.event_core.specs.declared.replies.Ready.TheVariants.{Whole, Grouped}
 use Rattle.core_driver.specs.Driven.{IsDriven}
-use Rattle.script_run.specs.Played.{ComeTo, IsTakenAs, Leads, LeavesSeats, Plays, accepted_by, given_in, queries_among}
-use Rattle.script_run.proofs.ToldFollowLemmas.{asked-anew}
+use Rattle.script_run.specs.Played.{ComeTo, IsTakenAs, Leads, LeavesSeats, Plays, accepted_by, given_in}
+use Rattle.script_run.proofs.ToldFollowLemmas.{asked-anew, owners-anew}
 use Rattle.script_run.proofs.ToldLivesLemmas.{LivesOn, lives-built, lives-cut, lives-ended, lives-reserved, lives-same, lives-spoiled}
 use Rattle.script_run.proofs.ToldLivesLemmas.{lives-then, lives-written, not-answered}
 
--- the history, the seats and what is asked are as they were, and who was answered is so
-record Same (old new : State) : Type 0 where
-  entries : new.entries ≡ old.entries
-  seats : new.seats ≡ old.seats
-  asked : map accepted_by new.accepted ≡ map accepted_by old.accepted
-  lives : AreRising old.lives.queries → LivesOn old.lives.queries new.lives.queries
+-- the history, the seats and what is asked by whom are as they were, and who was answered is so
+pub record Same (old new : State) : Type 0 where
+  pub entries : new.entries ≡ old.entries
+  pub seats : new.seats ≡ old.seats
+  pub asked : map accepted_by new.accepted ≡ map accepted_by old.accepted
+  pub owners : map (λ accepted. accepted.seat) new.accepted ≡ map (λ accepted. accepted.seat) old.accepted
+  pub lives : AreRising old.lives.queries → LivesOn old.lives.queries new.lives.queries
 
 same-itself : (state : State) → Same state state
-same-itself state = record { entries = refl; seats = refl; asked = refl; lives = lives-same state.lives.queries }
+same-itself state = record { entries = refl; seats = refl; asked = refl; owners = refl; lives = lives-same state.lives.queries }
 
 same-then : (old between new : State) → Same old between → Same between new → Same old new
 same-then old between new first second = record {
   entries = second.entries ∙ first.entries;
   seats = second.seats ∙ first.seats;
   asked = second.asked ∙ first.asked;
+  owners = second.owners ∙ first.owners;
   lives = λ rising. let on = first.lives rising in
       lives-then old.lives.queries between.lives.queries new.lives.queries on (second.lives on.rising);
 }
@@ -61,9 +64,11 @@ leads-same old new same = record {
         (subst (λ (seats : List Seat). ComeTo (tables_by new.entries) (seat_in seats).pending may.due) same.seats may.come);
     plays = subst (λ (entries : List Entry). Plays (changes_of entries) rest may.rest after) same.entries may.plays;
   };
-  follows = λ listed. let on = same.lives listed.rising in record {
+  follows = λ others before listed. let on = same.lives listed.rising in record {
     listed = record {
-      queries = same.asked ∙ listed.queries ∙ ap (λ (seats : List Seat). queries_among (given_in (seat_in seats))) (sym same.seats);
+      since = listed.since;
+      given = ap (λ (seats : List Seat). given_in (seat_in seats)) same.seats ∙ listed.given;
+      queries = same.asked ∙ listed.queries;
       rising = on.rising;
     };
     stay = on.stay;
@@ -82,12 +87,12 @@ same-built query dimension state =
     let built : Same state (with_built query dimension state) =
     by-option (Same state) (slot_of state.lives query) _ state (same-itself state)
     (λ slot is. by-option (Same state) (accepted_at state.accepted query) _ state (same-itself state)
-    (λ accepted found. record { entries = refl; seats = refl; asked = refl; lives = lives-same state.lives.queries })) in
-    record { entries = built.entries; seats = built.seats; asked = built.asked; lives = lives-built query dimension state.lives }
+    (λ accepted found. record { entries = refl; seats = refl; asked = refl; owners = refl; lives = lives-same state.lives.queries })) in
+    record { entries = built.entries; seats = built.seats; asked = built.asked; owners = built.owners; lives = lives-built query dimension state.lives }
 
 same-given : (worker : ℕ) (state : State) → Same state (after_give worker state)
 same-given worker state = by-option (Same state) (find (is_held_by worker) state.scan.flights) _ state (same-itself state)
-    (λ flight is. record { entries = refl; seats = refl; asked = refl; lives = lives-same state.lives.queries })
+    (λ flight is. record { entries = refl; seats = refl; asked = refl; owners = refl; lives = lives-same state.lives.queries })
 
 -- who gets rows was not answered
 fed-never : (batch query : ℕ) (state : State) → IsFed batch query state → life_in state.lives.queries query ≡ Some Answered → ⊥
@@ -102,50 +107,76 @@ same-distributed batch spoiled state each = by-option (Same state) (flight_at st
       seats = refl;
       asked = asked-anew (unkept spoiled) (unkeeps spoiled) (map (fed (tables_of state) state.lives flight.rows flight.roster) state.accepted)
           ∙ asked-anew (fed (tables_of state) state.lives flight.rows flight.roster) (feeds state flight) state.accepted;
+      owners = owners-anew (unkept spoiled) (unkeeps spoiled) (map (fed (tables_of state) state.lives flight.rows flight.roster) state.accepted)
+          ∙ owners-anew (fed (tables_of state) state.lives flight.rows flight.roster) (feeds state flight) state.accepted;
       lives = lives-spoiled spoiled state.lives
           (All-weaker (λ query. IsFed batch query state) (λ query. life_in state.lives.queries query ≡ Some Answered → ⊥)
           (λ query is_fed. fed-never batch query state is_fed) spoiled each);
     })
 
-same-done : (event : Event) (state : State) → LeavesSeats event → IsEnabled state event → Same state (after_event event state)
+pub same-done : (event : Event) (state : State) → LeavesSeats event → IsEnabled state event → Same state (after_event event state)
 unfolding after_event
 same-done (Submit seat statement) state leaves may = absurd leaves
 same-done (Reserve query slot) state leaves may =
-    record { entries = refl; seats = refl; asked = refl; lives = lives-reserved slot state.lives }
+    record { entries = refl; seats = refl; asked = refl; owners = refl; lives = lives-reserved slot state.lives }
 same-done (Build query dimension) state leaves may = same-built query dimension state
 same-done (Start query) state leaves may = record {
   entries = refl;
   seats = refl;
   asked = refl;
+  owners = refl;
   lives = lives-written query (started (first_of state.scan.position (versions_in state)) (extent_in state.lives.queries query)) state.lives.queries
       (not-answered state.lives.queries query Building may.building (λ is. cc));
 }
 same-done Cut state leaves may =
-    record { entries = refl; seats = refl; asked = refl; lives = lives-cut (first_in state) (end_in state - 1) state.lives.queries }
+    record { entries = refl; seats = refl; asked = refl; owners = refl; lives = lives-cut (first_in state) (end_in state - 1) state.lives.queries }
 same-done (Take worker batch) state leaves may =
-    record { entries = refl; seats = refl; asked = refl; lives = lives-same state.lives.queries }
+    record { entries = refl; seats = refl; asked = refl; owners = refl; lives = lives-same state.lives.queries }
 same-done (Give worker) state leaves may = same-given worker state
 same-done (Distribute batch) state leaves may = same-distributed batch [] state (All-nil (λ query. IsFed batch query state))
-same-done (Finish slot) state leaves may = record { entries = refl; seats = refl; asked = refl; lives = lives-ended slot state.lives }
+same-done (Finish slot) state leaves may = record { entries = refl; seats = refl; asked = refl; owners = refl; lives = lives-ended slot state.lives }
 same-done (Clear slot dimension) state leaves may =
-    record { entries = refl; seats = refl; asked = refl; lives = lives-same state.lives.queries }
+    record { entries = refl; seats = refl; asked = refl; owners = refl; lives = lives-same state.lives.queries }
 same-done (Release slot) state leaves may =
-    record { entries = refl; seats = refl; asked = refl; lives = lives-same state.lives.queries }
+    record { entries = refl; seats = refl; asked = refl; owners = refl; lives = lives-same state.lives.queries }
 same-done Reorder state leaves may =
-    record { entries = refl; seats = refl; asked = refl; lives = lives-same state.lives.queries }
+    record { entries = refl; seats = refl; asked = refl; owners = refl; lives = lives-same state.lives.queries }
 same-done (Abandon query) state leaves may = absurd leaves
+
+-- a query that is built and finds no memory
+same-unbuilt : (query : ℕ) (state : State) → life_in state.lives.queries query ≡ Some Building → Same state (after_build_wants query state)
+same-unbuilt query state builds = record {
+  entries = refl;
+  seats = refl;
+  asked = asked-anew (forgotten query) (forgets query) state.accepted;
+  owners = owners-anew (forgotten query) (forgets query) state.accepted;
+  lives = lives-written query Spoiled state.lives.queries (not-answered state.lives.queries query Building builds (λ is. cc));
+}
+
+-- memory is wanted for an event
+pub same-want : (event : Event) (spoiled : List ℕ) (state : State) → IsEnabled state event → MaySpoil state event spoiled
+    → Same state (after_want event spoiled state)
+unfolding after_want
+same-want (Submit seat statement) spoiled state may can = same-itself state
+same-want (Reserve query slot) spoiled state may can = same-itself state
+same-want (Build query dimension) spoiled state may can = same-unbuilt query state may.building
+same-want (Start query) spoiled state may can = same-itself state
+same-want Cut spoiled state may can = same-itself state
+same-want (Take worker batch) spoiled state may can = same-itself state
+same-want (Give worker) spoiled state may can = same-itself state
+same-want (Distribute batch) spoiled state may can = same-distributed batch spoiled state can.each
+same-want (Finish slot) spoiled state may can = same-itself state
+same-want (Clear slot dimension) spoiled state may can = same-itself state
+same-want (Release slot) spoiled state may can = same-itself state
+same-want Reorder spoiled state may can = same-itself state
+same-want (Abandon query) spoiled state may can = same-itself state
 
 -- queries that find no memory
 same-spoilt : (event : Event) (old new : State) → IsEnabled old event → IsSpoilt event old new → Same old new
 unfolding after_want
 same-spoilt (Submit seat statement) old new may spoilt = absurd spoilt
 same-spoilt (Reserve query slot) old new may spoilt = absurd spoilt
-same-spoilt (Build query dimension) old new may spoilt = subst (Same old) (sym spoilt) (record {
-  entries = refl;
-  seats = refl;
-  asked = asked-anew (forgotten query) (forgets query) old.accepted;
-  lives = lives-written query Spoiled old.lives.queries (not-answered old.lives.queries query Building may.building (λ is. cc));
-})
+same-spoilt (Build query dimension) old new may spoilt = subst (Same old) (sym spoilt) (same-unbuilt query old may.building)
 same-spoilt (Start query) old new may spoilt = absurd spoilt
 same-spoilt Cut old new may spoilt = absurd spoilt
 same-spoilt (Take worker batch) old new may spoilt = absurd spoilt

@@ -11,7 +11,7 @@ use Rattle.script_run.proofs.ToldFollowLemmas.{follows-none, follows-then}
 
 -- a core leads to itself
 pub leads-itself : (state : State) → Leads state [] state []
-leads-itself state = record { plays = λ rest more after may. may; follows = follows-none state [] refl }
+leads-itself state = record { plays = λ rest more after may. may; follows = λ others before. follows-none others before state [] refl }
 
 -- a lead behind another is one
 pub leads-then : (old between new : State) (statements others : List Statement) (played more : List Played) → Leads old statements between played
@@ -21,7 +21,8 @@ leads-then old between new statements others played more first second = record {
       subst (λ ps. MayPlay old ((statements ++ others) ++ rest) ps after) (sym (append_assoc played more later))
       (subst (λ ss. MayPlay old ss (played ++ (more ++ later)) after) (sym (append_assoc statements others rest))
       (first.plays (others ++ rest) (more ++ later) after (second.plays rest later after may)));
-  follows = λ listed. let on = first.follows listed in follows-then old between new played more on (second.follows on.listed);
+  follows = λ before taken listed. let on = first.follows before taken listed in
+      follows-then before taken old between new played more on (second.follows before taken on.listed);
 }
 
 -- nothing comes of nothing
@@ -52,5 +53,5 @@ pub leads-lost : (state : State) (statement : Statement) → (seat_at state 0).p
 leads-lost state statement idle = record {
   plays = λ rest more after may. may-play-idle state (statement ∷ rest) (lost ∷ more) after idle
       (inr (refl, plays-idle state rest more after idle may));
-  follows = follows-none state (lost ∷ []) refl;
+  follows = λ others before. follows-none others before state (lost ∷ []) refl;
 }

@@ -17,7 +17,7 @@ use Rattle.core_state.specs.State.{Asked, Awaited, Pending, Replied, Seat, State
 use Rattle.core_state.specs.Submitting.{Grouping, Ready, Whole, after_taking, asked_by, empty_seat, next_ready, seat_at, taken_by, with_taken}
 use Rattle.core_state.specs.Tables.{tables_of}
 use Rattle.event_core.specs.Replies.{first_open}
-use Rattle.script_run.specs.Played.{ComeTo, ComesTo, IsTakenAs, IsToldAs, Leads, Played, given_in, played_as, queries_among}
+use Rattle.script_run.specs.Played.{ComeTo, ComesTo, IsTakenAs, IsToldAs, Leads, Played, given_in, played_as}
 use Rattle.script_run.proofs.ToldFollowLemmas.{asked-without, given-taken}
 
 -- what a seat waits for comes to a reply that was taken, where what was taken is right
@@ -72,10 +72,11 @@ leads-taken old pending ready reply is right taken = record {
     );
     plays = may.plays;
   };
-  follows = λ listed. record {
+  follows = λ others before listed. record {
     listed = record {
-      queries = asked-without (take 1 here.pending) old.accepted ∙ listed.queries
-          ∙ sym (ap queries_among (ap given_in seat_now ∙ given-taken here.taken here.pending));
+      since = listed.since;
+      given = ap given_in seat_now ∙ given-taken here.taken here.pending ∙ listed.given;
+      queries = asked-without (take 1 here.pending) old.accepted ∙ listed.queries;
       rising = listed.rising;
     };
     stay = λ query was. was;

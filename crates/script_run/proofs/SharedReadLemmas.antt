@@ -5,7 +5,7 @@ use Rattle.script_reader.specs.Script.{statements_of}
 use Rattle.script_reader.specs.declared.statement.Statement.{Statement}
 use Rattle.star_history.specs.History.{Change}
 use Rattle.core_state.specs.State.{State}
-use Rattle.script_run.specs.Front.{HaltsPlay, ReadsFront, ReadsInPart, ReadsOn, text_of_played}
+use Rattle.script_run.specs.Front.{BreaksIn, BreaksOff, HaltsPlay, ReadsFront, ReadsInPart, ReadsOn, text_of_played}
 use Rattle.script_run.specs.Played.{Leads, MayPlay, Played}
 use Rattle.script_run.specs.Run.{IsProperFront}
 use Rattle.script_run.proofs.FrontHaltLemmas.{halts-first, text-append}
@@ -74,6 +74,56 @@ part-behind old new waits waits' played written reads stays part more last comes
       may-behind old new waits waits' played reads more last comes later.0 later.1 later.2,
       (later.3.0, later.3.1, append-text played later.0 written later.3.0 later.3.2),
     )
+
+-- the replies halt before any was written, behind some, and at the first statement or where none is given
+pub off-itself : (state : State) (waits : Reading) → BreaksOff state waits state []
+off-itself state waits = record {
+  submitted = [];
+  played = [];
+  begins = λ more last comes. (statements_of last (waits.waiting ++ more), refl);
+  leads = leads-itself state;
+  front = ([], refl);
+}
+
+pub off-behind : (old between new : State) (waits waits' : Reading) (played : List Played) (written : List ℕ) → ReadsOn old waits between waits' played
+    → StaysFed waits waits' → BreaksOff between waits' new written → BreaksOff old waits new (text_of_played played ++ written)
+off-behind old between new waits waits' played written reads stays off = record {
+  submitted = reads.statements ++ off.submitted;
+  played = played ++ off.played;
+  begins = λ more last comes.
+      let on = off.begins more last (comes-on waits waits' stays more last comes) in (
+        on.0,
+        reads.reads more last comes ∙ ap (λ statements. reads.statements ++ statements) on.1
+            ∙ sym (append_assoc reads.statements off.submitted on.0),
+      );
+  leads = leads-then old between new reads.statements off.submitted played off.played reads.leads off.leads;
+  front = (off.front.0, append-text played off.played written off.front.0 off.front.1);
+}
+
+pub off-first : (state new : State) (waits waits' : Reading) (statement : Statement) (written : List ℕ) → TakesFirst waits waits' statement
+    → BreaksIn state (statement ∷ []) new written → BreaksOff state waits new written
+off-first state new waits waits' statement written first off = record {
+  submitted = off.submitted;
+  played = off.played;
+  begins = λ more last comes.
+      let rest = statements_of last (waits'.waiting ++ more) in (
+        off.others ++ rest,
+        first more last comes ∙ ap (λ statements. statements ++ rest) off.begins ∙ append_assoc off.submitted off.others rest,
+      );
+  leads = off.leads;
+  front = off.front;
+}
+
+pub off-none : (state new : State) (waits : Reading) (written : List ℕ) → BreaksIn state [] new written → BreaksOff state waits new written
+off-none state new waits written off = record {
+  submitted = off.submitted;
+  played = off.played;
+  begins = λ more last comes.
+      let rest = statements_of last (waits.waiting ++ more) in
+      (off.others ++ rest, ap (λ statements. statements ++ rest) off.begins ∙ append_assoc off.submitted off.others rest);
+  leads = off.leads;
+  front = off.front;
+}
 
 -- a proper front is a front
 pub part-front : (state : State) (waits : Reading) (written : List ℕ) → ReadsInPart state waits written → ReadsFront state waits written

@@ -6,14 +6,14 @@ use Rattle.script_reader.specs.Reading.{Reading, StaysFed, TakesFirst, Wants}
 use Rattle.script_reader.specs.Script.{statements_of}
 use Rattle.script_reader.specs.declared.statement.Statement.{Statement}
 use Rattle.core_state.specs.State.{State}
-use Rattle.script_run.specs.Front.{HaltsReading, PlaysIn, PlaysWhole, ReadsInPart, ReadsOn, refused_of_played, text_of_played}
+use Rattle.script_run.specs.Front.{BreaksOff, HaltsReading, PlaysIn, PlaysWhole, ReadsInPart, ReadsOn, refused_of_played, text_of_played}
 use Rattle.script_run.specs.Counted.{LapsOn}
 use Rattle.script_run.specs.Played.{Played}
 use Rattle.script_run.specs.declared.halt.Halt.{Halt}
 use Rattle.script_run.specs.declared.halt.Halt.TheVariants.{WriteFault, NoMemory}
 use Rattle.script_run.proofs.FrontHaltLemmas.{refused-append, text-append}
 use Rattle.script_run.proofs.LapLemmas.{laps-itself, laps-then}
-use Rattle.script_run.proofs.SharedReadLemmas.{front-behind, front-wanting, part-behind, part-first, part-front, part-wanting, reads-first, reads-itself, reads-then}
+use Rattle.script_run.proofs.SharedReadLemmas.{front-behind, front-wanting, off-behind, off-first, off-itself, part-behind, part-first, part-front, part-wanting, reads-first, reads-itself, reads-then}
 use Rattle.script_run.proofs.WholeLemmas.{fed_on}
 
 -- the statements that were read so far were given to a core, and the replies that were there were written
@@ -65,18 +65,19 @@ playing-first old between new waits waits' waits'' statement refused some taken0
 
 -- The replies halt.
 
-stops-part : (halt : Halt) (state : State) (waits : Reading) (written : List ℕ) → ReadsInPart state waits written → HaltsReading halt state waits written
+pub stops-part : (halt : Halt) (state : State) (waits : Reading) (written : List ℕ) → ReadsInPart state waits written → HaltsReading halt state waits written
 stops-part WriteFault state waits written part = part
 stops-part NoMemory state waits written part = (part-front state waits written part, λ ended. part)
 
 -- behind what was written
 pub stops-behind : (halt : Halt) (old between new : State) (waits waits' waits'' : Reading) (refused : Bool) (taken0 taken taken' : Option (List ℕ)) (written : List ℕ)
     → IsPlaying old between waits waits' refused taken0 taken → Appends taken taken' written → ReadsInPart between waits' written
-    → PlaysWhole (Err halt) old waits new waits'' taken0 taken'
-stops-behind halt old between new waits waits' waits'' refused taken0 taken taken' written way took part = (
+    → BreaksOff between waits' new written → PlaysWhole (Err halt) old waits new waits'' taken0 taken'
+stops-behind halt old between new waits waits' waits'' refused taken0 taken taken' written way took part off = (
   text_of_played way.played ++ written,
   Appends-trans taken0 taken taken' (text_of_played way.played) written way.appended took,
   stops-part halt old waits (text_of_played way.played ++ written) (part-behind old between waits waits' way.played written way.reads way.stays part),
+  off-behind old between new waits waits' way.played written way.reads way.stays off,
 )
 
 -- at a statement that was read
@@ -85,7 +86,7 @@ pub stops-first : (halt : Halt) (old between new : State) (waits waits' waits'' 
     → PlaysIn (Err halt) between (statement ∷ []) new taken taken' → PlaysWhole (Err halt) old waits new waits'' taken0 taken'
 stops-first halt old between new waits waits' waits'' statement refused taken0 taken taken' way first plays =
     stops-behind halt old between new waits waits' waits'' refused taken0 taken taken' plays.0 way plays.1
-    (part-first between waits' waits'' statement plays.0 first plays.2)
+    (part-first between waits' waits'' statement plays.0 first plays.2) (off-first between new waits' waits'' statement plays.0 first plays.3)
 
 -- at the reader
 pub stops-wanting : (old between : State) (waits waits' waits'' : Reading) (refused : Bool) (taken0 taken : Option (List ℕ))
@@ -97,4 +98,5 @@ stops-wanting old between waits waits' waits'' refused taken0 taken way wants = 
     front-behind old between waits waits' way.played [] way.reads way.stays (front-wanting between waits'),
     λ ended. part-behind old between waits waits' way.played [] way.reads way.stays (part-wanting between waits' waits'' wants (way.stays.1 ∙ ended)),
   ),
+  off-behind old between between waits waits' way.played [] way.reads way.stays (off-itself between waits'),
 )

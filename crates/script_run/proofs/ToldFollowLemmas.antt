@@ -2,16 +2,18 @@
 use Rattle.std.proofs.Common.{◌≡◌, ℕ, List, [], ◌∷◌, ◌++◌, drop, map, take, Some, refl, sym, ap, ◌∙◌, subst, ⊎_elim, inl, inr, append-nil, append_assoc}
 use Rattle.std.proofs.lemmas.List.Elements.{filter-append}
 use Rattle.std.proofs.lemmas.Option.{IfSome_then}
+use Rattle.star_plan.specs.Test.{Query}
 use Rattle.pipeline_manager.specs.Lives.{Lives, life_of}
 use Rattle.pipeline_manager.specs.declared.life.Life.TheVariants.{Answered}
 use Rattle.core_state.specs.State.{Accepted, Pending, State, Taken}
 use Rattle.core_state.specs.Submitting.{forgotten, seat_at, taken_by, without_groups}
 use Rattle.core_state.proofs.AnewLemmas.{KeepsAsked, by-change, forgets}
-use Rattle.script_run.specs.Played.{AreToldAs, Follows, IsListed, Played, accepted_by, had_of}
+use Rattle.script_run.specs.Played.{AreToldAs, Follows, IsListedBehind, Played, accepted_by, had_of}
 
 -- nothing changes, and the core has none of what was played
-pub follows-none : (state : State) (played : List Played) → had_of played ≡ [] → IsListed state → Follows state state played
-follows-none state played none listed = record {
+pub follows-none : (others : List (ℕ × (Query × ℕ))) (before : List Taken) (state : State) (played : List Played) → had_of played ≡ []
+    → IsListedBehind others before state → Follows others before state state played
+follows-none others before state played none listed = record {
   listed = listed;
   stay = λ query was. was;
   since = [];
@@ -43,9 +45,9 @@ told-append lives (taken ∷ rest) others [] more first second = absurd first
 told-append lives (taken ∷ rest) others (one ∷ played) more first second = (first.0, told-append lives rest others played more first.1 second)
 
 -- one change behind another
-pub follows-then : (old between new : State) (played more : List Played) → Follows old between played → Follows between new more
-    → Follows old new (played ++ more)
-follows-then old between new played more first second = record {
+pub follows-then : (others : List (ℕ × (Query × ℕ))) (before : List Taken) (old between new : State) (played more : List Played)
+    → Follows others before old between played → Follows others before between new more → Follows others before old new (played ++ more)
+follows-then others before old between new played more first second = record {
   listed = second.listed;
   stay = λ query was. second.stay query (first.stay query was);
   since = first.since ++ second.since;
@@ -69,6 +71,21 @@ pub asked-without : (pending : List Pending) (accepted : List Accepted) → map 
 asked-without [] accepted = refl
 asked-without (first ∷ pending) accepted =
     asked-without pending (map (forgotten first.statement) accepted) ∙ asked-anew (forgotten first.statement) (forgets first.statement) accepted
+
+-- and so does whose it is
+pub owners-anew : (change : Accepted → Accepted) → KeepsAsked change → (accepted : List Accepted)
+    → map (λ a. a.seat) (map change accepted) ≡ map (λ a. a.seat) accepted
+owners-anew change keeps [] = refl
+owners-anew change keeps (first ∷ accepted) =
+    ap (λ seat. seat ∷ map (λ (a : Accepted). a.seat) (map change accepted))
+    (by-change (λ a. a.seat ≡ first.seat) change keeps first (λ groups. refl))
+    ∙ ap (λ rest. first.seat ∷ rest) (owners-anew change keeps accepted)
+
+pub owners-without : (pending : List Pending) (accepted : List Accepted)
+    → map (λ a. a.seat) (without_groups pending accepted) ≡ map (λ a. a.seat) accepted
+owners-without [] accepted = refl
+owners-without (first ∷ pending) accepted =
+    owners-without pending (map (forgotten first.statement) accepted) ∙ owners-anew (forgotten first.statement) (forgets first.statement) accepted
 
 -- a seat was given the same where a reply is taken
 pub given-taken : (taken : List Taken) (pending : List Pending)

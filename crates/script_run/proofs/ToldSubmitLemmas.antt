@@ -1,11 +1,12 @@
 -- What a core tells where the front gives it a statement.
-use Rattle.std.proofs.Common.{◌≡◌, ℕ, ◌+◌, ◌<◌, [], ◌∷◌, ◌++◌, map, Option, Some, None, refl, sym, ap, ◌∙◌, subst, append-nil, append_assoc, arith}
+use Rattle.std.proofs.Common.{◌≡◌, ℕ, ◌+◌, ◌<◌, List, [], ◌∷◌, ◌++◌, map, Option, Some, None, refl, sym, ap, ◌∙◌, subst, append-nil, append_assoc, arith}
 use Rattle.std.specs.Prelude.{All}
 use Rattle.std.specs.Option.{option_map_or}
 use Rattle.std.proofs.lemmas.List.{map-append}
 use Rattle.std.proofs.lemmas.List.Elements.{All-weaker, filter_map-append}
 use Rattle.std.proofs.lemmas.List.Quantifiers.{all_pairs_push}
 use Rattle.script_reader.specs.declared.statement.Statement.{Statement}
+use Rattle.star_plan.specs.Test.{Query}
 use Rattle.star_history.specs.History.{Change, DimensionDeclared, FactDeclared, Loaded, Ended}
 use Rattle.star_statement.specs.Outcome as outcome
 use Rattle.star_statement.specs.Outcome.{Told, outcome_of}
@@ -15,11 +16,11 @@ use Rattle.pipeline_manager.specs.Sound.{AreRising}
 use Rattle.pipeline_manager.specs.declared.life.Life.TheVariants.{Waiting}
 use Rattle.pipeline_manager.specs.declared.life.QueryLife.{QueryLife}
 use Rattle.core_state.specs.Sound.{IsSound, IsSoundQuery}
-use Rattle.core_state.specs.State.{Pending, Seat, State}
+use Rattle.core_state.specs.State.{Pending, Seat, State, Taken}
 use Rattle.core_state.specs.Submitting.{after_submitting, awaited_by, seat_at, taken_by, with_change, with_query, with_seat, with_statement}
 use Rattle.core_state.specs.Tables.{tables_of, versions_in}
 use Rattle.core_state.proofs.AskLemmas.{of-numbers}
-use Rattle.script_run.specs.Played.{Follows, IsListed, accepted_by, given_in, queries_among, query_by}
+use Rattle.script_run.specs.Played.{Follows, IsListedBehind, accepted_by, given_in, queries_among, query_by}
 use Rattle.script_run.proofs.ToldLivesLemmas.{LivesOn, lives-behind, lives-same}
 
 -- a statement of this number, of which this is told
@@ -27,10 +28,10 @@ abbrev pub waits_for : (statement : ℕ) → Told → Pending
 waits_for statement told = record { statement = statement; awaited = awaited_by told }
 
 -- what a statement changes leaves the queries and their lives
-abbrev changed_by : (seat statement : ℕ) → Option Change → State → State
+abbrev pub changed_by : (seat statement : ℕ) → Option Change → State → State
 changed_by seat statement change state = option_map_or (λ change. with_change seat statement change state) change state
 
-accepted-changed : (seat statement : ℕ) (change : Option Change) (state : State) → (changed_by seat statement change state).accepted ≡ state.accepted
+pub accepted-changed : (seat statement : ℕ) (change : Option Change) (state : State) → (changed_by seat statement change state).accepted ≡ state.accepted
 accepted-changed seat statement None state = refl
 accepted-changed seat statement (Some (DimensionDeclared table)) state = refl
 accepted-changed seat statement (Some (FactDeclared table)) state = refl
@@ -71,7 +72,7 @@ is-new state sound =
     (λ accepted is. let low = is.number in omega arith) state.accepted sound.queries.each)
 
 -- the core in which a seat has the next statement
-abbrev seated : (seat : ℕ) → Told → State → State
+abbrev pub seated : (seat : ℕ) → Told → State → State
 seated seat told state =
     with_seat seat (with_statement (state.numbers.statement + 1) told)
     (record state { numbers = record state.numbers { statement = state.numbers.statement + 1 } })
@@ -110,16 +111,20 @@ given-more statement told seat =
 pub follows-submitted : (statement : Statement) (old : State) → IsSound old
     → seat_at (after_submitting 0 statement old) 0
     ≡ with_statement (old.numbers.statement + 1) (outcome_of (tables_of old) statement).told (seat_at old 0)
-    → IsListed old → Follows old (after_submitting 0 statement old) []
-follows-submitted statement old sound seat listed =
+    → (others : List (ℕ × (Query × ℕ))) (before : List Taken) → IsListedBehind others before old
+    → Follows others before old (after_submitting 0 statement old) []
+follows-submitted statement old sound seat others before listed =
     let told = (outcome_of (tables_of old) statement).told in
     let number = old.numbers.statement + 1 in
     let last = taken_by (waits_for number told) in
     let on = lives-submitted 0 statement old sound in record {
       listed = record {
+        since = listed.since ++ last ∷ [];
+        given = ap given_in seat ∙ given-more number told (seat_at old 0) ∙ ap (λ given. given ++ last ∷ []) listed.given
+            ∙ append_assoc before listed.since (last ∷ []);
         queries = accepted-submitted 0 statement old ∙ ap (λ queries. queries ++ queries_among (last ∷ [])) listed.queries
-            ∙ sym (filter_map-append query_by (given_in (seat_at old 0)) (last ∷ []))
-            ∙ sym (ap queries_among (ap given_in seat ∙ given-more number told (seat_at old 0)));
+            ∙ append_assoc others (queries_among listed.since) (queries_among (last ∷ []))
+            ∙ ap (λ queries. others ++ queries) (sym (filter_map-append query_by listed.since (last ∷ [])));
         rising = on.rising;
       };
       stay = on.stay;

@@ -70,6 +70,13 @@ pub record IsCounted (front : Front) : Type 0 where
   pub calm : IsCalm front.unfinished (state_of front.core)
   pub few : front.unfinished ≤ front.settings.slots
 
+-- the front knows its core, also where it was halted: its settings, how many statements it has, and that no batch is in a hand
+pub record IsKnown (front : Front) : Type 0 where
+  pub some : 0 < front.settings.slots
+  pub settings : (state_of front.core).settings ≡ front.settings
+  pub submitted : (state_of front.core).numbers.statement ≡ front.submitted
+  pub hands : AreIdle (state_of front.core)
+
 -- what the front is told of a statement that it gives to a core
 abbrev pub told_of : State → Statement → Told
 told_of state statement = (outcome_of (tables_of state) statement).told

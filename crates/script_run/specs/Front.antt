@@ -45,19 +45,28 @@ abbrev pub HaltsPlay : State → List Statement → (written : List ℕ) → Typ
 HaltsPlay old statements written = (rest : List Statement) → (played : List Played) × (after : List Change)
     × MayPlay old (statements ++ rest) played after × IsProperFront written (text_of_played played)
 
+-- the replies halted: the first of these statements were given to the core, and a front of the replies to what was played was written
+pub record BreaksIn (old : State) (statements : List Statement) (new : State) (written : List ℕ) : Type 0 where
+  pub submitted : List Statement
+  pub others : List Statement
+  pub played : List Played
+  pub begins : statements ≡ submitted ++ others
+  pub leads : Leads old submitted new played
+  pub front : IsFront written (text_of_played played)
+
 -- a core was given statements, and the replies that were there were written; or the replies halted
 abbrev pub PlaysOn : Result Bool Halt → (old : State) → List Statement → (new : State) → (taken taken' : Option (List ℕ)) → Type 0
 PlaysOn (Ok refused) old statements new taken taken' = (played : List Played) × Appends taken taken' (text_of_played played)
     × Leads old statements new played × (refused ≡ refused_of_played played)
 PlaysOn (Err halt) old statements new taken taken' =
-    (written : List ℕ) × Appends taken taken' written × HaltsPlay old statements written
+    (written : List ℕ) × Appends taken taken' written × HaltsPlay old statements written × BreaksIn old statements new written
 
 -- the same where a whole statement was given: the scan went no further than the replies tell
 abbrev pub PlaysIn : Result Bool Halt → (old : State) → List Statement → (new : State) → (taken taken' : Option (List ℕ)) → Type 0
 PlaysIn (Ok refused) old statements new taken taken' = (played : List Played) × Appends taken taken' (text_of_played played)
     × Leads old statements new played × (refused ≡ refused_of_played played) × LapsOn old new played
 PlaysIn (Err halt) old statements new taken taken' =
-    (written : List ℕ) × Appends taken taken' written × HaltsPlay old statements written
+    (written : List ℕ) × Appends taken taken' written × HaltsPlay old statements written × BreaksIn old statements new written
 
 -- the statements between two readers were given to a core, and these were replied to
 pub record ReadsOn (old : State) (waits : Reading) (new : State) (waits' : Reading) (played : List Played) : Type 0 where
@@ -81,9 +90,18 @@ abbrev pub HaltsReading : Halt → State → Reading → (written : List ℕ) �
 HaltsReading WriteFault old waits written = ReadsInPart old waits written
 HaltsReading NoMemory old waits written = ReadsFront old waits written × (waits.ended ≡ true → ReadsInPart old waits written)
 
+-- the replies halted: these statements, with which those to come begin, were given to the core, and these were replied to, of which a front was written
+pub record BreaksOff (old : State) (waits : Reading) (new : State) (written : List ℕ) : Type 0 where
+  pub submitted : List Statement
+  pub played : List Played
+  pub begins : (more : List ℕ) (last : Bool) → MayCome waits more last
+      → (rest : List Statement) × (statements_of last (waits.waiting ++ more) ≡ submitted ++ rest)
+  pub leads : Leads old submitted new played
+  pub front : IsFront written (text_of_played played)
+
 -- every statement that is whole was given to a core, or the replies halted
 abbrev pub PlaysWhole : Result Bool Halt → State → Reading → State → Reading → (taken taken' : Option (List ℕ)) → Type 0
 PlaysWhole (Ok refused) old waits new waits' taken taken' = (played : List Played) × Appends taken taken' (text_of_played played)
     × ReadsOn old waits new waits' played × (refused ≡ refused_of_played played) × HasNoStatement waits' × LapsOn old new played
 PlaysWhole (Err halt) old waits new waits' taken taken' =
-    (written : List ℕ) × Appends taken taken' written × HaltsReading halt old waits written
+    (written : List ℕ) × Appends taken taken' written × HaltsReading halt old waits written × BreaksOff old waits new written

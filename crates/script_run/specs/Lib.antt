@@ -5,6 +5,8 @@ pub mod Laps
 pub mod Counted
 pub mod Told
 pub mod Front
+pub mod Home
+pub mod Leaving
 pub mod Waiting
 pub mod Shared
 pub mod End

@@ -95,9 +95,12 @@ queries_among statements = filter_map query_by statements
 abbrev pub accepted_by : Accepted → ℕ × (Query × ℕ)
 accepted_by accepted = (accepted.number, (accepted.query, accepted.snapshot))
 
--- the queries of a core are those that its front took and waits for, in their order, and their numbers rise
-pub record IsListed (state : State) : Type 0 where
-  pub queries : map accepted_by state.accepted ≡ queries_among (given_in (seat_at state 0))
+-- behind others and what the front took before, the queries of a core are those that its front was given since, in their order, and
+-- the numbers of all of them rise
+pub record IsListedBehind (others : List (ℕ × (Query × ℕ))) (before : List Taken) (state : State) : Type 0 where
+  pub since : List Taken
+  pub given : given_in (seat_at state 0) ≡ before ++ since
+  pub queries : map accepted_by state.accepted ≡ others ++ queries_among since
   pub rising : AreRising state.lives.queries
 
 -- a reply that was taken is that to what was played: to the same query, which was answered if the reply is not `memory`
@@ -112,10 +115,10 @@ AreToldAs lives [] (one ∷ played) = ⊥
 AreToldAs lives (taken ∷ rest) [] = ⊥
 AreToldAs lives (taken ∷ rest) (one ∷ played) = IsToldAs lives taken one × AreToldAs lives rest played
 
--- from one core to a later one the queries stay listed, a query that was answered stays so, and the front took the replies to those of
--- what was played that the core has
-pub record Follows (old new : State) (played : List Played) : Type 0 where
-  pub listed : IsListed new
+-- from one core to a later one the queries stay listed behind the same, a query that was answered stays so, and the front took the
+-- replies to those of what was played that the core has
+pub record Follows (others : List (ℕ × (Query × ℕ))) (before : List Taken) (old new : State) (played : List Played) : Type 0 where
+  pub listed : IsListedBehind others before new
   pub stay : (query : ℕ) → life_of old.lives query ≡ Some Answered → life_of new.lives query ≡ Some Answered
   pub since : List Taken
   pub taken : (seat_at new 0).taken ≡ (seat_at old 0).taken ++ since
@@ -126,7 +129,7 @@ pub record Follows (old new : State) (played : List Played) : Type 0 where
 pub record Leads (old : State) (statements : List Statement) (new : State) (played : List Played) : Type 0 where
   pub plays : (rest : List Statement) (more : List Played) (after : List Change) → MayPlay new rest more after
       → MayPlay old (statements ++ rest) (played ++ more) after
-  pub follows : IsListed old → Follows old new played
+  pub follows : (others : List (ℕ × (Query × ℕ))) (before : List Taken) → IsListedBehind others before old → Follows others before old new played
 
 -- an event that leaves the history and the seats: no statement is submitted, and no query abandoned
 abbrev pub LeavesSeats : Event → Type 0

@@ -13,7 +13,8 @@ ghost use Rattle.event_core.specs.Seen.{state_of};
 ghost use Rattle.script_run.specs.Answer.{CountsHalt};
 ghost use Rattle.pipeline_manager.specs.Conditions.{is_open};
 ghost use Rattle.script_run.specs.Front.{IsRun, PlaysIn, PlaysOn};
-ghost use Rattle.script_run.specs.Counted.{Beside, CountsOne, GoesRound, IsCalm, IsCounted, open_in};
+ghost use Rattle.script_run.specs.Counted.{Beside, CountsOne, GoesRound, IsCalm, IsCounted, IsKnown, open_in};
+ghost use Rattle.script_run.specs.Home.{IsAtHome};
 ghost use Rattle.script_run.specs.Played.{Leads};
 ghost use Rattle.script_run.specs.Run.{is_refusal};
 ghost use Rattle.script_run.specs.Waiting.{is_wait as means_to_wait};
@@ -24,6 +25,7 @@ use crate::waiting::is_wait;
 use core_driver::finish_all;
 use core_state::{
     Event, RunSettings, a_reply_that_may_be_taken_is_right, later_steps_change_no_answer,
+    no_step_loses_a_statement,
 };
 use event_core::{Core, StepFault, every_core_is_sound, taken_events_are_steps};
 use pipeline_manager::Life;
@@ -37,27 +39,34 @@ use std::thread::Threads;
 
 /// A core, and how many of its queries are unfinished.
 #[derive(Debug, Drop)]
-pub(crate) struct Front {
+pub struct Front {
     alloc: Global,
-    pub(crate) core: Core,
-    settings: RunSettings,
+
+    /// The core, to which the front gives statements as its seat 0.
+    pub core: Core,
+
+    /// The settings of the core.
+    pub settings: RunSettings,
 
     /// How many statements the core has.
-    submitted: u64,
+    pub submitted: u64,
 
     /// How many queries of the core have not come to their end, each of which waits for a slot.
-    unfinished: u32,
+    pub unfinished: u32,
 }
 
 impl Front {
     /// A core of these settings, to which nothing was given.
-    pub(crate) fn new(alloc: Global, settings: RunSettings) -> Result<Front, NoMemory>
+    pub fn new(alloc: Global, settings: RunSettings) -> Result<Front, NoMemory>
         requires { AreWithin settings }
         ensures core { IfOk result (λ front. state_of front.core ≡ empty_core front.settings) }
         ensures settings { IfOk result (λ front. front.settings ≡ settings) }
         ensures counted { IfOk result IsCounted }
         ensures free { IfOk result (λ front. front.unfinished ≡ 0) }
+        ensures home { IfOk result IsAtHome }
     {
+        // It is called for what it ensures.
+        no_step_loses_a_statement();
         let core = Core::new(alloc, settings)?;
         Ok(Front {
             alloc,
@@ -85,7 +94,9 @@ impl Front {
         ensures counted { OnOk result (IsCounted self.new) }
         ensures free { OnOk result (self.new.unfinished < self.new.settings.slots) }
         ensures settings { self.new.settings ≡ self.old.settings }
+        ensures known { IsKnown self.new }
         ensures faults { CountsHalt result (K.write_faults sink.old) (K.write_faults sink.new) (K.write_failed sink.new) }
+        ensures apart { K.reading_side sink.new ≡ K.reading_side sink.old }
     {
         let waits = self.waits_at(&statement)?;
         if !self.give(statement) {
@@ -147,7 +158,9 @@ impl Front {
         ensures counted { OnOk result (IsCounted self.new) }
         ensures free { OnOk result (self.new.unfinished ≡ 0) }
         ensures settings { self.new.settings ≡ self.old.settings }
+        ensures known { IsKnown self.new }
         ensures faults { CountsHalt result (K.write_faults sink.old) (K.write_faults sink.new) (K.write_failed sink.new) }
+        ensures apart { K.reading_side sink.new ≡ K.reading_side sink.old }
     {
         self.play_out(rt, sink)?;
         write_reply(self.alloc, &Reply::Memory, sink)
@@ -167,7 +180,9 @@ impl Front {
         ensures counted { OnOk result (IsCounted self.new) }
         ensures free { OnOk result (self.new.unfinished ≡ 0) }
         ensures settings { self.new.settings ≡ self.old.settings }
+        ensures known { IsKnown self.new }
         ensures faults { CountsHalt result (K.write_faults sink.old) (K.write_faults sink.new) (K.write_failed sink.new) }
+        ensures apart { K.reading_side sink.new ≡ K.reading_side sink.old }
     {
         self.finish_open(rt)?;
         write_ready(self.alloc, &mut self.core, sink)
@@ -186,6 +201,7 @@ impl Front {
         ensures settings { self.new.settings ≡ self.old.settings }
         ensures submitted { self.new.submitted ≡ self.old.submitted }
         ensures unfinished { OnOk result (self.new.unfinished ≡ 0) }
+        ensures known { IsKnown self.new }
     {
         if self.unfinished == 0 {
             return Ok(());
@@ -222,6 +238,7 @@ fn finish<R: Threads + Sync>(rt: &R, core: &mut Core) -> Result<(), NoMemory>
     ensures waits { OnErr result ((seat_at (state_of core.old) 0).pending ≢ []) }
     ensures run { IsRun (state_of core.old) (state_of core.new) }
     ensures idle { OnOk result (AreIdle (state_of core.new)) }
+    ensures hands { AreIdle (state_of core.new) }
 {
     taken_events_are_steps();
     every_core_is_sound(core);
@@ -237,6 +254,7 @@ fn write_ready<K: Sink>(alloc: Global, core: &mut Core, sink: &mut K) -> Result<
     ensures run { IsRun (state_of core.old) (state_of core.new) }
     ensures beside { Beside (state_of core.old) (state_of core.new) }
     ensures faults { CountsHalt result (K.write_faults sink.old) (K.write_faults sink.new) (K.write_failed sink.new) }
+    ensures apart { K.reading_side sink.new ≡ K.reading_side sink.old }
 {
     a_reply_that_may_be_taken_is_right();
     let mut refused = false;
@@ -252,6 +270,7 @@ fn write_reply<K: Sink>(alloc: Global, reply: &Reply, sink: &mut K) -> Result<bo
     ensures ok { OnOk result (Appends (K.taken sink.old) (K.taken sink.new) (text_of reply.now)) }
     ensures err { OnErr result (AppendsFront (K.taken sink.old) (K.taken sink.new) (text_of reply.now)) }
     ensures faults { CountsHalt result (K.write_faults sink.old) (K.write_faults sink.new) (K.write_failed sink.new) }
+    ensures apart { K.reading_side sink.new ≡ K.reading_side sink.old }
 {
     let text = text_of(alloc, reply)?;
     write_all(sink, text.as_bytes())?;

@@ -7,8 +7,11 @@ use star_values::NoMemory;
 
 /// Why a run stops before its last reply.
 #[derive(Clone, Copy, Debug, PartialEq, Eq)]
-pub(crate) enum Halt {
+pub enum Halt {
+    /// A write failed.
     WriteFault,
+
+    /// No memory was left for a reply or for the next statement.
     NoMemory,
 }
 

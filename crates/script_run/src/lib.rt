@@ -4,11 +4,15 @@
 mod answer;
 mod front;
 mod halt;
+mod home;
 mod piece;
 mod reply;
 mod run;
 mod shared;
 mod waiting;
 
-pub use run::run_alone;
+pub use front::Front;
+pub use halt::Halt;
+pub use piece::{Piece, read_piece};
+pub use run::{PIECE_BYTES, run_alone};
 pub use shared::{RunDone, run_script};

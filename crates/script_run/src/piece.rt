@@ -8,7 +8,7 @@ use star_io::{Failed, Source};
 
 /// What became of a read.
 #[derive(Clone, Copy, Debug, PartialEq, Eq)]
-pub(crate) enum Piece {
+pub enum Piece {
     /// The reader has the bytes that came.
     Fed,
     /// The input has ended.
@@ -23,11 +23,7 @@ pub(crate) enum Piece {
 
 /// Reads once, by way of `piece`, and feeds the reader with what came. Where as many bytes as the limit were
 /// fed, one byte more is asked for, which the reader is not fed with.
-pub(crate) fn read_piece<S: Source>(
-    source: &mut S,
-    piece: &mut [u8],
-    reader: &mut ScriptReader,
-) -> Piece
+pub fn read_piece<S: Source>(source: &mut S, piece: &mut [u8], reader: &mut ScriptReader) -> Piece
     requires piece { 0 < length piece.old }
     requires within { reader.old.fed ≤ SCRIPT_LIMIT }
     requires not_ended { reader.old.ended ≡ false }
@@ -35,6 +31,7 @@ pub(crate) fn read_piece<S: Source>(
     ensures end { FindsEnd result (S.ended source.old) (S.ended source.new) (S.left source.new) }
     ensures faults { CountsFault result
         (S.read_faults source.old) (S.read_faults source.new) (S.read_failed source.new) }
+    ensures apart { S.writing_side source.new ≡ S.writing_side source.old }
 {
     let room = (SCRIPT_LIMIT - reader.fed()).min(piece.len());
     if room == 0 {
@@ -58,6 +55,7 @@ fn read_past_the_limit<S: Source>(source: &mut S) -> Piece
     ensures end { FindsEnd result (S.ended source.old) (S.ended source.new) (S.left source.new) }
     ensures faults { CountsFault result
         (S.read_faults source.old) (S.read_faults source.new) (S.read_failed source.new) }
+    ensures apart { S.writing_side source.new ≡ S.writing_side source.old }
 {
     let mut one = [0u8];
     match source.read(&mut one) {

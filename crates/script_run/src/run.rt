@@ -14,7 +14,7 @@ use star_store::Store;
 use std::alloc::Global;
 
 /// The most bytes that one read asks for.
-pub(crate) const PIECE_BYTES: usize = 64 * 1024;
+pub const PIECE_BYTES: usize = 64 * 1024;
 
 /// Reads a script to its end, and writes the reply to each of its statements, in order, before it reads on.
 /// Each query is answered by itself, at its place. Where memory is wanted the run ends, and no reply tells it.

@@ -8,7 +8,7 @@ ghost use Rattle.star_io.specs.declared.run_end.RunEnd.TheVariants as end;
 ghost use Rattle.script_run.specs.Answer.{CountsHalt};
 ghost use Rattle.script_run.specs.End.{end_behind, end_of_rest};
 ghost use Rattle.script_run.specs.Front.{IsRun, PlaysWhole};
-ghost use Rattle.script_run.specs.Counted.{IsCounted};
+ghost use Rattle.script_run.specs.Counted.{IsCounted, IsKnown};
 ghost use Rattle.script_run.specs.Run.{CountsFaults};
 ghost use Rattle.script_run.specs.Shared.{AnswersBy, AnswersShared};
 
@@ -53,6 +53,7 @@ pub fn run_script<R: Threads + Sync, S: Source, K: Sink>(
     ensures faults { CountsFaults result.end
         (S.read_faults source.old) (S.read_faults source.new) (S.read_failed source.new)
         (K.write_faults sink.old) (K.write_faults sink.new) (K.write_failed sink.new) }
+    ensures apart { K.reading_side sink.new ≡ K.reading_side sink.old }
     ensures core { IsNone result.core ↔ (result.end ≡ end.NoMemory) }
     ensures run { IfSome result.core (λ core. IsRun (empty_core settings) (state_of core)) }
 {
@@ -97,6 +98,7 @@ fn play_script<R: Threads + Sync, S: Source, K: Sink>(
     ensures faults { CountsFaults result
         (S.read_faults source.old) (S.read_faults source.new) (S.read_failed source.new)
         (K.write_faults sink.old) (K.write_faults sink.new) (K.write_failed sink.new) }
+    ensures apart { K.reading_side sink.new ≡ K.reading_side sink.old }
     ensures run { IsRun (state_of front.old.core) (state_of front.new.core) }
 {
     let mut piece = [0u8; PIECE_BYTES];
@@ -124,7 +126,7 @@ fn play_script<R: Threads + Sync, S: Source, K: Sink>(
 
 /// Gives the statements that are whole to the core, one after the other, and tells whether some reply that was written
 /// meanwhile is a refusal.
-fn play_whole<R: Threads + Sync, K: Sink>(
+pub(crate) fn play_whole<R: Threads + Sync, K: Sink>(
     rt: &R,
     front: &mut Front,
     reader: &mut ScriptReader,
@@ -139,7 +141,9 @@ fn play_whole<R: Threads + Sync, K: Sink>(
     ensures counted { OnOk result (IsCounted front.new) }
     ensures free { OnOk result (front.new.unfinished < front.new.settings.slots) }
     ensures settings { front.new.settings ≡ front.old.settings }
+    ensures known { IsKnown front.new }
     ensures faults { CountsHalt result (K.write_faults sink.old) (K.write_faults sink.new) (K.write_failed sink.new) }
+    ensures apart { K.reading_side sink.new ≡ K.reading_side sink.old }
 {
     let mut refused = false;
     'statements: loop {

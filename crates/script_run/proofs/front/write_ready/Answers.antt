@@ -9,6 +9,7 @@ pub replies-init : goal.replies-init
 replies-init g c = record {
   writing = starts-writing (state_of c.args.core.now) (g.K.Sink.taken c.args.sink.now);
   unfailed = refl;
+  apart = refl;
 }
 
 pub replies-preserved-in_ok-refused : goal.replies-preserved-in_ok-refused
@@ -18,6 +19,7 @@ replies-preserved-in_ok-refused g c =
           (takes-reply _ _ c.in-Some.ready c.into_reply.result c.in-Some.ensures.ready (c.in-Some.ensures.taken refl) c.in-Some.ensures.right c.into_reply.ensures)
           c.in_ok-refused.ensures.ok c.in_ok-refused.ensures.refused;
       unfailed = c.in_ok-refused.ensures.faults ∙ c.replies.invariant.unfailed;
+      apart = c.write_reply.ensures.apart ∙ c.replies.invariant.apart;
     }
 
 pub replies-preserved-in_ok-refused-2 : goal.replies-preserved-in_ok-refused-2
@@ -27,6 +29,7 @@ replies-preserved-in_ok-refused-2 g c =
           (takes-reply _ _ c.in-Some.ready c.into_reply.result c.in-Some.ensures.ready (c.in-Some.ensures.taken refl) c.in-Some.ensures.right c.into_reply.ensures)
           c.in_ok-refused.ensures.ok c.in_ok-refused.ensures.refused;
       unfailed = c.in_ok-refused.ensures.faults ∙ c.replies.invariant.unfailed;
+      apart = c.write_reply.ensures.apart ∙ c.replies.invariant.apart;
     }
 
 pub replies-preserved : goal.replies-preserved
@@ -36,6 +39,7 @@ replies-preserved g c =
           (takes-reply _ _ c.in-Some.ready c.into_reply.result c.in-Some.ensures.ready (c.in-Some.ensures.taken refl) c.in-Some.ensures.right c.into_reply.ensures)
           c.in_ok-refused.ensures.ok c.in_ok-refused.ensures.refused;
       unfailed = c.in_ok-refused.ensures.faults ∙ c.replies.invariant.unfailed;
+      apart = c.write_reply.ensures.apart ∙ c.replies.invariant.apart;
     }
 
 pub returns-in_err-refused-clause-plays : goal.returns-in_err-refused-clause-plays

@@ -9,6 +9,7 @@ abbrev pub invariant-replies : goal.invariant-replies
 invariant-replies g l = record {
   writing : IsWriting (state_of l.initial.core) (state_of l.core) l.refused (g.K.Sink.taken l.initial.sink) (g.K.Sink.taken l.sink);
   unfailed : g.K.Sink.write_faults l.sink ≡ g.K.Sink.write_faults l.initial.sink;
+  apart : g.K.Sink.reading_side l.sink ≡ g.K.Sink.reading_side l.initial.sink;
 }
 
 abbrev pub decreases-replies : goal.decreases-replies

@@ -17,6 +17,7 @@ pieces-init g c = record {
   ended = refl;
   unread = refl;
   unwritten = refl;
+  apart = refl;
 }
 
 pub returns-in-Err-clause-answers : goal.returns-in-Err-clause-answers
@@ -41,6 +42,7 @@ pieces-preserved g c =
       ended = c.in-Fed.ensures.end ∙ c.pieces.invariant.ended;
       unread = c.in-Fed.ensures.faults ∙ c.pieces.invariant.unread;
       unwritten = c.in-Ok.ensures.faults ∙ c.pieces.invariant.unwritten;
+      apart = c.play_whole.ensures.apart ∙ c.pieces.invariant.apart;
     }
 
 pub returns-in-Fault-clause-answers : goal.returns-in-Fault-clause-answers

@@ -17,6 +17,7 @@ invariant-pieces g l = record {
   ended : g.S.Source.ended l.source ≡ g.S.Source.ended l.fn.source;
   unread : g.S.Source.read_faults l.source ≡ g.S.Source.read_faults l.fn.source;
   unwritten : g.K.Sink.write_faults l.sink ≡ g.K.Sink.write_faults l.fn.sink;
+  apart : g.K.Sink.reading_side l.sink ≡ g.K.Sink.reading_side l.fn.sink;
 }
 
 abbrev pub decreases-pieces : goal.decreases-pieces

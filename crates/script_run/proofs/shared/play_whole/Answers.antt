@@ -1,6 +1,7 @@
 use Rattle.std.proofs.Common.{◌∙◌, refl}
 use Rattle.std.proofs.lemmas.Result.{err_from_is_err_and}
 use Rattle.event_core.specs.Seen.{state_of}
+use Rattle.script_run.proofs.FrontCountLemmas.{known-counted}
 use Rattle.script_run.proofs.FrontRunLemmas.{run-itself, run-then}
 use Rattle.script_run.proofs.SharedWholeLemmas.{stops-first, stops-wanting, playing-first, starts-playing}
 use Rattle.script_run.proofs.shared.play_whole.Goals as goal
@@ -13,6 +14,7 @@ statements-init g c = record {
   free = c.requires.free;
   settings = refl;
   unfailed = refl;
+  apart = refl;
 }
 
 pub returns-in_err-statement-clause-plays : goal.returns-in_err-statement-clause-plays
@@ -40,4 +42,11 @@ statements-preserved g c =
       free = c.in_ok-refused.ensures.free;
       settings = c.play.ensures.settings ∙ c.statements.invariant.settings;
       unfailed = c.in_ok-refused.ensures.faults ∙ c.statements.invariant.unfailed;
+      apart = c.play.ensures.apart ∙ c.statements.invariant.apart;
     }
+
+pub returns-in_err-statement-clause-known : goal.returns-in_err-statement-clause-known
+returns-in_err-statement-clause-known g c = known-counted c.statements.front c.statements.invariant.counted
+
+pub returns-in_default-clause-known : goal.returns-in_default-clause-known
+returns-in_default-clause-known g c = known-counted c.statements.front c.statements.invariant.counted

@@ -14,6 +14,7 @@ invariant-statements g l = record {
   free : l.front.unfinished < l.front.settings.slots;
   settings : l.front.settings ≡ l.initial.front.settings;
   unfailed : g.K.Sink.write_faults l.sink ≡ g.K.Sink.write_faults l.initial.sink;
+  apart : g.K.Sink.reading_side l.sink ≡ g.K.Sink.reading_side l.initial.sink;
 }
 
 abbrev pub decreases-statements : goal.decreases-statements

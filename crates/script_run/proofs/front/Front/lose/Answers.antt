@@ -1,8 +1,14 @@
 use Rattle.std.proofs.Common.{sym, subst, ap}
+use Rattle.std.proofs.lemmas.Result.{err_from_is_err_and}
 use Rattle.std.specs.Prelude.{◌<◌}
 use Rattle.event_core.specs.Seen.{state_of}
-use Rattle.script_run.proofs.FrontPlayLemmas.{plays-lost}
+use Rattle.script_run.proofs.FrontPlayLemmas.{plays-before, plays-lost}
 use Rattle.script_run.proofs.front.Front.lose.Goals as goal
+
+pub returns-in_err-play_out-clause-plays : goal.returns-in_err-play_out-clause-plays
+returns-in_err-play_out-clause-plays g c statement =
+    let failed = err_from_is_err_and c.from_residual.result c.from_residual.ensures.1 in
+    rw failed.1 (plays-before failed.0 statement (state_of c.args.self.now.core) (state_of c.play_out.new.self.core) _ _ c.in_err-play_out.ensures.plays)
 
 pub returns-clause-plays : goal.returns-clause-plays
 returns-clause-plays g c statement =

@@ -1,7 +1,7 @@
 use Rattle.std.proofs.Common.{refl}
 use Rattle.std.proofs.lemmas.Result.{err_from_is_err_and}
 use Rattle.event_core.specs.Seen.{state_of}
-use Rattle.script_run.proofs.FrontCountLemmas.{due-by, slots-some}
+use Rattle.script_run.proofs.FrontCountLemmas.{due-by, known-counted, slots-some}
 use Rattle.script_run.proofs.FrontPlayLemmas.{plays-given, plays-none, plays-quiet}
 use Rattle.script_run.proofs.FrontRunLemmas.{run-then}
 use Rattle.script_run.proofs.front.Front.play.Goals as goal
@@ -9,7 +9,7 @@ use Rattle.script_run.proofs.front.Front.play.Goals as goal
 pub returns-in_err-waits-clause-plays : goal.returns-in_err-waits-clause-plays
 returns-in_err-waits-clause-plays g c =
     let failed = err_from_is_err_and c.from_residual.result c.from_residual.ensures.1 in
-    rw failed.1 (plays-none failed.0 c.args.statement (state_of c.args.self.now.core) (state_of c.args.self.now.core) _)
+    rw failed.1 (plays-none failed.0 c.args.statement (state_of c.args.self.now.core) _)
 
 pub returns-then-is_due-clause-plays : goal.returns-then-is_due-clause-plays
 returns-then-is_due-clause-plays g c =
@@ -27,3 +27,9 @@ pub returns-else-is_due-clause-plays : goal.returns-else-is_due-clause-plays
 returns-else-is_due-clause-plays g c =
     let given = c.if-not-give.ensures in
     plays-quiet c.args.statement (state_of c.args.self.now.core) (state_of c.give.new.self.core) _ (given.leads refl) (given.counts refl)
+
+pub returns-in_err-waits-clause-known : goal.returns-in_err-waits-clause-known
+returns-in_err-waits-clause-known g c = known-counted c.args.self.now c.requires.counted
+
+pub returns-else-is_due-clause-known : goal.returns-else-is_due-clause-known
+returns-else-is_due-clause-known g c = known-counted c.give.new.self (c.if-not-give.ensures.counted refl)

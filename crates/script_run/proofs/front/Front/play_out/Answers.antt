@@ -1,8 +1,8 @@
-use Rattle.std.proofs.Common.{[]}
+use Rattle.std.proofs.Common.{[], refl}
 use Rattle.std.proofs.lemmas.Result.{err_from_is_err_and, on_ok_weaker}
 use Rattle.core_state.specs.Submitting.{seat_at}
 use Rattle.event_core.specs.Seen.{state_of}
-use Rattle.script_run.proofs.FrontCountLemmas.{counted-out, round-beside}
+use Rattle.script_run.proofs.FrontCountLemmas.{counted-out, known-beside, round-beside}
 use Rattle.script_run.proofs.FrontHaltLemmas.{plays-behind}
 use Rattle.script_run.proofs.FrontOpenLemmas.{none-open}
 use Rattle.script_run.proofs.FrontPlayLemmas.{plays-due}
@@ -12,7 +12,7 @@ use Rattle.script_run.proofs.front.Front.play_out.Goals as goal
 pub returns-in_err-finish_open-clause-plays : goal.returns-in_err-finish_open-clause-plays
 returns-in_err-finish_open-clause-plays g c =
     let failed = err_from_is_err_and c.from_residual.result c.from_residual.ensures.1 in
-    rw failed.1 (plays-due failed.0 (state_of c.args.self.now.core) (state_of c.finish_open.new.self.core) _ c.in_err-finish_open.ensures.waits)
+    rw failed.1 (plays-due failed.0 (state_of c.args.self.now.core) (state_of c.finish_open.new.self.core) _ c.in_err-finish_open.ensures.waits c.finish_open.ensures.leads)
 
 pub returns-clause-plays : goal.returns-clause-plays
 returns-clause-plays g c =
@@ -42,3 +42,7 @@ returns-clause-counted g c =
     (λ all. counted-out c.args.self.now _ mid c.requires.counted c.finish_open.ensures.round.settings c.finish_open.ensures.number ended.closed ended.idle
     c.write_ready.ensures.beside (all (none-open mid.lives (seat_at mid 0) ended.closed)) c.finish_open.ensures.settings c.finish_open.ensures.submitted ended.unfinished)
     c.write_ready.ensures.all
+
+pub returns-clause-known : goal.returns-clause-known
+returns-clause-known g c =
+    known-beside c.finish_open.new.self _ c.finish_open.ensures.known c.write_ready.ensures.beside refl refl

@@ -1,0 +1,344 @@
+-- What is left of a core where queries are abandoned and replies are taken.
+use Rattle.std.proofs.Common.{◌≡◌, ℕ, ◌<◌, ◌≤◌, Bool, true, false, cond, not, eqb, eq-eqb, List, [], ◌∷◌, ◌++◌, length, get_or, map, set, take, Option, Some, None, option_map, Result, Ok, Err, refl, sym, ap, ◌∙◌, subst, ⊎_elim, append-nil, append_assoc, arith}
+use Rattle.std.specs.Prelude.{◌↔◌, All, IsErrOf, IsSome, IsTrue, OnOk, count_by, find}
+use Rattle.std.specs.List.{filter}
+use Rattle.std.specs.Option.{option_map_or}
+use Rattle.std.proofs.lemmas.List.{get_or-set_same}
+use Rattle.pipeline_manager.specs.Changes.{after_abandon}
+use Rattle.pipeline_manager.specs.Conditions.{CanAbandon, is_open}
+use Rattle.pipeline_manager.specs.Lives.{Lives, life_in, life_of, query_in}
+use Rattle.pipeline_manager.specs.declared.life.Life.TheVariants.{Abandoned, Answered}
+use Rattle.pipeline_manager.specs.declared.life.QueryLife.{QueryLife}
+use Rattle.core_state.specs.Events.{IsEnabled, after_event}
+use Rattle.core_state.specs.Found.{accepted_at}
+use Rattle.core_state.specs.Sound.{IsSound}
+use Rattle.core_state.specs.State.{Accepted, Pending, Seat, State}
+use Rattle.core_state.specs.Steps.{Done, Replying}
+use Rattle.core_state.specs.Submitting.{Ready, after_abandoning, after_taking, empty_seat, forgotten, next_ready, seat_at, taken_by, with_seat, without_pending}
+use Rattle.core_state.specs.declared.event.Event.TheVariants.{Abandon}
+use Rattle.core_state.proofs.AcceptedLemmas.{find-holds}
+use Rattle.core_state.proofs.AnewLemmas.{forgets}
+use Rattle.core_state.proofs.FoundLemmas.{find-passes}
+use Rattle.core_state.proofs.ScannedOverLemmas.{life-accepted}
+use Rattle.core_state.proofs.SeatLemmas.{part-stays}
+use Rattle.core_state.proofs.StepLemmas.{StepsKeep}
+use Rattle.core_state.proofs.WholeFrameLemmas.{by-option}
+use Rattle.core_state.proofs.WholeRunLemmas.{StepsLoseNone}
+use Rattle.event_core.specs.Replies.{first_open}
+use Rattle.event_core.specs.Seen.{state_of}
+use Rattle.event_core.specs.Took.{MayWantMemory, Took}
+use Rattle.event_core.specs.declared.stepping.StepFault.{StepFault}
+use Rattle.event_core.specs.declared.stepping.StepFault.TheVariants.{NotEnabled, Memory}
+use Rattle.script_run.specs.Counted.{IsCounted, IsKnown, is_query}
+use Rattle.script_run.specs.Home.{IsAtHome, IsHeld, LetsGo}
+use Rattle.script_run.specs.Leaving.{IsLeaving}
+use Rattle.script_run.specs.Played.{accepted_by}
+use Rattle.script_run.specs.declared.front.Front.{Front}
+use Rattle.script_run.proofs.FrontOpenLemmas.{first-waits, taken-behind, taken-closed}
+use Rattle.script_run.proofs.FrontRunLemmas.{idle-scan}
+use Rattle.script_run.proofs.HomeClosedLemmas.{closed-all}
+use Rattle.script_run.proofs.HomeStepLemmas.{Owns, owner-there, serves-abandoned, serves-taken}
+use Rattle.script_run.proofs.HomeStepsLemmas.{held-after, served-itself, served-one, served-then}
+use Rattle.script_run.proofs.LapEventLemmas.{closed-count, closed-over}
+use Rattle.script_run.proofs.PlayedTakenLemmas.{WaitsForOpen, idle-next, seat-waits, taken-seat}
+use Rattle.script_run.proofs.ToldFollowLemmas.{asked-anew, asked-without}
+use Rattle.script_run.proofs.ToldLivesLemmas.{LivesOn, lives-written}
+
+-- what is left is what is left of what was left
+lets-then : (old between new : State) → LetsGo old between → LetsGo between new → LetsGo old new
+lets-then old between new first second = record {
+  entries = second.entries ∙ first.entries;
+  accepted = second.accepted ∙ first.accepted;
+  stay = λ query was. second.stay query (first.stay query was);
+  more = first.more ++ second.more;
+  taken = second.taken ∙ ap (λ taken. taken ++ second.more) first.taken ∙ append_assoc (seat_at old 0).taken first.more second.more;
+}
+
+pub leaving-then : (old between new : State) → IsLeaving old between → IsLeaving between new → IsLeaving old new
+leaving-then old between new first second = record {
+  lets = lets-then old between new first.lets second.lets;
+  served = served-then old between new first.served second.served;
+  settings = second.settings ∙ first.settings;
+  scan = second.scan ∙ first.scan;
+  numbers = second.numbers ∙ first.numbers;
+}
+
+-- how far it has come: each query is one of seat 0 still, and the core is sound
+pub record IsOnLeave (old now : State) : Type 0 where
+  pub leaving : IsLeaving old now
+  pub own : Owns now
+  pub sound : IsSound now
+
+pub starts-leave : (state : State) → IsSound state → Owns state → IsOnLeave state state
+starts-leave state sound mine = record {
+  leaving = record {
+    lets = record {
+      entries = refl;
+      accepted = refl;
+      stay = λ query was. was;
+      more = [];
+      taken = sym (append-nil (seat_at state 0).taken);
+    };
+    served = served-itself state;
+    settings = refl;
+    scan = refl;
+    numbers = refl;
+  };
+  own = mine;
+  sound = sound;
+}
+
+-- what is found open may be abandoned
+pub open-can : (lives : Lives) (seat : Seat) (query : ℕ) → first_open lives seat ≡ Some query → CanAbandon query lives
+open-can lives seat query is = by_found (find test seat.pending) refl is
+  where
+    test : Pending → Bool
+    test p = option_map_or is_open (life_of lives p.statement) false
+
+    by_found : (o : Option Pending) → find test seat.pending ≡ o → option_map (λ p. p.statement) o ≡ Some query
+        → option_map_or is_open (life_of lives query) false ≡ true
+    by_found None found none = absurd (let both : None ≡ Some query = none in cc)
+    by_found (Some p) found some =
+        let same : p.statement ≡ query = cc in
+        subst (λ n. option_map_or is_open (life_of lives n) false ≡ true) same (find-passes test seat.pending p found)
+
+-- who may be abandoned was accepted
+can-accepted : (state : State) (query : ℕ) → IsSound state → CanAbandon query state.lives → IsSome (accepted_at state.accepted query)
+can-accepted state query sound can = life-accepted state query sound (by_life (query_in state.lives.queries query) can)
+  where
+    by_life : (o : Option QueryLife) → IsTrue (option_map_or is_open (option_map (λ (e : QueryLife). e.life) o) false) → IsSome o
+    by_life None opens = absurd (let both : false ≡ true = opens in cc)
+    by_life (Some e) opens = refl
+
+-- the core without a query of this seat
+abbrev without_it : (query : ℕ) → State → Accepted → State
+without_it query state accepted = with_seat accepted.seat (without_pending query)
+    (record state { accepted = map (forgotten query) state.accepted; lives = after_abandon query state.lives })
+
+-- who may be abandoned was not answered
+open-never : (lives : Lives) (query : ℕ) → CanAbandon query lives → life_in lives.queries query ≡ Some Answered → ⊥
+open-never lives query can was =
+    let both : false ≡ true = sym (ap (λ o. option_map_or is_open o false) was) ∙ can in cc
+
+-- a query is abandoned
+lets-abandoned : (query : ℕ) (state : State) → IsSound state → CanAbandon query state.lives → LetsGo state (after_abandoning query state)
+lets-abandoned query state sound can =
+    by-option (LetsGo state) (accepted_at state.accepted query) (without_it query state) state
+    (record { entries = refl; accepted = refl; stay = λ q was. was; more = []; taken = sym (append-nil (seat_at state 0).taken) })
+    (λ accepted found.
+    let lives : LivesOn state.lives.queries (after_abandon query state.lives).queries =
+    lives-written query Abandoned state.lives.queries (open-never state.lives query can) sound.slots.lives.rising in
+    record {
+      entries = refl;
+      accepted = asked-anew (forgotten query) (forgets query) state.accepted;
+      stay = lives.stay;
+      more = [];
+      taken = part-stays (λ s. s.taken) state.seats accepted.seat (without_pending query (seat_at state accepted.seat))
+          (owner-there state accepted query sound found) refl 0 ∙ sym (append-nil (seat_at state 0).taken);
+    })
+
+-- and nothing else has changed
+record IsBeside (old new : State) : Type 0 where
+  settings : new.settings ≡ old.settings
+  scan : new.scan ≡ old.scan
+  numbers : new.numbers ≡ old.numbers
+
+beside-abandoned : (query : ℕ) (state : State) → IsBeside state (after_abandoning query state)
+beside-abandoned query state =
+    by-option (IsBeside state) (accepted_at state.accepted query) (without_it query state) state
+    (record { settings = refl; scan = refl; numbers = refl }) (λ accepted found. record { settings = refl; scan = refl; numbers = refl })
+
+leaves-abandoned : (query : ℕ) (old new : State) → IsSound old → Owns old → CanAbandon query old.lives → new ≡ after_abandoning query old → IsLeaving old new
+unfolding after_event
+leaves-abandoned query old new sound mine can is =
+    let beside = beside-abandoned query old in record {
+      lets = subst (LetsGo old) (sym is) (lets-abandoned query old sound can);
+      served = served-one (Done (Abandon query)) old new can tt is (serves-abandoned query old sound mine);
+      settings = ap (λ state. state.settings) is ∙ beside.settings;
+      scan = ap (λ state. state.scan) is ∙ beside.scan;
+      numbers = ap (λ state. state.numbers) is ∙ beside.numbers;
+    }
+
+-- the event was taken, since it may come and wants no memory
+took-abandon : {A : Type 0} (query : ℕ) (old new : State) (result : Result A StepFault) → CanAbandon query old.lives
+    → (IsErrOf result NotEnabled ↔ (IsEnabled old (Abandon query) → ⊥)) → (IsErrOf result Memory → MayWantMemory (Abandon query))
+    → OnOk result (Took (Abandon query) old new) → new ≡ after_abandoning query old
+unfolding after_event
+took-abandon query old new (Ok x) can disabled memory took = ⊎_elim (λ done. done) (λ spoilt. absurd spoilt) took.after
+took-abandon query old new (Err NotEnabled) can disabled memory took = absurd (disabled.0 refl can)
+took-abandon query old new (Err Memory) can disabled memory took = absurd (memory refl)
+
+pub abandons : {A : Type 0} (first old new : State) (query : ℕ) (result : Result A StepFault) → IsOnLeave first old → Some query ≡ first_open old.lives (seat_at old 0)
+    → (IsErrOf result NotEnabled ↔ (IsEnabled old (Abandon query) → ⊥)) → (IsErrOf result Memory → MayWantMemory (Abandon query))
+    → OnOk result (Took (Abandon query) old new) → IsSound new → IsOnLeave first new
+abandons first old new query result way opens disabled memory took sound =
+    let can = open-can old.lives (seat_at old 0) query (sym opens) in
+    let is = took-abandon query old new result can disabled memory took in
+    record {
+      leaving = leaving-then first old new way.leaving (leaves-abandoned query old new way.sound way.own can is);
+      own = subst Owns (sym is) (serves-abandoned query old way.sound way.own).mine;
+      sound = sound;
+    }
+
+-- less is waited for
+filter-most : (test : Pending → Bool) (pending : List Pending) → length (filter test pending) ≤ length pending
+filter-most test [] = omega arith
+filter-most test (first ∷ pending) = by_test (test first) (filter-most test pending)
+  where
+    by_test : (t : Bool) → length (filter test pending) ≤ length pending
+        → length (cond {A = List Pending} t (first ∷ filter test pending) (filter test pending)) ≤ length (first ∷ pending)
+    by_test true most = omega arith
+    by_test false most = omega arith
+
+filter-less : (test : Pending → Bool) (query : ℕ) (pending : List Pending) → option_map (λ p. p.statement) (find test pending) ≡ Some query
+    → length (filter (λ p. not (eqb p.statement query)) pending) < length pending
+filter-less test query [] found = absurd (let both : None ≡ Some query = found in cc)
+filter-less test query (first ∷ pending) found = by_test (test first) found (filter-less test query pending)
+  where
+    kept : Pending → Bool
+    kept p = not (eqb p.statement query)
+
+    by_kept : (t : Bool) → length (filter kept pending) < length pending
+        → length (cond {A = List Pending} t (first ∷ filter kept pending) (filter kept pending)) < length (first ∷ pending)
+    by_kept true less = omega arith
+    by_kept false less = omega arith
+
+    by_test : (t : Bool) → option_map (λ p. p.statement) (cond {A = Option Pending} t (Some first) (find test pending)) ≡ Some query
+        → (option_map (λ p. p.statement) (find test pending) ≡ Some query → length (filter kept pending) < length pending)
+        → length (cond {A = List Pending} (not (eqb first.statement query)) (first ∷ filter kept pending) (filter kept pending)) < length (first ∷ pending)
+    by_test true is others =
+        let same : first.statement ≡ query = cc in
+        let most = filter-most kept pending in
+        subst (λ t. length (cond {A = List Pending} (not t) (first ∷ filter kept pending) (filter kept pending)) < length (first ∷ pending))
+        (sym (eq-eqb first.statement query same)) (omega arith)
+    by_test false is others = by_kept (not (eqb first.statement query)) (others is)
+
+-- the pending statements of seat 0 behind it
+pending-after : (query : ℕ) (state : State) (accepted : Accepted) → accepted.seat ≡ 0 → 0 < length state.seats
+    → (seat_at (without_it query state accepted) 0).pending ≡ filter (λ p. not (eqb p.statement query)) (seat_at state 0).pending
+pending-after query state accepted zero there =
+    ap (λ n. (get_or (set state.seats n (without_pending query (get_or state.seats n empty_seat))) 0 empty_seat).pending) zero
+    ∙ ap (λ (s : Seat). s.pending) (get_or-set_same state.seats 0 (without_pending query (seat_at state 0)) empty_seat there)
+
+abandoned-less : (query : ℕ) (state : State) → IsSound state → Owns state → first_open state.lives (seat_at state 0) ≡ Some query
+    → length (seat_at (after_abandoning query state) 0).pending < length (seat_at state 0).pending
+abandoned-less query state sound mine opens =
+    by_accepted (accepted_at state.accepted query) refl
+    (can-accepted state query sound (open-can state.lives (seat_at state 0) query opens))
+  where
+    by_accepted : (o : Option Accepted) → accepted_at state.accepted query ≡ o → IsSome o
+        → length (seat_at (option_map_or (without_it query state) o state) 0).pending < length (seat_at state 0).pending
+    by_accepted None found some = absurd (let both : false ≡ true = some in cc)
+    by_accepted (Some accepted) found some =
+        let zero : accepted.seat ≡ 0 = find-holds (λ (a : Accepted). a.seat ≡ 0) (λ (a : Accepted). eqb a.number query) state.accepted accepted found mine in
+        let there = subst (λ n. n < length state.seats) zero (owner-there state accepted query sound found) in
+        subst (λ (list : List Pending). length list < length (seat_at state 0).pending) (sym (pending-after query state accepted zero there))
+        (filter-less (λ p. option_map_or is_open (life_of state.lives p.statement) false) query (seat_at state 0).pending opens)
+
+pub abandons-less : {A : Type 0} (first old new : State) (query : ℕ) (result : Result A StepFault) → IsOnLeave first old → Some query ≡ first_open old.lives (seat_at old 0)
+    → (IsErrOf result NotEnabled ↔ (IsEnabled old (Abandon query) → ⊥)) → (IsErrOf result Memory → MayWantMemory (Abandon query))
+    → OnOk result (Took (Abandon query) old new) → length (seat_at new 0).pending < length (seat_at old 0).pending
+abandons-less first old new query result way opens disabled memory took =
+    let can = open-can old.lives (seat_at old 0) query (sym opens) in
+    subst (λ state. length (seat_at state 0).pending < length (seat_at old 0).pending) (sym (took-abandon query old new result can disabled memory took))
+    (abandoned-less query old way.sound way.own (sym opens))
+
+-- a reply is taken
+pub record IsDropping (first now : State) : Type 0 where
+  pub way : IsOnLeave first now
+  pub closed : first_open first.lives (seat_at first 0) ≡ None → first_open now.lives (seat_at now 0) ≡ None
+
+pub starts-dropping : (state : State) → IsSound state → Owns state → IsDropping state state
+starts-dropping state sound mine = record { way = starts-leave state sound mine; closed = λ none. none }
+
+taken-more : (old new : State) → IsSome (next_ready old 0) → new ≡ after_taking 0 old
+    → (seat_at new 0).taken ≡ (seat_at old 0).taken ++ map taken_by (take 1 (seat_at old 0).pending)
+taken-more old new ready is =
+    let waits = first-waits old ready in
+    ap (λ state. (seat_at state 0).taken) is ∙ ap (λ (s : Seat). s.taken) (taken-seat 0 old (seat-waits old 0 waits.0 waits.1))
+
+leaves-taken : (old new : State) → IsSound old → Owns old → IsSome (next_ready old 0) → new ≡ after_taking 0 old → IsLeaving old new
+leaves-taken old new sound mine ready is =
+    let serves = serves-taken old sound ready mine in record {
+      lets = record {
+        entries = ap (λ state. state.entries) is;
+        accepted = ap (λ state. map accepted_by state.accepted) is ∙ asked-without (take 1 (seat_at old 0).pending) old.accepted;
+        stay = λ query was. ap (λ state. life_of state.lives query) is ∙ was;
+        more = map taken_by (take 1 (seat_at old 0).pending);
+        taken = taken-more old new ready is;
+      };
+      served = served-one (Replying 0) old new ready refl is serves;
+      settings = ap (λ state. state.settings) is;
+      scan = ap (λ state. state.scan) is;
+      numbers = ap (λ state. state.numbers) is;
+    }
+
+-- what is found is there
+some-is : {A : Type 0} (x : A) (o : Option A) → Some x ≡ o → IsSome o
+some-is x o is = subst IsSome is refl
+
+pub drops : (first old new : State) (x : Ready) → IsDropping first old → Some x ≡ next_ready old 0 → new ≡ after_taking 0 old → IsSound new → IsDropping first new
+drops first old new x dropping may is sound = let ready = some-is x (next_ready old 0) may in record {
+  way = record {
+    leaving = leaving-then first old new dropping.way.leaving (leaves-taken old new dropping.way.sound dropping.way.own ready is);
+    own = subst Owns (sym is) (serves-taken old dropping.way.sound ready dropping.way.own).mine;
+    sound = sound;
+  };
+  closed = λ none. taken-closed old new ready is (dropping.closed none);
+}
+
+pub drops-less : (old new : State) (x : Ready) → Some x ≡ next_ready old 0 → new ≡ after_taking 0 old
+    → length (seat_at new 0).pending < length (seat_at old 0).pending
+drops-less old new x may is =
+    let behind = taken-behind old new (some-is x (next_ready old 0) may) is in
+    let before = ap length behind.2.before in
+    let now = ap length behind.2.now in
+    omega (arith, before, now)
+
+-- where no reply may be taken and no query is open, nothing is waited for
+pub dropped-idle : WaitsForOpen → (first now new : State) → IsDropping first now → new ≡ now → None ≡ next_ready now 0
+    → first_open first.lives (seat_at first 0) ≡ None → (seat_at new 0).pending ≡ []
+dropped-idle waits first now new dropping same none closed =
+    ap (λ state. (seat_at state 0).pending) same ∙ idle-next waits now 0 dropping.way.sound (dropping.closed closed) (sym none)
+
+-- a front whose core was let go
+pub left-home : StepsKeep → StepsLoseNone → (old new : Front) (mid : State) → IsHeld old → IsSound (state_of old.core) → IsLeaving (state_of old.core) mid
+    → IsLeaving mid (state_of new.core) → IsSound (state_of new.core) → (seat_at (state_of new.core) 0).pending ≡ []
+    → new.settings ≡ old.settings → new.submitted ≡ old.submitted → new.unfinished ≡ 0
+    → IsAtHome new
+left-home keep lose old new mid held sound first second so_sound idle settings submitted unfinished =
+    record { held = holds; counted = counted; none = unfinished; idle = idle }
+  where
+    now : State
+    now = state_of new.core
+
+    leaving : IsLeaving (state_of old.core) now
+    leaving = leaving-then (state_of old.core) mid now first second
+
+    known : IsKnown new
+    known = record {
+      some = subst (λ s. 0 < s.slots) (sym settings) held.some;
+      settings = leaving.settings ∙ held.settings ∙ sym settings;
+      submitted = ap (λ n. n.statement) leaving.numbers ∙ held.submitted ∙ sym submitted;
+      hands = idle-scan (state_of old.core) now leaving.scan held.hands;
+    }
+
+    holds : IsHeld new
+    holds = held-after keep lose old new sound held leaving.served known
+
+    closed : All (λ entry. is_open entry.life ≡ false) now.lives.queries
+    closed = closed-all now so_sound holds.own holds.waited idle
+
+    counted : IsCounted new
+    counted = record {
+      some = known.some;
+      settings = known.settings;
+      submitted = known.submitted;
+      calm = record {
+        idle = known.hands;
+        waits = closed-over now.lives.queries closed;
+        unfinished = closed-count now.lives.queries closed ∙ sym unfinished;
+        awaited = ap (count_by (λ (p : Pending). is_query p.awaited)) idle ∙ sym unfinished;
+      };
+      few = subst (λ n. n ≤ new.settings.slots) (sym unfinished) (omega arith);
+    }

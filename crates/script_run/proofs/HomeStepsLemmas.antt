@@ -1,0 +1,141 @@
+-- What the steps of a session leave, one after the other, and that the front knows its core behind them.
+use Rattle.std.proofs.Common.{◌≡◌, List, [], ◌∷◌, ◌++◌, refl, sym, ap, ◌∙◌, subst, append-nil, append_assoc}
+use Rattle.std.specs.Prelude.{All}
+use Rattle.std.proofs.lemmas.List.Elements.{All-append, All-cons, All-head, All-nil, All-tail, All-weaker}
+use Rattle.std.proofs.lemmas.List.Sums.{fold-append}
+use Rattle.core_state.specs.Sound.{IsSound}
+use Rattle.core_state.specs.State.{Entry, State}
+use Rattle.core_state.specs.Steps.{Done, MayStep, MayStepAll, Replying, Step, Wanting, after_step, after_steps}
+use Rattle.core_state.specs.Submitting.{seat_at}
+use Rattle.core_state.specs.Whole.{LosesNone}
+use Rattle.core_state.specs.declared.event.Event.TheVariants.{Submit, Reserve, Build, Start, Cut, Take, Give, Distribute, Finish, Clear, Release, Reorder, Abandon}
+use Rattle.core_state.proofs.StepLemmas.{StepsKeep}
+use Rattle.core_state.proofs.WholeRunLemmas.{StepsLoseNone, steps-lose}
+use Rattle.event_core.specs.Seen.{state_of}
+use Rattle.script_run.specs.Counted.{IsKnown}
+use Rattle.script_run.specs.Front.{IsOfRun, IsRun}
+use Rattle.script_run.specs.Home.{IsHeld, IsOfSession, IsServed}
+use Rattle.script_run.specs.declared.front.Front.{Front}
+use Rattle.script_run.proofs.FrontRunLemmas.{may-append}
+use Rattle.script_run.proofs.HomeStepLemmas.{IsApart, Owns, Serves, serves-step}
+
+-- no step
+serves-itself : (state : State) → Owns state → Serves state state
+serves-itself state mine = record {
+  more = [];
+  entries = sym (append-nil state.entries);
+  own = All-nil (λ (entry : Entry). entry.seat ≡ 0);
+  others = λ seat apart. refl;
+  mine = mine;
+  apart = λ is. is;
+}
+
+-- one behind the other
+serves-then : (old between new : State) → Serves old between → Serves between new → Serves old new
+serves-then old between new first second = record {
+  more = first.more ++ second.more;
+  entries = second.entries ∙ ap (λ entries. entries ++ second.more) first.entries ∙ append_assoc old.entries first.more second.more;
+  own = All-append (λ (entry : Entry). entry.seat ≡ 0) first.more second.more first.own second.own;
+  others = λ seat apart. second.others seat apart ∙ first.others seat apart;
+  mine = second.mine;
+  apart = λ is. second.apart (first.apart is);
+}
+
+pub serves-steps : StepsKeep → (steps : List Step) (old : State) → MayStepAll old steps → All IsOfSession steps → IsSound old → Owns old
+    → Serves old (after_steps steps old)
+serves-steps keep [] old may each sound mine = serves-itself old mine
+serves-steps keep (step ∷ steps) old may each sound mine =
+    let first = serves-step step old may.0 (All-head IsOfSession step steps each) sound mine in
+    serves-then old (after_step step old) (after_steps steps (after_step step old)) first
+    (serves-steps keep steps (after_step step old) may.1 (All-tail IsOfSession step steps each) (keep step old may.0 sound) first.mine)
+
+-- a step of a run is one of a session
+of-session : (step : Step) → IsOfRun step → IsOfSession step
+of-session (Done (Submit seat statement)) of = of
+of-session (Done (Reserve query slot)) of = tt
+of-session (Done (Build query dimension)) of = tt
+of-session (Done (Start query)) of = tt
+of-session (Done Cut) of = tt
+of-session (Done (Take worker batch)) of = tt
+of-session (Done (Give worker)) of = tt
+of-session (Done (Distribute batch)) of = tt
+of-session (Done (Finish slot)) of = tt
+of-session (Done (Clear slot dimension)) of = tt
+of-session (Done (Release slot)) of = tt
+of-session (Done Reorder) of = tt
+of-session (Done (Abandon query)) of = tt
+of-session (Wanting event spoiled) of = tt
+of-session (Replying seat) of = of
+
+-- steps of a session, and what they leave
+served-by : (old new : State) (steps : List Step) → MayStepAll old steps → All IsOfSession steps → new ≡ after_steps steps old
+    → Serves old (after_steps steps old) → IsServed old new
+served-by old new steps may each is serves = record {
+  steps = steps;
+  may = may;
+  each = each;
+  is = is;
+  more = serves.more;
+  entries = ap (λ state. state.entries) is ∙ serves.entries;
+  own = serves.own;
+  others = λ seat apart. ap (λ state. seat_at state seat) is ∙ serves.others seat apart;
+}
+
+-- a run
+pub served-run : StepsKeep → (old new : State) → IsSound old → Owns old → IsRun old new → IsServed old new
+served-run keep old new sound mine run =
+    let each = All-weaker IsOfRun IsOfSession of-session run.steps run.each in
+    served-by old new run.steps run.may each run.is (serves-steps keep run.steps old run.may each sound mine)
+
+-- nothing, one step, and one part behind another
+pub served-itself : (state : State) → IsServed state state
+served-itself state = record {
+  steps = [];
+  may = tt;
+  each = All-nil IsOfSession;
+  is = refl;
+  more = [];
+  entries = sym (append-nil state.entries);
+  own = All-nil (λ (entry : Entry). entry.seat ≡ 0);
+  others = λ seat apart. refl;
+}
+
+pub served-one : (step : Step) (old new : State) → MayStep old step → IsOfSession step → new ≡ after_step step old → Serves old (after_step step old)
+    → IsServed old new
+served-one step old new may of is serves =
+    served-by old new (step ∷ []) (may, tt) (All-cons IsOfSession step [] of (All-nil IsOfSession)) is serves
+
+pub served-then : (old between new : State) → IsServed old between → IsServed between new → IsServed old new
+served-then old between new first second = record {
+  steps = first.steps ++ second.steps;
+  may = may-append first.steps second.steps old first.may (subst (λ state. MayStepAll state second.steps) first.is second.may);
+  each = All-append IsOfSession first.steps second.steps first.each second.each;
+  is = second.is ∙ ap (after_steps second.steps) first.is
+      ∙ sym (fold-append (λ now step. after_step step now) old first.steps second.steps);
+  more = first.more ++ second.more;
+  entries = second.entries ∙ ap (λ entries. entries ++ second.more) first.entries ∙ append_assoc old.entries first.more second.more;
+  own = All-append (λ (entry : Entry). entry.seat ≡ 0) first.more second.more first.own second.own;
+  others = λ seat apart. second.others seat apart ∙ first.others seat apart;
+}
+
+-- what steps of a session leave of a core whose queries are waited for
+pub served-owns : StepsKeep → (old new : State) → IsSound old → Owns old → IsServed old new → Owns new
+served-owns keep old new sound mine served =
+    subst Owns (sym served.is) (serves-steps keep served.steps old served.may served.each sound mine).mine
+
+-- a front that knows its core behind them knows it wherever it was halted
+pub held-after : StepsKeep → StepsLoseNone → (old new : Front) → IsSound (state_of old.core) → IsHeld old
+    → IsServed (state_of old.core) (state_of new.core) → IsKnown new → IsHeld new
+held-after keep lose old new sound held served known =
+    let all = serves-steps keep served.steps (state_of old.core) served.may served.each sound held.own in
+    record {
+      some = known.some;
+      settings = known.settings;
+      submitted = known.submitted;
+      hands = known.hands;
+      own = subst Owns (sym served.is) all.mine;
+      waited = record {
+        whole = subst LosesNone (sym served.is) (steps-lose keep lose served.steps (state_of old.core) served.may sound held.waited.whole);
+        apart = subst IsApart (sym served.is) (all.apart held.waited.apart);
+      };
+    }
