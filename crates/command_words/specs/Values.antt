@@ -8,14 +8,15 @@ use Rattle.command_words.specs.Words.{Text}
 use Rattle.command_words.specs.declared.limits.Numbers.{Numbers}
 use Rattle.command_words.specs.declared.limits.TheConstants.{MAX_DIGITS}
 use Rattle.command_words.specs.declared.settings.Mode.{Mode}
-use Rattle.command_words.specs.declared.settings.Mode.TheVariants.{Run, Alone, Make}
+use Rattle.command_words.specs.declared.settings.Mode.TheVariants.{Run, Alone, Make, Serve}
 
--- `run`, `alone` or `make`
+-- `run`, `alone`, `make` or `serve`
 abbrev pub mode_in : Text → Option Mode
 mode_in text =
     if bytes_eq text (codes "run") then Some Run
     else if bytes_eq text (codes "alone") then Some Alone
     else if bytes_eq text (codes "make") then Some Make
+    else if bytes_eq text (codes "serve") then Some Serve
     else None
 
 -- the mode, where one is written, and `run` where none is

@@ -10,12 +10,14 @@ pub enum Mode {
     Alone,
     /// Make a workload and answer it: `--mode make`.
     Make,
+    /// Serve connections, one after the other: `--mode serve`.
+    Serve,
 }
 
 /// What the words of the command line set. What they leave out has its default.
 #[derive(Clone, Copy, Debug, PartialEq, Eq)]
 pub struct Settings {
-    /// `--mode`, `run`, `alone` or `make`. Default `run`.
+    /// `--mode`, `run`, `alone`, `make` or `serve`. Default `run`.
     pub mode: Mode,
     /// `--workers`, 0 to 16: the threads that work on batches beside the one that reads. Default 0.
     pub workers: u32,

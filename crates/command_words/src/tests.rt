@@ -37,7 +37,7 @@ fn words_name_settings(rt: HostRuntime) -> Result<(), Fail> {
         accept: 0,
     };
     let greatest = Settings {
-        mode: Mode::Make,
+        mode: Mode::Serve,
         workers: 16,
         slots: 64,
         batch: 1024,
@@ -50,11 +50,18 @@ fn words_name_settings(rt: HostRuntime) -> Result<(), Fail> {
         ("", DEFAULTS),
         ("--mode run --seed=0000007 ", DEFAULTS),
         (
+            "--mode make ",
+            Settings {
+                mode: Mode::Make,
+                ..DEFAULTS
+            },
+        ),
+        (
             "--mode=alone --slots 1 --batch=1 --seed 0 --rows=0 --port 1 --workers=0 --accept=000 ",
             least,
         ),
         (
-            "--accept 9999999 --port=65535 --rows 1000000 --seed=9999999 --batch 1024 --slots=64 --workers 16 --mode make ",
+            "--accept 9999999 --port=65535 --rows 1000000 --seed=9999999 --batch 1024 --slots=64 --workers 16 --mode serve ",
             greatest,
         ),
     ] {
@@ -80,7 +87,7 @@ fn other_words_name_none(rt: HostRuntime) -> Result<(), Fail> {
         "--mode Run ",
         "--MODE run ",
         "--mod run ",
-        "--mode serve ",
+        "--mode Serve ",
         "--mode run --mode run ",
         "--workers=1 --workers 1 ",
         "--workers --slots 5 ",

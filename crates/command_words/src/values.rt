@@ -26,6 +26,8 @@ fn mode_in(text: &str) -> Option<Mode>
         Some(Mode::Alone)
     } else if text == "make" {
         Some(Mode::Make)
+    } else if text == "serve" {
+        Some(Mode::Serve)
     } else {
         None
     }
