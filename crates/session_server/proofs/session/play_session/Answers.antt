@@ -1,0 +1,99 @@
+use Rattle.std.proofs.Common.{◌≡◌, refl, sym, ◌∙◌}
+use Rattle.event_core.specs.Seen.{state_of}
+use Rattle.session_server.proofs.EndLemmas.{answers-apart, done-ends, ended-ends, fault-ends, halted-ends, limit-ends, unfed-ends}
+use Rattle.session_server.proofs.ServedLemmas.{served-itself, served-then}
+use Rattle.session_server.proofs.SessionLemmas.{fed-serving, replied-serving, serving-apart, starts-serving, starts-without}
+use Rattle.session_server.proofs.session.play_session.Goals as goal
+
+pub pieces-init : goal.pieces-init
+pieces-init g c = record {
+  serving = starts-serving _ _ _ _ c.new-reader.ensures;
+  none = starts-without _ c.new-reader.ensures;
+  home = c.requires;
+  served = served-itself _;
+  settings = refl;
+  ended = refl;
+  unread = refl;
+  unwritten = refl;
+}
+
+pub pieces-preserved : goal.pieces-preserved
+pieces-preserved g c =
+    let takes = c.in-Fed.ensures.takes in
+    let fed = fed-serving _ _ _ _ _ _ _ _ _ takes.0 c.pieces.invariant.serving takes.1 takes.2.0 takes.2.2 in
+    let read = serving-apart _ _ _ _ _ _ _ _ _ refl c.in-Fed.ensures.taken fed in
+    let done = replied-serving _ _ _ _ _ _ _ _ _ _ read c.in-Ok.ensures.replies c.in-Ok.ensures.stays in
+    record {
+      serving = serving-apart _ _ _ _ _ _ _ _ _ c.in-Ok.ensures.left refl done;
+      none = c.in-Ok.ensures.replies.3;
+      home = c.in-Ok.ensures.home;
+      served = served-then _ _ _ c.pieces.invariant.served c.in-Ok.ensures.served;
+      settings = c.in-Ok.ensures.settings ∙ c.pieces.invariant.settings;
+      ended = c.in-Ok.ensures.ended ∙ c.in-Fed.ensures.end ∙ c.pieces.invariant.ended;
+      unread = c.in-Ok.ensures.read_faults ∙ c.in-Fed.ensures.faults ∙ c.pieces.invariant.unread;
+      unwritten = c.in-Ok.ensures.faults ∙ c.in-Fed.ensures.write_faults ∙ c.pieces.invariant.unwritten;
+    }
+
+pub returns-in-Err-clause-answers : goal.returns-in-Err-clause-answers
+returns-in-Err-clause-answers g c =
+    let takes = c.in-Fed.ensures.takes in
+    let fed = fed-serving _ _ _ _ _ _ _ _ _ takes.0 c.pieces.invariant.serving takes.1 takes.2.0 takes.2.2 in
+    let read = serving-apart _ _ _ _ _ _ _ _ _ c.in-Err.ensures.left c.in-Fed.ensures.taken fed in
+    rw c.end_of_halt.ensures (halted-ends c.in-Err.halt _ _ (state_of c.reply_link.new.front.core) _ _ _ _ _ _ _ _ _ _ read
+    c.every_core_is_sound.ensures.slots.lives.rising c.requires.idle c.in-Err.ensures.replies
+    (c.in-Err.ensures.ended ∙ c.in-Fed.ensures.end ∙ c.pieces.invariant.ended)
+    (c.in-Err.ensures.read_faults ∙ c.in-Fed.ensures.faults ∙ c.pieces.invariant.unread))
+
+pub returns-in-Err-clause-served : goal.returns-in-Err-clause-served
+returns-in-Err-clause-served g c = served-then _ _ _ c.pieces.invariant.served c.in-Err.ensures.served
+
+pub returns-in-Fault-clause-answers : goal.returns-in-Fault-clause-answers
+returns-in-Fault-clause-answers g c =
+    let takes = c.in-Fault.ensures.takes in
+    answers-apart _ _ _ _ _ _ _ _ _ _ _ _ _ _ _ refl refl refl c.in-Fault.ensures.taken
+    (fault-ends _ _ _ _ _ _ _ _ _ _ _ _ takes.0 c.pieces.invariant.serving c.pieces.invariant.none
+    c.every_core_is_sound.ensures.slots.lives.rising c.requires.idle c.pieces.invariant.home.idle takes.1 takes.2.1)
+
+pub returns-in-Limit-clause-answers : goal.returns-in-Limit-clause-answers
+returns-in-Limit-clause-answers g c =
+    let takes = c.in-Limit.ensures.takes in
+    answers-apart _ _ _ _ _ _ _ _ _ _ _ _ _ _ _ refl refl refl c.in-Limit.ensures.taken
+    (limit-ends _ _ _ _ _ _ _ _ _ _ _ _ takes.0 c.pieces.invariant.serving c.pieces.invariant.none
+    c.every_core_is_sound.ensures.slots.lives.rising c.requires.idle c.pieces.invariant.home.idle takes.1 takes.2.1 takes.2.2)
+
+pub returns-in-NoMemory-clause-answers : goal.returns-in-NoMemory-clause-answers
+returns-in-NoMemory-clause-answers g c =
+    let takes = c.in-NoMemory.ensures.takes in
+    answers-apart _ _ _ _ _ _ _ _ _ _ _ _ _ _ _ refl refl refl c.in-NoMemory.ensures.taken
+    (unfed-ends _ _ _ _ _ _ _ _ _ _ _ _ takes.0 c.pieces.invariant.serving
+    c.every_core_is_sound.ensures.slots.lives.rising c.requires.idle takes.1 takes.2.1
+    (c.in-NoMemory.ensures.end ∙ c.pieces.invariant.ended) (c.in-NoMemory.ensures.faults ∙ c.pieces.invariant.unread))
+
+pub returns-in-Ok-reply_link-clause-answers : goal.returns-in-Ok-reply_link-clause-answers
+returns-in-Ok-reply_link-clause-answers g c =
+    let takes = c.in-Ended.ensures.takes in
+    let read = serving-apart _ _ _ _ _ _ _ _ _ refl c.in-Ended.ensures.taken c.pieces.invariant.serving in
+    let replies = rw (c.finish.ensures, takes.2.0) at c.in-Ok-reply_link.ensures.replies in
+    let stays = rw (c.finish.ensures, takes.2.0) at c.in-Ok-reply_link.ensures.stays in
+    answers-apart _ _ _ _ _ _ _ _ _ _ _ _ _ _ _ c.in-Ok-reply_link.ensures.ended c.in-Ok-reply_link.ensures.read_faults
+    c.in-Ok-reply_link.ensures.left refl
+    (done-ends _ _ (state_of c.reply_link-2.new.front.core) _ c.reply_link-2.new.reader _ _ _ _ _ _ _ _ _ _ takes.0 read
+    c.every_core_is_sound.ensures.slots.lives.rising c.requires.idle c.in-Ok-reply_link.ensures.home.idle takes.1 takes.2.1
+    c.in-Ended.ensures.end replies stays)
+
+pub returns-in-Ok-reply_link-clause-served : goal.returns-in-Ok-reply_link-clause-served
+returns-in-Ok-reply_link-clause-served g c = served-then _ _ _ c.pieces.invariant.served c.in-Ok-reply_link.ensures.served
+
+pub returns-clause-answers : goal.returns-clause-answers
+returns-clause-answers g c =
+    let takes = c.in-Ended.ensures.takes in
+    let read = serving-apart _ _ _ _ _ _ _ _ _ refl c.in-Ended.ensures.taken c.pieces.invariant.serving in
+    let replies = rw (c.finish.ensures, takes.2.0) at c.in-Err-reply_link.ensures.replies in
+    answers-apart _ _ _ _ _ _ _ _ _ _ _ _ _ _ _ c.in-Err-reply_link.ensures.ended c.in-Err-reply_link.ensures.read_faults
+    c.in-Err-reply_link.ensures.left refl
+    (rw c.end_of_halt-in-Err-reply_link.ensures
+    (ended-ends c.in-Err-reply_link.halt _ _ (state_of c.reply_link-2.new.front.core) _ _ _ _ _ _ _ _ _ _ _ takes.0 read
+    c.every_core_is_sound.ensures.slots.lives.rising c.requires.idle takes.1 takes.2.1 c.in-Ended.ensures.end.0 replies))
+
+pub returns-clause-served : goal.returns-clause-served
+returns-clause-served g c = served-then _ _ _ c.pieces.invariant.served c.in-Err-reply_link.ensures.served

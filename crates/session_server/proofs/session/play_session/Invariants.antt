@@ -1,0 +1,24 @@
+use Rattle.std.proofs.Common.{◌≡◌, ◌-◌}
+use Rattle.script_reader.specs.declared.reader.TheConstants.{SCRIPT_LIMIT}
+use Rattle.event_core.specs.Seen.{state_of}
+use Rattle.script_run.specs.Answer.{HasNoStatement}
+use Rattle.script_run.specs.Home.{IsAtHome, IsServed}
+use Rattle.session_server.proofs.SessionLemmas.{IsServing}
+use Rattle.session_server.proofs.session.play_session.Given as goal
+
+-- every statement that was whole was replied to, the front is at home, and no read or write failed
+abbrev pub invariant-pieces : goal.invariant-pieces
+invariant-pieces g l = record {
+  serving : IsServing (state_of l.fn.front.core) (state_of l.front.core) l.reader (g.K.Source.left l.fn.link) (g.K.Source.left l.link)
+      (g.K.Sink.taken l.fn.link) (g.K.Sink.taken l.link);
+  none : HasNoStatement l.reader;
+  home : IsAtHome l.front;
+  served : IsServed (state_of l.fn.front.core) (state_of l.front.core);
+  settings : l.front.settings ≡ l.fn.front.settings;
+  ended : g.K.Source.ended l.link ≡ g.K.Source.ended l.fn.link;
+  unread : g.K.Source.read_faults l.link ≡ g.K.Source.read_faults l.fn.link;
+  unwritten : g.K.Sink.write_faults l.link ≡ g.K.Sink.write_faults l.fn.link;
+}
+
+abbrev pub decreases-pieces : goal.decreases-pieces
+decreases-pieces g l = SCRIPT_LIMIT - l.reader.fed

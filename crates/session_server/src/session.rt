@@ -1,0 +1,141 @@
+//! One session: the statements of a connection go to the core, and their replies come back.
+ghost use Rattle.std.specs.Prelude.{◌≡◌, ◌<◌, ◌≤◌, false, length, OnOk};
+ghost use Rattle.script_reader.specs.Reading.{StaysFed};
+ghost use Rattle.script_reader.specs.declared.reader.TheConstants.{SCRIPT_LIMIT};
+ghost use Rattle.event_core.specs.Seen.{state_of};
+ghost use Rattle.script_run.specs.Answer.{CountsHalt};
+ghost use Rattle.script_run.specs.Home.{IsAtHome, IsHeld, IsServed, LetsGo, RepliesWhole};
+ghost use Rattle.script_run.specs.Pieces.{CountsFault, FindsEnd, TakesPiece};
+ghost use Rattle.session_server.specs.Session.{AnswersSession, CountsFaults, EndsWhole};
+
+use crate::session_end::{SessionEnd, end_of_halt};
+use event_core::every_core_is_sound;
+use script_reader::ScriptReader;
+use script_run::{Front, Halt, PIECE_BYTES, Piece, read_piece};
+use star_io::Link;
+use std::alloc::Global;
+use std::thread::Threads;
+
+/// Serves one connection: gives its statements to the core, and writes the replies of all whole statements before it reads
+/// again. What the sessions before it committed it sees.
+///
+/// At a read that fails, and at the byte past the limit, all statements that were whole are replied to. After a write that
+/// fails nothing more is read or written. What is open then is abandoned, and the core is ready for the next session.
+pub fn serve_session<R: Threads + Sync, K: Link>(
+    rt: &R,
+    alloc: Global,
+    front: &mut Front,
+    link: &mut K,
+) -> SessionEnd
+    requires { IsAtHome front.old }
+    ensures answers { AnswersSession result (state_of front.old.core) (state_of front.new.core)
+        (K.ended link.old) (K.ended link.new) (K.read_faults link.old) (K.read_faults link.new)
+        (K.left link.old) (K.left link.new) (K.taken link.old) (K.taken link.new) }
+    ensures served { IsServed (state_of front.old.core) (state_of front.new.core) }
+    ensures home { IsAtHome front.new }
+    ensures settings { front.new.settings ≡ front.old.settings }
+    ensures faults { CountsFaults result
+        (K.read_faults link.old) (K.read_faults link.new) (K.read_failed link.new)
+        (K.write_faults link.old) (K.write_faults link.new) (K.write_failed link.new) }
+{
+    match play_session(rt, alloc, front, link) {
+        SessionEnd::WriteFault => {
+            let_go(front);
+            SessionEnd::WriteFault
+        }
+        SessionEnd::Memory => {
+            let_go(front);
+            SessionEnd::Memory
+        }
+        end => end,
+    }
+}
+
+/// Abandons what a session that was cut short left open.
+fn let_go(front: &mut Front)
+    requires { IsHeld front.old }
+    ensures home { IsAtHome front.new }
+    ensures lets_go { LetsGo (state_of front.old.core) (state_of front.new.core) }
+    ensures served { IsServed (state_of front.old.core) (state_of front.new.core) }
+    ensures settings { front.new.settings ≡ front.old.settings }
+{
+    front.let_go();
+}
+
+/// The session up to its end. Where it was cut short, queries may still be open.
+fn play_session<R: Threads + Sync, K: Link>(
+    rt: &R,
+    alloc: Global,
+    front: &mut Front,
+    link: &mut K,
+) -> SessionEnd
+    requires { IsAtHome front.old }
+    ensures answers { AnswersSession result (state_of front.old.core) (state_of front.new.core)
+        (K.ended link.old) (K.ended link.new) (K.read_faults link.old) (K.read_faults link.new)
+        (K.left link.old) (K.left link.new) (K.taken link.old) (K.taken link.new) }
+    ensures served { IsServed (state_of front.old.core) (state_of front.new.core) }
+    ensures home { EndsWhole result → IsAtHome front.new }
+    ensures held { IsHeld front.new }
+    ensures settings { front.new.settings ≡ front.old.settings }
+    ensures faults { CountsFaults result
+        (K.read_faults link.old) (K.read_faults link.new) (K.read_failed link.new)
+        (K.write_faults link.old) (K.write_faults link.new) (K.write_failed link.new) }
+{
+    every_core_is_sound(&front.core);
+    let mut piece = [0u8; PIECE_BYTES];
+    let mut reader = ScriptReader::new(alloc);
+    'pieces: loop {
+        match read_link(link, &mut piece, &mut reader) {
+            Piece::Fed => match reply_link(rt, front, &mut reader, link) {
+                Ok(()) => {}
+                Err(halt) => return end_of_halt(halt),
+            },
+            Piece::Ended => break 'pieces,
+            Piece::Fault => return SessionEnd::ReadFault,
+            Piece::Limit => return SessionEnd::Limit,
+            Piece::NoMemory => return SessionEnd::Memory,
+        }
+    }
+    reader.finish();
+    match reply_link(rt, front, &mut reader, link) {
+        Ok(()) => SessionEnd::Done,
+        Err(halt) => end_of_halt(halt),
+    }
+}
+
+/// Reads once from a link, and feeds the reader with what came. What was written stays.
+fn read_link<K: Link>(link: &mut K, piece: &mut [u8], reader: &mut ScriptReader) -> Piece
+    requires piece { 0 < length piece.old }
+    requires within { reader.old.fed ≤ SCRIPT_LIMIT }
+    requires not_ended { reader.old.ended ≡ false }
+    ensures takes { TakesPiece result reader.old reader.new (K.left link.old) (K.left link.new) }
+    ensures end { FindsEnd result (K.ended link.old) (K.ended link.new) (K.left link.new) }
+    ensures faults { CountsFault result (K.read_faults link.old) (K.read_faults link.new) (K.read_failed link.new) }
+    ensures taken { K.taken link.new ≡ K.taken link.old }
+    ensures write_faults { K.write_faults link.new ≡ K.write_faults link.old }
+{
+    read_piece(link, piece, reader)
+}
+
+/// Gives the statements that are whole to the core, and writes the replies to a link. What is still to be read stays.
+fn reply_link<R: Threads + Sync, K: Link>(
+    rt: &R,
+    front: &mut Front,
+    reader: &mut ScriptReader,
+    link: &mut K,
+) -> Result<(), Halt>
+    requires home { IsAtHome front.old }
+    ensures replies { RepliesWhole result (state_of front.old.core) reader.old (state_of front.new.core) reader.new
+        (K.taken link.old) (K.taken link.new) }
+    ensures stays { StaysFed reader.old reader.new }
+    ensures served { IsServed (state_of front.old.core) (state_of front.new.core) }
+    ensures home { OnOk result (IsAtHome front.new) }
+    ensures held { IsHeld front.new }
+    ensures settings { front.new.settings ≡ front.old.settings }
+    ensures faults { CountsHalt result (K.write_faults link.old) (K.write_faults link.new) (K.write_failed link.new) }
+    ensures left { K.left link.new ≡ K.left link.old }
+    ensures read_faults { K.read_faults link.new ≡ K.read_faults link.old }
+    ensures ended { K.ended link.new ≡ K.ended link.old }
+{
+    front.reply_whole(rt, reader, link)
+}
