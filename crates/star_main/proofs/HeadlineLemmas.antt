@@ -11,7 +11,7 @@ use Rattle.command_words.specs.declared.settings.Settings.{Settings}
 use Rattle.script_run.specs.Run.{AnswersAlone, CountsFaults, script_text}
 use Rattle.script_run.specs.Shared.{AnswersShared, TellsRun}
 use Rattle.star_main.specs.Headline.{Headline, HasCause, TellsBy, status_of}
-use Rattle.star_main.specs.Modes.{IsMade}
+use Rattle.star_main.specs.Modes.{HasScript}
 
 -- what a core tells by the end of a run it tells by its status
 tells_of : (end : RunEnd) (wanted given : List ℕ) (slots : ℕ) (core : State) → TellsRun end wanted given slots core → TellsBy (status_of end) wanted given slots core
@@ -181,7 +181,7 @@ module _ (ended : Bool) (read : ℕ) (left taken : Option (List ℕ)) where
 
   -- where no memory is left to read the words nothing is read or written, whatever settings they name
   pub headline_unread : (named : Option Settings) (core : Option Parts) (status : ℕ) → core ≡ None → status ≡ 5
-      → IfSome named (λ settings. ¬ IsMade settings → Headline settings.slots core status ended ended read read left left taken taken)
+      → IfSome named (λ settings. HasScript settings → Headline settings.slots core status ended ended read read left left taken taken)
   headline_unread None core status no_core same_status = tt
   headline_unread (Some settings) core status no_core same_status = λ _.
       moved ended ended read read left left taken taken settings.slots settings.slots None core 5 status refl no_core same_status (untouched settings.slots)
@@ -190,9 +190,9 @@ module _ (ended : Bool) (read : ℕ) (left taken : Option (List ℕ)) where
 pub causes_of : (end : RunEnd) (read read' : ℕ) (read_failed : Bool) (write write' : ℕ) (write_failed : Bool)
     → CountsFaults end read read' read_failed write write' write_failed
     → HasCause (status_of end) read read' read_failed write write' write_failed
-causes_of Clean read read' read_failed write write' write_failed h = record { unfailed = λ _. h; read_fault = λ e. absurd (omega arith); write_fault = λ e. absurd (omega arith); no_memory = λ e. absurd (omega arith); past_limit = λ e. absurd (omega arith) }
-causes_of SomeRefused read read' read_failed write write' write_failed h = record { unfailed = λ _. h; read_fault = λ e. absurd (omega arith); write_fault = λ e. absurd (omega arith); no_memory = λ e. absurd (omega arith); past_limit = λ e. absurd (omega arith) }
-causes_of ReadFault read read' read_failed write write' write_failed h = record { unfailed = λ e. absurd (omega arith); read_fault = λ _. h; write_fault = λ e. absurd (omega arith); no_memory = λ e. absurd (omega arith); past_limit = λ e. absurd (omega arith) }
-causes_of WriteFault read read' read_failed write write' write_failed h = record { unfailed = λ e. absurd (omega arith); read_fault = λ e. absurd (omega arith); write_fault = λ _. h; no_memory = λ e. absurd (omega arith); past_limit = λ e. absurd (omega arith) }
-causes_of NoMemory read read' read_failed write write' write_failed h = record { unfailed = λ e. absurd (omega arith); read_fault = λ e. absurd (omega arith); write_fault = λ e. absurd (omega arith); no_memory = λ _. h; past_limit = λ e. absurd (omega arith) }
-causes_of ScriptLimit read read' read_failed write write' write_failed h = record { unfailed = λ e. absurd (omega arith); read_fault = λ e. absurd (omega arith); write_fault = λ e. absurd (omega arith); no_memory = λ e. absurd (omega arith); past_limit = λ _. h }
+causes_of Clean read read' read_failed write write' write_failed h = record { unfailed = λ _. h; read_fault = λ e. absurd (omega arith); write_fault = λ e. absurd (omega arith); no_memory = λ e. absurd (omega arith); past_limit = λ e. absurd (omega arith); door_fault = λ e. absurd (omega arith) }
+causes_of SomeRefused read read' read_failed write write' write_failed h = record { unfailed = λ _. h; read_fault = λ e. absurd (omega arith); write_fault = λ e. absurd (omega arith); no_memory = λ e. absurd (omega arith); past_limit = λ e. absurd (omega arith); door_fault = λ e. absurd (omega arith) }
+causes_of ReadFault read read' read_failed write write' write_failed h = record { unfailed = λ e. absurd (omega arith); read_fault = λ _. h; write_fault = λ e. absurd (omega arith); no_memory = λ e. absurd (omega arith); past_limit = λ e. absurd (omega arith); door_fault = λ e. absurd (omega arith) }
+causes_of WriteFault read read' read_failed write write' write_failed h = record { unfailed = λ e. absurd (omega arith); read_fault = λ e. absurd (omega arith); write_fault = λ _. h; no_memory = λ e. absurd (omega arith); past_limit = λ e. absurd (omega arith); door_fault = λ e. absurd (omega arith) }
+causes_of NoMemory read read' read_failed write write' write_failed h = record { unfailed = λ e. absurd (omega arith); read_fault = λ e. absurd (omega arith); write_fault = λ e. absurd (omega arith); no_memory = λ _. h; past_limit = λ e. absurd (omega arith); door_fault = λ e. absurd (omega arith) }
+causes_of ScriptLimit read read' read_failed write write' write_failed h = record { unfailed = λ e. absurd (omega arith); read_fault = λ e. absurd (omega arith); write_fault = λ e. absurd (omega arith); no_memory = λ e. absurd (omega arith); past_limit = λ _. h; door_fault = λ e. absurd (omega arith) }

@@ -1,3 +1,4 @@
 -- The headline from what a run promises.
 mod HeadlineLemmas
 mod MadeLemmas
+mod ServeLemmas

@@ -1,6 +1,6 @@
 -- What the program writes in the mode `make`, from what the run of the workload promises by its end.
 use Rattle.std.specs.Prelude.{IfSome}
-use Rattle.std.proofs.Common.{◌≡◌, ℕ, Bool, List, [], Option, Some, None, inl, inr, refl, sym, subst, ◌∙◌, arith}
+use Rattle.std.proofs.Common.{◌≡◌, ℕ, List, [], Option, Some, None, inl, inr, refl, sym, subst, ◌∙◌, arith}
 use Rattle.std.proofs.KnownBytes.{Appends-nil}
 use Rattle.event_core.specs.Parts.{Parts}
 use Rattle.command_words.specs.declared.settings.Settings.{Settings}

@@ -51,10 +51,11 @@ pub record Headline (slots : ℕ) (core : Option Parts) (status : ℕ) (ended en
   pub told : IfSome core (λ parts. TellsBy status wanted given slots (state_of parts))
 
 -- A status that tells a fault has its cause in the call: one read or one write failed, the last one, and no other did.
--- Without a fault the counts stay; where a write failed or no memory was left, the last read may have failed before.
+-- Without a fault the counts stay, and so they do where a call of the door failed; where a write failed or no memory was left, the last read may have failed before.
 pub record HasCause (status read read' : ℕ) (read_failed : Bool) (write write' : ℕ) (write_failed : Bool) : Type 0 where
   pub unfailed : status ≤ 2 → (read' ≡ read) × (write' ≡ write)
   pub read_fault : status ≡ 3 → FailedOnce read read' read_failed × (write' ≡ write)
   pub write_fault : status ≡ 4 → FailedOnceAtMost read read' read_failed × FailedOnce write write' write_failed
   pub no_memory : status ≡ 5 → FailedOnceAtMost read read' read_failed × (write' ≡ write)
   pub past_limit : status ≡ 6 → (read' ≡ read) × (write' ≡ write)
+  pub door_fault : status ≡ 7 → (read' ≡ read) × (write' ≡ write)

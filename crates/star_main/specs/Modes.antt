@@ -2,7 +2,8 @@
 use Rattle.std.specs.Prelude.{◌≡◌}
 use Rattle.core_state.specs.declared.settings.RunSettings.{RunSettings}
 use Rattle.command_words.specs.declared.settings.Settings.{Settings}
-use Rattle.command_words.specs.declared.settings.Mode.TheVariants.{Alone, Make}
+use Rattle.command_words.specs.declared.settings.Mode.{Mode}
+use Rattle.command_words.specs.declared.settings.Mode.TheVariants.{Run, Alone, Make, Serve}
 
 -- how large the core of a run is: slots and batches as the settings say, no workers, and a seat for the one who reads the script
 abbrev pub run_settings_of : Settings → RunSettings
@@ -15,3 +16,18 @@ IsAlone settings = settings.mode ≡ Alone
 -- the settings say that the workload is made
 abbrev pub IsMade : Settings → Type 0
 IsMade settings = settings.mode ≡ Make
+
+-- the settings say that connections are served
+abbrev pub Serves : Settings → Type 0
+Serves settings = settings.mode ≡ Serve
+
+-- in this mode the script on the source is run
+abbrev pub RunsSource : Mode → Type 0
+RunsSource Run = Unit {0}
+RunsSource Alone = Unit {0}
+RunsSource Make = ⊥
+RunsSource Serve = ⊥
+
+-- the settings say that the script on the source is run
+abbrev pub HasScript : Settings → Type 0
+HasScript settings = RunsSource settings.mode

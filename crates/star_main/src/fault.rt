@@ -7,7 +7,7 @@ use thiserror::Error;
 /// Why there are no replies to a whole script.
 #[derive(Debug, Drop, Error)]
 pub(crate) enum Fault {
-    #[error("usage: cjoin [--mode run|alone|make] [--workers N] [--slots N] [--batch N] [--seed N] [--rows N] [--port N] [--accept N]")]
+    #[error("usage: cjoin [--mode run|alone|make|serve] [--workers N] [--slots N] [--batch N] [--seed N] [--rows N] [--port N] [--accept N]")]
     Words,
     #[error("read fault")]
     Read,
@@ -17,6 +17,8 @@ pub(crate) enum Fault {
     Memory,
     #[error("script limit")]
     Limit,
+    #[error("door fault")]
+    Door,
 }
 
 impl Fault {
@@ -30,6 +32,7 @@ impl Fault {
             4 => Some(Fault::Write),
             5 => Some(Fault::Memory),
             6 => Some(Fault::Limit),
+            7 => Some(Fault::Door),
             _ => None,
         }
     }

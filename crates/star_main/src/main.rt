@@ -11,18 +11,19 @@ mod top;
 
 use crate::fault::Fault;
 use crate::top::{FAULTY_WORDS, OUT_OF_MEMORY, cjoin};
-use star_io::{StdSink, StdSource};
+use star_io::{StdSink, StdSource, TcpDoor};
 use std::env::{self, Env};
 use std::io::{self, ErrorKind};
 use std::process::ExitCode;
 
-/// Runs the script on the standard input, and ends with the status of its run.
+/// Runs the script on the standard input, or serves connections, as the words say, and ends with the status of that.
 fn main(rt: HostRuntime) -> ExitCode {
     let status = match words(&rt) {
         Ok(words) => {
             let mut source = StdSource::new(rt.reader());
             let mut sink = StdSink::new(io::writer(&rt));
-            cjoin(&rt, rt.alloc(), &words, &mut source, &mut sink).status
+            let mut door = TcpDoor::new(&rt);
+            cjoin(&rt, rt.alloc(), &words, &mut source, &mut sink, &mut door).status
         }
         Err(error) => status_without_words(&error),
     };

@@ -2,8 +2,9 @@
 ghost use Rattle.std.specs.Prelude.{◌<◌};
 
 use crate::top::cjoin;
-use star_io::{ListSink, PieceSource};
+use star_io::{ListDoor, ListSink, PieceSource};
 use std::alloc::{AllocError, Global};
+use std::sync::Wait;
 use std::test::Fail;
 use std::thread::Threads;
 
@@ -29,14 +30,15 @@ const MADE_LINE: &str =
     "summary statements 85 commits 18 answers 60 rows 12 overflows 0 refused 0 memory 0 bytes 1531 sum 125847\n";
 
 /// The status of a run, whose core is dropped.
-fn status<R: Threads + Sync>(
+fn status<R: Threads + Sync + Wait>(
     rt: &R,
     alloc: Global,
     words: &[String],
     source: &mut PieceSource,
     sink: &mut ListSink,
 ) -> u8 {
-    cjoin(rt, alloc, words, source, sink).status
+    let mut door = ListDoor::new(Vec::new(alloc), Vec::new(alloc));
+    cjoin(rt, alloc, words, source, sink, &mut door).status
 }
 
 fn source(
@@ -134,7 +136,7 @@ fn words_say_what_is_run_and_other_words_touch_nothing(rt: HostRuntime) -> Resul
         ),
         (&["--mode=alone"], 0, BASE_REPLIES),
         (&["--mode", "make", "--rows=0"], 0, MADE_LINE),
-        (&["--mode", "serve"], 2, ""),
+        (&["--mode", "serve"], 0, ""),
         (&["--slots", "65"], 2, ""),
         (&["run"], 2, ""),
         (&["--help"], 2, ""),
@@ -166,7 +168,7 @@ fn the_byte_past_the_limit_is_told(rt: HostRuntime) -> Result<(), Fail> {
 }
 
 /// How many positions of the fact table are cut for a script, in a core of so many slots whose batches have a row.
-fn positions_cut<R: AllocGlobal + Threads + Sync>(
+fn positions_cut<R: AllocGlobal + Threads + Sync + Wait>(
     rt: &R,
     script: &[u8],
     slots: &str,
@@ -175,7 +177,8 @@ fn positions_cut<R: AllocGlobal + Threads + Sync>(
     let words = words_of(alloc, &["--batch", "1", "--slots", slots])?;
     let mut source = source(alloc, script, 4096, &[])?;
     let mut sink = ListSink::new(alloc, 1 << 16, Vec::new(alloc));
-    let core = cjoin(rt, alloc, &words, &mut source, &mut sink).core;
+    let mut door = ListDoor::new(Vec::new(alloc), Vec::new(alloc));
+    let core = cjoin(rt, alloc, &words, &mut source, &mut sink, &mut door).core;
     Ok(core.map(|core| core.positions_cut()))
 }
 
@@ -191,5 +194,17 @@ fn queries_that_are_unfinished_together_share_a_lap(rt: HostRuntime) -> Result<(
     assert_eq!(rt; positions_cut(&rt, together.as_bytes(), "2")?, Some(8));
     assert_eq!(rt; positions_cut(&rt, together.as_bytes(), "1")?, Some(12));
     assert_eq!(rt; positions_cut(&rt, apart.as_bytes(), "64")?, Some(12));
+    Ok(())
+}
+
+#[test]
+fn a_door_that_fails_is_told(rt: HostRuntime) -> Result<(), Fail> {
+    let alloc = rt.alloc();
+    let words = words_of(alloc, &["--accept", "1", "--mode", "serve"])?;
+    let mut source = source(alloc, BASE.as_bytes(), 4096, &[])?;
+    let mut sink = ListSink::new(alloc, 1 << 16, Vec::new(alloc));
+    let mut door = ListDoor::new(Vec::new(alloc), [0].to_vec(alloc)?);
+    let done = cjoin(&rt, alloc, &words, &mut source, &mut sink, &mut door);
+    assert_eq!(rt; done.status, 7);
     Ok(())
 }

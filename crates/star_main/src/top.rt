@@ -7,16 +7,19 @@ ghost use Rattle.event_core.specs.Seen.{state_of};
 ghost use Rattle.script_run.specs.Front.{IsRun};
 ghost use Rattle.star_main.specs.Headline.{Headline, HasCause, status_of as run_status};
 ghost use Rattle.star_main.specs.Made.{MadeHeadline, made_status_of};
-ghost use Rattle.star_main.specs.Modes.{IsAlone, IsMade, run_settings_of};
+ghost use Rattle.star_main.specs.Modes.{HasScript, IsAlone, IsMade, Serves, run_settings_of};
+ghost use Rattle.star_main.specs.Serving.{ServeHeadline, serve_status_of};
 
 use command_words::{Mode, Settings, read_words};
 use core_state::RunSettings;
 use event_core::Core;
 use made_run::{MadeDone, MadeEnd, run_made};
 use script_run::{RunDone, run_alone, run_script};
-use star_io::{RunEnd, Sink, Source};
+use session_server::serve;
+use star_io::{Door, RunEnd, ServeEnd, Sink, Source};
 use star_values::NoMemory;
 use std::alloc::Global;
+use std::sync::Wait;
 use std::thread::Threads;
 
 /// The status of words that name no settings.
@@ -31,45 +34,57 @@ pub struct TopDone {
     /// The status with which the program ends.
     pub status: u8,
 
-    /// The core that ran the script. There is none where the words name no settings or the mode `alone`, or no memory was
-    /// left for the words or for the run.
+    /// The core that ran the script. There is none where the words name no settings or the mode `alone` or `serve`, or no memory
+    /// was left for the words or for the run.
     pub core: Option<Core>,
 }
 
-/// Runs a script as the words say, and answers the status with which the program ends, and the core that ran the script.
+/// Runs a script or serves connections, as the words say, and answers the status with which the program ends, and the core that
+/// ran the script.
 ///
 /// 0: the input was read to its end, and every reply was written. 1: the same, and some reply is a refusal or `memory`. 2:
 /// the words name no settings, and nothing was read or written. 3: a read failed. 4: a write failed. 5: no memory was left
 /// for the words, and nothing was read or written, or none for the run itself. 6: the script is longer than 67,108,864
-/// bytes.
+/// bytes. 7: a call of the door failed.
 ///
 /// In the mode `make` the script is the one that seed and rows make, and the line that sums its replies up is written in
 /// their place; the source is not read. Then there is no status 3 or 6.
 ///
-/// Of the settings the mode has an effect, in the modes `run` and `make` the slots and the batch, and in `make` the seed and
-/// the rows. Workers, port and accept are read, and have none yet.
-pub fn cjoin<R: Threads + Sync, S: Source, K: Sink>(
+/// In the mode `serve` the door is asked for the connections that come to the port, and they are served one after the other,
+/// until the door ends, or as many were taken as `accept` says, where that is not 0; neither source nor sink is touched. The
+/// status is 0, 5 or 7: what becomes of a connection has no part in it. Where no connection comes, it waits for one.
+///
+/// Of the settings the mode has an effect, in the modes `run`, `make` and `serve` the slots and the batch, in `make` the seed and
+/// the rows, and in `serve` the port and `accept`. Workers are read, and have none yet.
+pub fn cjoin<R: Threads + Sync + Wait, S: Source, K: Sink, D: Door>(
     rt: &R,
     alloc: Global,
     words: &[String],
     source: &mut S,
     sink: &mut K,
+    door: &mut D,
 ) -> TopDone
     ensures settings { result.status ≡ 2 → IsNone (settings_of (map string_bytes words.now)) }
     ensures untouched { IsNone (settings_of (map string_bytes words.now)) →
         (source.new ≡ source.old) × (sink.new ≡ sink.old) × ((result.status ≡ 2) ⊎ (result.status ≡ 5)) }
-    ensures headline { IfSome (settings_of (map string_bytes words.now)) (λ settings. ¬ IsMade settings →
+    ensures headline { IfSome (settings_of (map string_bytes words.now)) (λ settings. HasScript settings →
         Headline settings.slots result.core result.status (S.ended source.old) (S.ended source.new)
         (S.read_faults source.old) (S.read_faults source.new)
         (S.left source.old) (S.left source.new) (K.taken sink.old) (K.taken sink.new)) }
     ensures made { IfSome (settings_of (map string_bytes words.now)) (λ settings. IsMade settings →
         (source.new ≡ source.old) × MadeHeadline settings.slots settings.seed settings.rows result.core result.status
         (K.taken sink.old) (K.taken sink.new)) }
+    ensures served { IfSome (settings_of (map string_bytes words.now)) (λ settings. Serves settings →
+        (source.new ≡ source.old) × (sink.new ≡ sink.old) × ServeHeadline settings.port settings.accept result.status
+        (D.asked door.new) (D.ended door.new) (D.given door.old) (D.given door.new)
+        (D.door_faults door.old) (D.door_faults door.new) (D.door_failed door.new)) }
     ensures causes { HasCause result.status
         (S.read_faults source.old) (S.read_faults source.new) (S.read_failed source.new)
         (K.write_faults sink.old) (K.write_faults sink.new) (K.write_failed sink.new) }
+    ensures door { ¬ IsSomeAnd (settings_of (map string_bytes words.now)) Serves → door.new ≡ door.old }
     ensures core { IsNone result.core ↔ (IsNone (settings_of (map string_bytes words.now))
-        ⊎ (IsSomeAnd (settings_of (map string_bytes words.now)) IsAlone ⊎ (result.status ≡ 5))) }
+        ⊎ (IsSomeAnd (settings_of (map string_bytes words.now)) IsAlone
+        ⊎ (IsSomeAnd (settings_of (map string_bytes words.now)) Serves ⊎ (result.status ≡ 5)))) }
     ensures run { IfSome result.core (λ core. IfSome (settings_of (map string_bytes words.now)) (λ settings.
         IsRun (empty_core (run_settings_of settings)) (state_of core))) }
 {
@@ -78,6 +93,7 @@ pub fn cjoin<R: Threads + Sync, S: Source, K: Sink>(
             Mode::Run => run_shared(rt, alloc, &settings, source, sink),
             Mode::Alone => run_each_alone(alloc, source, sink),
             Mode::Make => run_workload(rt, alloc, &settings, sink),
+            Mode::Serve => serve_connections(rt, alloc, &settings, door),
         },
         Ok(None) => without_core(FAULTY_WORDS),
         Err(NoMemory) => without_core(OUT_OF_MEMORY),
@@ -138,7 +154,25 @@ fn run_workload<R: Threads + Sync, K: Sink>(
     made_of(run_made(rt, alloc, core, settings.seed, settings.rows, sink))
 }
 
-/// How large the core of a run is: no workers, and one seat, for the one who reads the script.
+/// Serves connections at the port, one after the other, over one core.
+fn serve_connections<R: Threads + Sync + Wait, D: Door>(
+    rt: &R,
+    alloc: Global,
+    settings: &Settings,
+    door: &mut D,
+) -> TopDone
+    requires { AreInRange settings.now }
+    ensures served { ServeHeadline settings.now.port settings.now.accept result.status
+        (D.asked door.new) (D.ended door.new) (D.given door.old) (D.given door.new)
+        (D.door_faults door.old) (D.door_faults door.new) (D.door_failed door.new) }
+    ensures core { IsNone result.core }
+{
+    let core = run_settings(settings);
+    let end = serve(rt, alloc, core, settings.port, settings.accept, door);
+    without_core(serve_status_of(end))
+}
+
+/// How large the core of a run is: no workers, and one seat, for the one who reads the script or the connection.
 fn run_settings(settings: &Settings) -> RunSettings
     ensures { result ≡ run_settings_of settings.now }
 {
@@ -197,5 +231,16 @@ fn made_of(done: MadeDone) -> TopDone
     TopDone {
         status,
         core: done.core,
+    }
+}
+
+/// The status of the serving of connections.
+fn serve_status_of(end: ServeEnd) -> u8
+    ensures { result ≡ serve_status_of end }
+{
+    match end {
+        ServeEnd::Ended => 0,
+        ServeEnd::NoMemory => OUT_OF_MEMORY,
+        ServeEnd::DoorFault => 7,
     }
 }
