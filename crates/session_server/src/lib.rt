@@ -8,6 +8,3 @@ mod session_end;
 pub use server::serve;
 pub use session::serve_session;
 pub use session_end::SessionEnd;
-
-#[cfg(test)]
-mod tests;
