@@ -1,5 +1,5 @@
 -- The text of the replies to statements begins with that of no other replies to the same statements, unless both are the same.
-use Rattle.std.proofs.Common.{◌≡◌, ◌⊎◌, ℕ, Bool, true, false, List, [], ◌∷◌, ◌++◌, Option, Some, None, Result, Ok, Err, refl, sym, ap, ◌∙◌, subst, ⊎_elim, inl, inr, append_assoc, arith}
+use Rattle.std.proofs.Common.{◌≡◌, ◌⊎◌, ℕ, Bool, true, false, List, [], ◌∷◌, ◌++◌, Option, Result, Ok, Err, refl, sym, ap, ◌∙◌, subst, ⊎_elim, inl, inr, append_assoc, arith}
 use Rattle.std.proofs.lemmas.List.{append_cancel_left}
 use Rattle.std.specs.Prelude.{is_none, if◌then◌else◌}
 use Rattle.star_values.specs.declared.refusal.Refusal.{Refusal}
@@ -18,7 +18,7 @@ use Rattle.reply_text.specs.Text.{text_of}
 use Rattle.reply_text.specs.declared.reply.Reply.{Reply}
 use Rattle.reply_text.specs.declared.reply.Reply.TheVariants.{Table, Commit, Answer, Overflow, Memory, Refused, Waited}
 use Rattle.star_statement.specs.Effect.{answer_reply, effect_of, reply_to}
-use Rattle.star_statement.specs.Outcome.{Accepted, Outcome, Replied, Told}
+use Rattle.star_statement.specs.Outcome.{Accepted, Replied, Told}
 use Rattle.star_statement.specs.Outcome.{committed, declared, deleted, meaning_outcome, outcome_by, outcome_of, refused, selected}
 use Rattle.star_statement.specs.Script.{history_after}
 use Rattle.star_statement.specs.Text.{meaning_of}

@@ -1,11 +1,10 @@
 -- How a session ends.
-use Rattle.std.proofs.Common.{◌≡◌, ℕ, ◌+◌, ◌≤◌, Bool, true, false, List, [], ◌∷◌, ◌++◌, length, Option, Some, Ok, Err, inl, inr, refl, sym, ap, subst, ◌∙◌, append_assoc, append-nil, length-append, arith}
+use Rattle.std.proofs.Common.{◌≡◌, ℕ, ◌+◌, ◌≤◌, Bool, true, false, List, [], ◌++◌, length, Option, inl, inr, refl, sym, ap, subst, ◌∙◌, append_assoc, append-nil, length-append, arith}
 use Rattle.std.specs.Io.KnownBytes.{Appends, Consumes}
 use Rattle.std.proofs.KnownBytes.{Appends-trans, Consumes-trans}
 use Rattle.script_reader.specs.Reading.{MayCome, Reading, StaysFed}
 use Rattle.script_reader.specs.Script.{statements_of}
 use Rattle.script_reader.specs.declared.reader.TheConstants.{SCRIPT_LIMIT}
-use Rattle.star_history.specs.History.{Change}
 use Rattle.pipeline_manager.specs.Sound.{AreRising}
 use Rattle.core_state.specs.State.{State}
 use Rattle.core_state.specs.Submitting.{seat_at}
@@ -22,7 +21,7 @@ use Rattle.session_server.specs.Session.{AnswersSession, end_of_halt, session_te
 use Rattle.session_server.specs.declared.session_end.SessionEnd.{SessionEnd}
 use Rattle.session_server.specs.declared.session_end.SessionEnd.TheVariants as end
 use Rattle.session_server.proofs.PartLemmas.{IsCut, cut-front, cut-part, is-cut, part-let-go, text-both}
-use Rattle.session_server.proofs.SessionLemmas.{HasReplied, IsServing, all-ended, all-given, came, few-given, finished, none-left, within-all, within-more}
+use Rattle.session_server.proofs.SessionLemmas.{HasReplied, IsServing, all-ended, all-given, few-given, finished, none-left, within-all, within-more}
 use Rattle.session_server.proofs.WholeLemmas.{IsWhole, is-whole}
 
 -- the same where another call changed nothing of it

@@ -1,11 +1,10 @@
 -- What a core that waits for nothing is given, and what its front takes of it.
-use Rattle.std.proofs.Common.{◌≡◌, ℕ, List, [], ◌∷◌, ◌++◌, map, refl, sym, ap, ◌∙◌, subst, append-nil, append_assoc}
+use Rattle.std.proofs.Common.{◌≡◌, List, [], ◌++◌, map, refl, sym, ap, ◌∙◌, subst, append-nil, append_assoc}
 use Rattle.std.proofs.lemmas.List.{append_cancel_left}
 use Rattle.std.proofs.lemmas.List.Elements.{filter_map-append}
 use Rattle.script_reader.specs.declared.statement.Statement.{Statement}
-use Rattle.star_plan.specs.Test.{Query}
 use Rattle.pipeline_manager.specs.Sound.{AreRising}
-use Rattle.core_state.specs.State.{Accepted, Pending, State, Taken}
+use Rattle.core_state.specs.State.{Accepted, State, Taken}
 use Rattle.core_state.specs.Submitting.{seat_at, taken_by}
 use Rattle.core_state.specs.Tables.{changes_of}
 use Rattle.script_run.specs.Played.{AreToldAs, Follows, IsListedBehind, Leads, Played, Plays, accepted_by, had_of, queries_among, query_by}

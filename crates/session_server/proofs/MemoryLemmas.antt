@@ -1,6 +1,6 @@
 -- Statements whose queries find no memory, and statements that were played in two parts.
-use Rattle.std.proofs.Common.{◌≡◌, ◌⊎◌, ℕ, suc, ◌≤◌, List, [], ◌∷◌, ◌++◌, map, Option, Some, None, refl, sym, ap, ◌∙◌, subst, ⊎_elim, inl, inr}
-use Rattle.std.specs.Prelude.{All, IfSome}
+use Rattle.std.proofs.Common.{◌≡◌, ℕ, suc, List, [], ◌∷◌, ◌++◌, map, Option, Some, refl, sym, ap, ◌∙◌, subst, inl, inr}
+use Rattle.std.specs.Prelude.{IfSome}
 use Rattle.std.proofs.lemmas.List.Elements.{All-nil}
 use Rattle.script_reader.specs.declared.statement.Statement.{Statement}
 use Rattle.star_plan.specs.Test.{Query}
@@ -8,10 +8,10 @@ use Rattle.star_history.specs.History.{Change, store_of}
 use Rattle.star_history.specs.Store.{Store}
 use Rattle.reply_text.specs.declared.reply.Reply.{Reply}
 use Rattle.reply_text.specs.declared.reply.Reply.TheVariants.{Memory}
-use Rattle.star_statement.specs.Effect.{effect_of, reply_to}
+use Rattle.star_statement.specs.Effect.{reply_to}
 use Rattle.star_statement.specs.Outcome as outcome
 use Rattle.star_statement.specs.Outcome.{Told, outcome_of}
-use Rattle.star_statement.specs.Script.{history_after, replies_after}
+use Rattle.star_statement.specs.Script.{history_after}
 use Rattle.pipeline_manager.specs.Lives.{Lives}
 use Rattle.core_state.specs.State.{Accepted, Asked, Awaited, Pending, Replied, State}
 use Rattle.core_state.specs.Submitting.{awaited_by, seat_at}

@@ -1,6 +1,6 @@
 -- A session that was cut short: what the core tells of the statements that it was given, and that all replies to all of them go on
 -- behind what was written.
-use Rattle.std.proofs.Common.{◌≡◌, ℕ, ◌+◌, ◌<◌, ◌≤◌, List, [], ◌∷◌, ◌++◌, length, map, Some, refl, sym, ap, ◌∙◌, subst, append-nil, append_assoc, length-append, arith}
+use Rattle.std.proofs.Common.{◌≡◌, ℕ, ◌+◌, ◌<◌, ◌≤◌, List, [], ◌∷◌, ◌++◌, length, map, refl, sym, ap, ◌∙◌, subst, append-nil, append_assoc, length-append, arith}
 use Rattle.std.specs.Prelude.{All}
 use Rattle.std.proofs.lemmas.Grind.{flat_map-append}
 use Rattle.std.proofs.lemmas.List.{map-append}
@@ -10,14 +10,13 @@ use Rattle.star_history.specs.History.{Change}
 use Rattle.reply_text.specs.Text.{text_of, text_of_all}
 use Rattle.reply_text.specs.declared.reply.Reply.{Reply}
 use Rattle.star_statement.specs.Script.{replies_after}
-use Rattle.pipeline_manager.specs.Lives.{life_of}
 use Rattle.pipeline_manager.specs.Sound.{AreRising}
-use Rattle.core_state.specs.State.{State, Taken}
+use Rattle.core_state.specs.State.{State}
 use Rattle.core_state.specs.Submitting.{seat_at}
 use Rattle.core_state.specs.Tables.{changes_of}
 use Rattle.script_run.specs.Front.{text_of_played}
 use Rattle.script_run.specs.Home.{LetsGo}
-use Rattle.script_run.specs.Played.{Leads, Played, Plays, accepted_by}
+use Rattle.script_run.specs.Played.{Leads, Played, Plays}
 use Rattle.script_run.specs.Run.{IsFront, IsProperFront}
 use Rattle.script_run.specs.Told.{history_from}
 use Rattle.script_run.proofs.PlayedLeadLemmas.{plays-idle}

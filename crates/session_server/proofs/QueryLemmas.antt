@@ -1,5 +1,5 @@
 -- Queries of statements where memory was wanted at the same places, in lives where who was answered is so; and parts of lists.
-use Rattle.std.proofs.Common.{◌≡◌, ℕ, suc, ◌+◌, ◌<◌, ◌≤◌, Bool, true, false, List, [], ◌∷◌, ◌++◌, length, map, Some, refl, sym, ap, ◌∙◌, subst, ⊎_elim, inl, inr, arith}
+use Rattle.std.proofs.Common.{◌≡◌, ℕ, suc, ◌+◌, Bool, true, false, List, [], ◌∷◌, ◌++◌, length, map, Some, refl, sym, ap, ◌∙◌, subst, ⊎_elim, inl, inr, arith}
 use Rattle.std.proofs.lemmas.Option.{IfSome_then}
 use Rattle.script_reader.specs.declared.statement.Statement.{Statement}
 use Rattle.star_plan.specs.Test.{Query}

@@ -1,17 +1,16 @@
 -- A session, from what was read and written so far.
-use Rattle.std.proofs.Common.{◌≡◌, ℕ, ◌+◌, ◌≤◌, Bool, true, false, List, [], ◌∷◌, ◌++◌, length, Option, refl, sym, ap, subst, ◌∙◌, append_assoc, append-nil, length-append, arith}
+use Rattle.std.proofs.Common.{◌≡◌, ℕ, ◌+◌, ◌≤◌, Bool, true, false, List, [], ◌++◌, length, Option, refl, sym, ap, subst, ◌∙◌, append_assoc, append-nil, length-append, arith}
 use Rattle.std.specs.Io.KnownBytes.{Appends, Consumes}
 use Rattle.std.proofs.KnownBytes.{Appends-nil, Appends-trans, Consumes-nil, Consumes-trans}
 use Rattle.std.proofs.lemmas.List.{take_all, take-append-le}
-use Rattle.script_reader.specs.Reading.{MayCome, Reading, StaysFed, no_reading}
+use Rattle.script_reader.specs.Reading.{Reading, StaysFed, no_reading}
 use Rattle.script_reader.specs.Script.{statements_of}
 use Rattle.script_reader.specs.declared.reader.TheConstants.{SCRIPT_LIMIT}
-use Rattle.script_reader.specs.declared.statement.Statement.{Statement}
 use Rattle.core_state.specs.State.{State}
 use Rattle.script_run.specs.Answer.{HasNoStatement}
 use Rattle.script_run.specs.Front.{ReadsOn, text_of_played}
 use Rattle.script_run.specs.Pieces.{fed_with}
-use Rattle.script_run.specs.Played.{Leads, Played}
+use Rattle.script_run.specs.Played.{Played}
 use Rattle.script_run.specs.Run.{within_limit}
 use Rattle.script_run.proofs.PlayedLeadLemmas.{leads-itself, leads-then}
 use Rattle.session_server.proofs.PartLemmas.{text-both}

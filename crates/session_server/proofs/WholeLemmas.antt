@@ -1,5 +1,5 @@
 -- All statements that a core was given were replied to: the replies are theirs, and the core tells of them.
-use Rattle.std.proofs.Common.{◌≡◌, ℕ, List, [], ◌++◌, map, refl, sym, ap, ◌∙◌, append-nil}
+use Rattle.std.proofs.Common.{◌≡◌, ℕ, List, [], ◌++◌, map, sym, ap, ◌∙◌, append-nil}
 use Rattle.script_reader.specs.declared.statement.Statement.{Statement}
 use Rattle.reply_text.specs.Text.{text_of_all}
 use Rattle.star_statement.specs.Script.{replies_after}

@@ -1,4 +1,4 @@
-use Rattle.std.proofs.Common.{◌≡◌, refl, sym, ◌∙◌}
+use Rattle.std.proofs.Common.{refl, ◌∙◌}
 use Rattle.event_core.specs.Seen.{state_of}
 use Rattle.session_server.proofs.EndLemmas.{answers-apart, done-ends, ended-ends, fault-ends, halted-ends, limit-ends, unfed-ends}
 use Rattle.session_server.proofs.ServedLemmas.{served-itself, served-then}
