@@ -8,7 +8,7 @@ use Rattle.std.proofs.lemmas.List.FromFn.{get_or-range_with_len, length-range_wi
 use Rattle.std.proofs.lemmas.List.Sums.{AllPass-from_list_all}
 use Rattle.std.proofs.Math.Nat.{zero-mul, one-mul}
 use Rattle.distributor.specs.Crossed.{IsDistance, by_32, by_16, by_8, by_4, by_2, by_1, crossed}
-use Rattle.distributor.specs.Masked.{IsMask}
+use Rattle.distributor.specs.Masked.{IsPartMask}
 use Rattle.distributor.proofs.CrossLemmas.{has_distance, has_not, two_cases, AreLow, upper_of, lower_of, crossed_bit, upper_crossed, lower_crossed}
 
 -- the first row of the pair of a row
@@ -166,14 +166,16 @@ turned-more d is old mid new so_far exchanged row column low small =
 
 -- bits that are turned round are the masks of the slots
 pub masks_turned : (bits old new : List ℕ) → AreTurned 1 old new → ((row : ℕ) → get_or old row 0 ≡ get_or bits row 0)
-    → (slot : ℕ) → slot < 64 → IsMask slot (get_or new slot 0) bits
+    → (slot : ℕ) → slot < 64 → IsPartMask slot (get_or new slot 0) 0 bits
 masks_turned bits old new turned same slot low row small =
     let same_row : slot % 1 + row / 1 * 1 ≡ row = omega arith in
     let same_slot : row % 1 + slot / 1 * 1 ≡ slot = omega arith in
+    let from_none : row ≡ 0 + row = omega arith in
     turned slot row low small
     ∙ ap (λ n. bit_at (get_or old n 0) (row % 1 + slot / 1 * 1)) same_row
     ∙ ap (bit_at (get_or old row 0)) same_slot
     ∙ ap (λ w. bit_at w slot) (same row)
+    ∙ ap (λ k. bit_at (get_or bits k 0) slot) from_none
 
 -- which columns have not a distance, by looking at each
 pub low_from_test : (d low : ℕ) → list_all (λ k. bit_at low k == (1 - k / d % 2)) (range_with_len 0 64) ≡ true → AreLow d low

@@ -1,5 +1,6 @@
 pub mod VersionLemmas
 pub mod MaskLemmas
+pub mod PartLemmas
 pub mod CrossLemmas
 pub mod ExchangeLemmas
 pub mod FoldLemmas

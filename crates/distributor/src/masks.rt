@@ -1,16 +1,75 @@
 //! The bits of rows turned round: for each slot the set of the rows that have its bit.
-ghost use Rattle.std.specs.Prelude.{◌≡◌, ℕ, ◌-◌, ◌/◌, ◌%◌, ◌<◌, ◌≤◌, length, slice_index};
+//!
+//! A block has four parts of 64 rows, and such a set a word for each part.
+ghost use Rattle.std.specs.Prelude.{◌≡◌, ℕ, List, ◌+◌, ◌-◌, ◌*◌, ◌/◌, ◌%◌, ◌<◌, ◌≤◌, length, slice_index};
 ghost use Rattle.std.specs.Int.{bit_at};
-ghost use Rattle.distributor.specs.Masked.{IsMask};
+ghost use Rattle.bit_words.specs.Words.{set_of};
+ghost use Rattle.aggregations.specs.declared.row_codes.TheConstants.{ROWS};
+ghost use Rattle.distributor.specs.Masked.{AreMasks, IsMask, IsPartMask};
 ghost use Rattle.distributor.specs.Crossed.{IsDistance, crossed};
 
-/// How many rows make a block, which is how many bits a mask has.
-pub(crate) const ROWS_IN_A_BLOCK: usize = 64;
+use aggregations::ROWS;
+
+/// How many rows make a part of a block, which is how many bits a word has.
+pub(crate) const ROWS_IN_A_PART: usize = 64;
+
+/// How many parts a block has, at most.
+pub(crate) const PARTS: usize = ROWS / ROWS_IN_A_PART;
+
+/// For each part of a block, one after another, and in it for each of 64 slots the set of the part's rows
+/// that have its bit, where each of at most 256 rows has a word.
+pub(crate) fn masks_of_block(bits: &[u64]) -> [u64; ROWS]
+    requires { length bits.now ≤ ROWS }
+    ensures { AreMasks result bits.now }
+{
+    let mut masks = [0; ROWS];
+    for part in 0..PARTS {
+        let first = part * ROWS_IN_A_PART;
+        put_part(&mut masks, first, masks_of_part(bits, first));
+    }
+    masks
+}
+
+/// The set of the rows of a block that have the bit of a slot, a word for each part.
+pub(crate) fn mask_of_slot(masks: &[u64; ROWS], slot: usize) -> [u64; PARTS]
+    requires { slot < 64 }
+    ensures { (bits : List ℕ) → AreMasks masks.now bits → IsMask slot (set_of result) bits }
+{
+    let mut words = [0; PARTS];
+    for part in 0..PARTS {
+        words[part] = masks[part * ROWS_IN_A_PART + slot];
+    }
+    words
+}
+
+/// Writes the masks of a part, those of its 64 slots, from a number on.
+fn put_part(masks: &mut [u64; ROWS], first: usize, part: [u64; 64])
+    requires { first + 64 ≤ ROWS }
+    ensures written { (slot : ℕ) → slot < 64 →
+        slice_index masks.new (first + slot) ≡ slice_index part slot }
+    ensures before { (at : ℕ) → at < first → slice_index masks.new at ≡ slice_index masks.old at }
+{
+    for slot in 0..64 {
+        masks[first + slot] = part[slot];
+    }
+}
+
+/// The masks of the part from a row on. They are empty where there are no more rows.
+fn masks_of_part(bits: &[u64], first: usize) -> [u64; 64]
+    requires { first ≤ ROWS }
+    ensures { (slot : ℕ) → slot < 64 → IsPartMask slot (slice_index result slot) first bits.now }
+{
+    if bits.len() <= first {
+        return [0; 64];
+    }
+    let end = bits.len().min(first + ROWS_IN_A_PART);
+    masks_of(&bits[first..end])
+}
 
 /// For each of 64 slots the set of the rows that have its bit, where each of at most 64 rows has a word.
-pub(crate) fn masks_of(bits: &[u64]) -> [u64; 64]
+fn masks_of(bits: &[u64]) -> [u64; 64]
     requires { length bits.now ≤ 64 }
-    ensures masks { (slot : ℕ) → slot < 64 → IsMask slot (slice_index result slot) bits.now }
+    ensures masks { (slot : ℕ) → slot < 64 → IsPartMask slot (slice_index result slot) 0 bits.now }
     ensures count { length result ≡ 64 }
 {
     let words = padded(bits);
