@@ -29,7 +29,7 @@ use Rattle.script_run.proofs.PlayedQuietLemmas.{history-asked}
 
 -- No effect replies `memory`.
 
-abbrev IsSpoken : Told → Type 0
+abbrev pub IsSpoken : Told → Type 0
 IsSpoken (Replied reply) = reply ≡ Memory → ⊥
 IsSpoken (Accepted query snapshot) = Unit {0}
 
@@ -68,7 +68,7 @@ spoken-by : (store : Store) (block : Block) (meaning : Result written.Statement 
 spoken-by store block (Ok meaning) = spoken-meaning store block meaning
 spoken-by store block (Err reason) = spoken-refused reason
 
-spoken-told : (store : Store) (statement : Statement) → IsSpoken (outcome_of store statement).told
+pub spoken-told : (store : Store) (statement : Statement) → IsSpoken (outcome_of store statement).told
 unfolding outcome_of
 spoken-told store statement = spoken-by store statement.block (meaning_of statement)
 
@@ -76,7 +76,7 @@ answers-spoken : (snapshot : ℕ) (answer : Found) → answer_reply snapshot ans
 answers-spoken snapshot (found.Rows rows) e = cc
 answers-spoken snapshot found.Overflow e = cc
 
-effect-spoken : (store : Store) (statement : Statement) → (effect_of store statement).reply ≡ Memory → ⊥
+pub effect-spoken : (store : Store) (statement : Statement) → (effect_of store statement).reply ≡ Memory → ⊥
 effect-spoken store statement = by_told (outcome_of store statement).told (spoken-told store statement)
   where
     by_told : (told : Told) → IsSpoken told → reply_to store told ≡ Memory → ⊥

@@ -4,6 +4,7 @@ mod QueryLemmas
 mod MemoryLemmas
 mod ApartLemmas
 mod HomeLemmas
+mod TakenLemmas
 mod WholeLemmas
 mod PartLemmas
 mod ServedLemmas

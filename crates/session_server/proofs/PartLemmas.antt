@@ -28,6 +28,7 @@ use Rattle.session_server.proofs.ApartLemmas.{plays-apart}
 use Rattle.session_server.proofs.HomeLemmas.{IsSince, since-home}
 use Rattle.session_server.proofs.MemoryLemmas.{AreMemory, IsMemory, IsSplit, may-memory, plays-memory, plays-split, told-memory}
 use Rattle.session_server.proofs.QueryLemmas.{queries-on}
+use Rattle.session_server.proofs.TakenLemmas.{taken-of}
 use Rattle.session_server.proofs.WantedLemmas.{IsJoined, SamePlaces, both-told, joined, same-replies}
 
 -- the text of some replies and of others behind them
@@ -143,6 +144,7 @@ is-cut old new statements submitted rest played written leads begins rising idle
     more = own.since;
     later = [];
     taken = own.taken ∙ ap (λ taken. (seat_at old 0).taken ++ taken) (sym (append-nil own.since));
+    each = taken-of new.lives placed.places 0 history split.replied played split.between split.first placed.front own.since own.told;
     asked = sym own.same;
   };
   played = (played ++ due.played) ++ more.0;
@@ -235,5 +237,6 @@ part-let-go old mid new wanted statements written tells goes = record {
   taken = goes.taken ∙ ap (λ taken. taken ++ goes.more) tells.taken
       ∙ append_assoc (seat_at old 0).taken (tells.more ++ tells.later) goes.more
       ∙ ap (λ taken. (seat_at old 0).taken ++ taken) (append_assoc tells.more tells.later goes.more);
+  each = tells.each;
   asked = tells.asked;
 }

@@ -54,7 +54,7 @@ may-on (outcome.Replied reply) Are AreLater on accepted is = on accepted is
 may-on (outcome.Accepted query snapshot) Are AreLater on accepted is = ⊎_elim (λ none. inl (on accepted none))
     (λ some. inr (begin-on query snapshot (λ n. Unit {0}) (λ n. Unit {0}) Are AreLater (λ n one. one) on accepted some)) is
 
-wanted-on : (test : Bool) {A B C D : Type 0} → (A → C) → (B → D) → ByWanted test A B → ByWanted test C D
+pub wanted-on : (test : Bool) {A B C D : Type 0} → (A → C) → (B → D) → ByWanted test A B → ByWanted test C D
 wanted-on true f g is = f is
 wanted-on false f g is = g is
 

@@ -12,6 +12,7 @@ use Rattle.script_run.specs.Played.{Leads, Played, accepted_by}
 use Rattle.script_run.proofs.ToldPlayLemmas.{told-played}
 use Rattle.session_server.specs.Session.{TellsStatements}
 use Rattle.session_server.proofs.HomeLemmas.{plays-home, since-home}
+use Rattle.session_server.proofs.TakenLemmas.{taken-of}
 
 -- this is the text of all replies, and the core tells of the statements
 pub record IsWhole (old new : State) (statements : List Statement) (written : List ℕ) : Type 0 where
@@ -36,6 +37,8 @@ is-whole old new statements played leads rising idle idle' =
         queries = told.queries;
         more = own.since;
         taken = own.taken;
+        each = taken-of new.lives told.wanted 0 (changes_of old.entries) statements played (changes_of new.entries)
+            (plays-home old new statements played leads idle idle') told.replied own.since own.told;
         asked = sym own.same;
       };
     }

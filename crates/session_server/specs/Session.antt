@@ -1,20 +1,22 @@
 -- What a session reads and writes, why it ends, and what the core tells of it then.
-use Rattle.std.specs.Prelude.{◌≡◌, ℕ, ◌+◌, ◌≤◌, ◌⊎◌, Bool, true, false, List, ◌++◌, length, map, Option}
+use Rattle.std.specs.Prelude.{◌≡◌, ℕ, suc, ◌+◌, ◌≤◌, ◌⊎◌, Bool, true, false, List, [], ◌∷◌, ◌++◌, length, map, Option}
 use Rattle.std.specs.Io.KnownBytes.{Appends, Consumes}
 use Rattle.star_io.specs.Faults.{FailedOnce}
 use Rattle.script_reader.specs.Script.{statements_of}
 use Rattle.script_reader.specs.declared.reader.TheConstants.{SCRIPT_LIMIT}
 use Rattle.script_reader.specs.declared.statement.Statement.{Statement}
-use Rattle.star_history.specs.History.{Change}
+use Rattle.star_plan.specs.Test.{Query}
+use Rattle.star_history.specs.History.{Change, store_of}
 use Rattle.reply_text.specs.Text.{text_of_all}
 use Rattle.reply_text.specs.declared.reply.Reply.{Reply}
-use Rattle.star_statement.specs.Script.{replies_after}
+use Rattle.star_statement.specs.Outcome.{Told, outcome_of}
+use Rattle.star_statement.specs.Script.{history_after, is_wanted_at, replies_after}
 use Rattle.core_state.specs.State.{Accepted, State, Taken}
-use Rattle.core_state.specs.Submitting.{seat_at}
+use Rattle.core_state.specs.Submitting.{asked_by, awaited_by, seat_at}
 use Rattle.core_state.specs.Tables.{changes_of}
 use Rattle.script_run.specs.Played.{accepted_by, queries_among}
 use Rattle.script_run.specs.Run.{HasEnded, IsFront, IsProperFront, MetNoEnd, within_limit}
-use Rattle.script_run.specs.Told.{AreQueriesOf, history_from}
+use Rattle.script_run.specs.Told.{AreQueriesOf, ByWanted, history_from}
 use Rattle.script_run.specs.declared.halt.Halt.{Halt}
 use Rattle.script_run.specs.declared.halt.Halt.TheVariants as halt
 use Rattle.session_server.specs.declared.session_end.SessionEnd.{SessionEnd}
@@ -62,9 +64,28 @@ CountsFaults WriteFault read read' read_failed write write' write_failed = (read
 CountsFaults Limit read read' read_failed write write' write_failed = (read' ≡ read) × (write' ≡ write)
 CountsFaults Memory read read' read_failed write write' write_failed = (read' ≡ read) × (write' ≡ write)
 
+-- the query that a statement asks of which this is told, with its snapshot, if it asks one
+abbrev pub asked_of : Told → Option (Query × ℕ)
+asked_of told = asked_by (awaited_by told)
+
+-- the first reply that was taken is that to a statement that asks this, and those behind it are the others
+abbrev pub BeginTaken : Option (Query × ℕ) → (AreOthers : List Taken → Type 0) → List Taken → Type 0
+BeginTaken asked AreOthers [] = ⊥
+BeginTaken asked AreOthers (first ∷ taken) = (first.query ≡ asked) × AreOthers taken
+
+-- the replies that were taken are those to statements from a place on, in their order: one to each that has its effect, with the query
+-- that it asks, if it asks one; and where memory was wanted one with that query, or none
+abbrev pub AreTakenOf : (wanted : List ℕ) → (place : ℕ) → List Change → List Statement → List Taken → Type 0
+AreTakenOf wanted place history [] taken = taken ≡ []
+AreTakenOf wanted place history (statement ∷ statements) taken = ByWanted (is_wanted_at wanted place)
+    (AreTakenOf wanted (suc place) history statements taken
+    ⊎ BeginTaken (asked_of (outcome_of (store_of history) statement).told)
+    (λ rest. AreTakenOf wanted (suc place) history statements rest) taken)
+    (BeginTaken (asked_of (outcome_of (store_of history) statement).told)
+    (λ rest. AreTakenOf wanted (suc place) (history_after history statement) statements rest) taken)
+
 -- from one core to another the core was given these statements, where memory was wanted at some places, and all were replied to: the
--- history is theirs behind the one before, the queries of the core are those before and theirs, and the replies to their queries
--- were taken
+-- history is theirs behind the one before, the queries of the core are those before and theirs, and their replies were taken
 pub record TellsStatements (wanted : List ℕ) (statements : List Statement) (old new : State) : Type 0 where
   pub history : changes_of new.entries ≡ history_from wanted 0 (changes_of old.entries) statements
   pub since : List Accepted
@@ -72,6 +93,7 @@ pub record TellsStatements (wanted : List ℕ) (statements : List Statement) (ol
   pub queries : AreQueriesOf new.lives wanted 0 (changes_of old.entries) statements since
   pub more : List Taken
   pub taken : (seat_at new 0).taken ≡ (seat_at old 0).taken ++ more
+  pub each : AreTakenOf wanted 0 (changes_of old.entries) statements more
   pub asked : queries_among more ≡ map accepted_by since
 
 -- the same where a session was cut short: the core was given the first of these statements, and the first of those were replied to.
@@ -93,6 +115,7 @@ pub record TellsPart (wanted : List ℕ) (statements : List Statement) (written 
   pub more : List Taken
   pub later : List Taken
   pub taken : (seat_at new 0).taken ≡ (seat_at old 0).taken ++ (more ++ later)
+  pub each : AreTakenOf wanted 0 (changes_of old.entries) replied more
   pub asked : queries_among more ≡ map accepted_by since
 
 -- what the core tells of a session by its end: of all statements that were whole, or of the first of them

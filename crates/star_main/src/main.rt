@@ -6,6 +6,8 @@ ghost use Rattle.std.specs.IoError.{error_kind};
 
 mod fault;
 #[cfg(test)]
+mod session_tests;
+#[cfg(test)]
 mod tests;
 mod top;
 
