@@ -7,6 +7,7 @@ use core_state::RunSettings;
 use script_run::Front;
 use session_server::{SessionEnd, serve_session};
 use star_io::{ListDoor, ListSink, PairLink, PieceSource};
+use star_values::NoMemory;
 use std::alloc::{AllocError, Global};
 use std::sync::Wait;
 use std::test::Fail;
@@ -142,11 +143,18 @@ fn are_served<R: Threads + Sync>(
     Ok([first, second, unread, unwritten, last])
 }
 
+/// The same over a new core.
+fn are_served_anew<R: Threads + Sync>(rt: &R, alloc: Global) -> Result<[bool; 5], NoMemory> {
+    let Ok(mut front) = Front::new(alloc, SETTINGS) else {
+        return Err(NoMemory);
+    };
+    Ok(are_served(rt, alloc, &mut front)?)
+}
+
 #[test]
 fn a_session_sees_what_those_before_it_committed(rt: HostRuntime) -> Result<(), Fail> {
-    let alloc = rt.alloc();
-    let mut front = Front::new(alloc, SETTINGS).map_err(|_| "no memory")?;
-    assert_eq!(rt; are_served(&rt, alloc, &mut front)?, [true; 5]);
+    let served = are_served_anew(&rt, rt.alloc()).map_err(|_| "no memory")?;
+    assert_eq!(rt; served, [true; 5]);
     Ok(())
 }
 
