@@ -1,15 +1,12 @@
-//! Sessions over one core, one after the other, and a door of links in memory.
-ghost use Rattle.std.specs.Prelude.{◌<◌};
+//! Sessions over one core, one after the other, each over a link in memory.
 ghost use Rattle.script_run.specs.Home.{IsAtHome};
 
-use crate::top::cjoin;
 use core_state::RunSettings;
 use script_run::Front;
 use session_server::{SessionEnd, serve_session};
-use star_io::{ListDoor, ListSink, PairLink, PieceSource};
+use star_io::{ListSink, PairLink, PieceSource};
 use star_values::NoMemory;
 use std::alloc::{AllocError, Global};
-use std::sync::Wait;
 use std::test::Fail;
 use std::thread::Threads;
 
@@ -155,33 +152,5 @@ fn are_served_anew<R: Threads + Sync>(rt: &R, alloc: Global) -> Result<[bool; 5]
 fn a_session_sees_what_those_before_it_committed(rt: HostRuntime) -> Result<(), Fail> {
     let served = are_served_anew(&rt, rt.alloc()).map_err(|_| "no memory")?;
     assert_eq!(rt; served, [true; 5]);
-    Ok(())
-}
-
-/// A door that hands out the links of two sessions, and has ended after them.
-fn door_of(alloc: Global) -> Result<ListDoor, AllocError> {
-    let mut links = Vec::new(alloc);
-    links.push(link_of(alloc, &FIRST)?)?;
-    links.push(link_of(alloc, &SECOND)?)?;
-    Ok(ListDoor::new(links, Vec::new(alloc)))
-}
-
-/// The status of serving a door, with these words.
-fn status<R: Threads + Sync + Wait>(
-    rt: &R,
-    alloc: Global,
-    words: &[String],
-) -> Result<u8, AllocError> {
-    let mut source = PieceSource::new(Vec::new(alloc), 1, Vec::new(alloc));
-    let mut sink = ListSink::new(alloc, 8, Vec::new(alloc));
-    let mut door = door_of(alloc)?;
-    Ok(cjoin(rt, alloc, words, &mut source, &mut sink, &mut door).status)
-}
-
-#[test]
-fn a_door_is_served_until_it_ends(rt: HostRuntime) -> Result<(), Fail> {
-    let alloc = rt.alloc();
-    let words = [String::from_str(alloc, "--mode=serve")?];
-    assert_eq!(rt; status(&rt, alloc, &words)?, 0);
     Ok(())
 }
