@@ -1,11 +1,13 @@
 #!/usr/bin/env python3
 """Writes a script to the standard output: five dimensions, one load of sales, and a burst of star queries.
 
-    python3 bench/burst.py ROWS QUERIES > burst
+    python3 bench/burst.py ROWS QUERIES [TIMES] > burst
     time ./cjoin < burst
 
-The time of the queries alone is that of the script less that of the same script with 0 queries. All numbers are drawn
-by one linear congruence, so the same arguments write the same bytes. Python's standard library is all it needs.
+The time of the queries alone is that of the script less that of the same script with 0 queries. A load differs by a
+tenth of a second from run to run: where that matters the same burst is asked more TIMES, one behind the other. All
+numbers are drawn by one linear congruence, so the same arguments write the same bytes. Python's standard library is all
+it needs.
 """
 
 import sys
@@ -74,19 +76,24 @@ def load(name, rows):
     return f"load {name}\n{lines}.\n"
 
 
+def queries_of(count):
+    """The queries of a burst."""
+    draws = Draws(1000010)
+    return [query(number % 5, draws) for number in range(count)]
+
+
 def main():
-    if len(sys.argv) != 3:
-        sys.exit("usage: burst.py ROWS QUERIES")
-    rows, queries = map(int, sys.argv[1:])
-    draws, asked = Draws(7), Draws(1000010)
+    if len(sys.argv) not in (3, 4):
+        sys.exit("usage: burst.py ROWS QUERIES [TIMES]")
+    rows, queries, times = map(int, (*sys.argv[1:], "1")[:3])
+    draws = Draws(7)
     sys.stdout.write(HEAD)
     for name, members in dimensions(draws).items():
         sys.stdout.write(load(name, members))
     sys.stdout.write(load("sales", (sale(draws) for _ in range(rows))))
     sys.stdout.write("wait\n")
-    for number in range(queries):
-        sys.stdout.write(query(number % 5, asked) + "\n")
-    sys.stdout.write("wait\n")
+    burst = "".join(line + "\n" for line in queries_of(queries)) + "wait\n"
+    sys.stdout.write(burst * times)
 
 
 if __name__ == "__main__":

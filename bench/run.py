@@ -5,11 +5,13 @@
     python3 bench/run.py --rows 100000 --queries 1,64  smaller
     python3 bench/run.py --svg docs/speed.svg          writes the picture, too
 
-Each figure is seconds of processor time, on all processors together: the median of some runs of a script of
-`bench/burst.py`, less that of the same script without its queries. The answers of all are compared with those of the
-shared lap, and the table is written to the standard output. A peer gets the same tables, the same rows and the same
-queries, with an index over each key of a dimension. Its server, where it has one, is started for the run alone, listens
-on a socket in a new folder and nowhere else, and is ended behind it. Python's standard library is all this needs.
+Each figure is seconds of processor time for one burst, on all processors together: the least of some runs of a script of
+`bench/burst.py`, less the least of the same script without its queries. This program is asked the same burst four times
+or more in a script, so that a load, which differs from run to run, has little part in the difference; a peer, which
+takes longer, is asked it once. The answers of all are compared with those of the first shared lap, and the table is
+written to the standard output. A peer gets the same tables, the same rows and the same queries, with an index over each
+key of a dimension. Its server, where it has one, is started for the run alone, listens on a socket in a new folder and
+nowhere else, and is ended behind it. Python's standard library is all this needs.
 """
 
 import argparse
@@ -20,7 +22,6 @@ import pwd
 import re
 import resource
 import shutil
-import statistics
 import subprocess
 import sys
 import tempfile
@@ -45,9 +46,9 @@ def run(words, text, **how):
 
 
 @functools.lru_cache(maxsize=2)
-def script(rows, queries):
+def script(rows, queries, times):
     """The script of `bench/burst.py`."""
-    words = [sys.executable, os.path.join(TOP, "bench", "burst.py"), str(rows), str(queries)]
+    words = [sys.executable, os.path.join(TOP, "bench", "burst.py"), str(rows), str(queries), str(times)]
     return subprocess.run(words, check=True, capture_output=True, text=True).stdout
 
 
@@ -57,8 +58,14 @@ class Cjoin:
     def __init__(self, name, mode):
         self.name, self.words = name, [os.path.join(TOP, "cjoin"), "--mode", mode]
 
-    def answers(self, rows, queries):
-        text, seconds = run(self.words, script(rows, queries))
+    @staticmethod
+    def times(queries):
+        """How often a burst is asked in a script: some 64 queries at least, and four bursts."""
+        return max(4, 64 // queries)
+
+    def answers(self, rows, queries, times):
+        """The rows of each answer, and the seconds that all of it took."""
+        text, seconds = run(self.words, script(rows, queries, times))
         lines, found, at = text.splitlines(), [], 0
         while at < len(lines):
             words = lines[at].split(" ")
@@ -81,12 +88,6 @@ def tables(rows):
         columns = re.sub(r" references \w+", "", line.split("(", 1)[1]).replace("int key", "int primary key")
         statements.append(f"create table {line.split()[1]} ({columns};")
     return made, statements
-
-
-def asked(queries):
-    """The queries, as `bench/burst.py` draws them."""
-    draws = burst.Draws(1000010)
-    return [burst.query(number % 5, draws) for number in range(queries)]
 
 
 def records(rows):
@@ -113,7 +114,11 @@ class Sqlite:
     def is_there():
         return shutil.which("sqlite3") is not None
 
-    def answers(self, rows, queries):
+    @staticmethod
+    def times(queries):
+        return 1
+
+    def answers(self, rows, queries, times):
         made, statements = tables(rows)
         with tempfile.TemporaryDirectory() as folder:
             for name, members in made.items():
@@ -121,7 +126,7 @@ class Sqlite:
                     file.write(records(members))
             text = "\n".join(statements) + "\n.mode csv\n"
             text += "".join(f".import {os.path.join(folder, name)} {name}\n" for name in made)
-            text += "analyze;\n" + "".join(f".print --\n{query};\n" for query in asked(queries))
+            text += "analyze;\n" + "".join(f".print --\n{query};\n" for query in burst.queries_of(queries) * times)
             written, seconds = run(["sqlite3", ":memory:"], text)
         return parts(written.replace("\r", "")), seconds
 
@@ -148,7 +153,11 @@ class Postgres:
         names = {entry.pw_name for entry in pwd.getpwall()}
         return next((name for name in ("postgres", "nobody") if name in names), None)
 
-    def answers(self, rows, queries):
+    @staticmethod
+    def times(queries):
+        return 1
+
+    def answers(self, rows, queries, times):
         made, statements = tables(rows)
         before, user = seconds_of_children(), self.user()
         how = {"user": user} if os.geteuid() == 0 else {}
@@ -171,7 +180,7 @@ class Postgres:
                         sys.exit("PostgreSQL did not start")
                 text = "\n".join(statements) + "\n"
                 text += "".join(f"copy {name} from stdin csv;\n{records(members)}\\.\n" for name, members in made.items())
-                text += "analyze;\n" + "".join(f"\\echo --\n{query};\n" for query in asked(queries))
+                text += "analyze;\n" + "".join(f"\\echo --\n{query};\n" for query in burst.queries_of(queries) * times)
                 written, _ = run(ask, text)
             finally:
                 server.send_signal(2)  # a fast end
@@ -180,15 +189,16 @@ class Postgres:
 
 
 def measured(party, rows, queries, repetitions, wanted):
-    """The median seconds of the queries alone, and the answers, which are those that are wanted if they are known."""
-    loads, all_of_it = [], []
+    """The seconds of one burst alone, and its answers, which are those that are wanted if they are known."""
+    loads, all_of_it, times = [], [], party.times(queries)
     for _ in range(repetitions):
-        loads.append(party.answers(rows, 0)[1])
-        answers, seconds = party.answers(rows, queries)
+        loads.append(party.answers(rows, 0, 1)[1])
+        answers, seconds = party.answers(rows, queries, times)
         all_of_it.append(seconds)
-        if wanted is not None and answers != wanted:
+        wanted = wanted if wanted is not None else answers[:queries]
+        if answers != wanted * times:
             sys.exit(f"{party.name} answers otherwise over {rows} sales and {queries} queries")
-    return max(0.0, statistics.median(all_of_it) - statistics.median(loads)), answers
+    return max(0.0, min(all_of_it) - min(loads)) / times, wanted
 
 
 def table(counts, figures):
@@ -197,7 +207,7 @@ def table(counts, figures):
     lines = [head, "|" + "---|" * (len(figures) + 2)]
     for place, count in enumerate(counts):
         shared, alone = list(figures.values())[0][place], list(figures.values())[1][place]
-        cells = " | ".join(f"{own[place]:.2f}" for own in figures.values())
+        cells = " | ".join(f"{own[place]:.3f}" for own in figures.values())
         lines.append(f"| {count} | {cells} | {shared / alone if alone else 0:.2f} |")
     return "\n".join(lines)
 
@@ -249,10 +259,9 @@ def main():
     for count in counts:
         wanted = None
         for party in parties:
-            seconds, answers = measured(party, words.rows, count, words.repetitions, wanted)
-            wanted = wanted if wanted is not None else answers
+            seconds, wanted = measured(party, words.rows, count, words.repetitions, wanted)
             figures[party.name].append(seconds)
-            print(f"{party.name}: {count} queries, {seconds:.2f} s", file=sys.stderr)
+            print(f"{party.name}: {count} queries, {seconds:.3f} s", file=sys.stderr)
     print(table(counts, figures))
     if words.svg:
         with open(words.svg, "w") as file:
