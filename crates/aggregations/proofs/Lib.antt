@@ -7,6 +7,7 @@ mod CellLemmas
 mod GroupLemmas
 mod KeptLemmas
 mod EndLemmas
+mod OneGroupLemmas
 mod OrderLemmas
 mod CodeLemmas
 mod IntegerLemmas
