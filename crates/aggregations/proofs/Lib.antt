@@ -14,3 +14,5 @@ mod IntegerLemmas
 mod RowsLemmas
 mod OrderedRowsLemmas
 mod FoundLemmas
+mod CountLemmas
+mod SumLemmas

@@ -6,3 +6,4 @@ pub mod Finish
 pub mod Codes
 pub mod Numbered
 pub mod Integers
+pub mod Counting

@@ -3,6 +3,7 @@
 
 mod code_entry;
 mod codes;
+mod counting;
 mod crossing;
 mod ending;
 mod finding;
