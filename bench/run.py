@@ -5,13 +5,13 @@
     python3 bench/run.py --rows 100000 --queries 1,64  smaller
     python3 bench/run.py --svg docs/speed.svg          writes the picture, too
 
-Each figure is seconds of processor time for one burst, on all processors together: the least of some runs of a script of
-`bench/burst.py`, less the least of the same script without its queries. This program is asked the same burst four times
-or more in a script, so that a load, which differs from run to run, has little part in the difference; a peer, which
-takes longer, is asked it once. The answers of all are compared with those of the first shared lap, and the table is
-written to the standard output. A peer gets the same tables, the same rows and the same queries, with an index over each
-key of a dimension. Its server, where it has one, is started for the run alone, listens on a socket in a new folder and
-nowhere else, and is ended behind it. Python's standard library is all this needs.
+Each figure is seconds of processor time for one burst, on all processors together: the least of some runs of a script
+of `bench/burst.py`, less the least of the same script without its queries. This program is asked the same burst four
+times or more in a script, so that a load, which differs from run to run, has little part in the difference; a peer,
+which takes longer, runs once, and is asked it once. The answers of all are compared with those of the first shared
+lap, and the table is written to the standard output. A peer gets the same tables, the same rows and the same queries,
+with an index over each key of a dimension. Its server, where it has one, is started for the run alone, listens on a
+socket in a new folder and nowhere else, and is ended behind it. Python's standard library is all this needs.
 """
 
 import argparse
@@ -247,7 +247,7 @@ def main():
     reader = argparse.ArgumentParser(description="Measures bursts of star queries, shared and private.")
     reader.add_argument("--rows", type=int, default=1_000_000)
     reader.add_argument("--queries", default="1,4,16,64")
-    reader.add_argument("--repetitions", type=int, default=3)
+    reader.add_argument("--repetitions", type=int, default=3, help="runs of this program for a figure")
     reader.add_argument("--no-peers", action="store_true", help="measure this program alone")
     reader.add_argument("--svg", help="where the picture is written")
     words = reader.parse_args()
@@ -259,7 +259,8 @@ def main():
     for count in counts:
         wanted = None
         for party in parties:
-            seconds, wanted = measured(party, words.rows, count, words.repetitions, wanted)
+            runs = words.repetitions if isinstance(party, Cjoin) else 1
+            seconds, wanted = measured(party, words.rows, count, runs, wanted)
             figures[party.name].append(seconds)
             print(f"{party.name}: {count} queries, {seconds:.3f} s", file=sys.stderr)
     print(table(counts, figures))
