@@ -7,4 +7,3 @@ pub mod WriteLemmas
 pub mod BitLemmas
 pub mod SeenLemmas
 pub mod KeptLemmas
-pub mod FlatLemmas

@@ -6,6 +6,5 @@ pub mod Stamped
 pub mod Batches
 pub mod Calls
 pub mod Examples
-pub mod Flat
 pub mod Gathered
 pub mod Inside

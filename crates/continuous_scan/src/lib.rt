@@ -1,14 +1,11 @@
 //! Which positions of the fact table come next. What is done to the rows of a batch is in the crates above.
 #![tactic(auto)]
 
-mod bounds;
-mod condition;
 mod crossing;
 mod gathered;
 mod keeping;
 mod laws;
 mod range;
-mod range_test;
 mod runner;
 mod scan;
 mod seeing;

@@ -1,19 +1,18 @@
-//! A query's condition on the fact table, as it is asked of many rows. Which rows it is asked of is in
-//! `stamping`.
+//! A query's condition on the rows of a table, as it is asked of many of them.
 ghost use Rattle.std.specs.Prelude.{◌≡◌, IfSome, Some, option_map};
 ghost use Rattle.star_values.specs.declared.value.Value as cell;
 ghost use Rattle.star_plan.specs.Test as plain;
 ghost use Rattle.star_plan.specs.Test.{test_of};
-ghost use Rattle.continuous_scan.specs.Flat.{IsRangeOf, AreRangesOf, Means};
+ghost use Rattle.range_tests.specs.Flat.{IsRangeOf, AreRangesOf, Means};
 
 use crate::bounds::Bounds;
 use crate::range_test::{RangeTest, RangeTests};
 use star_plan::{How, Predicate, predicates_are_tests_by_their_parts};
 use star_values::Value;
 
-/// A query's condition on the fact table.
+/// A query's condition on the rows of a table.
 #[derive(Debug, Drop)]
-pub(crate) enum Condition {
+pub enum Condition {
     /// There is none.
     Always,
 
@@ -79,7 +78,7 @@ fn range_tests_of(members: &[Predicate]) -> Option<RangeTests>
 }
 
 /// The condition that a predicate is.
-fn flattened(predicate: &Predicate) -> Condition
+pub fn flattened(predicate: &Predicate) -> Condition
     ensures { Means result (Some (test_of predicate.now)) }
 {
     predicates_are_tests_by_their_parts();
@@ -100,7 +99,7 @@ fn flattened(predicate: &Predicate) -> Condition
 }
 
 /// The condition that a predicate is, if there is one.
-pub(crate) fn condition_of(fact: &Option<Predicate>) -> Condition
+pub fn condition_of(fact: &Option<Predicate>) -> Condition
     ensures { Means result (option_map test_of fact.now) }
 {
     match fact {

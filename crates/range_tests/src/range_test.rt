@@ -1,29 +1,29 @@
-//! Ranges of integers in columns of the fact table. Which conditions are made of them is in `condition`.
+//! Ranges of integers in columns of a table. Which conditions are made of them is in `condition`.
 ghost use Rattle.std.specs.Prelude.{◌≡◌, ◌↔◌, ◌++◌, ◌∷◌, [], ◌<◌, ◌≤◌, IsTrue, length};
 
 use crate::bounds::Bounds;
 use std::marker::Model;
 
 /// How many range tests a condition may be made of.
-pub(crate) const MAX_RANGE_TESTS: usize = 8;
+pub const MAX_RANGE_TESTS: usize = 8;
 
 /// A column, and between which integers it lets a value pass.
 #[derive(Clone, Copy, Debug)]
-pub(crate) struct RangeTest {
-    pub(crate) column: u8,
-    pub(crate) bounds: Bounds,
+pub struct RangeTest {
+    pub column: u8,
+    pub bounds: Bounds,
 }
 
 /// Range tests that all have to let a row pass.
 #[derive(Debug, Drop)]
-pub(crate) struct RangeTests {
+pub struct RangeTests {
     tests: [RangeTest; MAX_RANGE_TESTS],
     count: usize,
 }
 
 impl Model for RangeTests {
     ghost use Rattle.std.specs.Prelude.{◌≡◌, ◌≤◌, List, length, take};
-    ghost use Rattle.continuous_scan.specs.declared.range_test.RangeTest.{RangeTest};
+    ghost use Rattle.range_tests.specs.declared.range_test.RangeTest.{RangeTest};
 
     ghost Value = { List RangeTest };
 
@@ -34,7 +34,7 @@ impl Model for RangeTests {
 
 impl RangeTests {
     /// No range test.
-    pub(crate) fn none() -> RangeTests
+    pub fn none() -> RangeTests
         ensures { result ≡ [] }
     {
         let any = RangeTest {
@@ -51,7 +51,7 @@ impl RangeTests {
     }
 
     /// Whether there is no room for one more.
-    pub(crate) fn is_full(&self) -> bool
+    pub fn is_full(&self) -> bool
         ensures full { IsTrue result ↔ (length self.now ≡ 8) }
         ensures few { length self.now ≤ 8 }
     {
@@ -59,7 +59,7 @@ impl RangeTests {
     }
 
     /// Adds a range test.
-    pub(crate) fn push(&mut self, test: RangeTest)
+    pub fn push(&mut self, test: RangeTest)
         requires { length self.old < 8 }
         ensures { self.new ≡ self.old ++ test ∷ [] }
     {
@@ -68,7 +68,7 @@ impl RangeTests {
     }
 
     /// The range tests.
-    pub(crate) fn as_slice(&self) -> &[RangeTest]
+    pub fn as_slice(&self) -> &[RangeTest]
         ensures { result.now ≡ self.now }
     {
         &self.tests[..self.count]

@@ -4,21 +4,21 @@ ghost use Rattle.std.specs.Int.{w64};
 ghost use Rattle.std.specs.Ordering.{int_cmp};
 ghost use Rattle.star_plan.specs.declared.predicate.How.TheVariants.{Ge, Le};
 ghost use Rattle.star_plan.specs.Truth.{is_asked};
-ghost use Rattle.continuous_scan.specs.Flat.{is_below, is_above, is_within};
+ghost use Rattle.range_tests.specs.Flat.{is_below, is_above, is_within};
 
 use star_plan::How;
 
 /// The least and the greatest integer of a range, as far as it has them.
 #[derive(Clone, Copy, Debug)]
-pub(crate) struct Bounds {
-    pub(crate) least: Option<i64>,
-    pub(crate) greatest: Option<i64>,
+pub struct Bounds {
+    pub least: Option<i64>,
+    pub greatest: Option<i64>,
 }
 
 impl Bounds {
     /// The bounds of the integers that compare as asked with one, if they are a range. What is below
     /// the least integer of 64 bits, or above the greatest, has no bounds of 64 bits.
-    pub(crate) fn of(how: How, integer: i64) -> Option<Bounds>
+    pub fn of(how: How, integer: i64) -> Option<Bounds>
         ensures { IfSome result (λ bounds. (n : ℤ) →
             is_asked how (int_cmp n integer) ≡ is_within bounds n) }
     {
@@ -54,7 +54,7 @@ impl Bounds {
     }
 
     /// The bounds of the integers from one to another.
-    pub(crate) fn between(low: i64, high: i64) -> Bounds
+    pub fn between(low: i64, high: i64) -> Bounds
         ensures { (n : ℤ) → (is_asked Ge (int_cmp n low) && is_asked Le (int_cmp n high))
             ≡ is_within result n }
     {
@@ -64,7 +64,7 @@ impl Bounds {
         }
     }
     /// The least and the greatest integer of 64 bits that are within the bounds.
-    pub(crate) fn limits(&self) -> (i64, i64)
+    pub fn limits(&self) -> (i64, i64)
         ensures { (n : ℤ) → FitsSigned w64 n →
             is_within self.now n ≡ not (int_lt n result.0 || int_lt result.1 n) }
     {

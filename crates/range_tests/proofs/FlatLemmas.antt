@@ -15,9 +15,9 @@ use Rattle.star_plan.specs.Answer.{integer_of}
 use Rattle.star_plan.specs.Test.{Test, Compare, Between, Both, test_of, tests}
 use Rattle.star_plan.specs.Truth.{is_asked, compares, test_holds, all_hold}
 use Rattle.star_plan.specs.Fits.{fits_column, test_fits, all_fit}
-use Rattle.continuous_scan.specs.declared.bounds.Bounds.{Bounds}
-use Rattle.continuous_scan.specs.declared.range_test.RangeTest.{RangeTest}
-use Rattle.continuous_scan.specs.Flat.{is_within, lets, IsRangeOf, AreRangesOf}
+use Rattle.range_tests.specs.declared.bounds.Bounds.{Bounds}
+use Rattle.range_tests.specs.declared.range_test.RangeTest.{RangeTest}
+use Rattle.range_tests.specs.Flat.{is_within, lets, IsRangeOf, AreRangesOf}
 
 -- a column that takes an integer has one
 int_there : (row : List Value) (column : ℕ) (n : ℤ) → fits_column (map kind_of row) column (Int n) ≡ true

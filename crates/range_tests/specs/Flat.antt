@@ -1,4 +1,4 @@
--- Conditions on the fact table that are made of ranges of integers.
+-- Conditions on rows that are made of ranges of integers.
 use Rattle.std.specs.Prelude.{◌≡◌, ℤ, Bool, true, false, not, ◌||◌, int_lt, List, Option, Some, None, IsTrue}
 use Rattle.std.specs.List.{list_all}
 use Rattle.star_values.specs.declared.value.Value.{Value}
@@ -9,10 +9,10 @@ use Rattle.star_plan.specs.Answer.{integer_of}
 use Rattle.star_plan.specs.Test.{Test, test_of}
 use Rattle.star_plan.specs.Truth.{passes, test_holds}
 use Rattle.star_plan.specs.Fits.{some_test_fits, test_fits}
-use Rattle.continuous_scan.specs.declared.bounds.Bounds.{Bounds}
-use Rattle.continuous_scan.specs.declared.range_test.RangeTest.{RangeTest}
-use Rattle.continuous_scan.specs.declared.condition.Condition.{Condition}
-use Rattle.continuous_scan.specs.declared.condition.Condition.TheVariants.{Always, Ranges, Tree}
+use Rattle.range_tests.specs.declared.bounds.Bounds.{Bounds}
+use Rattle.range_tests.specs.declared.range_test.RangeTest.{RangeTest}
+use Rattle.range_tests.specs.declared.condition.Condition.{Condition}
+use Rattle.range_tests.specs.declared.condition.Condition.TheVariants.{Always, Ranges, Tree}
 
 -- whether an integer is below the least, if there is a least
 abbrev pub is_below : Option ℤ → ℤ → Bool

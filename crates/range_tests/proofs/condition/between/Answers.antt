@@ -1,7 +1,7 @@
 use Rattle.std.proofs.Common.{rules, FitsSigned, w64}
 use Rattle.std.proofs.lemmas.Int.{to_z-of_z}
-use Rattle.continuous_scan.proofs.FlatLemmas.{between-range}
-use Rattle.continuous_scan.proofs.condition.between.Goals as goal
+use Rattle.range_tests.proofs.FlatLemmas.{between-range}
+use Rattle.range_tests.proofs.condition.between.Goals as goal
 
 pub returns-in-Int-Int : goal.returns-in-Int-Int
 returns-in-Int-Int c =

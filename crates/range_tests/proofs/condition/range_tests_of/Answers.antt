@@ -1,5 +1,5 @@
-use Rattle.continuous_scan.proofs.FlatLemmas.{ranges-more}
-use Rattle.continuous_scan.proofs.condition.range_tests_of.Goals as goal
+use Rattle.range_tests.proofs.FlatLemmas.{ranges-more}
+use Rattle.range_tests.proofs.condition.range_tests_of.Goals as goal
 
 pub loop-member-preserved : goal.loop-member-preserved
 loop-member-preserved c =

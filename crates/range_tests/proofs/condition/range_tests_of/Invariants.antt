@@ -1,6 +1,6 @@
 use Rattle.std.proofs.Common.{take}
-use Rattle.continuous_scan.specs.Flat.{AreRangesOf}
-use Rattle.continuous_scan.proofs.condition.range_tests_of.Given as goal
+use Rattle.range_tests.specs.Flat.{AreRangesOf}
+use Rattle.range_tests.proofs.condition.range_tests_of.Given as goal
 
 abbrev pub invariant-loop-member : goal.invariant-loop-member
 invariant-loop-member l = AreRangesOf (take l.member-index l.members) l.tests

@@ -1,7 +1,7 @@
 use Rattle.std.proofs.Common.{◌∙◌, ap, map, sym}
 use Rattle.star_plan.specs.Test.{Both, tests, test_of}
-use Rattle.continuous_scan.proofs.FlatLemmas.{both-ranges}
-use Rattle.continuous_scan.proofs.condition.flattened.Goals as goal
+use Rattle.range_tests.proofs.FlatLemmas.{both-ranges}
+use Rattle.range_tests.proofs.condition.flattened.Goals as goal
 
 pub returns-in-Some : goal.returns-in-Some
 returns-in-Some c =

@@ -1,7 +1,7 @@
 use Rattle.std.proofs.Common.{rules, FitsSigned, w64}
 use Rattle.std.proofs.lemmas.Int.{to_z-of_z}
-use Rattle.continuous_scan.proofs.FlatLemmas.{compared-range}
-use Rattle.continuous_scan.proofs.condition.compared.Goals as goal
+use Rattle.range_tests.proofs.FlatLemmas.{compared-range}
+use Rattle.range_tests.proofs.condition.compared.Goals as goal
 
 pub returns-in-Some : goal.returns-in-Some
 returns-in-Some c =
