@@ -9,10 +9,10 @@ mod KeptLemmas
 mod EndLemmas
 mod OneGroupLemmas
 mod OrderLemmas
-mod CodeLemmas
-mod IntegerLemmas
+mod EntryLemmas
 mod RowsLemmas
 mod OrderedRowsLemmas
 mod FoundLemmas
 mod CountLemmas
 mod SumLemmas
+mod KeepLemmas

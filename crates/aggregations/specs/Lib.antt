@@ -3,7 +3,7 @@ pub mod Grouped
 pub mod Folding
 pub mod Cells
 pub mod Finish
-pub mod Codes
+pub mod Entries
 pub mod Numbered
-pub mod Integers
+pub mod Ways
 pub mod Counting

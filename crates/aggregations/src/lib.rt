@@ -2,7 +2,6 @@
 #![tactic(auto)]
 
 mod code_entry;
-mod codes;
 mod counting;
 mod crossing;
 mod ending;
@@ -10,13 +9,11 @@ mod finding;
 mod flat_cell;
 mod groups;
 mod guesses;
+mod keeping;
 mod kept_groups;
 mod keys;
 mod laws;
 mod ordered;
-mod read;
-mod row_codes;
-mod row_integers;
 mod taking;
 mod taking_rows;
 mod texts;
@@ -24,5 +21,3 @@ mod texts;
 pub use crossing::groups_may_be_sent;
 pub use groups::Groups;
 pub use laws::{one_row_more_is_folded, values_by_key_fold_the_same};
-pub use row_codes::{PLACES, ROWS, RowCodes};
-pub use row_integers::RowIntegers;

@@ -4,11 +4,11 @@
 ghost use Rattle.std.specs.Prelude.{◌≡◌, ℕ, List, ◌+◌, ◌-◌, ◌*◌, ◌/◌, ◌%◌, ◌<◌, ◌≤◌, length, slice_index};
 ghost use Rattle.std.specs.Int.{bit_at};
 ghost use Rattle.bit_words.specs.Words.{set_of};
-ghost use Rattle.aggregations.specs.declared.row_codes.TheConstants.{ROWS};
+ghost use Rattle.row_columns.specs.declared.row_codes.TheConstants.{ROWS};
 ghost use Rattle.distributor.specs.Masked.{AreMasks, IsMask, IsPartMask};
 ghost use Rattle.distributor.specs.Crossed.{IsDistance, crossed};
 
-use aggregations::ROWS;
+use row_columns::ROWS;
 
 /// How many rows make a part of a block, which is how many bits a word has.
 pub(crate) const ROWS_IN_A_PART: usize = 64;
