@@ -4,7 +4,6 @@
 mod crossing;
 mod dimension_row;
 mod dimension_rows;
-mod integers;
 mod key_hash;
 mod laws;
 mod look_up;

@@ -1,6 +1,7 @@
-//! The parts that rows and their index consist of, and how one more row goes into each.
+//! The parts that rows, their index and their columns consist of, and how one more row goes into each.
 ghost use Rattle.std.specs.Prelude.{◌≡◌, ℕ, ◌≤◌, ◌<◌, ◌+◌, [], ◌∷◌, ◌++◌, length, nat_eq, IsSome, IfSome, None, OnOk, OnErr};
 ghost use Rattle.std.specs.HashMap.{get, spare};
+ghost use Rattle.dimension_rows.specs.Integers.{AreColumns};
 ghost use Rattle.dimension_rows.specs.Keys.{key_of, index_of};
 ghost use Rattle.dimension_rows.specs.Hash.{hash_of_key};
 ghost use Rattle.dimension_rows.specs.Parts.{AreIndexed, HaveRoom};
@@ -10,6 +11,7 @@ use crate::key_hash::row_hash;
 use star_lists::ListWithRoom;
 use star_values::NoMemory;
 use std::collections::HashMap;
+use value_columns::{CodeColumns, IntegerColumns};
 
 /// For each row the next older row whose key has the same hash.
 pub(crate) type OlderRows = ListWithRoom<Option<u32>>;
@@ -17,11 +19,14 @@ pub(crate) type OlderRows = ListWithRoom<Option<u32>>;
 /// For each hash of a key the newest row that has it.
 pub(crate) type NewestRows = HashMap<u64, u32>;
 
-/// Puts a row behind all others, into the room that each part has.
+/// Puts a row behind all others, into the room that each part has, and its integers and the codes of its
+/// texts into the columns, as far as there is memory.
 pub(crate) fn push_row(
     rows: &mut ListWithRoom<DimensionRow>,
     older: &mut OlderRows,
     newest: &mut NewestRows,
+    integers: &mut IntegerColumns,
+    codes: &mut CodeColumns,
     entry: DimensionRow,
 )
     requires indexed { AreIndexed rows.old.items older.old.items (get nat_eq newest.old) }
@@ -31,12 +36,15 @@ pub(crate) fn push_row(
     requires fresh { IfSome (key_of entry.row) (λ key. index_of rows.old.items key ≡ None) }
     ensures items { rows.new.items ≡ rows.old.items ++ entry ∷ [] }
     ensures indexed { AreIndexed rows.new.items older.new.items (get nat_eq newest.new) }
+    ensures columns { AreColumns rows.old.items integers.old codes.old → AreColumns rows.new.items integers.new codes.new }
     ensures rows_room { rows.new.room + 1 ≡ rows.old.room }
     ensures older_room { older.new.room + 1 ≡ older.old.room }
     ensures newest_room { spare newest.old ≤ spare newest.new + 1 }
 {
-    let place = rows.len() as u32;
-    let inserted: Result<Option<u32>, _> = newest.insert(row_hash(&entry.row), place);
+    let before = rows.len();
+    integers.append(before, &entry.row);
+    codes.append(before, &entry.row);
+    let inserted: Result<Option<u32>, _> = newest.insert(row_hash(&entry.row), before as u32);
     older.push_reserved(inserted.unwrap());
     rows.push_reserved(entry);
 }

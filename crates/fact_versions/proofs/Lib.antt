@@ -1,2 +1,3 @@
+pub mod BesideLemmas
 pub mod EndsLemmas
 pub mod VisibleLemmas

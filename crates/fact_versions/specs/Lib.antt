@@ -1,3 +1,5 @@
 -- What the contracts of this crate, and of those above it, say of versions.
+pub mod Beside
 pub mod Ends
+pub mod Integers
 pub mod Visible

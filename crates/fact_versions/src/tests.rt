@@ -47,6 +47,11 @@ fn versions_keep_their_positions_while_one_is_ended(rt: HostRuntime) -> Result<(
     assert_eq!(rt; versions.version(1).end, 3);
     assert_eq!(rt; versions.version(1).begin, 2);
     assert!(rt; versions.version(1).row.as_slice() == [Value::Int(80)].as_slice());
+    let second = versions.stretch(0, 2).part(1, 2);
+    assert_eq!(rt; second.len(), 1);
+    assert_eq!(rt; second.as_slice()[0].begin, 2);
+    assert!(rt; second.integers(0) == Some([80].as_slice()));
+    assert!(rt; second.integers(1).is_none());
     versions.end_at(0, 4);
     assert_eq!(rt; versions.version(0).end, 4);
     assert_eq!(rt; versions.versions().len(), 2);

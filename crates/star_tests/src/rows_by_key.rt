@@ -87,6 +87,10 @@ fn rows_are_found_by_texts(rt: HostRuntime) -> Result<(), Fail> {
     assert!(rt; !append_new(&mut rows, rt.alloc(), wanted, 6)?);
     assert_eq!(rt; rows.len(), 2);
     assert_eq!(rt; rows.rows().len(), 2);
+    // The bytes of `blue` as digits to the base 256, the lowest first, a one behind them, four times.
+    assert_eq!(rt; rows.codes(0).first().copied(), Some(23_988_646_280));
+    assert_eq!(rt; rows.codes(0).len(), 2);
+    assert!(rt; rows.codes(1).is_empty());
     Ok(())
 }
 
@@ -127,6 +131,9 @@ fn each_of_many_rows_is_found(rt: HostRuntime) -> Result<(), Fail> {
     assert!(rt; finds_numbers(&rows, 300));
     assert!(rt; rows.index_of(&Value::Int(2)).is_none());
     assert_eq!(rt; rows.len(), 300);
+    assert_eq!(rt; rows.integers(0).get(299).copied(), Some(299 * 1_000_003));
+    assert!(rt; rows.integers(1) == [7; 300].as_slice());
+    assert!(rt; rows.integers(2).is_empty());
     Ok(())
 }
 

@@ -1,5 +1,7 @@
-use Rattle.std.proofs.Common.{nat_eq}
+use Rattle.std.proofs.Common.{nat_eq, sym, subst, ◌∙◌}
 use Rattle.std.specs.HashMap.{get}
+use Rattle.dimension_rows.specs.Integers.{AreColumns, values_of}
+use Rattle.dimension_rows.proofs.ColumnLemmas.{AreColumns-append, values_of-length}
 use Rattle.dimension_rows.proofs.PartLemmas.{AreIndexed-append}
 use Rattle.dimension_rows.proofs.parts.push_row.Goals as goal
 
@@ -9,5 +11,13 @@ returns-clause-indexed c =
     let updates = rw c.unwrap.ensures at c.insert-inserted.ensures.updates in
     rw (c.push_reserved-2.ensures.items, c.push_reserved.ensures.items)
     (AreIndexed-append c.args.rows.now.items c.args.entry c.args.older.now.items (get nat_eq c.args.newest.now) (get nat_eq c.insert-inserted.new.self)
-    c.row_hash.result c.len-place.result c.unwrap.result c.requires.indexed c.requires.few c.requires.key c.requires.fresh
-    c.row_hash.ensures c.len-place.ensures old updates.0)
+    c.row_hash.result c.len-before.result c.unwrap.result c.requires.indexed c.requires.few c.requires.key c.requires.fresh
+    c.row_hash.ensures c.len-before.ensures old updates.0)
+
+pub returns-clause-columns : goal.returns-clause-columns
+returns-clause-columns c = λ columns.
+    let rows = c.args.rows.now.items in
+    let before = values_of-length rows ∙ sym c.len-before.ensures in
+    subst (λ rows. AreColumns rows c.append.new.self c.append-2.new.self) (sym c.push_reserved-2.ensures.items)
+    (AreColumns-append rows c.args.entry c.append.new.self c.append-2.new.self
+    (c.append.ensures (values_of rows) before columns.of_integers) (c.append-2.ensures (values_of rows) before columns.of_codes))

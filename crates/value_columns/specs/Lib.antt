@@ -1,0 +1,3 @@
+-- Codes of values, and what is kept of the first rows of a table.
+pub mod Codes
+pub mod First
