@@ -6,5 +6,4 @@ pub mod Stamped
 pub mod Batches
 pub mod Calls
 pub mod Examples
-pub mod Gathered
 pub mod Inside

@@ -2,7 +2,6 @@
 #![tactic(auto)]
 
 mod crossing;
-mod gathered;
 mod keeping;
 mod laws;
 mod range;

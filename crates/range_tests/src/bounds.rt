@@ -18,7 +18,7 @@ pub struct Bounds {
 impl Bounds {
     /// The bounds of the integers that compare as asked with one, if they are a range. What is below
     /// the least integer of 64 bits, or above the greatest, has no bounds of 64 bits.
-    pub fn of(how: How, integer: i64) -> Option<Bounds>
+    pub(crate) fn of(how: How, integer: i64) -> Option<Bounds>
         ensures { IfSome result (λ bounds. (n : ℤ) →
             is_asked how (int_cmp n integer) ≡ is_within bounds n) }
     {
@@ -54,7 +54,7 @@ impl Bounds {
     }
 
     /// The bounds of the integers from one to another.
-    pub fn between(low: i64, high: i64) -> Bounds
+    pub(crate) fn between(low: i64, high: i64) -> Bounds
         ensures { (n : ℤ) → (is_asked Ge (int_cmp n low) && is_asked Le (int_cmp n high))
             ≡ is_within result n }
     {

@@ -9,4 +9,4 @@ mod range_test;
 pub use bounds::Bounds;
 pub use condition::{Condition, condition_of, flattened};
 pub use crossing::{conditions_may_be_sent, conditions_may_be_shared};
-pub use range_test::{MAX_RANGE_TESTS, RangeTest, RangeTests};
+pub use range_test::{RangeTest, RangeTests};

@@ -1,17 +1,43 @@
 //! Ranges of integers in columns of a table. Which conditions are made of them is in `condition`.
 ghost use Rattle.std.specs.Prelude.{◌≡◌, ◌↔◌, ◌++◌, ◌∷◌, [], ◌<◌, ◌≤◌, IsTrue, length};
+ghost use Rattle.star_plan.specs.Answer.{integer_of};
+ghost use Rattle.star_plan.specs.Row.{value_in};
+ghost use Rattle.range_tests.specs.Flat.{lets};
 
 use crate::bounds::Bounds;
+use star_values::{Row, Value};
 use std::marker::Model;
 
 /// How many range tests a condition may be made of.
-pub const MAX_RANGE_TESTS: usize = 8;
+pub(crate) const MAX_RANGE_TESTS: usize = 8;
 
 /// A column, and between which integers it lets a value pass.
 #[derive(Clone, Copy, Debug)]
 pub struct RangeTest {
     pub column: u8,
     pub bounds: Bounds,
+}
+
+impl RangeTest {
+    /// Whether the test lets a row pass: the integer in its column is within its bounds. Where the row has
+    /// none there, 0 is asked in its place.
+    pub fn lets(&self, row: &Row) -> bool
+        ensures { result ≡ lets row.now self.now }
+    {
+        let (least, greatest) = self.bounds.limits();
+        let integer = integer_in(row, self.column);
+        !((integer < least) | (greatest < integer))
+    }
+}
+
+/// The integer in a column of a row, and 0 where there is none.
+fn integer_in(row: &Row, column: u8) -> i64
+    ensures { result ≡ integer_of (value_in row.now column) }
+{
+    match row.as_slice().get(column as usize) {
+        Some(Value::Int(integer)) => *integer,
+        _ => 0,
+    }
 }
 
 /// Range tests that all have to let a row pass.
@@ -34,7 +60,7 @@ impl Model for RangeTests {
 
 impl RangeTests {
     /// No range test.
-    pub fn none() -> RangeTests
+    pub(crate) fn none() -> RangeTests
         ensures { result ≡ [] }
     {
         let any = RangeTest {
@@ -51,7 +77,7 @@ impl RangeTests {
     }
 
     /// Whether there is no room for one more.
-    pub fn is_full(&self) -> bool
+    pub(crate) fn is_full(&self) -> bool
         ensures full { IsTrue result ↔ (length self.now ≡ 8) }
         ensures few { length self.now ≤ 8 }
     {
@@ -59,7 +85,7 @@ impl RangeTests {
     }
 
     /// Adds a range test.
-    pub fn push(&mut self, test: RangeTest)
+    pub(crate) fn push(&mut self, test: RangeTest)
         requires { length self.old < 8 }
         ensures { self.new ≡ self.old ++ test ∷ [] }
     {
