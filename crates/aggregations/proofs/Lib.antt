@@ -15,4 +15,5 @@ mod OrderedRowsLemmas
 mod FoundLemmas
 mod CountLemmas
 mod SumLemmas
+mod GroupSumLemmas
 mod KeepLemmas

@@ -1,6 +1,7 @@
 //! What does a query compute of its rows? It folds them into groups, in any order, exactly.
 #![tactic(auto)]
 
+mod adding;
 mod code_entry;
 mod counting;
 mod crossing;
