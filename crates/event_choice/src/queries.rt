@@ -1,13 +1,13 @@
 //! Which query may come next.
 ghost use Rattle.std.specs.Prelude.{◌≡◌, ℕ, ◌<◌, length, IfSome, IsSomeAnd};
 ghost use Rattle.pipeline_manager.specs.Conditions.{CanBuild, CanRun};
-ghost use Rattle.pipeline_manager.specs.Lives.{built_of, life_of, slot_of};
+ghost use Rattle.pipeline_manager.specs.Lives.{built_of, slot_of};
 ghost use Rattle.pipeline_manager.specs.Sound.{IsSound};
 ghost use Rattle.event_choice.specs.Slots.{MayGetSlot};
 
 use crate::enabling::is_building;
 use crate::sets::{is_within, least_outside};
-use pipeline_manager::{Life, Manager, SlotState, holders_are_found};
+use pipeline_manager::{Manager, SlotState, holders_are_found};
 
 /// A query that may get a slot.
 #[derive(Clone, Copy, Debug, PartialEq, Eq)]
@@ -23,9 +23,9 @@ pub struct ToBuild {
     pub dimension: u8,
 }
 
-/// A query that is Building, and the set of the dimensions that are built for it.
+/// A query that holds a slot, and the set of the dimensions that are built for it.
 #[derive(Clone, Copy, Debug)]
-struct Unbuilt {
+struct Holder {
     query: u64,
     built: u8,
 }
@@ -83,10 +83,14 @@ fn build_at(manager: &Manager, slot: u32) -> Option<ToBuild>
     ensures none { result ≡ None → (query dimension : ℕ) → slot_of manager.now query ≡ Some slot →
         CanBuild query dimension manager.now → ⊥ }
 {
-    let unbuilt = unbuilt_at(manager, slot)?;
-    let dimension = least_outside(manager.filters(), unbuilt.built)?;
+    let holder = holder_at(manager, slot)?;
+    let dimension = least_outside(manager.filters(), holder.built)?;
+    // Asked last, since a life is searched for: every filter is built for most queries.
+    if !is_building(manager, holder.query) {
+        return None;
+    }
     Some(ToBuild {
-        query: unbuilt.query,
+        query: holder.query,
         dimension,
     })
 }
@@ -97,31 +101,26 @@ fn start_at(manager: &Manager, slot: u32) -> Option<u64>
     ensures some { IfSome result (λ query. CanRun query manager.now) }
     ensures none { result ≡ None → (query : ℕ) → slot_of manager.now query ≡ Some slot → CanRun query manager.now → ⊥ }
 {
-    let unbuilt = unbuilt_at(manager, slot)?;
-    if is_within(manager.filters(), unbuilt.built) {
-        Some(unbuilt.query)
-    } else {
-        None
+    let holder = holder_at(manager, slot)?;
+    if !is_within(manager.filters(), holder.built) {
+        return None;
     }
+    if !is_building(manager, holder.query) {
+        return None;
+    }
+    Some(holder.query)
 }
 
-/// The query that holds a slot, if it is Building.
-fn unbuilt_at(manager: &Manager, slot: u32) -> Option<Unbuilt>
+/// The query that holds a slot, if one does.
+fn holder_at(manager: &Manager, slot: u32) -> Option<Holder>
     requires { slot < length manager.now.slots }
-    ensures some { IfSome result (λ found.
-        (life_of manager.now found.query ≡ Some Life.Building) × (built_of manager.now found.query ≡ found.built)) }
-    ensures only { (query : ℕ) → slot_of manager.now query ≡ Some slot → life_of manager.now query ≡ Some Life.Building →
-        IsSomeAnd result (λ found. found.query ≡ query) }
+    ensures some { IfSome result (λ holder. built_of manager.now holder.query ≡ holder.built) }
+    ensures only { (query : ℕ) → slot_of manager.now query ≡ Some slot →
+        IsSomeAnd result (λ holder. holder.query ≡ query) }
 {
     holders_are_found();
     match manager.slot(slot) {
-        SlotState::Held { query, built } => {
-            if is_building(manager, query) {
-                Some(Unbuilt { query, built })
-            } else {
-                None
-            }
-        }
+        SlotState::Held { query, built } => Some(Holder { query, built }),
         SlotState::Free | SlotState::Clearing(_) => None,
     }
 }
