@@ -3,6 +3,7 @@ pub mod MaskLemmas
 pub mod PartLemmas
 pub mod CrossLemmas
 pub mod ExchangeLemmas
+pub mod FewLemmas
 pub mod FoldLemmas
 pub mod SlotLemmas
 pub mod BlockLemmas

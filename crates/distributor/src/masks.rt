@@ -8,6 +8,7 @@ ghost use Rattle.row_columns.specs.declared.row_codes.TheConstants.{ROWS};
 ghost use Rattle.distributor.specs.Masked.{AreMasks, IsMask, IsPartMask};
 ghost use Rattle.distributor.specs.Crossed.{IsDistance, crossed};
 
+use bit_words::Bits;
 use row_columns::ROWS;
 
 /// How many rows make a part of a block, which is how many bits a word has.
@@ -15,6 +16,9 @@ pub(crate) const ROWS_IN_A_PART: usize = 64;
 
 /// How many parts a block has, at most.
 pub(crate) const PARTS: usize = ROWS / ROWS_IN_A_PART;
+
+/// Up to how many slots their masks are made one by one.
+const FEW_SLOTS: u32 = 4;
 
 /// For each part of a block, one after another, and in it for each of 64 slots the set of the part's rows
 /// that have its bit, where each of at most 256 rows has a word.
@@ -63,7 +67,60 @@ fn masks_of_part(bits: &[u64], first: usize) -> [u64; 64]
         return [0; 64];
     }
     let end = bits.len().min(first + ROWS_IN_A_PART);
-    masks_of(&bits[first..end])
+    masks_of_rows(&bits[first..end])
+}
+
+/// The same as `masks_of`. Where few slots have their bit in a row, their masks are made one by one.
+fn masks_of_rows(bits: &[u64]) -> [u64; 64]
+    requires { length bits.now ≤ 64 }
+    ensures masks { (slot : ℕ) → slot < 64 → IsPartMask slot (slice_index result slot) 0 bits.now }
+    ensures count { length result ≡ 64 }
+{
+    let slots = slots_in(bits);
+    if slots.count_ones() <= FEW_SLOTS {
+        return masks_of_few(bits, slots);
+    }
+    masks_of(bits)
+}
+
+/// The slots that have their bit in some of these rows.
+fn slots_in(bits: &[u64]) -> u64
+    ensures { (row slot : ℕ) → bit_at result slot ≡ 0 → bit_at (slice_index bits.now row) slot ≡ 0 }
+{
+    let mut slots = 0;
+    for row in 0..bits.len() {
+        slots |= bits[row];
+    }
+    slots
+}
+
+/// The set of the rows that have the bit of a slot, where each of at most 64 rows has a word.
+fn mask_of(bits: &[u64], slot: u32) -> u64
+    requires count { length bits.now ≤ 64 }
+    requires slot { slot < 64 }
+    ensures { IsPartMask slot result 0 bits.now }
+{
+    let mut mask = 0;
+    for row in 0..bits.len() {
+        mask |= ((bits[row] >> slot) & 1) << row;
+    }
+    mask
+}
+
+/// The same as `masks_of`, where only these slots have their bit in a row.
+fn masks_of_few(bits: &[u64], slots: u64) -> [u64; 64]
+    requires count { length bits.now ≤ 64 }
+    requires others { (row slot : ℕ) → bit_at slots slot ≡ 0 → bit_at (slice_index bits.now row) slot ≡ 0 }
+    ensures masks { (slot : ℕ) → slot < 64 → IsPartMask slot (slice_index result slot) 0 bits.now }
+    ensures count { length result ≡ 64 }
+{
+    let mut masks = [0; 64];
+    let mut rest = Bits::from_word(slots);
+    'slots: while let Some(slot) = rest.least() {
+        masks[slot as usize] = mask_of(bits, slot);
+        rest = rest.without_least();
+    }
+    masks
 }
 
 /// For each of 64 slots the set of the rows that have its bit, where each of at most 64 rows has a word.
