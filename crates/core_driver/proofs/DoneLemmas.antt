@@ -17,13 +17,10 @@ use Rattle.core_driver.proofs.StayLemmas.{IsWanted, wanted-stays}
 
 -- a life that is not open, and not Abandoned
 ended : (now : Life) → is_open now ≡ false → now ≢ life.Abandoned → (Some now ≡ Some life.Answered) ⊎ (Some now ≡ Some life.Spoiled)
-ended life.Waiting closed wanted = absurd (let both : true ≡ false = closed in cc)
-ended life.Building closed wanted = absurd (let both : true ≡ false = closed in cc)
-ended (life.Running start left) closed wanted = absurd (let both : true ≡ false = closed in cc)
-ended life.Ending closed wanted = absurd (let both : true ≡ false = closed in cc)
 ended life.Answered closed wanted = inl refl
 ended life.Spoiled closed wanted = inr refl
 ended life.Abandoned closed wanted = absurd (wanted refl)
+ended other closed wanted = absurd (let both : true ≡ false = closed in cc)
 
 -- a query that is there, where none is open
 ended-query : (state : State) (query : ℕ) → IsFinished state → IsWanted (life_of state.lives query)

@@ -77,21 +77,12 @@ none-unfinished queries none = by_found (find (λ entry. is_unfinished entry.lif
 to-start : (now : Life) → is_unfinished now ≡ false → is_to_start now ≡ false
 to-start life.Waiting is = is
 to-start life.Building is = is
-to-start (life.Running start left) is = refl
-to-start life.Ending is = refl
-to-start life.Answered is = refl
-to-start life.Spoiled is = refl
-to-start life.Abandoned is = refl
+to-start other is = refl
 
 -- nor does it run
 never-runs : (now : Life) → is_unfinished now ≡ false → IsRunning now → ⊥
-never-runs life.Waiting is runs = runs
-never-runs life.Building is runs = runs
 never-runs (life.Running start left) is runs = let both : true ≡ false = is in cc
-never-runs life.Ending is runs = runs
-never-runs life.Answered is runs = runs
-never-runs life.Spoiled is runs = runs
-never-runs life.Abandoned is runs = runs
+never-runs other is runs = runs
 
 -- where no query is unfinished, none may go on
 never-goes : (state : State) → unfinished_in state ≡ 0 → MayGoOn state → ⊥

@@ -43,19 +43,15 @@ no-kind kind both = cc
 
 -- an event of a kind brings no batch into a hand
 pub idle-taken : (kind : EventKind) (event : Event) (old new : State) → IsOfKind kind event → Took event old new → AreIdle old → AreIdle new
-idle-taken kind (Submit seat statement) old new is took idle = absurd (no-kind kind is)
 idle-taken kind (Reserve query slot) old new is took idle = idle-still (Reserve query slot) old new tt took idle
 idle-taken kind (Build query dimension) old new is took idle = idle-still (Build query dimension) old new tt took idle
 idle-taken kind (Start query) old new is took idle = idle-still (Start query) old new tt took idle
 idle-taken kind Cut old new is took idle = idle-cut old new took idle
-idle-taken kind (Take worker batch) old new is took idle = absurd (no-kind kind is)
-idle-taken kind (Give worker) old new is took idle = absurd (no-kind kind is)
 idle-taken kind (Distribute batch) old new is took idle = idle-distributed batch old new took idle
 idle-taken kind (Finish slot) old new is took idle = idle-still (Finish slot) old new tt took idle
 idle-taken kind (Clear slot dimension) old new is took idle = idle-still (Clear slot dimension) old new tt took idle
 idle-taken kind (Release slot) old new is took idle = idle-still (Release slot) old new tt took idle
-idle-taken kind Reorder old new is took idle = absurd (no-kind kind is)
-idle-taken kind (Abandon query) old new is took idle = absurd (no-kind kind is)
+idle-taken kind other old new is took idle = absurd (no-kind kind is)
 
 -- batches that passed all filters are in no hand
 pub idle-through : (state : State) → All (IsThrough state.filters) state.scan.flights → AreIdle state

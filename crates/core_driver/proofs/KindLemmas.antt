@@ -19,33 +19,20 @@ abbrev pub IsAdmissionKind : EventKind → Type 0
 IsAdmissionKind kind.Reserve = Unit {0}
 IsAdmissionKind kind.Build = Unit {0}
 IsAdmissionKind kind.Start = Unit {0}
-IsAdmissionKind kind.Cut = ⊥
-IsAdmissionKind kind.Distribute = ⊥
-IsAdmissionKind kind.Finish = ⊥
-IsAdmissionKind kind.Clear = ⊥
-IsAdmissionKind kind.Release = ⊥
+IsAdmissionKind other = ⊥
 
 -- a kind of events of a round
 abbrev pub IsRoundKind : EventKind → Type 0
 IsRoundKind kind.Reserve = ⊥
 IsRoundKind kind.Build = ⊥
 IsRoundKind kind.Start = ⊥
-IsRoundKind kind.Cut = Unit {0}
-IsRoundKind kind.Distribute = Unit {0}
-IsRoundKind kind.Finish = Unit {0}
-IsRoundKind kind.Clear = Unit {0}
-IsRoundKind kind.Release = Unit {0}
+IsRoundKind other = Unit {0}
 
 -- a kind of events that move no batch
 abbrev pub IsStillKind : EventKind → Type 0
-IsStillKind kind.Reserve = Unit {0}
-IsStillKind kind.Build = Unit {0}
-IsStillKind kind.Start = Unit {0}
 IsStillKind kind.Cut = ⊥
 IsStillKind kind.Distribute = ⊥
-IsStillKind kind.Finish = Unit {0}
-IsStillKind kind.Clear = Unit {0}
-IsStillKind kind.Release = Unit {0}
+IsStillKind other = Unit {0}
 
 -- there is a kind, which is one of these
 abbrev pub IsKindOf : (EventKind → Type 0) → Option EventKind → Type 0
@@ -54,51 +41,29 @@ IsKindOf IsOne (Some kind) = IsOne kind
 
 -- an event of such a kind is of an admission
 admission-event : (event : Event) → IsKindOf IsAdmissionKind (kind_of event) → IsOfAdmission event
-admission-event (Submit seat statement) is = absurd is
 admission-event (Reserve query slot) is = tt
 admission-event (Build query dimension) is = tt
 admission-event (Start query) is = tt
-admission-event Cut is = absurd is
-admission-event (Take worker batch) is = absurd is
-admission-event (Give worker) is = absurd is
-admission-event (Distribute batch) is = absurd is
-admission-event (Finish slot) is = absurd is
-admission-event (Clear slot dimension) is = absurd is
-admission-event (Release slot) is = absurd is
-admission-event Reorder is = absurd is
-admission-event (Abandon query) is = absurd is
+admission-event other is = absurd is
 
 -- or of a round
 round-event : (event : Event) → IsKindOf IsRoundKind (kind_of event) → IsOfRound event
-round-event (Submit seat statement) is = absurd is
-round-event (Reserve query slot) is = absurd is
-round-event (Build query dimension) is = absurd is
-round-event (Start query) is = absurd is
 round-event Cut is = tt
-round-event (Take worker batch) is = absurd is
-round-event (Give worker) is = absurd is
 round-event (Distribute batch) is = tt
 round-event (Finish slot) is = tt
 round-event (Clear slot dimension) is = tt
 round-event (Release slot) is = tt
-round-event Reorder is = absurd is
-round-event (Abandon query) is = absurd is
+round-event other is = absurd is
 
 -- or moves no batch
 still-event : (event : Event) → IsKindOf IsStillKind (kind_of event) → IsStill event
-still-event (Submit seat statement) is = absurd is
 still-event (Reserve query slot) is = tt
 still-event (Build query dimension) is = tt
 still-event (Start query) is = tt
-still-event Cut is = absurd is
-still-event (Take worker batch) is = absurd is
-still-event (Give worker) is = absurd is
-still-event (Distribute batch) is = absurd is
 still-event (Finish slot) is = tt
 still-event (Clear slot dimension) is = tt
 still-event (Release slot) is = tt
-still-event Reorder is = absurd is
-still-event (Abandon query) is = absurd is
+still-event other is = absurd is
 
 -- an event of some kinds is of one of them, which is one of these
 pub kind-of-some : (IsOne : EventKind → Type 0) (kinds : List EventKind) (event : Event) → All IsOne kinds → IsOfSome kinds event

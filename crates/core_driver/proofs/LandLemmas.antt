@@ -27,19 +27,15 @@ through-distributed batch old new took through =
 
 -- each distribution leaves the others through
 through-one : (event : Event) (old new : State) → IsOfKind kind.Distribute event → Took event old new → AreThrough old → AreThrough new
-through-one (Submit seat statement) old new is took through = absurd (let both : None ≡ Some kind.Distribute = is in cc)
 through-one (Reserve query slot) old new is took through = absurd (let both : Some kind.Reserve ≡ Some kind.Distribute = is in cc)
 through-one (Build query dimension) old new is took through = absurd (let both : Some kind.Build ≡ Some kind.Distribute = is in cc)
 through-one (Start query) old new is took through = absurd (let both : Some kind.Start ≡ Some kind.Distribute = is in cc)
 through-one Cut old new is took through = absurd (let both : Some kind.Cut ≡ Some kind.Distribute = is in cc)
-through-one (Take worker batch) old new is took through = absurd (let both : None ≡ Some kind.Distribute = is in cc)
-through-one (Give worker) old new is took through = absurd (let both : None ≡ Some kind.Distribute = is in cc)
 through-one (Distribute batch) old new is took through = through-distributed batch old new took through
 through-one (Finish slot) old new is took through = absurd (let both : Some kind.Finish ≡ Some kind.Distribute = is in cc)
 through-one (Clear slot dimension) old new is took through = absurd (let both : Some kind.Clear ≡ Some kind.Distribute = is in cc)
 through-one (Release slot) old new is took through = absurd (let both : Some kind.Release ≡ Some kind.Distribute = is in cc)
-through-one Reorder old new is took through = absurd (let both : None ≡ Some kind.Distribute = is in cc)
-through-one (Abandon query) old new is took through = absurd (let both : None ≡ Some kind.Distribute = is in cc)
+through-one other old new is took through = absurd (let both : None ≡ Some kind.Distribute = is in cc)
 
 -- distributions leave the others through
 pub through-led : (old new : State) → IsLed (IsOfKind kind.Distribute) old new → AreThrough old → AreThrough new

@@ -35,13 +35,8 @@ first-within state sound =
 
 -- what is left of a query lies within the table
 between-all : (versions extent : ℕ) (now : Life) → extent ≤ versions → IsLeft extent now → IsLeftBetween 0 versions extent now
-between-all versions extent life.Waiting within left = tt
-between-all versions extent life.Building within left = tt
 between-all versions extent (life.Running start rest) within left = let most = left.1 in omega arith
-between-all versions extent life.Ending within left = tt
-between-all versions extent life.Answered within left = tt
-between-all versions extent life.Spoiled within left = tt
-between-all versions extent life.Abandoned within left = tt
+between-all versions extent other within left = tt
 
 -- a scan that stands at 0 has the table before it
 way-at-0 : (state : State) → IsSound state → first_in state ≡ 0 → IsOnItsWay (versions_in state) (versions_in state) state
@@ -88,13 +83,8 @@ within-any state =
 
 -- what does not run began anywhere
 not-began : (start : ℕ) (now : Life) → (IsRunning now → ⊥) → BeganAt start now
-not-began start life.Waiting none = tt
-not-began start life.Building none = tt
 not-began start (life.Running other left) none = absurd (none tt)
-not-began start life.Ending none = tt
-not-began start life.Answered none = tt
-not-began start life.Spoiled none = tt
-not-began start life.Abandoned none = tt
+not-began start rest none = tt
 
 -- where no query runs, all that run began anywhere
 pub began-none : (start : ℕ) (state : State) → (SomeRuns state → ⊥) → AllBegan start state

@@ -88,40 +88,21 @@ count-ends old new ends =
 
 -- a life that is over does not run
 pub over-runs : (now : Life) → is_unfinished now ≡ false → IsRunning now → ⊥
-over-runs life.Waiting over runs = runs
-over-runs life.Building over runs = runs
 over-runs (life.Running start left) over runs = cc
-over-runs life.Ending over runs = runs
-over-runs life.Answered over runs = runs
-over-runs life.Spoiled over runs = runs
-over-runs life.Abandoned over runs = runs
+over-runs other over runs = runs
 
 -- a life that is over is not to begin to run
 pub over-start : (now : Life) → is_unfinished now ≡ false → is_to_start now ≡ false
 over-start life.Waiting over = cc
 over-start life.Building over = cc
-over-start (life.Running start left) over = refl
-over-start life.Ending over = refl
-over-start life.Answered over = refl
-over-start life.Spoiled over = refl
-over-start life.Abandoned over = refl
+over-start other over = refl
 
 -- it began anywhere
 pub over-began : (start : ℕ) (now : Life) → is_unfinished now ≡ false → BeganAt start now
-over-began start life.Waiting over = tt
-over-began start life.Building over = tt
 over-began start (life.Running other left) over = absurd (let both : true ≡ false = over in cc)
-over-began start life.Ending over = tt
-over-began start life.Answered over = tt
-over-began start life.Spoiled over = tt
-over-began start life.Abandoned over = tt
+over-began start rest over = tt
 
 -- and nothing is left of it
 pub over-between : (first end extent : ℕ) (now : Life) → is_unfinished now ≡ false → IsLeftBetween first end extent now
-over-between first end extent life.Waiting over = tt
-over-between first end extent life.Building over = tt
 over-between first end extent (life.Running start left) over = absurd (let both : true ≡ false = over in cc)
-over-between first end extent life.Ending over = tt
-over-between first end extent life.Answered over = tt
-over-between first end extent life.Spoiled over = tt
-over-between first end extent life.Abandoned over = tt
+over-between first end extent other over = tt

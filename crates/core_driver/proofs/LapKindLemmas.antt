@@ -15,14 +15,11 @@ use Rattle.core_driver.proofs.LedLemmas.{led-wider}
 
 -- a kind of such events
 abbrev pub IsLandingKind : EventKind → Type 0
-IsLandingKind kind.Reserve = ⊥
-IsLandingKind kind.Build = ⊥
-IsLandingKind kind.Start = ⊥
-IsLandingKind kind.Cut = ⊥
 IsLandingKind kind.Distribute = Unit {0}
 IsLandingKind kind.Finish = Unit {0}
 IsLandingKind kind.Clear = Unit {0}
 IsLandingKind kind.Release = Unit {0}
+IsLandingKind other = ⊥
 
 -- there is a kind, which is one of these
 abbrev HasLandingKind : Option EventKind → Type 0

@@ -34,13 +34,8 @@ pub record OfQuery (state : State) (entry : QueryLife) : Type 0 where
 -- what is kept of a query says what comes next of it
 kept-next : (state : State) (accepted : Accepted) (extent : ℕ) (now : Life) → IsKept state accepted extent now
     → IsNext state.scan.position extent now
-kept-next state accepted extent life.Waiting kept = tt
-kept-next state accepted extent life.Building kept = tt
 kept-next state accepted extent (life.Running start left) kept = kept.next
-kept-next state accepted extent life.Ending kept = tt
-kept-next state accepted extent life.Answered kept = tt
-kept-next state accepted extent life.Spoiled kept = tt
-kept-next state accepted extent life.Abandoned kept = tt
+kept-next state accepted extent other kept = tt
 
 -- a query that is found by its number
 of-entry : (state : State) → IsSound state → (entry : QueryLife) → query_in state.lives.queries entry.query ≡ Some entry

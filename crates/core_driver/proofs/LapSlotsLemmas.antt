@@ -20,23 +20,15 @@ use Rattle.core_driver.proofs.LapCountLemmas.{count-both, count-held, count-le, 
 
 -- whether a query is built for or runs
 abbrev is_under_way : Life → Bool
-is_under_way life.Waiting = false
 is_under_way life.Building = true
 is_under_way (life.Running start left) = true
-is_under_way life.Ending = false
-is_under_way life.Answered = false
-is_under_way life.Spoiled = false
-is_under_way life.Abandoned = false
+is_under_way other = false
 
 -- what is built for or runs passes
 under-way : (now : Life) → IsUnderWay now → is_under_way now ≡ true
-under-way life.Waiting is = absurd is
 under-way life.Building is = refl
 under-way (life.Running start left) is = refl
-under-way life.Ending is = absurd is
-under-way life.Answered is = absurd is
-under-way life.Spoiled is = absurd is
-under-way life.Abandoned is = absurd is
+under-way other is = absurd is
 
 -- a query that is built for or runs holds the slot
 abbrev holds : QueryLife → SlotState → Bool
@@ -78,12 +70,7 @@ used-held lives (Clearing left) allowed uses = absurd allowed
 -- a query that is unfinished waits, or is built for or runs
 unfinished-both : (now : Life) → one_if (is_unfinished now) ≡ one_if (is_waiting now) + one_if (is_under_way now)
 unfinished-both life.Waiting = refl
-unfinished-both life.Building = refl
-unfinished-both (life.Running start left) = refl
-unfinished-both life.Ending = refl
-unfinished-both life.Answered = refl
-unfinished-both life.Spoiled = refl
-unfinished-both life.Abandoned = refl
+unfinished-both other = refl
 
 -- the slots that are not free are no more than the queries that are built for or run
 pub slots-for-all : (state : State) → managed.IsSound state.lives → All (IsFreeOrUnderWay state.lives) state.lives.slots

@@ -59,11 +59,7 @@ none-waits state slots none =
 not-to-start : (now : Life) → is_waiting now ≡ false → (now ≡ life.Building → ⊥) → is_to_start now ≡ false
 not-to-start life.Waiting waits built = cc
 not-to-start life.Building waits built = absurd (built refl)
-not-to-start (life.Running start left) waits built = refl
-not-to-start life.Ending waits built = refl
-not-to-start life.Answered waits built = refl
-not-to-start life.Spoiled waits built = refl
-not-to-start life.Abandoned waits built = refl
+not-to-start other waits built = refl
 
 -- where there is a slot for each query that waits, all are admitted
 pub none-to-start : (old state : State) → IsSound state → HasSlotsForAll state → Admits old state → NoneIsToStart state
@@ -79,11 +75,7 @@ none-to-start old state sound slots admits = λ k d low.
 waits-start : (now : Life) → is_waiting now ≡ true → is_to_start now ≡ true
 waits-start life.Waiting waits = refl
 waits-start life.Building waits = refl
-waits-start (life.Running start left) waits = waits
-waits-start life.Ending waits = waits
-waits-start life.Answered waits = waits
-waits-start life.Spoiled waits = waits
-waits-start life.Abandoned waits = waits
+waits-start other waits = waits
 
 -- where no query is to begin to run, none waits
 never-waits : (state : State) (query : ℕ) → NoneIsToStart state → oldest_waiting state.lives ≡ Some query → ⊥

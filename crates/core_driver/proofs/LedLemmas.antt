@@ -13,21 +13,11 @@ use Rattle.event_core.specs.Took.{IsLed, IsSpoilt, Took, TookAll}
 
 -- an event at which queries find no memory keeps a core sound
 spoilt-sound : StepsKeep → (event : Event) (old new : State) → IsEnabled old event → IsSpoilt event old new → IsSound old → IsSound new
-spoilt-sound keep (Submit seat statement) old new enabled spoilt sound = absurd spoilt
-spoilt-sound keep (Reserve query slot) old new enabled spoilt sound = absurd spoilt
 spoilt-sound keep (Build query dimension) old new enabled spoilt sound =
     subst IsSound (sym spoilt) (keep (Wanting (Build query dimension) []) old (enabled, tt) sound)
-spoilt-sound keep (Start query) old new enabled spoilt sound = absurd spoilt
-spoilt-sound keep Cut old new enabled spoilt sound = absurd spoilt
-spoilt-sound keep (Take worker batch) old new enabled spoilt sound = absurd spoilt
-spoilt-sound keep (Give worker) old new enabled spoilt sound = absurd spoilt
 spoilt-sound keep (Distribute batch) old new enabled spoilt sound =
     subst IsSound (sym spoilt.2) (keep (Wanting (Distribute batch) spoilt.0) old (enabled, spoilt.1) sound)
-spoilt-sound keep (Finish slot) old new enabled spoilt sound = absurd spoilt
-spoilt-sound keep (Clear slot dimension) old new enabled spoilt sound = absurd spoilt
-spoilt-sound keep (Release slot) old new enabled spoilt sound = absurd spoilt
-spoilt-sound keep Reorder old new enabled spoilt sound = absurd spoilt
-spoilt-sound keep (Abandon query) old new enabled spoilt sound = absurd spoilt
+spoilt-sound keep other old new enabled spoilt sound = absurd spoilt
 
 -- an event that was taken keeps a core sound
 pub took-sound : StepsKeep → (event : Event) (old new : State) → Took event old new → IsSound old → IsSound new

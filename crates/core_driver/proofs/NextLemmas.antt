@@ -27,7 +27,6 @@ IsNextOrAdmitted query lives = (life_of lives query ≢ Some life.Waiting) ⊎ I
 -- while it is the next, each event of an admission leaves it so, or admits it
 next-kept : (query : ℕ) (event : Event) (old new : State) → IsOfAdmission event → IsSound old → Took event old new → IsNext query old.lives
     → IsNextOrAdmitted query new.lives
-next-kept query (Submit seat statement) old new admits sound took next = absurd admits
 next-kept query (Reserve other slot) old new admits sound took next = ⊎_elim
     (λ done. inl (λ waits.
     let now : life_of new.lives query ≡ Some life.Building =
@@ -47,15 +46,7 @@ next-kept query (Start other) old new admits sound took next = ⊎_elim
     (started-rests (first_of old.scan.position (versions_in old)) (extent_in old.lives.queries other)) next)))
     (λ never. absurd never)
     (taken-lives (Start other) old new (inl tt) took)
-next-kept query Cut old new admits sound took next = absurd admits
-next-kept query (Take worker batch) old new admits sound took next = absurd admits
-next-kept query (Give worker) old new admits sound took next = absurd admits
-next-kept query (Distribute batch) old new admits sound took next = absurd admits
-next-kept query (Finish slot) old new admits sound took next = absurd admits
-next-kept query (Clear slot dimension) old new admits sound took next = absurd admits
-next-kept query (Release slot) old new admits sound took next = absurd admits
-next-kept query Reorder old new admits sound took next = absurd admits
-next-kept query (Abandon other) old new admits sound took next = absurd admits
+next-kept query rest old new admits sound took next = absurd admits
 
 -- each event of an admission leaves it the next, or admitted
 kept-admission : (query : ℕ) (event : Event) (old new : State) → IsOfAdmission event → IsSound old → Took event old new

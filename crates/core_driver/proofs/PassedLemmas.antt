@@ -18,19 +18,9 @@ use Rattle.core_driver.proofs.WorkNumberLemmas.{work_of}
 
 -- an event by which a batch comes into a hand or out of it
 abbrev pub IsOfHand : Event → Type 0
-IsOfHand (Submit seat statement) = ⊥
-IsOfHand (Reserve query slot) = ⊥
-IsOfHand (Build query dimension) = ⊥
-IsOfHand (Start query) = ⊥
-IsOfHand Cut = ⊥
 IsOfHand (Take worker batch) = Unit {0}
 IsOfHand (Give worker) = Unit {0}
-IsOfHand (Distribute batch) = ⊥
-IsOfHand (Finish slot) = ⊥
-IsOfHand (Clear slot dimension) = ⊥
-IsOfHand (Release slot) = ⊥
-IsOfHand Reorder = ⊥
-IsOfHand (Abandon query) = ⊥
+IsOfHand other = ⊥
 
 -- what is left where batches pass filters
 pub record Passes (old new : State) : Type 0 where
@@ -63,11 +53,6 @@ as-many number change flights = length-map flights _
 -- an event of a hand that is done
 event-passes : (event : Event) (state : State) → IsOfHand event → Passes state (after_event event state)
 unfolding after_event
-event-passes (Submit seat statement) state passing = absurd passing
-event-passes (Reserve query slot) state passing = absurd passing
-event-passes (Build query dimension) state passing = absurd passing
-event-passes (Start query) state passing = absurd passing
-event-passes Cut state passing = absurd passing
 event-passes (Take worker batch) state passing = record {
   settings = refl;
   entries = refl;
@@ -77,6 +62,7 @@ event-passes (Take worker batch) state passing = record {
   cut = refl;
   free = refl;
   flights = as-many batch _ state.scan.flights;
+event-passes other state passing = absurd passing
 }
 event-passes (Give worker) state passing =
     either-way (Passes state) (given_by state) (find (is_held_by worker) state.scan.flights) state (same-passes state) (λ flight. record {
@@ -89,28 +75,13 @@ event-passes (Give worker) state passing =
       free = refl;
       flights = as-many flight.rows.number _ state.scan.flights;
     })
-event-passes (Distribute batch) state passing = absurd passing
-event-passes (Finish slot) state passing = absurd passing
-event-passes (Clear slot dimension) state passing = absurd passing
-event-passes (Release slot) state passing = absurd passing
-event-passes Reorder state passing = absurd passing
-event-passes (Abandon query) state passing = absurd passing
+event-passes other state passing = absurd passing
 
 -- no query finds no memory where a batch is taken or given back
 never-spoilt : (event : Event) (old new : State) → IsOfHand event → IsSpoilt event old new → ⊥
-never-spoilt (Submit seat statement) old new passing spoilt = spoilt
-never-spoilt (Reserve query slot) old new passing spoilt = spoilt
 never-spoilt (Build query dimension) old new passing spoilt = passing
-never-spoilt (Start query) old new passing spoilt = spoilt
-never-spoilt Cut old new passing spoilt = spoilt
-never-spoilt (Take worker batch) old new passing spoilt = spoilt
-never-spoilt (Give worker) old new passing spoilt = spoilt
 never-spoilt (Distribute batch) old new passing spoilt = passing
-never-spoilt (Finish slot) old new passing spoilt = spoilt
-never-spoilt (Clear slot dimension) old new passing spoilt = spoilt
-never-spoilt (Release slot) old new passing spoilt = spoilt
-never-spoilt Reorder old new passing spoilt = spoilt
-never-spoilt (Abandon query) old new passing spoilt = spoilt
+never-spoilt other old new passing spoilt = spoilt
 
 -- what an event of a hand leaves
 pub took-hands : (event : Event) (old new : State) → IsOfHand event → Took event old new → Passes old new

@@ -68,15 +68,8 @@ work-round keep old new led sound = led-keeps keep IsOfRound (λ state. work_in 
 
 -- there is a kind, which is that of a cut
 abbrev IsCutKind : Option EventKind → Type 0
-IsCutKind None = ⊥
-IsCutKind (Some kind.Reserve) = ⊥
-IsCutKind (Some kind.Build) = ⊥
-IsCutKind (Some kind.Start) = ⊥
 IsCutKind (Some kind.Cut) = Unit {0}
-IsCutKind (Some kind.Distribute) = ⊥
-IsCutKind (Some kind.Finish) = ⊥
-IsCutKind (Some kind.Clear) = ⊥
-IsCutKind (Some kind.Release) = ⊥
+IsCutKind other = ⊥
 
 -- an event of that kind is a cut
 cut-event : (event : Event) → IsCutKind (kind_of event) → event ≡ Cut

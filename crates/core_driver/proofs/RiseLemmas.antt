@@ -24,19 +24,10 @@ use Rattle.core_driver.proofs.TakenLemmas.{IsStill, distributes, still-leaves}
 
 -- an event of an admission moves no batch
 admission-still : (event : Event) → IsOfAdmission event → IsStill event
-admission-still (Submit seat statement) admits = absurd admits
 admission-still (Reserve query slot) admits = tt
 admission-still (Build query dimension) admits = tt
 admission-still (Start query) admits = tt
-admission-still Cut admits = absurd admits
-admission-still (Take worker batch) admits = absurd admits
-admission-still (Give worker) admits = absurd admits
-admission-still (Distribute batch) admits = absurd admits
-admission-still (Finish slot) admits = absurd admits
-admission-still (Clear slot dimension) admits = absurd admits
-admission-still (Release slot) admits = absurd admits
-admission-still Reorder admits = absurd admits
-admission-still (Abandon query) admits = absurd admits
+admission-still other admits = absurd admits
 
 -- as many frames are free after an admission
 same-free : (old new : State) → IsLed IsOfAdmission old new → new.scan.free ≡ old.scan.free

@@ -61,14 +61,8 @@ settled-landed state settled = record {
 }
   where
     by_life : (o : Option Life) → IsSomeAnd o IsRunning → IsSomeAnd o IsUnderWay
-    by_life None runs = absurd runs
-    by_life (Some life.Waiting) runs = absurd runs
-    by_life (Some life.Building) runs = absurd runs
     by_life (Some (life.Running start left)) runs = tt
-    by_life (Some life.Ending) runs = absurd runs
-    by_life (Some life.Answered) runs = absurd runs
-    by_life (Some life.Spoiled) runs = absurd runs
-    by_life (Some life.Abandoned) runs = absurd runs
+    by_life other runs = absurd runs
 
     by_state : (slot : SlotState) → IsFreeOrRuns state.lives slot → IsFreeOrUnderWay state.lives slot
     by_state Free runs = tt

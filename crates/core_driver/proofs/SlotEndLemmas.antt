@@ -43,14 +43,12 @@ held-some lives slot query built there holds =
 
 -- the holder of a slot that may not be taken from it is under way
 under-way : (o : Option Life) (held : ℕ) → FitsSlots o held → 1 ≤ held → ¬ (IsTrue (option_map_or gives_up o false)) → IsSomeAnd o IsUnderWay
-under-way None held fits some stays = absurd (omega arith)
-under-way (Some life.Waiting) held fits some stays = absurd (omega arith)
 under-way (Some life.Building) held fits some stays = tt
 under-way (Some (life.Running start left)) held fits some stays = tt
 under-way (Some life.Ending) held fits some stays = absurd (stays refl)
-under-way (Some life.Answered) held fits some stays = absurd (omega arith)
 under-way (Some life.Spoiled) held fits some stays = absurd (stays refl)
 under-way (Some life.Abandoned) held fits some stays = absurd (stays refl)
+under-way other held fits some stays = absurd (omega arith)
 
 -- where no slot may be taken from its query, cleared or released, each is free, or its query is under way
 pub slots-under-way : (lives : Lives) → IsSound lives → ((slot : ℕ) → CanEnd slot lives → ⊥)
@@ -74,14 +72,9 @@ slots-under-way lives sound no_end no_clear no_free =
 
 -- a query that is under way, and is not built for, runs
 runs-on : (o : Option Life) → o ≢ Some life.Building → IsSomeAnd o IsUnderWay → IsSomeAnd o IsRunning
-runs-on None never on = absurd on
-runs-on (Some life.Waiting) never on = absurd on
 runs-on (Some life.Building) never on = absurd (never refl)
 runs-on (Some (life.Running start left)) never on = tt
-runs-on (Some life.Ending) never on = absurd on
-runs-on (Some life.Answered) never on = absurd on
-runs-on (Some life.Spoiled) never on = absurd on
-runs-on (Some life.Abandoned) never on = absurd on
+runs-on other never on = absurd on
 
 -- where none is built for, each slot is free, or its query runs
 pub slots-run : (lives : Lives) → NoneIsBuilding lives → All (IsFreeOrUnderWay lives) lives.slots → All (IsFreeOrRuns lives) lives.slots
@@ -114,12 +107,10 @@ held-none query (slot ∷ slots) free =
 -- a query that holds no slot, and does not wait, is not open
 not-open : (now : Life) → FitsSlots (Some now) 0 → is_waiting now ≡ false → is_open now ≡ false
 not-open life.Waiting fits rests = absurd (let both : true ≡ false = rests in cc)
-not-open life.Building fits rests = absurd (omega arith)
-not-open (life.Running start left) fits rests = absurd (omega arith)
-not-open life.Ending fits rests = absurd (omega arith)
 not-open life.Answered fits rests = refl
 not-open life.Spoiled fits rests = refl
 not-open life.Abandoned fits rests = refl
+not-open other fits rests = absurd (omega arith)
 
 -- where all slots are free and no query waits, none is open
 pub none-open : (lives : Lives) → IsSound lives → All (λ slot. slot ≡ Free) lives.slots → All (λ entry. is_waiting entry.life ≡ false) lives.queries

@@ -29,18 +29,12 @@ either-way P change (Some x) state none some = some x
 -- an event by which no batch is cut, in a hand, given back or distributed
 abbrev pub IsStill : Event → Type 0
 IsStill (Submit seat statement) = ⊥
-IsStill (Reserve query slot) = Unit {0}
-IsStill (Build query dimension) = Unit {0}
-IsStill (Start query) = Unit {0}
 IsStill Cut = ⊥
 IsStill (Take worker batch) = ⊥
 IsStill (Give worker) = ⊥
 IsStill (Distribute batch) = ⊥
-IsStill (Finish slot) = Unit {0}
-IsStill (Clear slot dimension) = Unit {0}
-IsStill (Release slot) = Unit {0}
-IsStill Reorder = Unit {0}
 IsStill (Abandon query) = ⊥
+IsStill other = Unit {0}
 
 -- what such an event leaves
 pub record LeavesBatches (old new : State) : Type 0 where
@@ -77,39 +71,24 @@ built-leaves query dimension state =
 -- an event that is done
 event-leaves : (event : Event) (state : State) → IsStill event → LeavesBatches state (after_event event state)
 unfolding after_event
-event-leaves (Submit seat statement) state still = absurd still
 event-leaves (Reserve query slot) state still = record { settings = refl; entries = refl; scan = refl }
 event-leaves (Build query dimension) state still =
     let built = built-leaves query dimension state in
     record { settings = built.settings; entries = built.entries; scan = built.scan }
 event-leaves (Start query) state still = record { settings = refl; entries = refl; scan = refl }
-event-leaves Cut state still = absurd still
-event-leaves (Take worker batch) state still = absurd still
-event-leaves (Give worker) state still = absurd still
-event-leaves (Distribute batch) state still = absurd still
 event-leaves (Finish slot) state still = record { settings = refl; entries = refl; scan = refl }
 event-leaves (Clear slot dimension) state still = record { settings = refl; entries = refl; scan = refl }
 event-leaves (Release slot) state still = record { settings = refl; entries = refl; scan = refl }
 event-leaves Reorder state still = record { settings = refl; entries = refl; scan = refl }
-event-leaves (Abandon query) state still = absurd still
+event-leaves other state still = absurd still
 
 -- one at which a query finds no memory
 spoilt-leaves : (event : Event) (old new : State) → IsStill event → IsSpoilt event old new → LeavesBatches old new
 unfolding after_want
-spoilt-leaves (Submit seat statement) old new still spoilt = absurd spoilt
-spoilt-leaves (Reserve query slot) old new still spoilt = absurd spoilt
 spoilt-leaves (Build query dimension) old new still spoilt =
     subst (LeavesBatches old) (sym spoilt) (record { settings = refl; entries = refl; scan = refl })
-spoilt-leaves (Start query) old new still spoilt = absurd spoilt
-spoilt-leaves Cut old new still spoilt = absurd spoilt
-spoilt-leaves (Take worker batch) old new still spoilt = absurd spoilt
-spoilt-leaves (Give worker) old new still spoilt = absurd spoilt
 spoilt-leaves (Distribute batch) old new still spoilt = absurd still
-spoilt-leaves (Finish slot) old new still spoilt = absurd spoilt
-spoilt-leaves (Clear slot dimension) old new still spoilt = absurd spoilt
-spoilt-leaves (Release slot) old new still spoilt = absurd spoilt
-spoilt-leaves Reorder old new still spoilt = absurd spoilt
-spoilt-leaves (Abandon query) old new still spoilt = absurd spoilt
+spoilt-leaves other old new still spoilt = absurd spoilt
 
 -- an event that moves no batch leaves them
 pub still-leaves : (event : Event) (old new : State) → IsStill event → Took event old new → LeavesBatches old new
@@ -120,35 +99,20 @@ still-leaves event old new still took = ⊎_elim
 
 -- what an event makes of the lives and slots
 abbrev pub lives_by : Event → State → Lives
-lives_by (Submit seat statement) state = state.lives
 lives_by (Reserve query slot) state = after_reserve slot state.lives
 lives_by (Build query dimension) state = after_built query dimension state.lives
 lives_by (Start query) state = after_run query (first_of state.scan.position (versions_in state)) state.lives
 lives_by Cut state = after_cut (first_in state) (end_in state - 1) state.lives
-lives_by (Take worker batch) state = state.lives
-lives_by (Give worker) state = state.lives
-lives_by (Distribute batch) state = state.lives
 lives_by (Finish slot) state = after_end slot state.lives
 lives_by (Clear slot dimension) state = after_cleared slot dimension state.lives
 lives_by (Release slot) state = after_free slot state.lives
-lives_by Reorder state = state.lives
-lives_by (Abandon query) state = state.lives
+lives_by other state = state.lives
 
 -- some queries find no memory at an event
 abbrev pub Spoils : Event → (old new : Lives) → Type 0
-Spoils (Submit seat statement) old new = ⊥
-Spoils (Reserve query slot) old new = ⊥
 Spoils (Build query dimension) old new = new ≡ after_spoil query old
-Spoils (Start query) old new = ⊥
-Spoils Cut old new = ⊥
-Spoils (Take worker batch) old new = ⊥
-Spoils (Give worker) old new = ⊥
 Spoils (Distribute batch) old new = (spoiled : List ℕ) × (new ≡ fold (λ now query. after_spoil query now) old spoiled)
-Spoils (Finish slot) old new = ⊥
-Spoils (Clear slot dimension) old new = ⊥
-Spoils (Release slot) old new = ⊥
-Spoils Reorder old new = ⊥
-Spoils (Abandon query) old new = ⊥
+Spoils other old new = ⊥
 
 -- the core after a batch that is found is distributed
 abbrev pub distributed_by : (batch : ℕ) (spoiled : List ℕ) → State → Flight → State
@@ -173,40 +137,22 @@ neither both = ⊎_elim (λ never. never) (λ never. never) both
 event-lives : (event : Event) (state : State) → IsDriven event → (after_event event state).lives ≡ lives_by event state
 unfolding after_event
 event-lives (Submit seat statement) state driven = absurd (neither driven)
-event-lives (Reserve query slot) state driven = refl
-event-lives (Build query dimension) state driven = refl
-event-lives (Start query) state driven = refl
-event-lives Cut state driven = refl
-event-lives (Take worker batch) state driven = refl
 event-lives (Give worker) state driven =
     either-way (λ now. now.lives ≡ state.lives) (given_by state) (find (is_held_by worker) state.scan.flights) state refl (λ flight. refl)
 event-lives (Distribute batch) state driven =
     either-way (λ now. now.lives ≡ state.lives) (distributed_by batch [] state) (flight_at state.scan.flights batch) state refl (λ flight. refl)
-event-lives (Finish slot) state driven = refl
-event-lives (Clear slot dimension) state driven = refl
-event-lives (Release slot) state driven = refl
-event-lives Reorder state driven = refl
 event-lives (Abandon query) state driven = absurd (neither driven)
+event-lives other state driven = refl
 
 -- one at which queries find no memory
 spoilt-lives : (event : Event) (old new : State) → IsSpoilt event old new → Spoils event old.lives new.lives
 unfolding after_want
-spoilt-lives (Submit seat statement) old new spoilt = absurd spoilt
-spoilt-lives (Reserve query slot) old new spoilt = absurd spoilt
 spoilt-lives (Build query dimension) old new spoilt = ap (λ (state : State). state.lives) spoilt
-spoilt-lives (Start query) old new spoilt = absurd spoilt
-spoilt-lives Cut old new spoilt = absurd spoilt
-spoilt-lives (Take worker batch) old new spoilt = absurd spoilt
-spoilt-lives (Give worker) old new spoilt = absurd spoilt
 spoilt-lives (Distribute batch) old new spoilt =
     subst (λ (state : State). (spoiled : List ℕ) × (state.lives ≡ fold (λ now query. after_spoil query now) old.lives spoiled)) (sym spoilt.2)
     (either-way (λ (state : State). (spoiled : List ℕ) × (state.lives ≡ fold (λ now query. after_spoil query now) old.lives spoiled))
     (distributed_by batch spoilt.0 old) (flight_at old.scan.flights batch) old ([], refl) (λ flight. (spoilt.0, refl)))
-spoilt-lives (Finish slot) old new spoilt = absurd spoilt
-spoilt-lives (Clear slot dimension) old new spoilt = absurd spoilt
-spoilt-lives (Release slot) old new spoilt = absurd spoilt
-spoilt-lives Reorder old new spoilt = absurd spoilt
-spoilt-lives (Abandon query) old new spoilt = absurd spoilt
+spoilt-lives other old new spoilt = absurd spoilt
 
 -- what an event of the driver makes of the lives and slots, where all find memory, and where some do not
 pub taken-lives : (event : Event) (old new : State) → IsDriven event → Took event old new

@@ -64,14 +64,11 @@ turn-rises keep old mid new sound admits rises may =
 
 -- a kind of events by which queries go on
 abbrev IsGoingKind : EventKind → Type 0
-IsGoingKind kind.Reserve = Unit {0}
-IsGoingKind kind.Build = Unit {0}
-IsGoingKind kind.Start = Unit {0}
-IsGoingKind kind.Cut = Unit {0}
 IsGoingKind kind.Distribute = ⊥
 IsGoingKind kind.Finish = ⊥
 IsGoingKind kind.Clear = ⊥
 IsGoingKind kind.Release = ⊥
+IsGoingKind other = Unit {0}
 
 -- all that are asked for
 going-kinds : All IsGoingKind (kind.Reserve ∷ kind.Build ∷ kind.Start ∷ kind.Cut ∷ [])

@@ -29,13 +29,8 @@ record RunsSo (now : Life) : Type 0 where
 
 -- a query that runs does so from somewhere
 runs-so : (now : Life) → IsRunning now → RunsSo now
-runs-so life.Waiting runs = absurd runs
-runs-so life.Building runs = absurd runs
 runs-so (life.Running start left) runs = record { start = start; left = left; is = refl }
-runs-so life.Ending runs = absurd runs
-runs-so life.Answered runs = absurd runs
-runs-so life.Spoiled runs = absurd runs
-runs-so life.Abandoned runs = absurd runs
+runs-so other runs = absurd runs
 
 -- what is to be cut behind a cut
 abbrev cut_after : State → ℕ

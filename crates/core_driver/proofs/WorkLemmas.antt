@@ -106,7 +106,6 @@ no-kind kind both = cc
 -- each event of a kind leaves less work
 pub work-taken : (kind : EventKind) (event : Event) (old new : State) → IsSound old → IsOfKind kind event → Took event old new
     → work_in new < work_in old
-work-taken kind (Submit seat statement) old new sound is took = absurd (no-kind kind is)
 work-taken kind (Reserve query slot) old new sound is took =
     work-stepped (Reserve query slot) old new tt (inl tt) took
     (less-reserved slot query old.lives sound.slots.lives took.enabled.oldest took.enabled.there took.enabled.is_free) (λ now never. absurd never)
@@ -118,8 +117,6 @@ work-taken kind (Start query) old new sound is took =
     work-stepped (Start query) old new tt (inl tt) took
     (less-started query (first_of old.scan.position (versions_in old)) old.lives sound.slots.lives took.enabled) (λ now never. absurd never)
 work-taken kind Cut old new sound is took = work-cut-taken old new sound took
-work-taken kind (Take worker batch) old new sound is took = absurd (no-kind kind is)
-work-taken kind (Give worker) old new sound is took = absurd (no-kind kind is)
 work-taken kind (Distribute batch) old new sound is took = work-distributed batch old new sound took
 work-taken kind (Finish slot) old new sound is took =
     work-stepped (Finish slot) old new tt (inr tt) took (less-ended slot old.lives took.enabled.over) (λ now never. absurd never)
@@ -128,5 +125,4 @@ work-taken kind (Clear slot dimension) old new sound is took =
     (less-cleared slot dimension old.lives sound.slots.lives (filters-below old sound) took.enabled) (λ now never. absurd never)
 work-taken kind (Release slot) old new sound is took =
     work-stepped (Release slot) old new tt (inr tt) took (less-released slot old.lives took.enabled) (λ now never. absurd never)
-work-taken kind Reorder old new sound is took = absurd (no-kind kind is)
-work-taken kind (Abandon query) old new sound is took = absurd (no-kind kind is)
+work-taken kind other old new sound is took = absurd (no-kind kind is)

@@ -130,23 +130,13 @@ steps-started start extent = by_test (eqb extent 0)
 
 -- a cut leaves no more of a query to be cut
 cut-no-more : (positions extent : ℕ) (now : Life) → to_cut extent (cut_life positions now) ≤ to_cut extent now
-cut-no-more positions extent life.Waiting = omega arith
-cut-no-more positions extent life.Building = omega arith
 cut-no-more positions extent (life.Running start left) = let less = cut-started start (left - positions) extent in omega arith
-cut-no-more positions extent life.Ending = omega arith
-cut-no-more positions extent life.Answered = omega arith
-cut-no-more positions extent life.Spoiled = omega arith
-cut-no-more positions extent life.Abandoned = omega arith
+cut-no-more positions extent other = omega arith
 
 -- and as much to be done until it runs
 steps-stay : (positions : ℕ) (now : Life) → steps_to_run (cut_life positions now) ≡ steps_to_run now
-steps-stay positions life.Waiting = refl
-steps-stay positions life.Building = refl
 steps-stay positions (life.Running start left) = steps-started start (left - positions)
-steps-stay positions life.Ending = refl
-steps-stay positions life.Answered = refl
-steps-stay positions life.Spoiled = refl
-steps-stay positions life.Abandoned = refl
+steps-stay positions other = refl
 
 -- a cut leaves no more to be cut, and as much to be done
 pub cut-leaves : (first last : ℕ) (queries : List QueryLife)

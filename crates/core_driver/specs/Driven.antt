@@ -30,31 +30,15 @@ IsOfRound (Submit seat statement) = ⊥
 IsOfRound (Reserve query slot) = ⊥
 IsOfRound (Build query dimension) = ⊥
 IsOfRound (Start query) = ⊥
-IsOfRound Cut = Unit {0}
-IsOfRound (Take worker batch) = Unit {0}
-IsOfRound (Give worker) = Unit {0}
-IsOfRound (Distribute batch) = Unit {0}
-IsOfRound (Finish slot) = Unit {0}
-IsOfRound (Clear slot dimension) = Unit {0}
-IsOfRound (Release slot) = Unit {0}
-IsOfRound Reorder = Unit {0}
 IsOfRound (Abandon query) = ⊥
+IsOfRound other = Unit {0}
 
 -- an event by which a query is admitted: it gets a slot, its filters are built, or it begins to run
 abbrev pub IsOfAdmission : Event → Type 0
-IsOfAdmission (Submit seat statement) = ⊥
 IsOfAdmission (Reserve query slot) = Unit {0}
 IsOfAdmission (Build query dimension) = Unit {0}
 IsOfAdmission (Start query) = Unit {0}
-IsOfAdmission Cut = ⊥
-IsOfAdmission (Take worker batch) = ⊥
-IsOfAdmission (Give worker) = ⊥
-IsOfAdmission (Distribute batch) = ⊥
-IsOfAdmission (Finish slot) = ⊥
-IsOfAdmission (Clear slot dimension) = ⊥
-IsOfAdmission (Release slot) = ⊥
-IsOfAdmission Reorder = ⊥
-IsOfAdmission (Abandon query) = ⊥
+IsOfAdmission other = ⊥
 
 -- an event that the driver may take: no statement is submitted, and no query abandoned
 abbrev pub IsDriven : Event → Type 0
@@ -72,13 +56,9 @@ IsFreeOrRuns lives (Clearing left) = ⊥
 
 -- a query with this life is built for, or runs
 abbrev pub IsUnderWay : Life → Type 0
-IsUnderWay Waiting = ⊥
 IsUnderWay Building = Unit {0}
 IsUnderWay (Running start left) = Unit {0}
-IsUnderWay Ending = ⊥
-IsUnderWay Answered = ⊥
-IsUnderWay Spoiled = ⊥
-IsUnderWay Abandoned = ⊥
+IsUnderWay other = ⊥
 
 -- a slot in this state is free, or a query holds it that is built for or runs
 abbrev pub IsFreeOrUnderWay : Lives → SlotState → Type 0

@@ -15,10 +15,7 @@ abbrev pub is_unfinished : Life → Bool
 is_unfinished Waiting = true
 is_unfinished Building = true
 is_unfinished (Running start left) = true
-is_unfinished Ending = false
-is_unfinished Answered = false
-is_unfinished Spoiled = false
-is_unfinished Abandoned = false
+is_unfinished other = false
 
 -- how many queries wait, are built for or run
 abbrev pub unfinished_in : State → ℕ
@@ -32,11 +29,7 @@ SomeRuns state = Any (λ entry. IsRunning entry.life) state.lives.queries
 abbrev pub is_to_start : Life → Bool
 is_to_start Waiting = true
 is_to_start Building = true
-is_to_start (Running start left) = false
-is_to_start Ending = false
-is_to_start Answered = false
-is_to_start Spoiled = false
-is_to_start Abandoned = false
+is_to_start other = false
 
 -- no query waits or is built for, so that none begins to run
 abbrev pub NoneIsToStart : State → Type 0
@@ -49,13 +42,8 @@ HasSlotsForAll state = count_by (λ entry. is_waiting entry.life) state.lives.qu
 
 -- the lap of a query with this life began at this position, if it runs
 abbrev pub BeganAt : (start : ℕ) → Life → Type 0
-BeganAt start Waiting = Unit {0}
-BeganAt start Building = Unit {0}
 BeganAt start (Running other left) = other ≡ start
-BeganAt start Ending = Unit {0}
-BeganAt start Answered = Unit {0}
-BeganAt start Spoiled = Unit {0}
-BeganAt start Abandoned = Unit {0}
+BeganAt start rest = Unit {0}
 
 -- where the scan ends its way, once it came round: behind the last version, or where all queries that run began, above 0
 pub record IsEnd (end : ℕ) (state : State) : Type 0 where
@@ -64,13 +52,8 @@ pub record IsEnd (end : ℕ) (state : State) : Type 0 where
 
 -- what is left of a query that runs lies between a position and an end
 abbrev pub IsLeftBetween : (first end extent : ℕ) → Life → Type 0
-IsLeftBetween first end extent Waiting = Unit {0}
-IsLeftBetween first end extent Building = Unit {0}
 IsLeftBetween first end extent (Running start left) = first + left ≤ min end extent
-IsLeftBetween first end extent Ending = Unit {0}
-IsLeftBetween first end extent Answered = Unit {0}
-IsLeftBetween first end extent Spoiled = Unit {0}
-IsLeftBetween first end extent Abandoned = Unit {0}
+IsLeftBetween first end extent other = Unit {0}
 
 -- the scan goes on to the last version, comes round, and goes on to an end: so many positions at most
 pub record IsToComeRound (end most : ℕ) (state : State) : Type 0 where
@@ -94,14 +77,8 @@ IsOfLanding (Reserve query slot) = ⊥
 IsOfLanding (Build query dimension) = ⊥
 IsOfLanding (Start query) = ⊥
 IsOfLanding Cut = ⊥
-IsOfLanding (Take worker batch) = Unit {0}
-IsOfLanding (Give worker) = Unit {0}
-IsOfLanding (Distribute batch) = Unit {0}
-IsOfLanding (Finish slot) = Unit {0}
-IsOfLanding (Clear slot dimension) = Unit {0}
-IsOfLanding (Release slot) = Unit {0}
-IsOfLanding Reorder = Unit {0}
 IsOfLanding (Abandon query) = ⊥
+IsOfLanding other = Unit {0}
 
 -- the scan is on its way, at whose end so many positions were cut in all at most
 pub record IsWithin (total : ℕ) (state : State) : Type 0 where

@@ -15,10 +15,7 @@ abbrev pub to_cut : (extent : ℕ) → Life → ℕ
 to_cut extent Waiting = extent
 to_cut extent Building = extent
 to_cut extent (Running start left) = left
-to_cut extent Ending = 0
-to_cut extent Answered = 0
-to_cut extent Spoiled = 0
-to_cut extent Abandoned = 0
+to_cut extent other = 0
 
 -- how many positions are still to be cut, each query by itself
 abbrev pub all_to_cut : List QueryLife → ℕ
@@ -28,11 +25,7 @@ all_to_cut queries = sum_by (λ entry. to_cut entry.extent entry.life) queries
 abbrev pub steps_to_run : Life → ℕ
 steps_to_run Waiting = 20
 steps_to_run Building = 1
-steps_to_run (Running start left) = 0
-steps_to_run Ending = 0
-steps_to_run Answered = 0
-steps_to_run Spoiled = 0
-steps_to_run Abandoned = 0
+steps_to_run other = 0
 
 -- how many dimensions are in a set
 abbrev pub size_of : (set : ℕ) → ℕ

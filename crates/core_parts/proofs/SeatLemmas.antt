@@ -29,34 +29,25 @@ pub pending_as-none : (known : List Known) (number : ℕ) (standing : Standing) 
     → pending_as known (record { number = number; standing = standing }) ≡ None
 pending_as-none known number (Waits answer) other = cc
 pending_as-none known number IsAsked other = cc
-pending_as-none known number IsTaken other = refl
-pending_as-none known number IsAnswered other = refl
-pending_as-none known number IsAbandoned other = refl
+pending_as-none known number rest other = refl
 
 -- what was not taken is none of what was taken
 pub taken_as-none : (known : List Known) (number : ℕ) (standing : Standing) → is_taken standing ≡ false
     → taken_as known (record { number = number; standing = standing }) ≡ None
-taken_as-none known number (Waits answer) other = refl
-taken_as-none known number IsAsked other = refl
 taken_as-none known number IsTaken other = cc
 taken_as-none known number IsAnswered other = cc
-taken_as-none known number IsAbandoned other = refl
+taken_as-none known number rest other = refl
 
 -- what is waited for was not taken
 pub waited-is_taken : (standing : Standing) → is_waited standing ≡ true → is_taken standing ≡ false
-waited-is_taken (Waits answer) waited = refl
-waited-is_taken IsAsked waited = refl
 waited-is_taken IsTaken waited = cc
 waited-is_taken IsAnswered waited = cc
-waited-is_taken IsAbandoned waited = refl
+waited-is_taken other waited = refl
 
 -- a statement is not waited for, once its reply is taken
 pub when_taken-is_waited : (standing : Standing) → is_waited (when_taken standing) ≡ false
 when_taken-is_waited (Waits answer) = refl
-when_taken-is_waited IsAsked = refl
-when_taken-is_waited IsTaken = refl
-when_taken-is_waited IsAnswered = refl
-when_taken-is_waited IsAbandoned = refl
+when_taken-is_waited other = refl
 
 -- what is waited for is pending, with its number
 pub record IsPendingAs (known : List Known) (number : ℕ) (standing : Standing) (pending : Pending) : Type 0 where

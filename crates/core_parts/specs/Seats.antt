@@ -19,9 +19,7 @@ asked_as known number =
 abbrev pub awaited_as : List Known → (number : ℕ) → Standing → Option Awaited
 awaited_as known number (Waits answer) = Some (Replied answer)
 awaited_as known number IsAsked = Some (asked_as known number)
-awaited_as known number IsTaken = None
-awaited_as known number IsAnswered = None
-awaited_as known number IsAbandoned = None
+awaited_as known number other = None
 
 -- a statement that a seat waits for, if it still waits
 abbrev pub pending_as : List Known → Submitted → Option Pending
@@ -31,12 +29,10 @@ pending_as known submitted =
 
 -- a statement whose reply a seat took, if it took it
 abbrev pub took_as : List Known → (number : ℕ) → Standing → Option Taken
-took_as known number (Waits answer) = None
-took_as known number IsAsked = None
 took_as known number IsTaken = Some (record { statement = number; query = None })
 took_as known number IsAnswered =
     Some (record { statement = number; query = option_map (λ entry. (entry.query, entry.snapshot)) (known_at known number) })
-took_as known number IsAbandoned = None
+took_as known number other = None
 
 -- a seat
 abbrev pub seat_as : List Known → List Submitted → Seat
@@ -50,17 +46,13 @@ seat_as known statements = record {
 abbrev pub is_waited : Standing → Bool
 is_waited (Waits answer) = true
 is_waited IsAsked = true
-is_waited IsTaken = false
-is_waited IsAnswered = false
-is_waited IsAbandoned = false
+is_waited other = false
 
 -- whether the reply to a statement was taken
 abbrev pub is_taken : Standing → Bool
-is_taken (Waits answer) = false
-is_taken IsAsked = false
 is_taken IsTaken = true
 is_taken IsAnswered = true
-is_taken IsAbandoned = false
+is_taken other = false
 
 -- how a statement stands whose reply is taken
 abbrev pub when_taken : Standing → Standing

@@ -103,13 +103,10 @@ open-life None e = absurd (let both : false ≡ true = e in cc)
 open-life (Some old) e = (old, refl, e)
 
 begun-open : (old : Life) → is_begun old ≡ true → is_open old ≡ true
-begun-open life.Waiting e = refl
-begun-open life.Building e = refl
-begun-open (life.Running start left) e = refl
-begun-open life.Ending e = refl
 begun-open life.Answered e = e
 begun-open life.Spoiled e = e
 begun-open life.Abandoned e = e
+begun-open other e = refl
 
 -- a query that finds no memory as a filter is built for it
 pub sound-wanting : (query : ℕ) (state : State) → CanSpoil query state.lives → IsSound state → IsSound (after_build_wants query state)

@@ -79,9 +79,7 @@ were-distribute batch spoiled state =
 -- the change of a statement
 were-change : (seat statement : ℕ) (change : Change) (state : State) → Abandons state (with_change seat statement change state)
 were-change seat statement (DimensionDeclared table) state number is = is
-were-change seat statement (FactDeclared table) state number is = is
-were-change seat statement (Loaded table rows) state number is = is
-were-change seat statement (Ended positions) state number is = is
+were-change seat statement other state number is = is
 
 -- the query of a statement
 were-query : (seat statement : ℕ) (told : Told) (state : State) → Abandons state (with_query seat statement told state)
@@ -126,31 +124,18 @@ abandons-event (Reserve query slot) state number is = inl (were-reserving slot s
 abandons-event (Build query dimension) state number is = inl (were-build query dimension state number is)
 abandons-event (Start query) state number is = inl (were-start query state number is)
 abandons-event Cut state number is = inl (were-cut (first_in state) (end_in state - 1) state.lives.queries number is)
-abandons-event (Take worker batch) state number is = inl is
 abandons-event (Give worker) state number is = inl (were-give worker state number is)
 abandons-event (Distribute batch) state number is = inl (were-distribute batch [] state number is)
 abandons-event (Finish slot) state number is = inl (were-ended slot state.lives number is)
-abandons-event (Clear slot dimension) state number is = inl is
-abandons-event (Release slot) state number is = inl is
-abandons-event Reorder state number is = inl is
 abandons-event (Abandon query) state number is =
     ⊎_elim (λ was. inl was) (λ same. inr (ap (λ n. Done (Abandon n)) same)) (were-abandoning query number state is)
+abandons-event other state number is = inl is
 
 were-want : (event : Event) (spoiled : List ℕ) (state : State) → Abandons state (after_want event spoiled state)
 unfolding after_want
-were-want (Submit seat statement) spoiled state = were-all state
-were-want (Reserve query slot) spoiled state = were-all state
 were-want (Build query dimension) spoiled state = were-written query life.Spoiled state.lives.queries (λ e. cc)
-were-want (Start query) spoiled state = were-all state
-were-want Cut spoiled state = were-all state
-were-want (Take worker batch) spoiled state = were-all state
-were-want (Give worker) spoiled state = were-all state
 were-want (Distribute batch) spoiled state = were-distribute batch spoiled state
-were-want (Finish slot) spoiled state = were-all state
-were-want (Clear slot dimension) spoiled state = were-all state
-were-want (Release slot) spoiled state = were-all state
-were-want Reorder spoiled state = were-all state
-were-want (Abandon query) spoiled state = were-all state
+were-want other spoiled state = were-all state
 
 pub abandons-step : (step : Step) (state : State) (number : ℕ) → life_of (after_step step state).lives number ≡ Some life.Abandoned
     → (life_of state.lives number ≡ Some life.Abandoned) ⊎ (step ≡ Done (Abandon number))

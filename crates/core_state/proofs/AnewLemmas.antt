@@ -163,16 +163,13 @@ StayTaken seats now = (seat number : ℕ) → Contains (map (λ taken. taken.sta
 -- what is kept of a query does not hang on the others
 pub kept-anew : (state : State) (change : Accepted → Accepted) (queries : List QueryLife) (seats : List Seat) → StayTaken state.seats seats → (accepted : Accepted) (extent : ℕ) (now : Life)
     → IsKept state accepted extent now → IsKept (kept_anew state change queries seats state.scan) accepted extent now
-kept-anew state change queries seats stay accepted extent life.Waiting old = old
-kept-anew state change queries seats stay accepted extent life.Building old = old
 kept-anew state change queries seats stay accepted extent (life.Running start left) old =
     record { folded = old.folded; each_once = old.each_once; next = old.next; groups = old.groups }
 kept-anew state change queries seats stay accepted extent life.Ending old =
     record { folded = old.folded; each_once = old.each_once; next = old.next; groups = old.groups }
 kept-anew state change queries seats stay accepted extent life.Answered old =
     ⊎_elim (λ gone. inl (gone.0, stay accepted.seat accepted.number gone.1)) (λ answer. inr (record { rows = answer.rows; all = answer.all; groups = answer.groups })) old
-kept-anew state change queries seats stay accepted extent life.Spoiled old = old
-kept-anew state change queries seats stay accepted extent life.Abandoned old = old
+kept-anew state change queries seats stay accepted extent other old = old
 
 -- what is asked of an accepted query by its life
 abbrev pub LivesAs : State → Accepted → (given : Accepted) → QueryLife → Type 0

@@ -180,11 +180,6 @@ reply-right ignores state seat pending ready sound is may =
 
     by_life : (query : Query) (snapshot : ℕ) → HasAccepted state pending.statement query snapshot → (o : Option Life) → life_of state.lives pending.statement ≡ o
         → option_and_then (ready_by state pending.statement snapshot) o ≡ Some ready → IsRight state pending.statement (Asked query snapshot) ready
-    by_life query snapshot has None was e = absurd (let both : None ≡ Some ready = e in cc)
-    by_life query snapshot has (Some life.Waiting) was e = absurd (let both : None ≡ Some ready = e in cc)
-    by_life query snapshot has (Some life.Building) was e = absurd (let both : None ≡ Some ready = e in cc)
-    by_life query snapshot has (Some (life.Running start left)) was e = absurd (let both : None ≡ Some ready = e in cc)
-    by_life query snapshot has (Some life.Ending) was e = absurd (let both : None ≡ Some ready = e in cc)
     by_life query snapshot has (Some life.Answered) was e =
         let answer = asked-answer ignores state seat pending query snapshot sound first has was in
         let gives : Some (Grouping snapshot answer.0) ≡ Some ready = sym (ap (option_map (Grouping snapshot)) answer.1) ∙ e in
@@ -193,7 +188,7 @@ reply-right ignores state seat pending ready sound is may =
     by_life query snapshot has (Some life.Spoiled) was e =
         let same : Whole Memory ≡ ready = cc in
         subst (IsRight state pending.statement (Asked query snapshot)) same (refl, was)
-    by_life query snapshot has (Some life.Abandoned) was e = absurd (let both : None ≡ Some ready = e in cc)
+    by_life query snapshot has other was e = absurd (let both : None ≡ Some ready = e in cc)
 
     by_awaited : (awaited : Awaited) → IsAwaited state pending.statement awaited → ready_to state pending.statement awaited ≡ Some ready
         → IsRight state pending.statement awaited ready
@@ -216,15 +211,12 @@ waits-open ignores state seat pending sound is none =
         → life_of state.lives pending.statement ≡ o → option_and_then (ready_by state pending.statement snapshot) o ≡ None
         → IfSome o (λ now. now ≢ life.Abandoned) → IsSomeAnd o (λ now. IsTrue (is_open now))
     by_life query snapshot has None was e wanted = absurd (asked-lives state pending.statement query snapshot sound.queries has.0 was)
-    by_life query snapshot has (Some life.Waiting) was e wanted = refl
-    by_life query snapshot has (Some life.Building) was e wanted = refl
-    by_life query snapshot has (Some (life.Running start left)) was e wanted = refl
-    by_life query snapshot has (Some life.Ending) was e wanted = refl
     by_life query snapshot has (Some life.Answered) was e wanted =
         let answer = asked-answer ignores state seat pending query snapshot sound first has.0 was in
         absurd (let both : Some (Grouping snapshot answer.0) ≡ None = sym (ap (option_map (Grouping snapshot)) answer.1) ∙ e in cc)
     by_life query snapshot has (Some life.Spoiled) was e wanted = absurd (let both : Some (Whole Memory) ≡ None = e in cc)
     by_life query snapshot has (Some life.Abandoned) was e wanted = absurd (wanted refl)
+    by_life query snapshot has other was e wanted = refl
 
     by_awaited : (awaited : Awaited) → pending.awaited ≡ awaited → IsAwaited state pending.statement awaited
         → ready_to state pending.statement awaited ≡ None

@@ -145,9 +145,7 @@ IsFree number state later = (attached_to later ≡ attached_to state) × NoneHol
 attached-change : (seat statement number : ℕ) (change : Change) (state later : State) → IsFree number state later
     → IsFree number state (with_change seat statement change later)
 attached-change seat statement number (DimensionDeclared table) state later same = (same.0, same.1)
-attached-change seat statement number (FactDeclared table) state later same = (same.0, same.1)
-attached-change seat statement number (Loaded table rows) state later same = (same.0, same.1)
-attached-change seat statement number (Ended positions) state later same = (same.0, same.1)
+attached-change seat statement number other state later same = (same.0, same.1)
 
 -- the query of a statement gets no rows yet
 attached-query : (seat statement : ℕ) (told : Told) (state later : State) → IsFree statement state later
@@ -196,14 +194,11 @@ unfolding after_event
 attached-event state (Submit seat statement) sound may leaves = attached-outcome state seat (outcome_of (tables_of state) statement) sound
 attached-event state (Reserve query slot) sound may leaves = attached-reserve state query slot sound may
 attached-event state (Build query dimension) sound may leaves = attached-build state query dimension
-attached-event state (Start query) sound may leaves = absurd leaves
 attached-event state Cut sound may leaves = attached-cut state
 attached-event state (Take worker batch) sound may leaves = refl
 attached-event state (Give worker) sound may leaves = attached-give state worker
-attached-event state (Distribute batch) sound may leaves = absurd leaves
-attached-event state (Finish slot) sound may leaves = absurd leaves
 attached-event state (Clear slot dimension) sound may leaves = slot-kept state (after_clear slot dimension state) slot
     (without_dimension dimension (slot_at state.lives slot)) refl refl (holder-less dimension (slot_at state.lives slot))
 attached-event state (Release slot) sound may leaves = slot-kept state (after_release slot state) slot Free refl refl (sym (ap holder_of may))
 attached-event state Reorder sound may leaves = refl
-attached-event state (Abandon query) sound may leaves = absurd leaves
+attached-event state other sound may leaves = absurd leaves

@@ -137,16 +137,13 @@ hands-later state seats statement accepted queries count old = record {
 
 kept-later : (state : State) (seats : List Seat) (statement : ℕ) (accepted : List Accepted) (queries : List QueryLife)
     → StayTaken state.seats seats → (asked : Accepted) (extent : ℕ) (now : Life) → IsKept state asked extent now → IsKept (later state seats statement accepted queries) asked extent now
-kept-later state seats statement accepted queries stay asked extent life.Waiting old = old
-kept-later state seats statement accepted queries stay asked extent life.Building old = old
 kept-later state seats statement accepted queries stay asked extent (life.Running start left) old =
     record { folded = old.folded; each_once = old.each_once; next = old.next; groups = old.groups }
 kept-later state seats statement accepted queries stay asked extent life.Ending old =
     record { folded = old.folded; each_once = old.each_once; next = old.next; groups = old.groups }
 kept-later state seats statement accepted queries stay asked extent life.Answered old =
     ⊎_elim (λ gone. inl (gone.0, stay asked.seat asked.number gone.1)) (λ answer. inr (record { rows = answer.rows; all = answer.all; groups = answer.groups })) old
-kept-later state seats statement accepted queries stay asked extent life.Spoiled old = old
-kept-later state seats statement accepted queries stay asked extent life.Abandoned old = old
+kept-later state seats statement accepted queries stay asked extent other old = old
 
 -- an accepted query that was there
 pub query-later : (state : State) (seats : List Seat) (statement : ℕ) (accepted : List Accepted) (queries : List QueryLife)

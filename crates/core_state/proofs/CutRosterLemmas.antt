@@ -68,15 +68,9 @@ runs-in state slot entry is = by_slot (slot_at state.lives slot) refl is
     by_life : (query built : ℕ) → slot_at state.lives slot ≡ Held query built → (o : Option Life) → life_of state.lives query ≡ o
         → option_and_then (λ start. option_map (entry_of state.lives slot) (accepted_at state.accepted query)) (option_and_then start_in o) ≡ Some entry
         → RunsIn state slot entry
-    by_life query built held None runs e = absurd (none-some entry e)
-    by_life query built held (Some life.Waiting) runs e = absurd (none-some entry e)
-    by_life query built held (Some life.Building) runs e = absurd (none-some entry e)
     by_life query built held (Some (life.Running start left)) runs e =
         by_accepted query built start left held runs (accepted_at state.accepted query) refl e
-    by_life query built held (Some life.Ending) runs e = absurd (none-some entry e)
-    by_life query built held (Some life.Answered) runs e = absurd (none-some entry e)
-    by_life query built held (Some life.Spoiled) runs e = absurd (none-some entry e)
-    by_life query built held (Some life.Abandoned) runs e = absurd (none-some entry e)
+    by_life query built held other runs e = absurd (none-some entry e)
 
     by_slot : (now : SlotState) → slot_at state.lives slot ≡ now → entry_by state slot (holder_of now) ≡ Some entry → RunsIn state slot entry
     by_slot Free held e = absurd (none-some entry e)

@@ -42,13 +42,8 @@ some-runs state can sound = by_life entry.life refl can.running.4
         ∙ ap Some can.running.3
 
     by_life : (now : Life) → entry.life ≡ now → IsRunning now → Runs state
-    by_life life.Waiting is runs = absurd runs
-    by_life life.Building is runs = absurd runs
     by_life (life.Running start left) is runs = record { entry = entry; start = start; left = left; found = found; runs = is }
-    by_life life.Ending is runs = absurd runs
-    by_life life.Answered is runs = absurd runs
-    by_life life.Spoiled is runs = absurd runs
-    by_life life.Abandoned is runs = absurd runs
+    by_life other is runs = absurd runs
 
 pub life-runs : (state : State) (some : Runs state) → life_of state.lives some.entry.query ≡ Some (life.Running some.start some.left)
 life-runs state some = life-found state.lives.queries some.entry.query some.entry some.found ∙ ap Some some.runs

@@ -143,14 +143,8 @@ sound-given_up slot query built state queries there holds landed lives_now queri
     sound-held state queries slots state.filters state.numbers.version now sound
 
 ending-life : (o : Option Life) → option_map_or is_ending o false ≡ true → o ≡ Some life.Ending
-ending-life None e = cc
-ending-life (Some life.Waiting) e = cc
-ending-life (Some life.Building) e = cc
-ending-life (Some (life.Running start left)) e = cc
 ending-life (Some life.Ending) e = refl
-ending-life (Some life.Answered) e = cc
-ending-life (Some life.Spoiled) e = cc
-ending-life (Some life.Abandoned) e = cc
+ending-life other e = cc
 
 sound-by_state : (slot : ℕ) (state : State) → MayFinish slot state → IsSound state → (holder : SlotState) → slot_at state.lives slot ≡ holder
     → IsOver holder state.lives → IsSound (record state { lives = given_up slot holder state.lives })

@@ -108,16 +108,13 @@ pub kept-moved : (state : State) (queries : List QueryLife) (slots : List SlotSt
     → flat_map (positions_for accepted.number extent) scan.flights ≡ flat_map (positions_for accepted.number extent) state.scan.flights
     → scan.position ≡ state.scan.position → IsKept state accepted extent now
     → IsKept (moved state queries slots filters scan numbers) accepted extent now
-kept-moved state queries slots filters scan numbers accepted extent life.Waiting same stands old = old
-kept-moved state queries slots filters scan numbers accepted extent life.Building same stands old = old
 kept-moved state queries slots filters scan numbers accepted extent (life.Running start left) same stands old =
     covered-moved state queries slots filters scan numbers accepted extent (life.Running start left) same stands old
 kept-moved state queries slots filters scan numbers accepted extent life.Ending same stands old =
     covered-moved state queries slots filters scan numbers accepted extent life.Ending same stands old
 kept-moved state queries slots filters scan numbers accepted extent life.Answered same stands old =
     ⊎_elim (λ none. inl none) (λ answer. inr (answer-moved state queries slots filters scan numbers accepted answer)) old
-kept-moved state queries slots filters scan numbers accepted extent life.Spoiled same stands old = old
-kept-moved state queries slots filters scan numbers accepted extent life.Abandoned same stands old = old
+kept-moved state queries slots filters scan numbers accepted extent other same stands old = old
 
 -- an accepted query stays sound where its own life is what is asked of it
 pub query-moved : (state : State) (queries : List QueryLife) (slots : List SlotState) (filters : Filters) (scan : Scan) (numbers : Numbers)

@@ -121,16 +121,13 @@ answer-grown state entries keeps accepted low old = record {
 kept-grown : (state : State) (entries : List Entry) → Grows (tables_of state) (tables_by entries) → KeepsKept (tables_of state) (tables_by entries)
     → (accepted : Accepted) (extent : ℕ) (now : Life) → accepted.snapshot ≤ (tables_of state).commits → extent ≤ versions_in state
     → IsKept state accepted extent now → IsKept (entered state entries) accepted extent now
-kept-grown state entries grows keeps accepted extent life.Waiting low within old = old
-kept-grown state entries grows keeps accepted extent life.Building low within old = old
 kept-grown state entries grows keeps accepted extent (life.Running start left) low within old =
     covered-grown state entries grows accepted extent (life.Running start left) low within old
 kept-grown state entries grows keeps accepted extent life.Ending low within old =
     covered-grown state entries grows accepted extent life.Ending low within old
 kept-grown state entries grows keeps accepted extent life.Answered low within old =
     ⊎_elim (λ none. inl none) (λ answer. inr (answer-grown state entries keeps accepted low answer)) old
-kept-grown state entries grows keeps accepted extent life.Spoiled low within old = old
-kept-grown state entries grows keeps accepted extent life.Abandoned low within old = old
+kept-grown state entries grows keeps accepted extent other low within old = old
 
 -- a version came by a snapshot where it stands in the extent
 abbrev CameBy : (snapshot extent position : ℕ) → PlainVersion → Type 0

@@ -80,14 +80,8 @@ found-apart f apart (suc count) first = by_option (f first) refl (found-apart f 
 -- Who holds a slot.
 
 most-one : (o : Option Life) → option_map_or most_slots o 0 ≤ 1
-most-one None = omega arith
 most-one (Some life.Waiting) = omega arith
-most-one (Some life.Building) = omega arith
-most-one (Some (life.Running start left)) = omega arith
-most-one (Some life.Ending) = omega arith
-most-one (Some life.Answered) = omega arith
-most-one (Some life.Spoiled) = omega arith
-most-one (Some life.Abandoned) = omega arith
+most-one other = omega arith
 
 -- a slot that is held is there
 pub held-there : (lives : Lives) (slot query built : ℕ) → slot_at lives slot ≡ Held query built → slot < length lives.slots

@@ -203,10 +203,7 @@ batch-brings state flight accepted extent filters order through sound itself ove
 
 -- a query that gets rows may still be answered
 pub gets-open : (now : Life) → gets_rows now ≡ true → is_open now ≡ true
-gets-open life.Waiting e = refl
-gets-open life.Building e = refl
-gets-open (life.Running start left) e = refl
-gets-open life.Ending e = refl
 gets-open life.Answered e = e
 gets-open life.Spoiled e = e
 gets-open life.Abandoned e = e
+gets-open other e = refl

@@ -39,18 +39,13 @@ NextTables store next = (next ≡ store) ⊎ ((change : Change) × (next ≡ aft
 
 -- commits are never taken back
 commits-rise : (store : Store) (change : Change) → store.commits ≤ (after_change store change).commits
-commits-rise store (DimensionDeclared table) = omega arith
-commits-rise store (FactDeclared table) = omega arith
 commits-rise store (Loaded Fact rows) = omega arith
-commits-rise store (Loaded (Dimension dimension) rows) = omega arith
-commits-rise store (Ended positions) = omega arith
+commits-rise store other = omega arith
 
 -- the entries of a change
 pub entries-by : (change : Change) (state : State) → (filters_by change state).entries ≡ state.entries
 entries-by (DimensionDeclared table) state = refl
-entries-by (FactDeclared table) state = refl
-entries-by (Loaded table rows) state = refl
-entries-by (Ended positions) state = refl
+entries-by other state = refl
 
 submit-tables : Outcomes → (seat : ℕ) (statement : Statement) (state : State) → IsSettled (tables_of state)
     → NextTables (tables_of state) (tables_of (after_submitting seat statement state))
@@ -80,39 +75,21 @@ by-option f state (Some a) each = each a
 event-tables : Outcomes → (event : Event) (state : State) → IsSettled (tables_of state) → NextTables (tables_of state) (tables_of (after_event event state))
 unfolding after_event
 event-tables outcomes (Submit seat statement) state settled = submit-tables outcomes seat statement state settled
-event-tables outcomes (Reserve query slot) state settled = inl refl
 event-tables outcomes (Build query dimension) state settled =
     inl (ap tables_by (by-option _ state (slot_of state.lives query) (λ slot. by-option _ state (accepted_at state.accepted query) (λ accepted. refl))))
-event-tables outcomes (Start query) state settled = inl refl
-event-tables outcomes Cut state settled = inl refl
-event-tables outcomes (Take worker batch) state settled = inl refl
 event-tables outcomes (Give worker) state settled =
     inl (ap tables_by (by-option _ state (find (is_held_by worker) state.scan.flights) (λ flight. refl)))
 event-tables outcomes (Distribute batch) state settled =
     inl (ap tables_by (by-option _ state (flight_at state.scan.flights batch) (λ flight. refl)))
-event-tables outcomes (Finish slot) state settled = inl refl
-event-tables outcomes (Clear slot dimension) state settled = inl refl
-event-tables outcomes (Release slot) state settled = inl refl
-event-tables outcomes Reorder state settled = inl refl
 event-tables outcomes (Abandon query) state settled =
     inl (ap tables_by (by-option _ state (accepted_at state.accepted query) (λ accepted. refl)))
+event-tables outcomes other state settled = inl refl
 
 -- where memory is wanted the tables stay
 want-tables : (event : Event) (spoiled : List ℕ) (state : State) → tables_of (after_want event spoiled state) ≡ tables_of state
 unfolding after_want
-want-tables (Submit seat statement) spoiled state = refl
-want-tables (Reserve query slot) spoiled state = refl
-want-tables (Build query dimension) spoiled state = refl
-want-tables (Start query) spoiled state = refl
-want-tables Cut spoiled state = refl
-want-tables (Take worker batch) spoiled state = refl
-want-tables (Give worker) spoiled state = refl
 want-tables (Distribute batch) spoiled state = ap tables_by (by-option _ state (flight_at state.scan.flights batch) (λ flight. refl))
-want-tables (Finish slot) spoiled state = refl
-want-tables (Clear slot dimension) spoiled state = refl
-want-tables (Release slot) spoiled state = refl
-want-tables Reorder spoiled state = refl
-want-tables (Abandon query) spoiled state = refl
+want-tables other spoiled state = refl
 
 step-tables : Outcomes → (step : Step) (state : State) → IsSettled (tables_of state) → NextTables (tables_of state) (tables_of (after_step step state))
 step-tables outcomes (Done event) state settled = event-tables outcomes event state settled

@@ -45,41 +45,23 @@ unfolding after_event
 ascending-event (Submit seat statement) state ascending =
     let found = outcome_of (tables_of state) statement in
     ascending-outcome seat found.change found.told state (outcome-ascends (tables_of state) statement) ascending
-ascending-event (Reserve query slot) state ascending = ascending
 ascending-event (Build query dimension) state ascending =
     subst Ascending
     (sym (by-option _ state (slot_of state.lives query) (λ slot. by-option _ state (accepted_at state.accepted query) (λ accepted. refl))))
     ascending
-ascending-event (Start query) state ascending = ascending
-ascending-event Cut state ascending = ascending
-ascending-event (Take worker batch) state ascending = ascending
 ascending-event (Give worker) state ascending =
     subst Ascending (sym (by-option _ state (find (is_held_by worker) state.scan.flights) (λ flight. refl))) ascending
 ascending-event (Distribute batch) state ascending =
     subst Ascending (sym (by-option _ state (flight_at state.scan.flights batch) (λ flight. refl))) ascending
-ascending-event (Finish slot) state ascending = ascending
-ascending-event (Clear slot dimension) state ascending = ascending
-ascending-event (Release slot) state ascending = ascending
-ascending-event Reorder state ascending = ascending
 ascending-event (Abandon query) state ascending =
     subst Ascending (sym (by-option _ state (accepted_at state.accepted query) (λ accepted. refl))) ascending
+ascending-event other state ascending = ascending
 
 ascending-want : (event : Event) (spoiled : List ℕ) (state : State) → Ascending state.entries → Ascending (after_want event spoiled state).entries
 unfolding after_want
-ascending-want (Submit seat statement) spoiled state ascending = ascending
-ascending-want (Reserve query slot) spoiled state ascending = ascending
-ascending-want (Build query dimension) spoiled state ascending = ascending
-ascending-want (Start query) spoiled state ascending = ascending
-ascending-want Cut spoiled state ascending = ascending
-ascending-want (Take worker batch) spoiled state ascending = ascending
-ascending-want (Give worker) spoiled state ascending = ascending
 ascending-want (Distribute batch) spoiled state ascending =
     subst Ascending (sym (by-option _ state (flight_at state.scan.flights batch) (λ flight. refl))) ascending
-ascending-want (Finish slot) spoiled state ascending = ascending
-ascending-want (Clear slot dimension) spoiled state ascending = ascending
-ascending-want (Release slot) spoiled state ascending = ascending
-ascending-want Reorder spoiled state ascending = ascending
-ascending-want (Abandon query) spoiled state ascending = ascending
+ascending-want other spoiled state ascending = ascending
 
 ascending-step : (step : Step) (state : State) → Ascending state.entries → Ascending (after_step step state).entries
 ascending-step (Done event) state ascending = ascending-event event state ascending

@@ -125,14 +125,8 @@ scanned-release state scan slot can = slot-kept state (after_release slot state)
 
 -- a query that gives up does not run
 over-rests : (o : Option Life) → option_map_or gives_up o false ≡ true → option_and_then start_in o ≡ None
-over-rests None over = refl
-over-rests (Some life.Waiting) over = refl
-over-rests (Some life.Building) over = refl
 over-rests (Some (life.Running start left)) over = absurd (let both : false ≡ true = over in cc)
-over-rests (Some life.Ending) over = refl
-over-rests (Some life.Answered) over = refl
-over-rests (Some life.Spoiled) over = refl
-over-rests (Some life.Abandoned) over = refl
+over-rests other over = refl
 
 pub scanned-finish : (state : State) (scan : Scanning) (slot : ℕ) → MayFinish slot state → IsScannedAs state scan
     → IsScannedAs (after_finish slot state) scan

@@ -98,14 +98,8 @@ cut-as first end extent after (life.Running start left) (Some entry) (Some r) ov
     starts = ap (λ (now : Option Life). option_map_or (λ n. n) (option_and_then start_in now) 0) same.life
 
     left_of : Option Life → ℕ
-    left_of None = 0
-    left_of (Some life.Waiting) = 0
-    left_of (Some life.Building) = 0
     left_of (Some (life.Running s l)) = l
-    left_of (Some life.Ending) = 0
-    left_of (Some life.Answered) = 0
-    left_of (Some life.Spoiled) = 0
-    left_of (Some life.Abandoned) = 0
+    left_of other = 0
 
     both : r.left - covered first end r.extent ≡ rest
     both =

@@ -144,8 +144,6 @@ scanned-event state scan (Submit seat statement) sound may leaves same =
     scanned-outcome state scan seat (outcome_of (tables_of state) statement) sound same
 scanned-event state scan (Reserve query slot) sound may leaves same = scanned-reserve state scan query slot sound may same
 scanned-event state scan (Build query dimension) sound may leaves same = scanned-build state scan query dimension same
-scanned-event state scan (Start query) sound may leaves same = absurd leaves
-scanned-event state scan Cut sound may leaves same = absurd leaves
 scanned-event state scan (Take worker batch) sound may leaves same =
     record { position = same.position; count = same.count; slots = same.slots }
 scanned-event state scan (Give worker) sound may leaves same = scanned-give state scan worker same
@@ -155,7 +153,7 @@ scanned-event state scan (Clear slot dimension) sound may leaves same = scanned-
 scanned-event state scan (Release slot) sound may leaves same = scanned-release state scan slot may same
 scanned-event state scan Reorder sound may leaves same =
     record { position = same.position; count = same.count; slots = same.slots }
-scanned-event state scan (Abandon query) sound may leaves same = absurd leaves
+scanned-event state scan other sound may leaves same = absurd leaves
 
 -- a new scan has what runs in an empty core
 pub scanned-empty : (settings : RunSettings) → IsScannedAs (empty_core settings) (new_scan settings.slots)

@@ -89,13 +89,10 @@ sound-in_turn (query ∷ spoiled) state apart can sound =
     (sound-wanting query state (All-head (λ q. CanSpoil q state.lives) query spoiled can) sound)
 
 gets-begun : (now : Life) → gets_rows now ≡ true → is_begun now ≡ true
-gets-begun life.Waiting e = e
 gets-begun life.Building e = refl
 gets-begun (life.Running start left) e = refl
 gets-begun life.Ending e = refl
-gets-begun life.Answered e = e
-gets-begun life.Spoiled e = e
-gets-begun life.Abandoned e = e
+gets-begun other e = e
 
 fed-begun : (o : Option Life) → option_map_or gets_rows o false ≡ true → option_map_or is_begun o false ≡ true
 fed-begun None e = e

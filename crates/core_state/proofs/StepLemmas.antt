@@ -61,20 +61,10 @@ sound-event keep (Abandon query) state may sound = keep.abandon query state may 
 sound-want : EventsKeep → (event : Event) (spoiled : List ℕ) (state : State) → IsEnabled state event → MaySpoil state event spoiled
     → IsSound state → IsSound (after_want event spoiled state)
 unfolding after_want
-sound-want keep (Submit seat statement) spoiled state may fed sound = sound
-sound-want keep (Reserve query slot) spoiled state may fed sound = sound
 sound-want keep (Build query dimension) spoiled state may fed sound =
     keep.build_wants query state (ap (λ o. option_map_or is_begun o false) may.building) sound
-sound-want keep (Start query) spoiled state may fed sound = sound
-sound-want keep Cut spoiled state may fed sound = sound
-sound-want keep (Take worker batch) spoiled state may fed sound = sound
-sound-want keep (Give worker) spoiled state may fed sound = sound
 sound-want keep (Distribute batch) spoiled state may fed sound = keep.distribute batch spoiled state may fed sound
-sound-want keep (Finish slot) spoiled state may fed sound = sound
-sound-want keep (Clear slot dimension) spoiled state may fed sound = sound
-sound-want keep (Release slot) spoiled state may fed sound = sound
-sound-want keep Reorder spoiled state may fed sound = sound
-sound-want keep (Abandon query) spoiled state may fed sound = sound
+sound-want keep other spoiled state may fed sound = sound
 
 pub sound-step : EventsKeep → (step : Step) (state : State) → MayStep state step → IsSound state → IsSound (after_step step state)
 sound-step keep (Done event) state may sound = sound-event keep event state may sound

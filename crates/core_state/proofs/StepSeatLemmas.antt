@@ -83,11 +83,8 @@ aside-query seat statement (outcome.Accepted query snapshot) state = record { se
 
 aside-change : (seat statement : ℕ) (change : Option Change) (state : State)
     → IsAside state (option_map_or (λ change. with_change seat statement change state) change state)
-aside-change seat statement None state = record { seats = refl; number = refl }
 aside-change seat statement (Some (DimensionDeclared table)) state = record { seats = refl; number = refl }
-aside-change seat statement (Some (FactDeclared table)) state = record { seats = refl; number = refl }
-aside-change seat statement (Some (Loaded table rows)) state = record { seats = refl; number = refl }
-aside-change seat statement (Some (Ended positions)) state = record { seats = refl; number = refl }
+aside-change seat statement other state = record { seats = refl; number = refl }
 
 -- the core in which the seat has the statement, before its outcome changes anything
 abbrev submitted_to : (seat : ℕ) → Told → State → State

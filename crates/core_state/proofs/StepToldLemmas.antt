@@ -72,19 +72,8 @@ tells-done adds (Abandon query) state sound own = tells-abandoned adds query sta
 -- an event for which memory was wanted
 aside-wanted : (event : Event) (spoiled : List ℕ) (state : State) → IsAside state (after_want event spoiled state)
 unfolding after_want
-aside-wanted (Submit seat statement) spoiled state = record { seats = refl; number = refl }
-aside-wanted (Reserve query slot) spoiled state = record { seats = refl; number = refl }
-aside-wanted (Build query dimension) spoiled state = record { seats = refl; number = refl }
-aside-wanted (Start query) spoiled state = record { seats = refl; number = refl }
-aside-wanted Cut spoiled state = record { seats = refl; number = refl }
-aside-wanted (Take worker batch) spoiled state = record { seats = refl; number = refl }
-aside-wanted (Give worker) spoiled state = record { seats = refl; number = refl }
 aside-wanted (Distribute batch) spoiled state = aside-distributed batch spoiled state
-aside-wanted (Finish slot) spoiled state = record { seats = refl; number = refl }
-aside-wanted (Clear slot dimension) spoiled state = record { seats = refl; number = refl }
-aside-wanted (Release slot) spoiled state = record { seats = refl; number = refl }
-aside-wanted Reorder spoiled state = record { seats = refl; number = refl }
-aside-wanted (Abandon query) spoiled state = record { seats = refl; number = refl }
+aside-wanted other spoiled state = record { seats = refl; number = refl }
 
 pub tells-step : (step : Step) (state : State) → IsSound state → Tells (adds_by step state) state (after_step step state)
 tells-step (Done event) state sound =

@@ -52,19 +52,9 @@ event-cases P (Abandon query) state may sound leaves tells abandons = abandons q
 leaves-want : (event : Event) (spoiled : List ℕ) (state : State) → IsEnabled state event → MaySpoil state event spoiled
     → Leaves state (after_want event spoiled state)
 unfolding after_want
-leaves-want (Submit seat statement) spoiled state may can = leaves-all state
-leaves-want (Reserve query slot) spoiled state may can = leaves-all state
 leaves-want (Build query dimension) spoiled state may can = leaves-wanting query dimension state may
-leaves-want (Start query) spoiled state may can = leaves-all state
-leaves-want Cut spoiled state may can = leaves-all state
-leaves-want (Take worker batch) spoiled state may can = leaves-all state
-leaves-want (Give worker) spoiled state may can = leaves-all state
 leaves-want (Distribute batch) spoiled state may can = leaves-distribute batch spoiled state can.each
-leaves-want (Finish slot) spoiled state may can = leaves-all state
-leaves-want (Clear slot dimension) spoiled state may can = leaves-all state
-leaves-want (Release slot) spoiled state may can = leaves-all state
-leaves-want Reorder spoiled state may can = leaves-all state
-leaves-want (Abandon query) spoiled state may can = leaves-all state
+leaves-want other spoiled state may can = leaves-all state
 
 -- what holds after each step
 pub step-cases : (P : State → Type 0) (step : Step) (state : State) → MayStep state step → IsSound state

@@ -24,11 +24,7 @@ leaves-then old middle new first second = record {
 leaves-change : (seat statement : ℕ) (change : Change) (state : State) → Leaves state (with_change seat statement change state)
 leaves-change seat statement (DimensionDeclared table) state =
     record { seats = refl; lost = λ number was. was; asked = λ number asked snapshot has. has }
-leaves-change seat statement (FactDeclared table) state =
-    record { seats = refl; lost = λ number was. was; asked = λ number asked snapshot has. has }
-leaves-change seat statement (Loaded table rows) state =
-    record { seats = refl; lost = λ number was. was; asked = λ number asked snapshot has. has }
-leaves-change seat statement (Ended positions) state =
+leaves-change seat statement other state =
     record { seats = refl; lost = λ number was. was; asked = λ number asked snapshot has. has }
 
 -- the query of a statement

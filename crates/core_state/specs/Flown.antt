@@ -61,11 +61,8 @@ pub record IsSoundFilter (state : State) (filter : Filter) : Type 0 where
 abbrev pub MayBeOnRoster : Life → Type 0
 MayBeOnRoster life.Waiting = ⊥
 MayBeOnRoster life.Building = ⊥
-MayBeOnRoster (life.Running start left) = Unit {0}
-MayBeOnRoster life.Ending = Unit {0}
 MayBeOnRoster life.Answered = ⊥
-MayBeOnRoster life.Spoiled = Unit {0}
-MayBeOnRoster life.Abandoned = Unit {0}
+MayBeOnRoster other = Unit {0}
 
 -- a slot on a roster is held by its query, which is as the core has it, and every filter is built for it
 pub record IsOnRoster (state : State) (entry : OnRoster) : Type 0 where

@@ -51,13 +51,8 @@ is_on_roster slot flight = list_any (λ entry. entry.slot == slot) flight.roster
 
 -- where the lap of a running query began
 abbrev pub start_in : Life → Option ℕ
-start_in Waiting = None
-start_in Building = None
 start_in (Running start left) = Some start
-start_in Ending = None
-start_in Answered = None
-start_in Spoiled = None
-start_in Abandoned = None
+start_in other = None
 
 -- where the lap of the query in a slot began, if one runs there
 abbrev pub start_at : Lives → (slot : ℕ) → Option ℕ

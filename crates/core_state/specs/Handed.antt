@@ -52,16 +52,8 @@ detached_for lives query attached = option_map_or (λ slot. slice_set attached s
 
 -- an event by which no query begins to get rows or ceases to, and no rows are folded
 abbrev pub LeavesAttached : Event → Type 0
-LeavesAttached (Submit seat statement) = Unit {0}
-LeavesAttached (Reserve query slot) = Unit {0}
-LeavesAttached (Build query dimension) = Unit {0}
 LeavesAttached (Start query) = ⊥
-LeavesAttached Cut = Unit {0}
-LeavesAttached (Take worker batch) = Unit {0}
-LeavesAttached (Give worker) = Unit {0}
 LeavesAttached (Distribute batch) = ⊥
 LeavesAttached (Finish slot) = ⊥
-LeavesAttached (Clear slot dimension) = Unit {0}
-LeavesAttached (Release slot) = Unit {0}
-LeavesAttached Reorder = Unit {0}
 LeavesAttached (Abandon query) = ⊥
+LeavesAttached other = Unit {0}

@@ -54,7 +54,5 @@ changes_told store dimension commit (Ends ∷ kinds) =
 
 -- the positions of a delete are ascending
 abbrev pub EndsAscending : Change → Type 0
-EndsAscending (DimensionDeclared table) = Unit {0}
-EndsAscending (FactDeclared table) = Unit {0}
-EndsAscending (Loaded table rows) = Unit {0}
 EndsAscending (Ended positions) = AllPairs (λ position later. position < later) positions
+EndsAscending other = Unit {0}

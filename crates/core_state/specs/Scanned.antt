@@ -51,16 +51,7 @@ pub record AreTablesOf (state : State) (store : KeyedStore) : Type 0 where
 
 -- an event by which the scan is not moved, and no query begins to run or ceases to
 abbrev pub LeavesScan : Event → Type 0
-LeavesScan (Submit seat statement) = Unit {0}
-LeavesScan (Reserve query slot) = Unit {0}
-LeavesScan (Build query dimension) = Unit {0}
 LeavesScan (Start query) = ⊥
 LeavesScan Cut = ⊥
-LeavesScan (Take worker batch) = Unit {0}
-LeavesScan (Give worker) = Unit {0}
-LeavesScan (Distribute batch) = Unit {0}
-LeavesScan (Finish slot) = Unit {0}
-LeavesScan (Clear slot dimension) = Unit {0}
-LeavesScan (Release slot) = Unit {0}
-LeavesScan Reorder = Unit {0}
 LeavesScan (Abandon query) = ⊥
+LeavesScan other = Unit {0}

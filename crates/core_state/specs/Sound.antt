@@ -63,24 +63,14 @@ positions_for number extent flight =
 
 -- the positions of a lap that are still to come
 abbrev pub to_come : (extent : ℕ) → Life → List ℕ
-to_come extent life.Waiting = []
-to_come extent life.Building = []
 to_come extent (life.Running start left) = still_to_come left (lap start extent)
-to_come extent life.Ending = []
-to_come extent life.Answered = []
-to_come extent life.Spoiled = []
-to_come extent life.Abandoned = []
+to_come extent other = []
 
 -- the next position below the extent that the scan meets is the first of the lap that is not yet cut
 abbrev pub IsNext : (position extent : ℕ) → Life → Type 0
-IsNext position extent life.Waiting = Unit {0}
-IsNext position extent life.Building = Unit {0}
 IsNext position extent (life.Running start left) =
     place_in_lap (lap_start start extent) extent (next_below position extent) + left ≡ extent
-IsNext position extent life.Ending = Unit {0}
-IsNext position extent life.Answered = Unit {0}
-IsNext position extent life.Spoiled = Unit {0}
-IsNext position extent life.Abandoned = Unit {0}
+IsNext position extent other = Unit {0}
 
 -- a query that runs or is ending: each position of its extent was folded, or is in one batch in flight, or is still to
 -- come, each once; what is kept is what the folded positions give

@@ -53,10 +53,8 @@ with_filters dimensions state = record state {
 -- the core with the filters that a change asks for: the fact table, as it is declared, has one for each dimension that
 -- it references
 abbrev pub filters_by : Change → State → State
-filters_by (DimensionDeclared table) state = state
 filters_by (FactDeclared table) state = with_filters (filter_dimensions (tables_of state).schema) state
-filters_by (Loaded table rows) state = state
-filters_by (Ended positions) state = state
+filters_by other state = state
 
 -- the core with the change of a statement
 abbrev pub with_change : (seat statement : ℕ) → Change → State → State
@@ -119,13 +117,9 @@ groups_in state query = option_map_or (λ accepted. accepted.groups) (accepted_a
 
 -- what a query with this life replies, where it replies yet
 abbrev pub ready_by : State → (query snapshot : ℕ) → Life → Option Ready
-ready_by state query snapshot life.Waiting = None
-ready_by state query snapshot life.Building = None
-ready_by state query snapshot (life.Running start left) = None
-ready_by state query snapshot life.Ending = None
 ready_by state query snapshot life.Answered = option_map (Grouping snapshot) (groups_in state query)
 ready_by state query snapshot life.Spoiled = Some (Whole Memory)
-ready_by state query snapshot life.Abandoned = None
+ready_by state query snapshot other = None
 
 -- the reply to a statement of this number that a seat waits for, where it may be taken
 abbrev pub ready_to : State → (statement : ℕ) → Awaited → Option Ready

@@ -41,19 +41,15 @@ offered-of state one other same none = subst (λ (of : EventKind). NoneOffered o
 
 -- so no event of the kind may come
 pub none-come : (of : EventKind) (state : State) → NoneOffered of state → NoneMayCome of state
-none-come of state none (Submit seat statement) is may = absurd (cc)
 none-come of state none (Reserve query slot) is may = offered-of state kind.Reserve of is none query slot may
 none-come of state none (Build query dimension) is may = offered-of state kind.Build of is none query dimension may
 none-come of state none (Start query) is may = offered-of state kind.Start of is none query may
 none-come of state none Cut is may = offered-of state kind.Cut of is none may
-none-come of state none (Take worker batch) is may = absurd (cc)
-none-come of state none (Give worker) is may = absurd (cc)
 none-come of state none (Distribute batch) is may = offered-of state kind.Distribute of is none batch may
 none-come of state none (Finish slot) is may = offered-of state kind.Finish of is none slot may
 none-come of state none (Clear slot dimension) is may = offered-of state kind.Clear of is none slot dimension may
 none-come of state none (Release slot) is may = offered-of state kind.Release of is none slot may
-none-come of state none Reorder is may = absurd (cc)
-none-come of state none (Abandon query) is may = absurd (cc)
+none-come of state none other is may = absurd (cc)
 
 -- batches in flight have different numbers in the code, too
 pub numbers-apart : (parts : Parts) (flights : List Flight) → IsCore parts → flights ≡ parts.flights

@@ -81,8 +81,6 @@ enough-of law state scan rows size sound same in_step can after entry found = by
         (runs-there state slot entry.query built start left accepted held runs is) (same.slots slot low))
 
     by_life : (now : Life) → entry.life ≡ now → HasLeft (managed.covered (first_in rows scan) (end_in rows size scan - 1) entry.extent) now
-    by_life life.Waiting is = tt
-    by_life life.Building is = tt
     by_life (life.Running start left) is =
         let runs : life_of state.lives entry.query ≡ Some (life.Running start left) =
         life-found state.lives.queries entry.query entry found ∙ ap Some is in
@@ -90,10 +88,7 @@ enough-of law state scan rows size sound same in_step can after entry found = by
         runs-here state sound entry.query start left runs in
         by_accepted here.0 here.1 start left here.2 here.3 runs (accepted_at state.accepted entry.query) refl
         (held-accepted state here.0 entry.query here.1 sound here.2 here.3)
-    by_life life.Ending is = tt
-    by_life life.Answered is = tt
-    by_life life.Spoiled is = tt
-    by_life life.Abandoned is = tt
+    by_life other is = tt
 
 -- the lives of the queries may go on by a cut
 lives-cut : LeftLaw → (state : State) (scan : Scanning) (rows size : ℕ) → MayCut state → IsSound state → IsScannedAs state scan

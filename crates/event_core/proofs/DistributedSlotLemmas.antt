@@ -61,14 +61,10 @@ held-are-fed state slots attached =
 
 -- a query that gets rows may be spoiled
 gets-begun : (o : Option Life) → option_map_or gets_rows o false ≡ true → IsTrue (option_map_or is_begun o false)
-gets-begun None yet = yet
-gets-begun (Some life.Waiting) yet = yet
 gets-begun (Some life.Building) yet = refl
 gets-begun (Some (life.Running start left)) yet = refl
 gets-begun (Some life.Ending) yet = refl
-gets-begun (Some life.Answered) yet = yet
-gets-begun (Some life.Spoiled) yet = yet
-gets-begun (Some life.Abandoned) yet = yet
+gets-begun other yet = yet
 
 -- the queries of slots that get rows do
 pub fed-get : (state : State) (slots : ℕ) → All (λ query. gets state.lives query ≡ true) (fed_in state slots)

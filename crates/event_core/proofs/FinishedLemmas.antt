@@ -178,13 +178,10 @@ finish-answered keep leaves detach answers parts slot query built core may holds
 -- who holds a slot that may be finished, and is not to be answered, has nothing
 kept-over : (state : State) (accepted : Accepted) (extent : ℕ) (now : Life) → IsTrue (gives_up now) → now ≢ life.Ending
     → IsKept state accepted extent now → accepted.groups ≡ None
-kept-over state accepted extent life.Waiting over apart kept = absurd (let both : false ≡ true = over in cc)
-kept-over state accepted extent life.Building over apart kept = absurd (let both : false ≡ true = over in cc)
-kept-over state accepted extent (life.Running start left) over apart kept = absurd (let both : false ≡ true = over in cc)
 kept-over state accepted extent life.Ending over apart kept = absurd (apart refl)
-kept-over state accepted extent life.Answered over apart kept = absurd (let both : false ≡ true = over in cc)
 kept-over state accepted extent life.Spoiled over apart kept = kept
 kept-over state accepted extent life.Abandoned over apart kept = kept
+kept-over state accepted extent other over apart kept = absurd (let both : false ≡ true = over in cc)
 
 -- nothing is attached for a query that gives up its slot with no answer
 over-nothing : (parts : Parts) (slot query built : ℕ) → IsCore parts → MayFinish slot (state_of parts)

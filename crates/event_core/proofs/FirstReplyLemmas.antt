@@ -113,14 +113,9 @@ next-asked parts seat first o is stands found =
 -- a query that may still be answered replies nothing
 open-none : (state : State) (query snapshot : ℕ) (o : Option Life) → option_map_or is_open o false ≡ true
     → option_and_then (ready_by state query snapshot) o ≡ None
-open-none state query snapshot None opens = refl
-open-none state query snapshot (Some life.Waiting) opens = refl
-open-none state query snapshot (Some life.Building) opens = refl
-open-none state query snapshot (Some (life.Running start left)) opens = refl
-open-none state query snapshot (Some life.Ending) opens = refl
 open-none state query snapshot (Some life.Answered) opens = cc
 open-none state query snapshot (Some life.Spoiled) opens = cc
-open-none state query snapshot (Some life.Abandoned) opens = refl
+open-none state query snapshot other opens = refl
 
 -- a query with a life was accepted
 lives-accepted : (state : State) (query : ℕ) (now : Life) → IsSound state → life_of state.lives query ≡ Some now
@@ -367,6 +362,4 @@ next-closed waits parts seat first core is closed = by_standing first.standing r
     by_standing : (standing : Standing) → first.standing ≡ standing → Next standing (asked_at parts.asked first.number)
     by_standing (Waits reply) stands = next-reply parts seat first reply core is stands
     by_standing IsAsked stands = by_asked (asked_at parts.asked first.number) refl stands
-    by_standing IsTaken stands = absurd (let both : true ≡ false = sym passes ∙ ap is_waited stands in cc)
-    by_standing IsAnswered stands = absurd (let both : true ≡ false = sym passes ∙ ap is_waited stands in cc)
-    by_standing IsAbandoned stands = absurd (let both : true ≡ false = sym passes ∙ ap is_waited stands in cc)
+    by_standing other stands = absurd (let both : true ≡ false = sym passes ∙ ap is_waited stands in cc)

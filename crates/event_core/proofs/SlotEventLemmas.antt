@@ -61,14 +61,8 @@ held-attached parts slot query built core holds =
 
 -- whether a life is that of a query that is to be answered
 ending-or : (life : Option Life) → (life ≡ Some Ending) ⊎ (life ≢ Some Ending)
-ending-or None = inr (λ is. cc)
-ending-or (Some Waiting) = inr (λ is. cc)
-ending-or (Some Building) = inr (λ is. cc)
-ending-or (Some (Running start left)) = inr (λ is. cc)
 ending-or (Some Ending) = inl refl
-ending-or (Some Answered) = inr (λ is. cc)
-ending-or (Some Spoiled) = inr (λ is. cc)
-ending-or (Some Abandoned) = inr (λ is. cc)
+ending-or other = inr (λ is. cc)
 
 -- a slot that is taken from a query that is answered
 abbrev pub FinishesAnswered : Type 0

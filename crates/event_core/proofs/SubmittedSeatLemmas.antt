@@ -60,22 +60,16 @@ seats-one known old seats seat number standing told there same waits took =
 -- what a statement waits for hangs on what is known of its number
 awaited-same : (known more : List Known) (number : ℕ) (standing : Standing) → known_at more number ≡ known_at known number
     → awaited_as more number standing ≡ awaited_as known number standing
-awaited-same known more number (Waits answer) same = refl
 awaited-same known more number IsAsked same =
     ap (λ o. Some (option_map_or (λ (entry : Known). Asked entry.query entry.snapshot) o (Replied reply.Memory))) same
-awaited-same known more number IsTaken same = refl
-awaited-same known more number IsAnswered same = refl
-awaited-same known more number IsAbandoned same = refl
+awaited-same known more number other same = refl
 
 -- and so does what was taken as its reply
 took-same : (known more : List Known) (number : ℕ) (standing : Standing) → known_at more number ≡ known_at known number
     → took_as more number standing ≡ took_as known number standing
-took-same known more number (Waits answer) same = refl
-took-same known more number IsAsked same = refl
-took-same known more number IsTaken same = refl
 took-same known more number IsAnswered same =
     ap (λ o. Some (record { statement = number; query = option_map (λ (entry : Known). (entry.query, entry.snapshot)) o })) same
-took-same known more number IsAbandoned same = refl
+took-same known more number other same = refl
 
 -- a seat of which nothing else is known
 seat-known : (known more : List Known) (statements : List Submitted)

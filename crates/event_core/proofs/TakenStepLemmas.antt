@@ -16,21 +16,11 @@ record StepFor (event : Event) (old new : State) : Type 0 where
   after : new ≡ after_step step old
 
 spoilt-step : (event : Event) (old new : State) → IsEnabled old event → IsSpoilt event old new → StepFor event old new
-spoilt-step (Submit seat statement) old new enabled spoilt = absurd spoilt
-spoilt-step (Reserve query slot) old new enabled spoilt = absurd spoilt
 spoilt-step (Build query dimension) old new enabled spoilt =
     record { step = Wanting (Build query dimension) []; may = (enabled, tt); is_of = refl; after = spoilt }
-spoilt-step (Start query) old new enabled spoilt = absurd spoilt
-spoilt-step Cut old new enabled spoilt = absurd spoilt
-spoilt-step (Take worker batch) old new enabled spoilt = absurd spoilt
-spoilt-step (Give worker) old new enabled spoilt = absurd spoilt
 spoilt-step (Distribute batch) old new enabled spoilt =
     record { step = Wanting (Distribute batch) spoilt.0; may = (enabled, spoilt.1); is_of = refl; after = spoilt.2 }
-spoilt-step (Finish slot) old new enabled spoilt = absurd spoilt
-spoilt-step (Clear slot dimension) old new enabled spoilt = absurd spoilt
-spoilt-step (Release slot) old new enabled spoilt = absurd spoilt
-spoilt-step Reorder old new enabled spoilt = absurd spoilt
-spoilt-step (Abandon query) old new enabled spoilt = absurd spoilt
+spoilt-step other old new enabled spoilt = absurd spoilt
 
 taken-step : (event : Event) (old new : State) → IsEnabled old event → (new ≡ after_event event old) ⊎ IsSpoilt event old new
     → StepFor event old new

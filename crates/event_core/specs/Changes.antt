@@ -174,10 +174,8 @@ with_first_filters dimensions parts = record parts {
 
 -- the filters that a change of this kind asks for
 abbrev pub with_filters_for : ChangeKind → Parts → Parts
-with_filters_for DeclaresDimension parts = parts
 with_filters_for DeclaresFact parts = with_first_filters (filter_dimensions parts.tables.schema) parts
-with_filters_for (Loads table) parts = parts
-with_filters_for Ends parts = parts
+with_filters_for other parts = parts
 
 -- `submit` of a statement that changes the tables
 abbrev pub changed : (seat statement : ℕ) → List Submitted → ChangeKind → KeyedStore → Parts → Parts

@@ -9,19 +9,15 @@ use Rattle.event_core.specs.declared.choosing.EventKind.TheVariants as kind
 
 -- the kind of an event, where one of that kind may be asked for
 abbrev pub kind_of : Event → Option EventKind
-kind_of (Submit seat statement) = None
 kind_of (Reserve query slot) = Some kind.Reserve
 kind_of (Build query dimension) = Some kind.Build
 kind_of (Start query) = Some kind.Start
 kind_of Cut = Some kind.Cut
-kind_of (Take worker batch) = None
-kind_of (Give worker) = None
 kind_of (Distribute batch) = Some kind.Distribute
 kind_of (Finish slot) = Some kind.Finish
 kind_of (Clear slot dimension) = Some kind.Clear
 kind_of (Release slot) = Some kind.Release
-kind_of Reorder = None
-kind_of (Abandon query) = None
+kind_of other = None
 
 -- the event is of this kind
 abbrev pub IsOfKind : EventKind → Event → Type 0
@@ -37,16 +33,6 @@ AreIdle state = All (λ flight. flight.hand ≡ None) state.scan.flights
 
 -- an event by which the front, which is seat 0, takes a batch or gives it back
 abbrev pub IsPassing : Event → Type 0
-IsPassing (Submit seat statement) = ⊥
-IsPassing (Reserve query slot) = ⊥
-IsPassing (Build query dimension) = ⊥
-IsPassing (Start query) = ⊥
-IsPassing Cut = ⊥
 IsPassing (Take worker batch) = worker ≡ 0
 IsPassing (Give worker) = worker ≡ 0
-IsPassing (Distribute batch) = ⊥
-IsPassing (Finish slot) = ⊥
-IsPassing (Clear slot dimension) = ⊥
-IsPassing (Release slot) = ⊥
-IsPassing Reorder = ⊥
-IsPassing (Abandon query) = ⊥
+IsPassing other = ⊥

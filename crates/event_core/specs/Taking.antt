@@ -27,18 +27,12 @@ groups_or_memory snapshot kept = option_map_or (Grouping snapshot) kept (Whole M
 -- the reply to a statement that stands so, where this is kept beside a query of its number
 abbrev pub ready_with : Standing → (snapshot : ℕ) → (kept : Option Grouped) → Ready
 ready_with (Waits answer) snapshot kept = Whole answer
-ready_with IsAsked snapshot kept = groups_or_memory snapshot kept
-ready_with IsTaken snapshot kept = groups_or_memory snapshot kept
-ready_with IsAnswered snapshot kept = groups_or_memory snapshot kept
-ready_with IsAbandoned snapshot kept = groups_or_memory snapshot kept
+ready_with other snapshot kept = groups_or_memory snapshot kept
 
 -- whether the reply to a statement that stands so may be taken: it is no query that may still be answered
 abbrev pub may_be_taken : Lives → (number : ℕ) → Standing → Bool
-may_be_taken lives number (Waits answer) = true
 may_be_taken lives number IsAsked = not (option_map_or is_open (life_of lives number) false)
-may_be_taken lives number IsTaken = true
-may_be_taken lives number IsAnswered = true
-may_be_taken lives number IsAbandoned = true
+may_be_taken lives number other = true
 
 -- the number of a statement, if the reply to it may be taken
 abbrev pub number_to_take : Lives → Submitted → Option ℕ

@@ -8,20 +8,10 @@ use Rattle.core_state.specs.declared.event.Event.TheVariants.{Submit, Reserve, B
 
 -- at an event queries found no memory: the query that is built, or some of those that get rows of the batch
 abbrev pub IsSpoilt : Event → (old new : State) → Type 0
-IsSpoilt (Submit seat statement) old new = ⊥
-IsSpoilt (Reserve query slot) old new = ⊥
 IsSpoilt (Build query dimension) old new = new ≡ after_want (Build query dimension) [] old
-IsSpoilt (Start query) old new = ⊥
-IsSpoilt Cut old new = ⊥
-IsSpoilt (Take worker batch) old new = ⊥
-IsSpoilt (Give worker) old new = ⊥
 IsSpoilt (Distribute batch) old new =
     (spoiled : List ℕ) × AreFed batch spoiled old × (new ≡ after_want (Distribute batch) spoiled old)
-IsSpoilt (Finish slot) old new = ⊥
-IsSpoilt (Clear slot dimension) old new = ⊥
-IsSpoilt (Release slot) old new = ⊥
-IsSpoilt Reorder old new = ⊥
-IsSpoilt (Abandon query) old new = ⊥
+IsSpoilt other old new = ⊥
 
 -- the event was done, or queries found no memory at it
 abbrev pub IsAfter : Event → (old new : State) → Type 0
@@ -63,15 +53,7 @@ StepsFor events old new = (steps : List Step) × (MayStepAll old steps × (AreOf
 -- the event may find no memory: a statement is submitted, a query begins to run, a batch is taken, or a filter is cleared of a slot
 abbrev pub MayWantMemory : Event → Type 0
 MayWantMemory (Submit seat statement) = Unit {0}
-MayWantMemory (Reserve query slot) = ⊥
-MayWantMemory (Build query dimension) = ⊥
 MayWantMemory (Start query) = Unit {0}
-MayWantMemory Cut = ⊥
 MayWantMemory (Take worker batch) = Unit {0}
-MayWantMemory (Give worker) = ⊥
-MayWantMemory (Distribute batch) = ⊥
-MayWantMemory (Finish slot) = ⊥
 MayWantMemory (Clear slot dimension) = Unit {0}
-MayWantMemory (Release slot) = ⊥
-MayWantMemory Reorder = ⊥
-MayWantMemory (Abandon query) = ⊥
+MayWantMemory other = ⊥

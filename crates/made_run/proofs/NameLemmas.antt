@@ -171,9 +171,7 @@ word-named word h = by (keyword_of (map to_ascii_lowercase word)) refl
 
 from-named : (bytes : List ℕ) (what : Lexeme) → (what ≡ Word → IsWordText bytes) → IsNamed (symbol_from bytes what)
 from-named bytes Word h = word-named bytes (h refl)
-from-named bytes (Integer n) h = λ name is. absurd (cc (is, is))
-from-named bytes Text h = λ name is. absurd (cc (is, is))
-from-named bytes (Sign number) h = λ name is. absurd (cc (is, is))
+from-named bytes other h = λ name is. absurd (cc (is, is))
 
 pub symbols-named : (line : List ℕ) → All IsNamed (symbols_of line)
 symbols-named line =

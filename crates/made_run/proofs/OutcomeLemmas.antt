@@ -88,19 +88,7 @@ meaning-formed below store block written.Wait h few named shape = record { reply
 
 reason-fits : Below → (statement : Statement) (reason : Refusal) → meaning_of statement ≡ Err reason → IsRefusal reason
 reason-fits below statement (refusal.Syntax place) e = let said = below.syntax statement place e in place-fits statement place said.0.1 said.1
-reason-fits below statement refusal.UnknownName e = tt
-reason-fits below statement refusal.AmbiguousName e = tt
-reason-fits below statement refusal.DuplicateName e = tt
-reason-fits below statement refusal.TypeMismatch e = tt
-reason-fits below statement refusal.MissingJoin e = tt
-reason-fits below statement refusal.MixedConjunct e = tt
-reason-fits below statement refusal.NotGrouped e = tt
-reason-fits below statement refusal.BadRecord e = tt
-reason-fits below statement refusal.DuplicateKey e = tt
-reason-fits below statement refusal.DanglingReference e = tt
-reason-fits below statement refusal.Limit e = tt
-reason-fits below statement refusal.OutOfOrder e = tt
-reason-fits below statement refusal.NotUtf8 e = tt
+reason-fits below statement other e = tt
 
 by-meaning : Below → (store : Store) (statement : Statement) (result : Result written.Statement Refusal) → IsKept store → store.commits + 1 < 2 ^ 64
     → meaning_of statement ≡ result → IsFormed store (outcome_by store statement.block result)

@@ -64,11 +64,8 @@ script-few ended script =
 -- ---- replies, statement by statement
 
 commits-next : (store : Store) (change : Change) → (after_change store change).commits ≤ suc store.commits
-commits-next store (DimensionDeclared table) = omega arith
-commits-next store (FactDeclared table) = omega arith
 commits-next store (Loaded Fact rows) = omega arith
-commits-next store (Loaded (Dimension dimension) rows) = omega arith
-commits-next store (Ended positions) = omega arith
+commits-next store other = omega arith
 
 -- the tables before a place of a script
 record IsBefore (place : ℕ) (store : Store) : Type 0 where

@@ -43,10 +43,7 @@ symbols-tabled line within k d low = λ name e.
 abbrev pub NamesTable : written.Statement → Type 0
 NamesTable (written.Dimension name columns) = IsTableName name
 NamesTable (written.Fact name columns) = IsTableName name
-NamesTable (written.Load name header) = ⊤
-NamesTable (written.Delete name condition) = ⊤
-NamesTable (written.Select items names condition groups) = ⊤
-NamesTable written.Wait = ⊤
+NamesTable other = ⊤
 
 all-front : (P : Symbol → Type 0) (front back : List Symbol) → All P (front ++ back) → All P front
 all-front P [] back h = All-nil P

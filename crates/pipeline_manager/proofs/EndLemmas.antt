@@ -20,14 +20,9 @@ use Rattle.pipeline_manager.proofs.SoundLemmas.{IsLeftOf, rising-with_life, fits
 -- what is over and not to be answered needs no slot
 over-fits : (life : Option Life) → IsTrue (option_map_or gives_up life false) → option_map_or is_ending life false ≡ false
     → FitsSlots life 0
-over-fits None over waits = cc
-over-fits (Some Waiting) over waits = cc
-over-fits (Some Building) over waits = cc
-over-fits (Some (Running start left)) over waits = cc
-over-fits (Some Ending) over waits = cc
-over-fits (Some Answered) over waits = cc
 over-fits (Some Spoiled) over waits = (omega arith, omega arith)
 over-fits (Some Abandoned) over waits = (omega arith, omega arith)
+over-fits other over waits = cc
 
 -- what is Answered needs no slot
 answered-fits : (life : Option Life) → FitsSlots (option_map (λ old. Answered) life) 0

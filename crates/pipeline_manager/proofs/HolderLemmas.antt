@@ -68,14 +68,10 @@ built_of-holder lives slot query built sound within holds =
 
 -- a query that has begun holds a slot
 begun-holds : (life : Option Life) (held : ℕ) → IsTrue (option_map_or is_begun life false) → FitsSlots life held → 1 ≤ held
-begun-holds None held begun fits = cc
-begun-holds (Some Waiting) held begun fits = cc
 begun-holds (Some Building) held begun fits = omega arith
 begun-holds (Some (Running start left)) held begun fits = omega arith
 begun-holds (Some Ending) held begun fits = omega arith
-begun-holds (Some Answered) held begun fits = cc
-begun-holds (Some Spoiled) held begun fits = cc
-begun-holds (Some Abandoned) held begun fits = cc
+begun-holds other held begun fits = cc
 
 pub slot_of-begun : (lives : Lives) (query : ℕ) → IsSound lives → CanSpoil query lives → IsSome (slot_of lives query)
 slot_of-begun lives query sound begun =

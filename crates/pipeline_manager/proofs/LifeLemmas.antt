@@ -82,12 +82,7 @@ query_in-push_other (first ∷ queries) entry other apart =
 -- a life that is known by its test
 waiting-is : (life : Life) → is_waiting life ≡ true → life ≡ Waiting
 waiting-is Waiting waits = refl
-waiting-is Building waits = cc
-waiting-is (Running start left) waits = cc
-waiting-is Ending waits = cc
-waiting-is Answered waits = cc
-waiting-is Spoiled waits = cc
-waiting-is Abandoned waits = cc
+waiting-is other waits = cc
 
 -- the life of what waits is Waiting
 pub oldest-waits : (queries : List QueryLife) (query : ℕ) → AreRising queries

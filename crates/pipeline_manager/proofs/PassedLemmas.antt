@@ -52,12 +52,8 @@ started-waits start extent = by_test (eqb extent 0) refl
 -- no query waits after a cut that did not before
 cut_life-waits : (positions : ℕ) (life : Life) → is_waiting life ≡ false → is_waiting (cut_life positions life) ≡ false
 cut_life-waits positions Waiting waits = waits
-cut_life-waits positions Building waits = refl
 cut_life-waits positions (Running start left) waits = started-waits start (left - positions)
-cut_life-waits positions Ending waits = refl
-cut_life-waits positions Answered waits = refl
-cut_life-waits positions Spoiled waits = refl
-cut_life-waits positions Abandoned waits = refl
+cut_life-waits positions other waits = refl
 
 pub passed-cut : (first last : ℕ) (queries : List QueryLife) (count : ℕ) → ArePassed count queries
     → ArePassed count (map (cut_query first last) queries)

@@ -19,32 +19,17 @@ use Rattle.pipeline_manager.proofs.QueryLemmas.{query_in-found}
 
 -- the test says what is Running
 runs-from_test : (life : Life) → is_running life ≡ true → IsRunning life
-runs-from_test Waiting e = cc
-runs-from_test Building e = cc
 runs-from_test (Running start left) e = tt
-runs-from_test Ending e = cc
-runs-from_test Answered e = cc
-runs-from_test Spoiled e = cc
-runs-from_test Abandoned e = cc
+runs-from_test other e = cc
 
 test-from_runs : (life : Life) → IsRunning life → is_running life ≡ true
-test-from_runs Waiting runs = absurd runs
-test-from_runs Building runs = absurd runs
 test-from_runs (Running start left) runs = refl
-test-from_runs Ending runs = absurd runs
-test-from_runs Answered runs = absurd runs
-test-from_runs Spoiled runs = absurd runs
-test-from_runs Abandoned runs = absurd runs
+test-from_runs other runs = absurd runs
 
 -- what is Running holds a slot
 running-holds : (life : Life) (held : ℕ) → IsRunning life → FitsSlots (Some life) held → 1 ≤ held
-running-holds Waiting held runs fits = absurd runs
-running-holds Building held runs fits = absurd runs
 running-holds (Running start left) held runs fits = omega arith
-running-holds Ending held runs fits = absurd runs
-running-holds Answered held runs fits = absurd runs
-running-holds Spoiled held runs fits = absurd runs
-running-holds Abandoned held runs fits = absurd runs
+running-holds other held runs fits = absurd runs
 
 -- a query that is found Running is one of the queries
 found-runs : (queries : List QueryLife) (query : ℕ) → option_map_or is_running (life_in queries query) false ≡ true

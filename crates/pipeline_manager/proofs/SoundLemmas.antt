@@ -45,24 +45,13 @@ fits-started start extent held one = by_test (eqb extent 0) refl
 
 -- a query holds as many slots after a cut as before
 pub fits-cut_life : (positions : ℕ) (life : Life) (held : ℕ) → FitsSlots (Some life) held → FitsSlots (Some (cut_life positions life)) held
-fits-cut_life positions Waiting held fits = fits
-fits-cut_life positions Building held fits = fits
 fits-cut_life positions (Running start left) held fits = fits-started start (left - positions) held (omega arith)
-fits-cut_life positions Ending held fits = fits
-fits-cut_life positions Answered held fits = fits
-fits-cut_life positions Spoiled held fits = fits
-fits-cut_life positions Abandoned held fits = fits
+fits-cut_life positions other held fits = fits
 
 -- no query holds two slots
 pub fits-one : (life : Option Life) (held : ℕ) → FitsSlots life held → held ≤ 1
-fits-one None held fits = omega arith
 fits-one (Some Waiting) held fits = omega arith
-fits-one (Some Building) held fits = omega arith
-fits-one (Some (Running start left)) held fits = omega arith
-fits-one (Some Ending) held fits = omega arith
-fits-one (Some Answered) held fits = omega arith
-fits-one (Some Spoiled) held fits = omega arith
-fits-one (Some Abandoned) held fits = omega arith
+fits-one other held fits = omega arith
 
 -- where a life is written that fits what the query holds, each query holds as many slots as its life says
 pub fits-with_life : (queries : List QueryLife) (query : ℕ) (life : Life) (other held : ℕ)
@@ -93,13 +82,8 @@ left-started start left extent within = by_test (eqb left 0) refl
 
 -- after a cut something is left of what is Running
 pub left-cut_life : (positions extent : ℕ) (life : Life) → IsLeft extent life → IsLeft extent (cut_life positions life)
-left-cut_life positions extent Waiting left = tt
-left-cut_life positions extent Building left = tt
 left-cut_life positions extent (Running start rest) left = left-started start (rest - positions) extent (omega arith)
-left-cut_life positions extent Ending left = tt
-left-cut_life positions extent Answered left = tt
-left-cut_life positions extent Spoiled left = tt
-left-cut_life positions extent Abandoned left = tt
+left-cut_life positions extent other left = tt
 
 left-renewed : (query : ℕ) (life : Life) (entry : QueryLife) → (entry.query ≡ query → IsLeft entry.extent life)
     → IsLeftOf entry → IsLeftOf (renewed query life entry)

@@ -78,13 +78,8 @@ after_cut first last lives = record lives { queries = map (cut_query first last)
 
 -- whether a query is to be answered
 abbrev pub is_ending : Life → Bool
-is_ending Waiting = false
-is_ending Building = false
-is_ending (Running start left) = false
 is_ending Ending = true
-is_ending Answered = false
-is_ending Spoiled = false
-is_ending Abandoned = false
+is_ending other = false
 
 -- the queries, of which this one is Answered if it was Ending
 abbrev pub with_answer : (query : ℕ) → List QueryLife → List QueryLife

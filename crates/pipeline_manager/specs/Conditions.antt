@@ -31,23 +31,13 @@ pub record CanRun (query : ℕ) (lives : Lives) : Type 0 where
 
 -- the life is Running
 abbrev pub IsRunning : Life → Type 0
-IsRunning Waiting = ⊥
-IsRunning Building = ⊥
 IsRunning (Running start left) = Unit {0}
-IsRunning Ending = ⊥
-IsRunning Answered = ⊥
-IsRunning Spoiled = ⊥
-IsRunning Abandoned = ⊥
+IsRunning other = ⊥
 
 -- so many positions are left of a Running query
 abbrev pub HasLeft : (positions : ℕ) → Life → Type 0
-HasLeft positions Waiting = Unit {0}
-HasLeft positions Building = Unit {0}
 HasLeft positions (Running start left) = positions ≤ left
-HasLeft positions Ending = Unit {0}
-HasLeft positions Answered = Unit {0}
-HasLeft positions Spoiled = Unit {0}
-HasLeft positions Abandoned = Unit {0}
+HasLeft positions other = Unit {0}
 
 -- some query is Running, and of each Running query as much is left as the range covers of its extent
 pub record CanCut (first last : ℕ) (lives : Lives) : Type 0 where
@@ -57,13 +47,10 @@ pub record CanCut (first last : ℕ) (lives : Lives) : Type 0 where
 
 -- whether nothing more is to come for a query that holds a slot
 abbrev pub gives_up : Life → Bool
-gives_up Waiting = false
-gives_up Building = false
-gives_up (Running start left) = false
 gives_up Ending = true
-gives_up Answered = false
 gives_up Spoiled = true
 gives_up Abandoned = true
+gives_up other = false
 
 -- a slot in this state is held by a query that is Ending, Spoiled or Abandoned
 abbrev pub IsOver : SlotState → Lives → Type 0
@@ -91,13 +78,10 @@ CanFree slot lives = slot_at lives slot ≡ Clearing 0
 
 -- whether a query has a slot and may still be answered
 abbrev pub is_begun : Life → Bool
-is_begun Waiting = false
 is_begun Building = true
 is_begun (Running start left) = true
 is_begun Ending = true
-is_begun Answered = false
-is_begun Spoiled = false
-is_begun Abandoned = false
+is_begun other = false
 
 -- the query is Building, Running or Ending
 abbrev pub CanSpoil : (query : ℕ) → Lives → Type 0
@@ -105,13 +89,10 @@ CanSpoil query lives = IsTrue (option_map_or is_begun (life_of lives query) fals
 
 -- whether a query may still be answered
 abbrev pub is_open : Life → Bool
-is_open Waiting = true
-is_open Building = true
-is_open (Running start left) = true
-is_open Ending = true
 is_open Answered = false
 is_open Spoiled = false
 is_open Abandoned = false
+is_open other = true
 
 -- the query is Waiting, Building, Running or Ending
 abbrev pub CanAbandon : (query : ℕ) → Lives → Type 0

@@ -23,13 +23,8 @@ changed_if query change entry = if entry.query == query then change entry else e
 
 -- whether the scan gives rows to a query
 abbrev pub is_running : Life → Bool
-is_running Waiting = false
-is_running Building = false
 is_running (Running start left) = true
-is_running Ending = false
-is_running Answered = false
-is_running Spoiled = false
-is_running Abandoned = false
+is_running other = false
 
 -- whether a query holds a slot in this state and is Running
 abbrev pub holder_runs : List QueryLife → SlotState → Bool

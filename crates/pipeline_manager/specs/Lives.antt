@@ -33,12 +33,7 @@ extent_in queries query = option_map_or (λ entry. entry.extent) (query_in queri
 -- whether a query waits for a slot
 abbrev pub is_waiting : Life → Bool
 is_waiting Waiting = true
-is_waiting Building = false
-is_waiting (Running start left) = false
-is_waiting Ending = false
-is_waiting Answered = false
-is_waiting Spoiled = false
-is_waiting Abandoned = false
+is_waiting other = false
 
 -- the number of the first query that waits, if any does
 abbrev pub oldest_waiting : Lives → Option ℕ

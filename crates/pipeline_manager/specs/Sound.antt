@@ -20,23 +20,16 @@ slots_held query slots = count_by (is_held_by query) slots
 
 -- the fewest slots that a query with this life holds
 abbrev pub fewest_slots : Life → ℕ
-fewest_slots Waiting = 0
 fewest_slots Building = 1
 fewest_slots (Running start left) = 1
 fewest_slots Ending = 1
-fewest_slots Answered = 0
-fewest_slots Spoiled = 0
-fewest_slots Abandoned = 0
+fewest_slots other = 0
 
 -- the most slots that a query with this life holds
 abbrev pub most_slots : Life → ℕ
 most_slots Waiting = 0
-most_slots Building = 1
-most_slots (Running start left) = 1
-most_slots Ending = 1
 most_slots Answered = 0
-most_slots Spoiled = 1
-most_slots Abandoned = 1
+most_slots other = 1
 
 -- so many slots are as many as a query with this life holds, and a number that no query has holds none
 abbrev pub FitsSlots : Option Life → (held : ℕ) → Type 0
@@ -44,13 +37,8 @@ FitsSlots life held = (option_map_or fewest_slots life 0 ≤ held) × (held ≤ 
 
 -- something is left of a Running query, and no more than its extent
 abbrev pub IsLeft : (extent : ℕ) → Life → Type 0
-IsLeft extent Waiting = Unit {0}
-IsLeft extent Building = Unit {0}
 IsLeft extent (Running start left) = (1 ≤ left) × (left ≤ extent)
-IsLeft extent Ending = Unit {0}
-IsLeft extent Answered = Unit {0}
-IsLeft extent Spoiled = Unit {0}
-IsLeft extent Abandoned = Unit {0}
+IsLeft extent other = Unit {0}
 
 -- only filters are built for a slot's holder, and only filters are to be cleared
 abbrev pub IsOfFilters : (filters : ℕ) → SlotState → Type 0

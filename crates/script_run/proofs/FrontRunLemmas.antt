@@ -67,18 +67,8 @@ run-taken old new ready same = run-step (Replying 0) old new ready refl same
 -- an event that leaves the seats is one of a run
 event-run : (event : Event) → LeavesSeats event → IsOfRun (Done event)
 event-run (Submit seat statement) leaves = absurd leaves
-event-run (Reserve query slot) leaves = tt
-event-run (Build query dimension) leaves = tt
-event-run (Start query) leaves = tt
-event-run Cut leaves = tt
-event-run (Take worker batch) leaves = tt
-event-run (Give worker) leaves = tt
-event-run (Distribute batch) leaves = tt
-event-run (Finish slot) leaves = tt
-event-run (Clear slot dimension) leaves = tt
-event-run (Release slot) leaves = tt
-event-run Reorder leaves = tt
 event-run (Abandon query) leaves = leaves
+event-run other leaves = tt
 
 -- so is a step of an event of the driver
 step-run : (event : Event) (step : Step) → IsDriven event → IsOf event step → IsOfRun step
@@ -103,11 +93,8 @@ run-driven taken old new led =
 -- what a statement changes and what is told of it leave the scan
 scan-change : (statement : ℕ) (change : Option Change) (state : State)
     → (option_map_or (λ change. with_change 0 statement change state) change state).scan ≡ state.scan
-scan-change statement None state = refl
 scan-change statement (Some (DimensionDeclared table)) state = refl
-scan-change statement (Some (FactDeclared table)) state = refl
-scan-change statement (Some (Loaded table rows)) state = refl
-scan-change statement (Some (Ended positions)) state = refl
+scan-change statement other state = refl
 
 scan-query : (statement : ℕ) (told : Told) (state : State) → (with_query 0 statement told state).scan ≡ state.scan
 scan-query statement (outcome.Replied reply) state = refl

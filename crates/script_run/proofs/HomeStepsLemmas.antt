@@ -52,20 +52,8 @@ serves-steps keep (step ∷ steps) old may each sound mine =
 -- a step of a run is one of a session
 of-session : (step : Step) → IsOfRun step → IsOfSession step
 of-session (Done (Submit seat statement)) of = of
-of-session (Done (Reserve query slot)) of = tt
-of-session (Done (Build query dimension)) of = tt
-of-session (Done (Start query)) of = tt
-of-session (Done Cut) of = tt
-of-session (Done (Take worker batch)) of = tt
-of-session (Done (Give worker)) of = tt
-of-session (Done (Distribute batch)) of = tt
-of-session (Done (Finish slot)) of = tt
-of-session (Done (Clear slot dimension)) of = tt
-of-session (Done (Release slot)) of = tt
-of-session (Done Reorder) of = tt
-of-session (Done (Abandon query)) of = tt
-of-session (Wanting event spoiled) of = tt
 of-session (Replying seat) of = of
+of-session other of = tt
 
 -- steps of a session, and what they leave
 served-by : (old new : State) (steps : List Step) → MayStepAll old steps → All IsOfSession steps → new ≡ after_steps steps old

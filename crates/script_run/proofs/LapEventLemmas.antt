@@ -62,35 +62,18 @@ keeps-distributed batch spoiled state = by-option (Keeps state) (flight_at state
 keeps-done : (event : Event) (state : State) → LeavesSeats event → Keeps state (after_event event state)
 unfolding after_event
 keeps-done (Submit seat statement) state leaves = absurd leaves
-keeps-done (Reserve query slot) state leaves = record { settings = refl; entries = refl; statement = refl }
 keeps-done (Build query dimension) state leaves = keeps-built query dimension state
-keeps-done (Start query) state leaves = record { settings = refl; entries = refl; statement = refl }
-keeps-done Cut state leaves = record { settings = refl; entries = refl; statement = refl }
-keeps-done (Take worker batch) state leaves = record { settings = refl; entries = refl; statement = refl }
 keeps-done (Give worker) state leaves = keeps-given worker state
 keeps-done (Distribute batch) state leaves = keeps-distributed batch [] state
-keeps-done (Finish slot) state leaves = record { settings = refl; entries = refl; statement = refl }
-keeps-done (Clear slot dimension) state leaves = record { settings = refl; entries = refl; statement = refl }
-keeps-done (Release slot) state leaves = record { settings = refl; entries = refl; statement = refl }
-keeps-done Reorder state leaves = record { settings = refl; entries = refl; statement = refl }
 keeps-done (Abandon query) state leaves = absurd leaves
+keeps-done other state leaves = record { settings = refl; entries = refl; statement = refl }
 
 -- queries that find no memory
 keeps-spoilt : (event : Event) (old new : State) → IsSpoilt event old new → Keeps old new
 unfolding after_want
-keeps-spoilt (Submit seat statement) old new spoilt = absurd spoilt
-keeps-spoilt (Reserve query slot) old new spoilt = absurd spoilt
 keeps-spoilt (Build query dimension) old new spoilt = subst (Keeps old) (sym spoilt) (record { settings = refl; entries = refl; statement = refl })
-keeps-spoilt (Start query) old new spoilt = absurd spoilt
-keeps-spoilt Cut old new spoilt = absurd spoilt
-keeps-spoilt (Take worker batch) old new spoilt = absurd spoilt
-keeps-spoilt (Give worker) old new spoilt = absurd spoilt
 keeps-spoilt (Distribute batch) old new spoilt = subst (Keeps old) (sym spoilt.2) (keeps-distributed batch spoilt.0 old)
-keeps-spoilt (Finish slot) old new spoilt = absurd spoilt
-keeps-spoilt (Clear slot dimension) old new spoilt = absurd spoilt
-keeps-spoilt (Release slot) old new spoilt = absurd spoilt
-keeps-spoilt Reorder old new spoilt = absurd spoilt
-keeps-spoilt (Abandon query) old new spoilt = absurd spoilt
+keeps-spoilt other old new spoilt = absurd spoilt
 
 keeps-took : (event : Event) (old new : State) → LeavesSeats event → Took event old new → Keeps old new
 keeps-took event old new leaves took = ⊎_elim
@@ -114,13 +97,10 @@ keeps-versions old new same = ap (λ (entries : List Entry). length (tables_by e
 
 -- a query that is unfinished is open
 unfinished-open : (now : Life) → is_unfinished now ≡ true → is_open now ≡ true
-unfinished-open Waiting is = refl
-unfinished-open Building is = refl
-unfinished-open (Running start left) is = refl
-unfinished-open Ending is = refl
 unfinished-open Answered is = is
 unfinished-open Spoiled is = is
 unfinished-open Abandoned is = is
+unfinished-open other is = refl
 
 all-of : {X : Type 0} (P : X → Type 0) → ((x : X) → P x) → (xs : List X) → All P xs
 all-of P each [] = All-nil P
@@ -133,13 +113,8 @@ few-unfinished state =
 
 -- where each query is over or waits, none runs
 waits-runs : (now : Life) → IsOverOrWaits now → IsRunning now → ⊥
-waits-runs Waiting waits runs = runs
-waits-runs Building waits runs = runs
 waits-runs (Running start left) waits runs = waits
-waits-runs Ending waits runs = runs
-waits-runs Answered waits runs = runs
-waits-runs Spoiled waits runs = runs
-waits-runs Abandoned waits runs = runs
+waits-runs other waits runs = runs
 
 none-runs : (state : State) → All (λ entry. IsOverOrWaits entry.life) state.lives.queries → SomeRuns state → ⊥
 none-runs state waits = none-any (λ (entry : QueryLife). IsRunning entry.life) state.lives.queries
@@ -161,13 +136,10 @@ goes-round old new sound calm some few led lap =
 
 -- a query that is not open is over
 over-closed : (now : Life) → is_open now ≡ false → IsOverOrWaits now
-over-closed Waiting closed = tt
 over-closed Building closed = absurd (let apart : true ≡ false = closed in cc)
 over-closed (Running start left) closed = absurd (let apart : true ≡ false = closed in cc)
 over-closed Ending closed = absurd (let apart : true ≡ false = closed in cc)
-over-closed Answered closed = tt
-over-closed Spoiled closed = tt
-over-closed Abandoned closed = tt
+over-closed other closed = tt
 
 pub closed-over : (queries : List QueryLife) → All (λ entry. is_open entry.life ≡ false) queries → All (λ entry. IsOverOrWaits entry.life) queries
 closed-over queries = All-weaker (λ (entry : QueryLife). is_open entry.life ≡ false) (λ (entry : QueryLife). IsOverOrWaits entry.life)

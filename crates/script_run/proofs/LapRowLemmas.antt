@@ -55,13 +55,9 @@ rows-all slots less more some grows =
 
 -- a reply takes no place away
 placed-grows : (slots places : ℕ) (reply : Reply) → 0 < slots → places ≤ placed slots places reply
-placed-grows slots places (Table name) some = omega arith
-placed-grows slots places (Commit number rows) some = omega arith
-placed-grows slots places (Answer snapshot rows) some = omega arith
-placed-grows slots places (Overflow snapshot) some = omega arith
 placed-grows slots places Memory some = let holds = rows-hold slots (places + 1) some in omega (arith, holds)
-placed-grows slots places (Refused reason) some = omega arith
 placed-grows slots places Waited some = rows-hold slots places some
+placed-grows slots places other some = omega arith
 
 pub places-grow : (slots places : ℕ) (played : List Played) → 0 < slots → places ≤ places_played slots places played
 places-grow slots places [] some = omega arith

@@ -29,11 +29,9 @@ use Rattle.script_run.proofs.PlayedSubmitLemmas.{submitted-seat, submitted-table
 
 -- no change takes versions away
 change-versions : (store : Store) (change : Change) → length store.versions ≤ length (after_change store change).versions
-change-versions store (DimensionDeclared table) = omega arith
-change-versions store (FactDeclared table) = omega arith
 change-versions store (Loaded table.Fact rows) = omega (arith, length-append store.versions (versions_by (store.commits + 1) rows))
-change-versions store (Loaded (table.Dimension dimension) rows) = omega arith
 change-versions store (Ended positions) = omega (arith, length-all-ended (store.commits + 1) store.versions positions)
+change-versions store other = omega arith
 
 outcome-versions : (store : Store) (found : Outcome) → length store.versions ≤ length (store_by store found).versions
 outcome-versions store found = by_change found.change
@@ -54,11 +52,8 @@ record Leaves (old new : State) : Type 0 where
 
 leaves-change : (statement : ℕ) (change : Option Change) (state : State)
     → Leaves state (option_map_or (λ change. with_change 0 statement change state) change state)
-leaves-change statement None state = record { settings = refl; statement = refl; queries = refl }
 leaves-change statement (Some (DimensionDeclared table)) state = record { settings = refl; statement = refl; queries = refl }
-leaves-change statement (Some (FactDeclared table)) state = record { settings = refl; statement = refl; queries = refl }
-leaves-change statement (Some (Loaded table rows)) state = record { settings = refl; statement = refl; queries = refl }
-leaves-change statement (Some (Ended positions)) state = record { settings = refl; statement = refl; queries = refl }
+leaves-change statement other state = record { settings = refl; statement = refl; queries = refl }
 
 -- what is told leaves the settings and the number
 query-settings : (statement : ℕ) (told : Told) (state : State) → (with_query 0 statement told state).settings ≡ state.settings

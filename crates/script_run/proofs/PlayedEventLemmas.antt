@@ -130,18 +130,12 @@ same-done (Start query) state leaves may = record {
 }
 same-done Cut state leaves may =
     record { entries = refl; seats = refl; asked = refl; owners = refl; lives = lives-cut (first_in state) (end_in state - 1) state.lives.queries }
-same-done (Take worker batch) state leaves may =
-    record { entries = refl; seats = refl; asked = refl; owners = refl; lives = lives-same state.lives.queries }
 same-done (Give worker) state leaves may = same-given worker state
 same-done (Distribute batch) state leaves may = same-distributed batch [] state (All-nil (λ query. IsFed batch query state))
 same-done (Finish slot) state leaves may = record { entries = refl; seats = refl; asked = refl; owners = refl; lives = lives-ended slot state.lives }
-same-done (Clear slot dimension) state leaves may =
-    record { entries = refl; seats = refl; asked = refl; owners = refl; lives = lives-same state.lives.queries }
-same-done (Release slot) state leaves may =
-    record { entries = refl; seats = refl; asked = refl; owners = refl; lives = lives-same state.lives.queries }
-same-done Reorder state leaves may =
-    record { entries = refl; seats = refl; asked = refl; owners = refl; lives = lives-same state.lives.queries }
 same-done (Abandon query) state leaves may = absurd leaves
+same-done other state leaves may =
+    record { entries = refl; seats = refl; asked = refl; owners = refl; lives = lives-same state.lives.queries }
 
 -- a query that is built and finds no memory
 same-unbuilt : (query : ℕ) (state : State) → life_in state.lives.queries query ≡ Some Building → Same state (after_build_wants query state)
@@ -157,36 +151,16 @@ same-unbuilt query state builds = record {
 pub same-want : (event : Event) (spoiled : List ℕ) (state : State) → IsEnabled state event → MaySpoil state event spoiled
     → Same state (after_want event spoiled state)
 unfolding after_want
-same-want (Submit seat statement) spoiled state may can = same-itself state
-same-want (Reserve query slot) spoiled state may can = same-itself state
 same-want (Build query dimension) spoiled state may can = same-unbuilt query state may.building
-same-want (Start query) spoiled state may can = same-itself state
-same-want Cut spoiled state may can = same-itself state
-same-want (Take worker batch) spoiled state may can = same-itself state
-same-want (Give worker) spoiled state may can = same-itself state
 same-want (Distribute batch) spoiled state may can = same-distributed batch spoiled state can.each
-same-want (Finish slot) spoiled state may can = same-itself state
-same-want (Clear slot dimension) spoiled state may can = same-itself state
-same-want (Release slot) spoiled state may can = same-itself state
-same-want Reorder spoiled state may can = same-itself state
-same-want (Abandon query) spoiled state may can = same-itself state
+same-want other spoiled state may can = same-itself state
 
 -- queries that find no memory
 same-spoilt : (event : Event) (old new : State) → IsEnabled old event → IsSpoilt event old new → Same old new
 unfolding after_want
-same-spoilt (Submit seat statement) old new may spoilt = absurd spoilt
-same-spoilt (Reserve query slot) old new may spoilt = absurd spoilt
 same-spoilt (Build query dimension) old new may spoilt = subst (Same old) (sym spoilt) (same-unbuilt query old may.building)
-same-spoilt (Start query) old new may spoilt = absurd spoilt
-same-spoilt Cut old new may spoilt = absurd spoilt
-same-spoilt (Take worker batch) old new may spoilt = absurd spoilt
-same-spoilt (Give worker) old new may spoilt = absurd spoilt
 same-spoilt (Distribute batch) old new may spoilt = subst (Same old) (sym spoilt.2) (same-distributed batch spoilt.0 old spoilt.1.each)
-same-spoilt (Finish slot) old new may spoilt = absurd spoilt
-same-spoilt (Clear slot dimension) old new may spoilt = absurd spoilt
-same-spoilt (Release slot) old new may spoilt = absurd spoilt
-same-spoilt Reorder old new may spoilt = absurd spoilt
-same-spoilt (Abandon query) old new may spoilt = absurd spoilt
+same-spoilt other old new may spoilt = absurd spoilt
 
 same-took : (event : Event) (old new : State) → LeavesSeats event → Took event old new → Same old new
 same-took event old new leaves took = ⊎_elim
@@ -209,18 +183,8 @@ leads-led IsOne each old new led =
 -- an event of the driver
 pub driven-leaves : (event : Event) → IsDriven event → LeavesSeats event
 driven-leaves (Submit seat statement) is = ⊎_elim (λ no. no) (λ no. no) is
-driven-leaves (Reserve query slot) is = tt
-driven-leaves (Build query dimension) is = tt
-driven-leaves (Start query) is = tt
-driven-leaves Cut is = tt
-driven-leaves (Take worker batch) is = tt
-driven-leaves (Give worker) is = tt
-driven-leaves (Distribute batch) is = tt
-driven-leaves (Finish slot) is = tt
-driven-leaves (Clear slot dimension) is = tt
-driven-leaves (Release slot) is = tt
-driven-leaves Reorder is = tt
 driven-leaves (Abandon query) is = ⊎_elim (λ no. no) (λ no. no) is
+driven-leaves other is = tt
 
 -- events of the driver
 pub leads-driven : (old new : State) → IsLed IsDriven old new → Leads old [] new []

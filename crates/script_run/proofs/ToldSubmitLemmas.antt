@@ -32,19 +32,13 @@ abbrev pub changed_by : (seat statement : ℕ) → Option Change → State → S
 changed_by seat statement change state = option_map_or (λ change. with_change seat statement change state) change state
 
 pub accepted-changed : (seat statement : ℕ) (change : Option Change) (state : State) → (changed_by seat statement change state).accepted ≡ state.accepted
-accepted-changed seat statement None state = refl
 accepted-changed seat statement (Some (DimensionDeclared table)) state = refl
-accepted-changed seat statement (Some (FactDeclared table)) state = refl
-accepted-changed seat statement (Some (Loaded table rows)) state = refl
-accepted-changed seat statement (Some (Ended positions)) state = refl
+accepted-changed seat statement other state = refl
 
 lives-changed : (seat statement : ℕ) (change : Option Change) (state : State)
     → (changed_by seat statement change state).lives.queries ≡ state.lives.queries
-lives-changed seat statement None state = refl
 lives-changed seat statement (Some (DimensionDeclared table)) state = refl
-lives-changed seat statement (Some (FactDeclared table)) state = refl
-lives-changed seat statement (Some (Loaded table rows)) state = refl
-lives-changed seat statement (Some (Ended positions)) state = refl
+lives-changed seat statement other state = refl
 
 -- a query is the last one
 accepted-asked : (seat statement : ℕ) (told : Told) (state : State) → map accepted_by (with_query seat statement told state).accepted

@@ -22,12 +22,7 @@ or_assoc false b c = refl
 -- each reply has a text
 pub text_some : (reply : Reply) → 0 < length (text_of reply)
 text_some (Table name) = omega arith
-text_some (Commit number rows) = omega arith
-text_some (Answer snapshot rows) = omega arith
-text_some (Overflow snapshot) = omega arith
-text_some Memory = omega arith
-text_some (Refused refusal) = omega arith
-text_some Waited = omega arith
+text_some other = omega arith
 
 -- replies have a text
 text_left_some : (replies : List Reply) → replies ≢ [] → 0 < length (text_of_all replies)

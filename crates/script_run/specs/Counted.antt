@@ -43,13 +43,10 @@ pub record LapsOn (old new : State) (played : List Played) : Type 0 where
 
 -- whether a query with this life is over, or waits
 abbrev pub IsOverOrWaits : Life → Type 0
-IsOverOrWaits Waiting = Unit {0}
 IsOverOrWaits Building = ⊥
 IsOverOrWaits (Running start left) = ⊥
 IsOverOrWaits Ending = ⊥
-IsOverOrWaits Answered = Unit {0}
-IsOverOrWaits Spoiled = Unit {0}
-IsOverOrWaits Abandoned = Unit {0}
+IsOverOrWaits other = Unit {0}
 
 -- how many queries of a core are open
 abbrev pub open_in : State → ℕ

@@ -10,13 +10,11 @@ rows_of slots places = (places + (slots - 1)) / slots
 -- replies are put down in rows of as many places as there are slots: that to a query takes a place, and behind a `waited` and
 -- a `memory` the rest of the row is left free
 abbrev pub placed : (slots places : ℕ) → Reply → ℕ
-placed slots places (Table name) = places
-placed slots places (Commit number rows) = places
 placed slots places (Answer snapshot rows) = places + 1
 placed slots places (Overflow snapshot) = places + 1
 placed slots places Memory = rows_of slots (places + 1) * slots
-placed slots places (Refused reason) = places
 placed slots places Waited = rows_of slots places * slots
+placed slots places other = places
 
 -- the places that replies take behind others
 abbrev pub places_of : (slots places : ℕ) → List Reply → ℕ

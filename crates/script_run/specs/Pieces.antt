@@ -26,18 +26,12 @@ TakesPiece piece old new left left' = (given : List ℕ) × Consumes left left' 
 -- the source has ended at the end of its input alone
 abbrev pub FindsEnd : Piece → (ended ended' : Bool) → (left' : Option (List ℕ)) → Type 0
 FindsEnd Ended ended ended' left' = (ended' ≡ true) × IsAtEnd left'
-FindsEnd Fed ended ended' left' = ended' ≡ ended
-FindsEnd Fault ended ended' left' = ended' ≡ ended
-FindsEnd Limit ended ended' left' = ended' ≡ ended
-FindsEnd NoMemory ended ended' left' = ended' ≡ ended
+FindsEnd other ended ended' left' = ended' ≡ ended
 
 -- one read failed, the last one, at a fault alone
 abbrev pub CountsFault : Piece → ℕ → ℕ → Bool → Type 0
 CountsFault Fault old new failed = FailedOnce old new failed
-CountsFault Fed old new failed = new ≡ old
-CountsFault Ended old new failed = new ≡ old
-CountsFault Limit old new failed = new ≡ old
-CountsFault NoMemory old new failed = new ≡ old
+CountsFault other old new failed = new ≡ old
 
 -- the byte past the limit was read, or nothing
 abbrev pub ReadsPast : Piece → (left left' : Option (List ℕ)) → Type 0

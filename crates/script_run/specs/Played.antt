@@ -134,15 +134,5 @@ pub record Leads (old : State) (statements : List Statement) (new : State) (play
 -- an event that leaves the history and the seats: no statement is submitted, and no query abandoned
 abbrev pub LeavesSeats : Event → Type 0
 LeavesSeats (Submit seat statement) = ⊥
-LeavesSeats (Reserve query slot) = Unit {0}
-LeavesSeats (Build query dimension) = Unit {0}
-LeavesSeats (Start query) = Unit {0}
-LeavesSeats Cut = Unit {0}
-LeavesSeats (Take worker batch) = Unit {0}
-LeavesSeats (Give worker) = Unit {0}
-LeavesSeats (Distribute batch) = Unit {0}
-LeavesSeats (Finish slot) = Unit {0}
-LeavesSeats (Clear slot dimension) = Unit {0}
-LeavesSeats (Release slot) = Unit {0}
-LeavesSeats Reorder = Unit {0}
 LeavesSeats (Abandon query) = ⊥
+LeavesSeats other = Unit {0}

@@ -62,12 +62,10 @@ Writes wanted NoMemory ended left given written = IsFront written (script_text w
 -- how many bytes were read: the byte past the limit at `ScriptLimit`, and at each end that is no fault of the
 -- sink and no want of memory only there
 abbrev pub ReadsBytes : RunEnd → ℕ → Type 0
-ReadsBytes Clean count = count ≤ SCRIPT_LIMIT
-ReadsBytes SomeRefused count = count ≤ SCRIPT_LIMIT
-ReadsBytes ReadFault count = count ≤ SCRIPT_LIMIT
 ReadsBytes ScriptLimit count = count ≡ SCRIPT_LIMIT + 1
 ReadsBytes WriteFault count = count ≤ SCRIPT_LIMIT + 1
 ReadsBytes NoMemory count = count ≤ SCRIPT_LIMIT + 1
+ReadsBytes other count = count ≤ SCRIPT_LIMIT
 
 -- the reading met no end: the source has ended no more than before, no read failed, and the limit was not passed
 abbrev pub MetNoEnd : Bool → Bool → ℕ → ℕ → List ℕ → Type 0
@@ -76,15 +74,13 @@ MetNoEnd ended ended' read read' given = (ended' ≡ ended) × (read' ≡ read) 
 -- which faults came: the count of reads that failed, before and after, and whether the last read failed, and the same
 -- of the writes. Nothing was read after a read that failed, and nothing was written after a write that failed
 abbrev pub CountsFaults : RunEnd → ℕ → ℕ → Bool → ℕ → ℕ → Bool → Type 0
-CountsFaults Clean read read' read_failed write write' write_failed = (read' ≡ read) × (write' ≡ write)
-CountsFaults SomeRefused read read' read_failed write write' write_failed = (read' ≡ read) × (write' ≡ write)
 CountsFaults ReadFault read read' read_failed write write' write_failed =
     FailedOnce read read' read_failed × (write' ≡ write)
-CountsFaults ScriptLimit read read' read_failed write write' write_failed = (read' ≡ read) × (write' ≡ write)
 CountsFaults WriteFault read read' read_failed write write' write_failed =
     FailedOnceAtMost read read' read_failed × FailedOnce write write' write_failed
 CountsFaults NoMemory read read' read_failed write write' write_failed =
     FailedOnceAtMost read read' read_failed × (write' ≡ write)
+CountsFaults other read read' read_failed write write' write_failed = (read' ≡ read) × (write' ≡ write)
 
 -- in a run the source gave these bytes and the sink took those, and they belong together as its end says, where memory was
 -- wanted for the statements at some places, which the replies tell. Want of memory of the run itself is told in place of no

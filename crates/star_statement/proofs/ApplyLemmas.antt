@@ -82,11 +82,7 @@ pub delete_bound : (store : Store) (block : Block) (meaning : written.Statement)
 delete_bound store block (written.Delete name tested) condition is there binds =
     ap (λ none. if none then refused OutOfOrder else deleted store (bound_delete store.schema name (where_conjuncts tested))) (is_there store.schema.fact there)
     ∙ ap (deleted store) binds
-delete_bound store block (written.Dimension name columns) condition is there binds = cc
-delete_bound store block (written.Fact name columns) condition is there binds = cc
-delete_bound store block (written.Load name header) condition is there binds = cc
-delete_bound store block (written.Select items names tested groups) condition is there binds = cc
-delete_bound store block written.Wait condition is there binds = cc
+delete_bound store block other condition is there binds = cc
 
 -- the test of a condition that is lent is that of the condition
 pub tests_lent : (condition : Option (Bor Predicate)) → option_map (λ p. test_of p.now) condition ≡ option_map test_of (option_copied condition)

@@ -30,11 +30,7 @@ no_targets s (column ∷ columns) plain =
 pub references_nothing_in : (s : Schema) (meaning : written.Statement) (table : TableDef) → table ≡ declared_table s meaning → is_dimension meaning ≡ true
     → IsShaped meaning → ReferencesNothing table
 references_nothing_in s (written.Dimension name columns) table e is shaped = rw e (no_targets s columns shaped.1)
-references_nothing_in s (written.Fact name columns) table e is shaped = cc
-references_nothing_in s (written.Load name header) table e is shaped = cc
-references_nothing_in s (written.Delete name condition) table e is shaped = cc
-references_nothing_in s (written.Select items names condition groups) table e is shaped = cc
-references_nothing_in s written.Wait table e is shaped = cc
+references_nothing_in s other table e is shaped = cc
 
 -- a refused declaration changes nothing, and is told so
 pub follows_refused : (change : TableDef → Change) (name : List ℕ) (old new : KeyedStore) (found : Result TableDef Refusal) (reason : Refusal)

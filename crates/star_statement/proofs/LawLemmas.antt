@@ -61,9 +61,7 @@ fact_agrees store name (Err reason) = refl
 abbrev IsNext : Result Change Refusal → Type 0
 IsNext (Ok (DimensionDeclared table)) = ⊥
 IsNext (Ok (FactDeclared table)) = ⊥
-IsNext (Ok (Loaded table rows)) = ⊤
-IsNext (Ok (Ended positions)) = ⊤
-IsNext (Err reason) = ⊤
+IsNext other = ⊤
 
 committed_agrees : (store : Store) (found : Result Change Refusal) → IsNext found → Agrees store (committed store found)
 committed_agrees store (Ok (DimensionDeclared table)) next = absurd next
