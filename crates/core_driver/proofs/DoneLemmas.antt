@@ -1,18 +1,6 @@
 -- Where all is done, each query that might still be answered is answered, or found no memory.
-use Rattle.std.proofs.Common.{◌≡◌, ◌≢◌, ◌⊎◌, ℕ, true, false, eqb, get_or, Option, Some, None, option_map, refl, ap, sym, ◌∙◌, subst, inl, inr}
-use Rattle.std.specs.Prelude.{IsTrue}
-use Rattle.pipeline_manager.specs.Conditions.{is_open}
-use Rattle.pipeline_manager.specs.Lives.{life_of, query_in}
-use Rattle.pipeline_manager.specs.declared.life.Life.{Life}
+use Rattle.core_driver.proofs.Words.{◌∙◌, ◌≡◌, ◌≢◌, ◌⊎◌, AnswersAll, ap, eqb, false, find-holds, get_or, inl, inr, is_open, IsDriven, IsFinished, IsLed, IsSound, IsTrue, Life, life_of, None, Option, option_map, query_in, query_in-found, QueryLife, refl, Some, State, StepsKeep, subst, sym, true, ℕ}
 use Rattle.pipeline_manager.specs.declared.life.Life.TheVariants as life
-use Rattle.pipeline_manager.specs.declared.life.QueryLife.{QueryLife}
-use Rattle.pipeline_manager.proofs.QueryLemmas.{query_in-found}
-use Rattle.core_state.specs.Sound.{IsSound}
-use Rattle.core_state.specs.State.{State}
-use Rattle.core_state.proofs.AcceptedLemmas.{find-holds}
-use Rattle.core_state.proofs.StepLemmas.{StepsKeep}
-use Rattle.event_core.specs.Took.{IsLed}
-use Rattle.core_driver.specs.Driven.{AnswersAll, IsDriven, IsFinished}
 use Rattle.core_driver.proofs.StayLemmas.{IsWanted, wanted-stays}
 
 -- a life that is not open, and not Abandoned

@@ -1,20 +1,9 @@
 -- What turn after turn leaves, from the call on.
-use Rattle.std.proofs.Common.{◌≡◌, ◌≤◌, ◌*◌, ◌∷◌, [], true, false, List, length, find, Option, Some, None, refl, inl, inr, ⊎_elim, arith}
-use Rattle.std.specs.Prelude.{All, count_by}
-use Rattle.std.proofs.lemmas.List.Elements.{All-weaker}
-use Rattle.pipeline_manager.specs.Conditions.{IsRunning}
-use Rattle.pipeline_manager.specs.declared.life.Life.{Life}
+use Rattle.core_driver.proofs.Words.{◌*◌, ◌∷◌, ◌≡◌, ◌≤◌, [], All, All-weaker, AnswersAll, arith, count_by, false, find, find-none, HasLap, inl, inr, is_to_start, is_unfinished, IsDriven, IsFinished, IsLanded, IsLed, IsOfLanding, IsRunning, IsSettled, IsSound, IsTurn, length, Life, List, MayGoOn, None, NoneIsToStart, Option, QueryLife, refl, Some, SomeRuns, State, StepsKeep, true, unfinished_in, versions_in, ⊎_elim}
 use Rattle.pipeline_manager.specs.declared.life.Life.TheVariants as life
-use Rattle.pipeline_manager.specs.declared.life.QueryLife.{QueryLife}
-use Rattle.core_state.specs.Sound.{IsSound}
-use Rattle.core_state.specs.State.{State}
-use Rattle.core_state.specs.Tables.{versions_in}
-use Rattle.core_state.proofs.AcceptedLemmas.{find-none}
-use Rattle.core_state.proofs.StepLemmas.{StepsKeep}
-use Rattle.event_core.specs.Took.{IsLed}
 use Rattle.event_core.specs.declared.choosing.EventKind.TheVariants as kind
-use Rattle.core_driver.specs.Driven.{AnswersAll, IsDriven, IsFinished, IsLanded, IsSettled, IsTurn, IsWholeTurn, MayGoOn}
-use Rattle.core_driver.specs.Lap.{HasLap, IsOfLanding, NoneIsToStart, SharesLap, SomeRuns, is_to_start, is_unfinished, unfinished_in}
+use Rattle.core_driver.specs.Driven.{IsWholeTurn}
+use Rattle.core_driver.specs.Lap.{SharesLap}
 use Rattle.core_driver.proofs.DoneLemmas.{answers-all}
 use Rattle.core_driver.proofs.KindLemmas.{some-of-first, some-of-more}
 use Rattle.core_driver.proofs.LapCountLemmas.{count-one}

@@ -1,16 +1,6 @@
 -- No batch comes into a hand but by an event that takes one.
-use Rattle.std.proofs.Common.{◌≡◌, ℕ, not, eqb, Some, None, refl, sym, subst, ⊎_elim}
-use Rattle.std.specs.Prelude.{All}
-use Rattle.std.proofs.lemmas.List.Elements.{All-filter, All-push, All-weaker}
-use Rattle.core_state.specs.Events.{IsThrough, after_event}
-use Rattle.core_state.specs.State.{Flight, Scan, State}
-use Rattle.core_state.specs.declared.event.Event.{Event}
-use Rattle.core_state.specs.declared.event.Event.TheVariants.{Submit, Reserve, Build, Start, Cut, Take, Give, Distribute, Finish, Clear, Release, Reorder, Abandon}
-use Rattle.core_state.proofs.CutRowsLemmas.{cut_flight}
-use Rattle.event_core.specs.Chosen.{AreIdle, IsOfKind}
-use Rattle.event_core.specs.Took.{IsLed, Took}
-use Rattle.event_core.specs.declared.choosing.EventKind.{EventKind}
-use Rattle.core_driver.specs.Driven.{IsReorder}
+use Rattle.core_driver.proofs.Words.{◌≡◌, Abandon, All, All-filter, All-push, All-weaker, AreIdle, Build, Clear, Cut, cut_flight, Distribute, eqb, Event, EventKind, Finish, Flight, Give, IsLed, IsOfKind, IsReorder, IsThrough, None, not, refl, Release, Reorder, Reserve, Scan, Some, Start, State, Submit, subst, sym, Take, Took, ℕ, ⊎_elim}
+use Rattle.core_state.specs.Events.{after_event}
 use Rattle.core_driver.proofs.LedLemmas.{led-holds}
 use Rattle.core_driver.proofs.TakenLemmas.{IsStill, distributes, still-leaves}
 

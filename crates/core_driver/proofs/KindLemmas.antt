@@ -1,16 +1,6 @@
 -- Which events the kinds that are asked for make.
-use Rattle.std.proofs.Common.{◌≡◌, zero, suc, Bool, true, false, List, [], ◌∷◌, Option, Some, None, refl, sym, ◌∙◌, subst, arith}
-use Rattle.std.specs.Prelude.{◌↔◌, All, IfSome, IsTrue, is_some}
-use Rattle.std.proofs.lemmas.List.Elements.{All-cons, All-nil}
-use Rattle.core_state.specs.Events.{IsEnabled}
-use Rattle.core_state.specs.State.{State}
-use Rattle.core_state.specs.declared.event.Event.{Event}
-use Rattle.core_state.specs.declared.event.Event.TheVariants.{Submit, Reserve, Build, Start, Cut, Take, Give, Distribute, Finish, Clear, Release, Reorder, Abandon}
-use Rattle.event_core.specs.Chosen.{IsOfKind, kind_of}
-use Rattle.event_core.specs.Took.{IsLed}
-use Rattle.event_core.specs.declared.choosing.EventKind.{EventKind}
+use Rattle.core_driver.proofs.Words.{◌↔◌, ◌∙◌, ◌∷◌, ◌≡◌, [], Abandon, All, All-cons, All-nil, arith, Bool, Build, Clear, Cut, Distribute, Event, EventKind, false, Finish, Give, IfSome, is_some, IsEnabled, IsLed, IsOfAdmission, IsOfKind, IsOfRound, IsOfSome, IsTrue, kind_of, List, None, NoneOfMayCome, Option, refl, Release, Reorder, Reserve, Some, Start, State, Submit, subst, suc, sym, Take, true, zero}
 use Rattle.event_core.specs.declared.choosing.EventKind.TheVariants as kind
-use Rattle.core_driver.specs.Driven.{IsOfAdmission, IsOfRound, IsOfSome, NoneOfMayCome}
 use Rattle.core_driver.proofs.LedLemmas.{led-wider}
 use Rattle.core_driver.proofs.TakenLemmas.{IsStill}
 

@@ -1,14 +1,6 @@
 -- Batches that passed all filters are distributed until none is in flight.
-use Rattle.std.proofs.Common.{◌≡◌, ℕ, cond, not, eqb, eq-eqb, List, [], ◌∷◌, Option, Some, None, refl, sym, ap, ◌∙◌, subst}
-use Rattle.std.specs.Prelude.{All, IfSome, is_some}
-use Rattle.std.proofs.lemmas.List.Elements.{All-filter, All-head}
-use Rattle.core_state.specs.Events.{IsThrough}
-use Rattle.core_state.specs.Found.{flight_at}
-use Rattle.core_state.specs.State.{Filters, Flight, Scan, State}
-use Rattle.core_state.specs.declared.event.Event.{Event}
-use Rattle.core_state.specs.declared.event.Event.TheVariants.{Submit, Reserve, Build, Start, Cut, Take, Give, Distribute, Finish, Clear, Release, Reorder, Abandon}
-use Rattle.event_core.specs.Chosen.{IsOfKind, NoneMayCome}
-use Rattle.event_core.specs.Took.{IsLed, Took}
+use Rattle.core_driver.proofs.Words.{◌∙◌, ◌∷◌, ◌≡◌, [], Abandon, All, All-filter, All-head, ap, Build, Clear, cond, Cut, Distribute, eq-eqb, eqb, Event, Finish, Flight, flight_at, Give, IfSome, is_some, IsLed, IsOfKind, IsThrough, List, None, NoneMayCome, not, Option, refl, Release, Reorder, Reserve, Scan, Some, Start, State, Submit, subst, sym, Take, Took, ℕ}
+use Rattle.core_state.specs.State.{Filters}
 use Rattle.event_core.specs.declared.choosing.EventKind.TheVariants as kind
 use Rattle.core_driver.proofs.LedLemmas.{led-holds}
 use Rattle.core_driver.proofs.TakenLemmas.{Distributes, IsStill, distributes, still-leaves}

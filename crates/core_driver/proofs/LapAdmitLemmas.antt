@@ -1,27 +1,7 @@
 -- An admission leaves the table and the scan; a query that begins to run begins where the scan stands, and there stays a slot
 -- for each query that waits.
-use Rattle.std.proofs.Common.{◌≡◌, ◌≤◌, ◌+◌, ◌<◌, ℕ, Bool, true, false, cond, eqb, not, List, length, get_or, set, Option, Some, None, option_map, find, eq-eqb, inl, refl, ap, sym, ◌∙◌, subst, ⊎_elim, arith}
-use Rattle.std.specs.Prelude.{All, count_by}
-use Rattle.std.specs.Option.{option_map_or}
-use Rattle.std.proofs.lemmas.List.{length-set}
-use Rattle.std.proofs.lemmas.List.Elements.{All-map, All-weaker}
-use Rattle.std.proofs.lemmas.List.Sums.{sum_by-set}
-use Rattle.std.proofs.lemmas.List.Quantifiers.{position-Some}
-use Rattle.pipeline_manager.specs.Changes.{after_built, after_reserve, renewed, started, with_dimension, with_life, with_slot}
-use Rattle.pipeline_manager.specs.Lives.{Lives, extent_in, is_free, is_held_by, is_waiting, oldest_waiting, slot_at, slot_of}
-use Rattle.pipeline_manager.specs.declared.life.Life.{Life}
+use Rattle.core_driver.proofs.Words.{◌+◌, ◌<◌, ◌∙◌, ◌≡◌, ◌≤◌, after_built, after_reserve, All, All-map, All-weaker, ap, arith, BeganAt, Bool, Build, Clearing, cond, count_by, Distribute, eq-eqb, eqb, Event, extent_in, false, find, first_in, Free, get_or, HasSlotsForAll, Held, inl, is_free, is_held_by, is_waiting, IsEnabled, IsOfAdmission, length, length-set, Life, List, Lives, None, not, oldest_waiting, Option, option_map, option_map_or, position-Some, QueryLife, refl, renewed, Reserve, set, slot_at, slot_of, SlotState, Some, Start, started, State, subst, sum_by-set, sym, Took, true, with_dimension, with_life, with_slot, ℕ, ⊎_elim}
 use Rattle.pipeline_manager.specs.declared.life.Life.TheVariants as life
-use Rattle.pipeline_manager.specs.declared.life.QueryLife.{QueryLife}
-use Rattle.pipeline_manager.specs.declared.life.SlotState.{SlotState}
-use Rattle.pipeline_manager.specs.declared.life.SlotState.TheVariants.{Free, Held, Clearing}
-use Rattle.core_state.specs.Cutting.{first_in}
-use Rattle.core_state.specs.Events.{IsEnabled}
-use Rattle.core_state.specs.State.{State}
-use Rattle.core_state.specs.declared.event.Event.{Event}
-use Rattle.core_state.specs.declared.event.Event.TheVariants.{Reserve, Build, Start, Distribute}
-use Rattle.event_core.specs.Took.{Took}
-use Rattle.core_driver.specs.Driven.{IsOfAdmission}
-use Rattle.core_driver.specs.Lap.{BeganAt, HasSlotsForAll}
 use Rattle.core_driver.proofs.LapCountLemmas.{count-map-le, count-map-less, one_if}
 use Rattle.core_driver.proofs.TakenLemmas.{IsStill, LeavesBatches, Spoils, lives_by, still-leaves, taken-lives}
 use Rattle.core_driver.proofs.WaitLemmas.{started-rests}

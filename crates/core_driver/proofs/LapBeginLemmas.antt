@@ -1,21 +1,6 @@
 -- How the way of a scan begins.
-use Rattle.std.proofs.Common.{◌≡◌, ◌≤◌, ◌<◌, ◌+◌, ◌*◌, inl, inr, ℕ, get_or, length, refl, ap, ◌∙◌, subst, sym, ⊎_elim, arith}
-use Rattle.std.specs.Prelude.{All}
-use Rattle.std.proofs.lemmas.Bool.{cases_lt}
-use Rattle.pipeline_manager.specs.Conditions.{IsRunning}
-use Rattle.pipeline_manager.specs.Sound.{IsLeft}
-use Rattle.pipeline_manager.specs.declared.life.Life.{Life}
+use Rattle.core_driver.proofs.Words.{◌*◌, ◌+◌, ◌<◌, ◌∙◌, ◌≡◌, ◌≤◌, All, ap, arith, BeganAt, cases_lt, first_cases, first_in, first_of, get_or, inl, inr, IsLed, IsLeft, IsLeftBetween, IsOfAdmission, IsOnItsWay, IsRunning, IsSound, IsWithin, length, Life, QueryLife, refl, Scan, SomeRuns, State, subst, sym, tables_by, versions_in, ℕ, ⊎_elim}
 use Rattle.pipeline_manager.specs.declared.life.Life.TheVariants as life
-use Rattle.pipeline_manager.specs.declared.life.QueryLife.{QueryLife}
-use Rattle.continuous_scan.specs.Range.{first_of}
-use Rattle.continuous_scan.proofs.LapLemmas.{first_cases}
-use Rattle.core_state.specs.Cutting.{first_in}
-use Rattle.core_state.specs.Sound.{IsSound}
-use Rattle.core_state.specs.State.{Scan, State}
-use Rattle.core_state.specs.Tables.{tables_by, versions_in}
-use Rattle.event_core.specs.Took.{IsLed}
-use Rattle.core_driver.specs.Driven.{IsOfAdmission}
-use Rattle.core_driver.specs.Lap.{BeganAt, IsLeftBetween, IsOnItsWay, IsWithin, SomeRuns}
 use Rattle.core_driver.proofs.LapAdmitLemmas.{Admitted, AllBegan, admitted}
 use Rattle.core_driver.proofs.LapQueryLemmas.{OfQuery, all-none, each-query}
 use Rattle.core_driver.proofs.LedLemmas.{led-holds}

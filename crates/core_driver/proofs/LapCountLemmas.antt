@@ -1,9 +1,6 @@
 -- How many elements of a list pass a test, where the test or the elements change.
-use Rattle.std.proofs.Common.{◌≡◌, ℕ, zero, suc, ◌<◌, ◌≤◌, ◌+◌, Bool, true, false, cond, ◌||◌, not, List, [], ◌∷◌, length, map, find, Option, Some, refl, ap, ◌∙◌, arith}
-use Rattle.std.specs.Prelude.{All, Any, count_by}
-use Rattle.std.specs.List.{list_any}
-use Rattle.std.proofs.lemmas.List.Elements.{All-head, All-tail}
-use Rattle.std.proofs.lemmas.List.Sums.{sum_by-cons}
+use Rattle.core_driver.proofs.Words.{◌+◌, ◌<◌, ◌∙◌, ◌∷◌, ◌≡◌, ◌≤◌, [], All, All-head, All-tail, Any, ap, arith, Bool, cond, count_by, false, find, length, List, list_any, map, not, Option, refl, Some, suc, sum_by-cons, true, zero, ℕ}
+use Rattle.std.proofs.Common.{◌||◌}
 
 -- one, if a test passes
 abbrev pub one_if : Bool → ℕ

@@ -1,24 +1,10 @@
 -- A cut of a scan that is on its way leaves it on its way.
-use Rattle.std.proofs.Common.{◌≡◌, ℕ, ◌<◌, ◌≤◌, ◌+◌, ◌-◌, ◌⊎◌, inl, inr, eqb, get_or, sym, subst, ⊎_elim, arith}
-use Rattle.std.specs.Prelude.{All}
-use Rattle.std.proofs.lemmas.Bool.{cases_lt}
-use Rattle.std.proofs.lemmas.List.Elements.{All-map, All-weaker}
-use Rattle.pipeline_manager.specs.Changes.{covered, cut_query}
-use Rattle.pipeline_manager.specs.Conditions.{IsRunning}
-use Rattle.pipeline_manager.specs.Sound.{IsLeft}
+use Rattle.core_driver.proofs.Words.{◌+◌, ◌-◌, ◌<◌, ◌≡◌, ◌≤◌, ◌⊎◌, after_cutting, All, All-map, All-weaker, arith, BeganAt, CameRound, cases_lt, covered, cut_query, Cuts, cuts, end_in, eqb, find-holds, first_cases, first_in, get_or, inl, inr, IsEnd, IsLeft, IsLeftBetween, IsNext, IsOnItsWay, IsRunning, IsSound, IsToComeRound, life-runs, MayCut, QueryLife, Runs, some-runs, State, subst, sym, versions_in, ℕ, ⊎_elim}
 use Rattle.pipeline_manager.specs.declared.life.Life.TheVariants as life
-use Rattle.pipeline_manager.specs.declared.life.QueryLife.{QueryLife}
-use Rattle.continuous_scan.proofs.LapLemmas.{first_cases}
-use Rattle.core_state.specs.Cutting.{after_cutting, end_in, first_in, starts_of}
-use Rattle.core_state.specs.Events.{MayCut}
-use Rattle.core_state.specs.Sound.{IsNext, IsSound}
-use Rattle.core_state.specs.State.{State}
-use Rattle.core_state.specs.Tables.{versions_in}
-use Rattle.core_state.proofs.AcceptedLemmas.{find-holds}
+use Rattle.core_state.specs.Cutting.{starts_of}
 use Rattle.core_state.proofs.CutRangeLemmas.{end-to-start}
 use Rattle.core_state.proofs.CutRosterLemmas.{start-among}
-use Rattle.core_state.proofs.CutRunsLemmas.{Cuts, Runs, cuts, left-of, life-runs, some-runs}
-use Rattle.core_driver.specs.Lap.{BeganAt, CameRound, IsEnd, IsLeftBetween, IsOnItsWay, IsToComeRound}
+use Rattle.core_state.proofs.CutRunsLemmas.{left-of}
 use Rattle.core_driver.proofs.LapLifeLemmas.{began-cut, between-cut, between-none, between-round}
 use Rattle.core_driver.proofs.LapQueryLemmas.{OfQuery, each-query, none-any}
 

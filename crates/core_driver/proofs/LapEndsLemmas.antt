@@ -1,17 +1,7 @@
 -- Queries of which each stays as it is, or neither waits nor is built for nor runs any more.
-use Rattle.std.proofs.Common.{◌≡◌, ◌≤◌, ◌⊎◌, inl, inr, ℕ, Bool, true, false, cond, eqb, List, [], ◌∷◌, map, refl, ap, sym, ◌∙◌, subst, ⊎_elim}
-use Rattle.std.specs.Prelude.{All, count_by}
-use Rattle.std.specs.List.{fold}
-use Rattle.std.specs.Option.{option_map_or}
+use Rattle.core_driver.proofs.Words.{◌∙◌, ◌∷◌, ◌≡◌, ◌≤◌, ◌⊎◌, [], after_spoil, All, All-map, All-weaker, ap, BeganAt, Bool, cond, count_by, eqb, false, fold, inl, inr, is_ending, is_to_start, is_unfinished, IsLeftBetween, IsRunning, Life, life_in, List, Lives, map, option_map_or, QueryLife, refl, renewed, subst, sym, true, with_answer, with_life, ℕ, ⊎_elim}
 use Rattle.std.proofs.lemmas.List.{map-id}
-use Rattle.std.proofs.lemmas.List.Elements.{All-map, All-weaker}
-use Rattle.pipeline_manager.specs.Changes.{after_spoil, is_ending, renewed, with_answer, with_life}
-use Rattle.pipeline_manager.specs.Conditions.{IsRunning}
-use Rattle.pipeline_manager.specs.Lives.{Lives, life_in}
-use Rattle.pipeline_manager.specs.declared.life.Life.{Life}
 use Rattle.pipeline_manager.specs.declared.life.Life.TheVariants as life
-use Rattle.pipeline_manager.specs.declared.life.QueryLife.{QueryLife}
-use Rattle.core_driver.specs.Lap.{BeganAt, IsLeftBetween, is_to_start, is_unfinished}
 use Rattle.core_driver.proofs.LapCountLemmas.{count-map-le}
 
 -- a query stays, or is over

@@ -1,16 +1,7 @@
 -- Which events are those of a round other than a cut.
-use Rattle.std.proofs.Common.{List, [], ◌∷◌, Option, Some, None, sym, subst}
-use Rattle.std.specs.Prelude.{All}
-use Rattle.std.proofs.lemmas.List.Elements.{All-cons, All-nil}
-use Rattle.core_state.specs.State.{State}
-use Rattle.core_state.specs.declared.event.Event.{Event}
-use Rattle.core_state.specs.declared.event.Event.TheVariants.{Take, Give, Distribute, Finish, Clear, Release}
-use Rattle.event_core.specs.Chosen.{IsPassing, kind_of}
-use Rattle.event_core.specs.Took.{IsLed}
-use Rattle.event_core.specs.declared.choosing.EventKind.{EventKind}
+use Rattle.core_driver.proofs.Words.{◌∷◌, [], All, All-cons, All-nil, Clear, Distribute, Event, EventKind, Finish, Give, IsLed, IsOfLanding, IsOfSome, kind_of, List, None, Option, Release, Some, State, subst, sym, Take}
+use Rattle.event_core.specs.Chosen.{IsPassing}
 use Rattle.event_core.specs.declared.choosing.EventKind.TheVariants as kind
-use Rattle.core_driver.specs.Driven.{IsOfSome}
-use Rattle.core_driver.specs.Lap.{IsOfLanding}
 use Rattle.core_driver.proofs.LedLemmas.{led-wider}
 
 -- a kind of such events

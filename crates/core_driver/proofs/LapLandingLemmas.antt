@@ -1,16 +1,5 @@
 -- An event of a round other than a cut leaves the table and where the scan stands, cuts nothing, and begins no query.
-use Rattle.std.proofs.Common.{◌≡◌, ℕ, List, [], ◌∷◌, length, inr, refl, ap, sym, ◌∙◌, subst, ⊎_elim}
-use Rattle.std.specs.List.{fold}
-use Rattle.std.proofs.lemmas.List.{length-set}
-use Rattle.pipeline_manager.specs.Changes.{after_cleared, after_end, after_free, after_spoil, given_up, without_dimension}
-use Rattle.pipeline_manager.specs.Lives.{Lives, slot_at}
-use Rattle.pipeline_manager.specs.declared.life.SlotState.{SlotState}
-use Rattle.pipeline_manager.specs.declared.life.SlotState.TheVariants.{Free, Held, Clearing}
-use Rattle.core_state.specs.State.{Scan, State}
-use Rattle.core_state.specs.declared.event.Event.{Event}
-use Rattle.core_state.specs.declared.event.Event.TheVariants.{Take, Give, Distribute, Finish, Clear, Release, Reorder}
-use Rattle.event_core.specs.Took.{IsLed, Took}
-use Rattle.core_driver.specs.Lap.{IsOfLanding}
+use Rattle.core_driver.proofs.Words.{◌∙◌, ◌∷◌, ◌≡◌, [], after_cleared, after_end, after_free, after_spoil, ap, Clear, Clearing, Distribute, Event, Finish, fold, Free, Give, given_up, Held, inr, IsLed, IsOfLanding, length, length-set, List, Lives, refl, Release, Reorder, Scan, slot_at, SlotState, State, subst, sym, Take, Took, without_dimension, ℕ, ⊎_elim}
 use Rattle.core_driver.proofs.LapEndsLemmas.{Ends, ends-answer, ends-both, ends-same, ends-spoiled}
 use Rattle.core_driver.proofs.LedLemmas.{led-holds}
 use Rattle.core_driver.proofs.PassedLemmas.{Passes, took-hands}

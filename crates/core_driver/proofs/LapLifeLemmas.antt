@@ -1,17 +1,10 @@
 -- What a cut makes of the way of one query that runs.
-use Rattle.std.proofs.Common.{◌≡◌, ◌≢◌, ℕ, ◌<◌, ◌≤◌, ◌+◌, ◌-◌, ◌⊎◌, inl, inr, min, Bool, true, false, cond, eqb, refl, arith}
+use Rattle.core_driver.proofs.Words.{◌+◌, ◌-◌, ◌<◌, ◌≡◌, ◌≢◌, ◌≤◌, ◌⊎◌, arith, BeganAt, Bool, cond, covered, covered-same, cut-cases, cut_life, eqb, false, inl, inr, is_to_start, is_unfinished, IsLeft, IsLeftBetween, IsNext, IsRunning, Life, refl, true, ℕ}
+use Rattle.std.proofs.Common.{min}
 use Rattle.std.proofs.lemmas.Bool.{eqb-false}
-use Rattle.pipeline_manager.specs.Changes.{covered, cut_life}
-use Rattle.pipeline_manager.specs.Conditions.{IsRunning}
-use Rattle.pipeline_manager.specs.Sound.{IsLeft}
-use Rattle.pipeline_manager.specs.declared.life.Life.{Life}
 use Rattle.pipeline_manager.specs.declared.life.Life.TheVariants as life
 use Rattle.continuous_scan.specs.Lap.{lap_start, next_below, place_in_lap}
 use Rattle.continuous_scan.proofs.LapLemmas.{next_cases, place_cases, start_cases}
-use Rattle.core_state.specs.Sound.{IsNext}
-use Rattle.core_state.proofs.CutLapLemmas.{covered-same}
-use Rattle.core_state.proofs.CutLifeLemmas.{cut-cases}
-use Rattle.core_driver.specs.Lap.{BeganAt, IsLeftBetween, is_to_start, is_unfinished}
 
 -- where a lap began, stays
 pub began-cut : (start positions : ℕ) (now : Life) → BeganAt start now → BeganAt start (cut_life positions now)

@@ -1,20 +1,8 @@
 -- What holds of each query in a sound core, by its place among the lives.
-use Rattle.std.proofs.Common.{◌≡◌, ◌≤◌, ℕ, true, false, eqb, get_or, List, Option, Some, None, refl, ap, sym, ◌∙◌, subst}
-use Rattle.std.specs.Prelude.{All, Any, IsSome, is_some}
-use Rattle.std.proofs.lemmas.Bool.{eqb-true}
-use Rattle.std.proofs.lemmas.List.{get_or_default}
-use Rattle.pipeline_manager.specs.Lives.{query_in}
-use Rattle.pipeline_manager.specs.Sound.{IsLeft}
-use Rattle.pipeline_manager.specs.declared.life.Life.{Life}
+use Rattle.core_driver.proofs.Words.{◌∙◌, ◌≡◌, ◌≤◌, Accepted, accepted_at, All, Any, ap, eqb, eqb-true, false, find-holds, find-passes, get_or, get_or_default, is_some, IsLeft, IsNext, IsSome, IsSound, Life, List, None, Option, query_in, query_in-found, QueryLife, refl, Some, State, subst, sym, true, versions_in, ℕ}
 use Rattle.pipeline_manager.specs.declared.life.Life.TheVariants as life
-use Rattle.pipeline_manager.specs.declared.life.QueryLife.{QueryLife}
-use Rattle.pipeline_manager.proofs.QueryLemmas.{query_in-found}
-use Rattle.core_state.specs.Found.{accepted_at}
-use Rattle.core_state.specs.Sound.{IsKept, IsNext, IsSound, IsSoundQuery}
-use Rattle.core_state.specs.State.{Accepted, State}
-use Rattle.core_state.specs.Tables.{versions_in}
-use Rattle.core_state.proofs.AcceptedLemmas.{find-holds}
-use Rattle.core_state.proofs.FoundLemmas.{find-passes, some-at}
+use Rattle.core_state.specs.Sound.{IsKept, IsSoundQuery}
+use Rattle.core_state.proofs.FoundLemmas.{some-at}
 use Rattle.core_state.proofs.ScannedOverLemmas.{life-accepted}
 
 -- what holds of none holds not of any

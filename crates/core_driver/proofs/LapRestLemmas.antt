@@ -1,17 +1,6 @@
 -- The events of a round begin no query, and leave the table and how many slots there are.
-use Rattle.std.proofs.Common.{◌≡◌, ◌≤◌, ◌-◌, false, length, refl, ap, ◌∙◌, subst, sym, ⊎_elim, arith}
-use Rattle.std.proofs.lemmas.List.Elements.{All-map, All-weaker}
-use Rattle.pipeline_manager.specs.Changes.{covered, cut_query}
-use Rattle.pipeline_manager.specs.Conditions.{IsRunning}
-use Rattle.core_state.specs.Cutting.{after_cutting, end_in, first_in}
+use Rattle.core_driver.proofs.Words.{◌-◌, ◌∙◌, ◌≡◌, ◌≤◌, Abandon, after_cutting, All-map, All-weaker, ap, arith, Build, Clear, covered, Cut, cut_query, Distribute, end_in, Event, false, Finish, first_in, Give, is_to_start, is_unfinished, IsLed, IsOfLanding, IsOfRound, IsRunning, length, NoneIsToStart, refl, Release, Reorder, Reserve, SomeRuns, Start, State, Submit, subst, sym, tables_by, Take, Took, unfinished_in, versions_in, ⊎_elim}
 use Rattle.core_state.specs.Events.{after_event}
-use Rattle.core_state.specs.State.{State}
-use Rattle.core_state.specs.Tables.{tables_by, versions_in}
-use Rattle.core_state.specs.declared.event.Event.{Event}
-use Rattle.core_state.specs.declared.event.Event.TheVariants.{Submit, Reserve, Build, Start, Cut, Take, Give, Distribute, Finish, Clear, Release, Reorder, Abandon}
-use Rattle.event_core.specs.Took.{IsLed, Took}
-use Rattle.core_driver.specs.Driven.{IsOfRound}
-use Rattle.core_driver.specs.Lap.{IsOfLanding, NoneIsToStart, SomeRuns, is_to_start, is_unfinished, unfinished_in}
 use Rattle.core_driver.proofs.LapCountLemmas.{count-map-le}
 use Rattle.core_driver.proofs.LapEndsLemmas.{all-ends, count-ends, over-runs, over-start}
 use Rattle.core_driver.proofs.LapLandingLemmas.{Lands, lands-taken}

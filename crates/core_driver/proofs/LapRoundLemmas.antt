@@ -1,18 +1,5 @@
 -- The events of a round leave a scan that is on its way on its way.
-use Rattle.std.proofs.Common.{◌≡◌, ◌≤◌, ◌-◌, ℕ, inl, inr, ap, ◌∙◌, subst, sym, ⊎_elim, arith}
-use Rattle.std.specs.Prelude.{All}
-use Rattle.continuous_scan.specs.Range.{first_of}
-use Rattle.core_state.specs.Cutting.{after_cutting, first_in}
-use Rattle.core_state.specs.Events.{MayCut}
-use Rattle.core_state.specs.Sound.{IsSound}
-use Rattle.core_state.specs.State.{State}
-use Rattle.core_state.specs.Tables.{versions_in}
-use Rattle.core_state.specs.declared.event.Event.{Event}
-use Rattle.core_state.specs.declared.event.Event.TheVariants.{Cut}
-use Rattle.core_state.proofs.StepLemmas.{StepsKeep}
-use Rattle.event_core.specs.Took.{IsLed, Took}
-use Rattle.core_driver.specs.Driven.{IsOfRound}
-use Rattle.core_driver.specs.Lap.{BeganAt, CameRound, IsEnd, IsLeftBetween, IsOnItsWay, IsToComeRound, IsWithin}
+use Rattle.core_driver.proofs.Words.{◌-◌, ◌∙◌, ◌≡◌, ◌≤◌, after_cutting, All, ap, arith, BeganAt, CameRound, Cut, Event, first_in, first_of, inl, inr, IsEnd, IsLed, IsLeftBetween, IsOfRound, IsOnItsWay, IsSound, IsToComeRound, IsWithin, MayCut, State, StepsKeep, subst, sym, Took, versions_in, ℕ, ⊎_elim}
 use Rattle.core_driver.proofs.LapCutLemmas.{CutsOn, cut_of, cuts-on}
 use Rattle.core_driver.proofs.LapEndsLemmas.{all-ends, over-began, over-between}
 use Rattle.core_driver.proofs.LapLandingLemmas.{Lands, lands-taken}

@@ -1,21 +1,11 @@
 -- Where each slot is free or held by a query that is built for or runs, there are enough for those that wait.
-use Rattle.std.proofs.Common.{◌≡◌, ◌≤◌, ◌+◌, Bool, true, false, cond, eqb, eq-eqb, ◌&&◌, not, List, [], ◌∷◌, length, get_or, Option, Some, None, find, option_map, refl, ap, sym, ◌∙◌, arith}
-use Rattle.std.specs.Prelude.{All, IsSomeAnd, count_by}
-use Rattle.std.specs.List.{list_any}
+use Rattle.core_driver.proofs.Words.{◌+◌, ◌∙◌, ◌∷◌, ◌≡◌, ◌≤◌, [], All, ap, arith, Bool, Clearing, cond, count_by, eq-eqb, eqb, false, find, Free, get_or, HasSlotsForAll, Held, is_free, is_held_by, is_unfinished, is_waiting, IsFreeOrUnderWay, IsSomeAnd, IsUnderWay, length, Life, life_in, List, list_any, Lives, None, not, Option, option_map, query_in, QueryLife, refl, slots_held, SlotState, Some, State, sym, true, unfinished_in}
+use Rattle.std.proofs.Common.{◌&&◌}
 use Rattle.std.proofs.lemmas.Bool.{and_from, or_left, or_right}
-use Rattle.pipeline_manager.specs.Lives.{Lives, is_free, is_held_by, is_waiting, life_in, query_in}
 use Rattle.pipeline_manager.specs.Sound as managed
-use Rattle.pipeline_manager.specs.Sound.{slots_held}
-use Rattle.pipeline_manager.specs.declared.life.Life.{Life}
 use Rattle.pipeline_manager.specs.declared.life.Life.TheVariants as life
-use Rattle.pipeline_manager.specs.declared.life.QueryLife.{QueryLife}
-use Rattle.pipeline_manager.specs.declared.life.SlotState.{SlotState}
-use Rattle.pipeline_manager.specs.declared.life.SlotState.TheVariants.{Free, Held, Clearing}
 use Rattle.pipeline_manager.proofs.SoundLemmas.{fits-one}
-use Rattle.core_state.specs.State.{State}
 use Rattle.core_state.proofs.FoundLemmas.{query_in-number}
-use Rattle.core_driver.specs.Driven.{IsFreeOrUnderWay, IsUnderWay}
-use Rattle.core_driver.specs.Lap.{HasSlotsForAll, is_unfinished, unfinished_in}
 use Rattle.core_driver.proofs.LapCountLemmas.{count-both, count-held, count-le, count-none, one_if}
 
 -- whether a query is built for or runs

@@ -1,26 +1,8 @@
 -- Where no admission may come, no query waits for which there is a slot, and none is built for.
-use Rattle.std.proofs.Common.{◌≡◌, ℕ, true, false, eqb, List, [], ◌∷◌, get_or, Option, Some, None, option_map, find, refl, ap, sym, ◌∙◌, ⊎_elim, arith}
-use Rattle.std.specs.Prelude.{All, Any}
-use Rattle.std.proofs.lemmas.List.Elements.{All-head}
-use Rattle.pipeline_manager.specs.Lives.{is_free, is_waiting, life_of, oldest_waiting, query_in}
-use Rattle.pipeline_manager.specs.declared.life.Life.{Life}
+use Rattle.core_driver.proofs.Words.{◌∙◌, ◌∷◌, ◌≡◌, [], Admits, All, All-head, Any, ap, arith, Build, Clearing, eqb, Event, false, find, find-holds, find-none, find-passes, Free, get_or, HasSlotsForAll, Held, is_free, is_to_start, is_waiting, IsEnabled, IsLed, IsOfAdmission, IsSound, Life, life_of, List, None, NoneIsToStart, NoneMayCome, oldest_waiting, Option, option_map, query_in, query_in-found, QueryLife, refl, Reserve, SlotState, Some, Start, State, sym, TookAll, true, ℕ, ⊎_elim}
 use Rattle.pipeline_manager.specs.declared.life.Life.TheVariants as life
-use Rattle.pipeline_manager.specs.declared.life.QueryLife.{QueryLife}
-use Rattle.pipeline_manager.specs.declared.life.SlotState.{SlotState}
-use Rattle.pipeline_manager.specs.declared.life.SlotState.TheVariants.{Free, Held, Clearing}
-use Rattle.pipeline_manager.proofs.QueryLemmas.{query_in-found}
-use Rattle.core_state.specs.Events.{IsEnabled}
-use Rattle.core_state.specs.Sound.{IsSound}
-use Rattle.core_state.specs.State.{State}
-use Rattle.core_state.specs.declared.event.Event.{Event}
-use Rattle.core_state.specs.declared.event.Event.TheVariants.{Reserve, Build, Start}
-use Rattle.core_state.proofs.AcceptedLemmas.{find-holds, find-none}
-use Rattle.core_state.proofs.FoundLemmas.{find-passes, life-found}
-use Rattle.event_core.specs.Chosen.{NoneMayCome}
-use Rattle.event_core.specs.Took.{IsLed, TookAll}
+use Rattle.core_state.proofs.FoundLemmas.{life-found}
 use Rattle.event_core.specs.declared.choosing.EventKind.TheVariants as kind
-use Rattle.core_driver.specs.Driven.{Admits, IsOfAdmission}
-use Rattle.core_driver.specs.Lap.{HasSlotsForAll, NoneIsToStart, is_to_start}
 use Rattle.core_driver.proofs.LapCountLemmas.{count-one, count-some}
 use Rattle.core_driver.proofs.SettleLemmas.{builds-none, waits-none}
 

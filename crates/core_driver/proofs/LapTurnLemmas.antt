@@ -1,13 +1,6 @@
 -- How many positions are cut in turns, where there is a slot for each query.
-use Rattle.std.proofs.Common.{◌≡◌, ◌≤◌, ◌+◌, ◌*◌, inl, inr, ℕ, length, ap, ◌∙◌, subst, sym, ⊎_elim, arith}
-use Rattle.core_state.specs.Cutting.{first_in}
-use Rattle.core_state.specs.Sound.{IsSound}
-use Rattle.core_state.specs.State.{Scan, State}
-use Rattle.core_state.specs.Tables.{versions_in}
-use Rattle.core_state.proofs.StepLemmas.{StepsKeep}
-use Rattle.event_core.specs.Took.{IsLed}
-use Rattle.core_driver.specs.Driven.{Admits, IsLanded, IsOfAdmission, IsOfRound, IsTurn}
-use Rattle.core_driver.specs.Lap.{HasBegun, HasLap, IsBound, IsOfLanding, IsToBegin, IsWithin, unfinished_in}
+use Rattle.core_driver.proofs.Words.{◌*◌, ◌+◌, ◌∙◌, ◌≡◌, ◌≤◌, Admits, ap, arith, first_in, HasLap, inl, inr, IsLanded, IsLed, IsOfAdmission, IsOfLanding, IsOfRound, IsSound, IsTurn, IsWithin, length, Scan, State, StepsKeep, subst, sym, unfinished_in, versions_in, ℕ, ⊎_elim}
+use Rattle.core_driver.specs.Lap.{HasBegun, IsBound, IsToBegin}
 use Rattle.core_driver.proofs.LapAdmitLemmas.{Admitted, AllBegan}
 use Rattle.core_driver.proofs.LapBeginLemmas.{began-none, first-admitted, led-admitted, versions-admitted, within-any, within-began}
 use Rattle.core_driver.proofs.LapLandingLemmas.{Lands, led-lands}

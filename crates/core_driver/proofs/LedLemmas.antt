@@ -1,15 +1,8 @@
 -- Events that were taken, one after the other: what each keeps, all keep.
-use Rattle.std.proofs.Common.{◌≡◌, List, [], ◌∷◌, ◌++◌, refl, sym, subst, ⊎_elim}
-use Rattle.std.specs.Prelude.{All}
-use Rattle.std.proofs.lemmas.List.Elements.{All-append, All-head, All-nil, All-push, All-tail, All-weaker}
-use Rattle.core_state.specs.Events.{IsEnabled}
-use Rattle.core_state.specs.Sound.{IsSound}
-use Rattle.core_state.specs.State.{State}
+use Rattle.core_driver.proofs.Words.{◌∷◌, ◌≡◌, [], Abandon, All, All-head, All-nil, All-push, All-tail, All-weaker, Build, Clear, Cut, Distribute, Event, Finish, Give, IsEnabled, IsLed, IsSound, IsSpoilt, List, refl, Release, Reorder, Reserve, Start, State, StepsKeep, Submit, subst, sym, Take, Took, TookAll, ⊎_elim}
+use Rattle.std.proofs.Common.{◌++◌}
+use Rattle.std.proofs.lemmas.List.Elements.{All-append}
 use Rattle.core_state.specs.Steps.{Done, Wanting}
-use Rattle.core_state.specs.declared.event.Event.{Event}
-use Rattle.core_state.specs.declared.event.Event.TheVariants.{Submit, Reserve, Build, Start, Cut, Take, Give, Distribute, Finish, Clear, Release, Reorder, Abandon}
-use Rattle.core_state.proofs.StepLemmas.{StepsKeep}
-use Rattle.event_core.specs.Took.{IsLed, IsSpoilt, Took, TookAll}
 
 -- an event at which queries find no memory keeps a core sound
 spoilt-sound : StepsKeep → (event : Event) (old new : State) → IsEnabled old event → IsSpoilt event old new → IsSound old → IsSound new

@@ -1,3 +1,4 @@
+pub mod Words
 pub mod DoneLemmas
 pub mod FinishLemmas
 pub mod IdleLemmas

@@ -1,13 +1,5 @@
 -- What a loop that takes events of some kinds leaves.
-use Rattle.std.proofs.Common.{◌≡◌, ◌<◌, List, [], ap, ◌∙◌, subst, inr, ⊎_elim, arith}
-use Rattle.std.specs.Prelude.{All}
-use Rattle.core_state.specs.Sound.{IsSound}
-use Rattle.core_state.specs.State.{Scan, State}
-use Rattle.core_state.specs.declared.event.Event.{Event}
-use Rattle.event_core.specs.Took.{IsLed, Took}
-use Rattle.event_core.specs.declared.choosing.EventKind.{EventKind}
-use Rattle.core_driver.specs.Driven.{IsOfSome}
-use Rattle.core_driver.specs.Work.{TookSome, work_in}
+use Rattle.core_driver.proofs.Words.{◌<◌, ◌∙◌, ◌≡◌, [], All, ap, arith, Event, EventKind, inr, IsLed, IsOfSome, IsSound, List, Scan, State, subst, Took, TookSome, work_in, ⊎_elim}
 use Rattle.core_driver.proofs.KindLemmas.{IsStillKind, still-of-some}
 use Rattle.core_driver.proofs.LedLemmas.{led-holds}
 use Rattle.core_driver.proofs.TakenLemmas.{LeavesBatches, leaves-joined, same-batches, still-leaves}

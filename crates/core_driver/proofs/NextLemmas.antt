@@ -1,20 +1,7 @@
 -- The query that waits the longest is admitted, where a slot is free.
-use Rattle.std.proofs.Common.{◌≡◌, ◌≢◌, ◌⊎◌, ℕ, ◌<◌, length, Some, refl, sym, ap, ◌∙◌, subst, inl, inr, ⊎_elim}
-use Rattle.continuous_scan.specs.Range.{first_of}
-use Rattle.pipeline_manager.specs.Changes.{started}
-use Rattle.pipeline_manager.specs.Lives.{Lives, extent_in, life_of, oldest_waiting, slot_at}
+use Rattle.core_driver.proofs.Words.{◌<◌, ◌∙◌, ◌≡◌, ◌≢◌, ◌⊎◌, Abandon, ap, Build, Clear, Cut, Distribute, Event, extent_in, Finish, first_of, Free, Give, inl, inr, IsLed, IsOfAdmission, IsSound, length, life_of, Lives, NoneMayCome, oldest_waiting, refl, Release, Reorder, Reserve, slot_at, Some, Start, started, State, StepsKeep, Submit, subst, sym, Take, Took, versions_in, ℕ, ⊎_elim}
 use Rattle.pipeline_manager.specs.declared.life.Life.TheVariants as life
-use Rattle.pipeline_manager.specs.declared.life.SlotState.TheVariants.{Free}
-use Rattle.core_state.specs.Sound.{IsSound}
-use Rattle.core_state.specs.State.{State}
-use Rattle.core_state.specs.Tables.{versions_in}
-use Rattle.core_state.specs.declared.event.Event.{Event}
-use Rattle.core_state.specs.declared.event.Event.TheVariants.{Submit, Reserve, Build, Start, Cut, Take, Give, Distribute, Finish, Clear, Release, Reorder, Abandon}
-use Rattle.core_state.proofs.StepLemmas.{StepsKeep}
-use Rattle.event_core.specs.Chosen.{NoneMayCome}
-use Rattle.event_core.specs.Took.{IsLed, Took}
 use Rattle.event_core.specs.declared.choosing.EventKind.TheVariants as kind
-use Rattle.core_driver.specs.Driven.{IsOfAdmission}
 use Rattle.core_driver.proofs.LedLemmas.{led-keeps}
 use Rattle.core_driver.proofs.StayLemmas.{not-waiting-admitted}
 use Rattle.core_driver.proofs.TakenLemmas.{taken-lives}

@@ -1,17 +1,9 @@
 -- Events by which batches pass filters, and a new order, leave lives, tables and the scan, and as much work.
-use Rattle.std.proofs.Common.{◌≡◌, ℕ, List, length, find, refl, sym, ap, ◌∙◌, subst, inr, ⊎_elim}
-use Rattle.std.specs.Prelude.{sum_by}
+use Rattle.core_driver.proofs.Words.{◌∙◌, ◌≡◌, Abandon, all_to_cut, ap, Build, Clear, Cut, Distribute, Event, find, Finish, Flight, Give, inr, IsSpoilt, length, List, Lives, refl, Release, Reorder, Reserve, Scan, Start, State, steps_to_free, Submit, subst, sum_by, sym, tables_by, Take, Took, with_flight, work_in, ℕ, ⊎_elim}
 use Rattle.std.proofs.lemmas.List.{length-map}
-use Rattle.pipeline_manager.specs.Lives.{Lives}
-use Rattle.core_state.specs.Cutting.{with_flight}
 use Rattle.core_state.specs.Events.{after_event}
 use Rattle.core_state.specs.Found.{is_held_by}
-use Rattle.core_state.specs.State.{Entry, Flight, Scan, State}
-use Rattle.core_state.specs.Tables.{tables_by}
-use Rattle.core_state.specs.declared.event.Event.{Event}
-use Rattle.core_state.specs.declared.event.Event.TheVariants.{Submit, Reserve, Build, Start, Cut, Take, Give, Distribute, Finish, Clear, Release, Reorder, Abandon}
-use Rattle.event_core.specs.Took.{IsSpoilt, Took}
-use Rattle.core_driver.specs.Work.{all_to_cut, steps_to_free, work_in}
+use Rattle.core_state.specs.State.{Entry}
 use Rattle.core_driver.proofs.TakenLemmas.{LeavesBatches, either-way, given_by, still-leaves, taken-lives}
 use Rattle.core_driver.proofs.WorkLifeLemmas.{steps_in}
 use Rattle.core_driver.proofs.WorkNumberLemmas.{work_of}
@@ -62,7 +54,6 @@ event-passes (Take worker batch) state passing = record {
   cut = refl;
   free = refl;
   flights = as-many batch _ state.scan.flights;
-event-passes other state passing = absurd passing
 }
 event-passes (Give worker) state passing =
     either-way (Passes state) (given_by state) (find (is_held_by worker) state.scan.flights) state (same-passes state) (λ flight. record {

@@ -1,20 +1,6 @@
 -- What the phases of a turn leave.
-use Rattle.std.proofs.Common.{◌≡◌, ◌≤◌, ◌<◌, List, [], ◌∷◌, Option, Some, None, refl, sym, subst, inl, inr, ⊎_elim, arith}
-use Rattle.std.specs.Prelude.{All}
-use Rattle.std.proofs.lemmas.List.Elements.{All-head, All-tail}
-use Rattle.core_state.specs.Events.{MayCut}
-use Rattle.core_state.specs.Sound.{IsSound}
-use Rattle.core_state.specs.State.{State}
-use Rattle.core_state.specs.declared.event.Event.{Event}
-use Rattle.core_state.specs.declared.event.Event.TheVariants.{Cut, Take, Give, Distribute, Finish, Clear, Release, Reorder}
-use Rattle.core_state.proofs.StepLemmas.{StepsKeep}
-use Rattle.event_core.specs.Chosen.{kind_of}
-use Rattle.event_core.specs.Took.{IsLed, Took, TookAll}
-use Rattle.event_core.specs.declared.choosing.EventKind.{EventKind}
+use Rattle.core_driver.proofs.Words.{◌<◌, ◌∷◌, ◌≡◌, ◌≤◌, [], All, All-head, All-tail, arith, Clear, Cut, Distribute, Event, EventKind, Finish, Give, inl, inr, IsDriven, IsFreeOrUnderWay, IsLanded, IsLed, IsOfLanding, IsOfRound, IsOfSome, IsReorder, IsSound, kind_of, List, MayCut, None, NoneOfMayCome, Option, refl, Release, Reorder, Rises, Some, State, StepsKeep, subst, sym, Take, Took, TookAll, TookSome, work_in, ⊎_elim}
 use Rattle.event_core.specs.declared.choosing.EventKind.TheVariants as kind
-use Rattle.core_driver.specs.Driven.{IsDriven, IsFreeOrUnderWay, IsLanded, IsOfRound, IsOfSome, IsReorder, NoneOfMayCome, Rises}
-use Rattle.core_driver.specs.Lap.{IsOfLanding}
-use Rattle.core_driver.specs.Work.{TookSome, work_in}
 use Rattle.core_driver.proofs.KindLemmas.{cut-kinds, round-of-some}
 use Rattle.core_driver.proofs.LandLemmas.{landed-stays}
 use Rattle.core_driver.proofs.LedLemmas.{led-holds, led-joined, led-keeps, led-sound, led-wider, took-sound}

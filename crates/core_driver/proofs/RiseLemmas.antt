@@ -1,21 +1,8 @@
 -- Where a query runs and a frame is free, a batch is cut, and the count of positions rises.
-use Rattle.std.proofs.Common.{◌≡◌, ◌⊎◌, ℕ, ◌<◌, ◌≤◌, ◌+◌, ◌-◌, Some, refl, sym, ap, ◌∙◌, subst, inl, inr, ⊎_elim, arith}
-use Rattle.std.specs.Prelude.{IsSomeAnd}
-use Rattle.std.proofs.lemmas.Bool.{cases_lt}
-use Rattle.pipeline_manager.specs.Conditions.{IsRunning}
-use Rattle.pipeline_manager.specs.Lives.{life_of}
+use Rattle.core_driver.proofs.Words.{◌+◌, ◌-◌, ◌<◌, ◌∙◌, ◌≡◌, ◌≤◌, ◌⊎◌, Abandon, ap, arith, Build, cases_lt, Clear, Cut, cuts, Distribute, end_in, Event, Finish, first_in, Give, inl, inr, IsDriven, IsLed, IsOfAdmission, IsRunning, IsSomeAnd, IsSound, life-runs, life_of, MayCut, refl, Release, Reorder, Reserve, Rises, Runs, Scan, Some, some-runs, Start, State, StepsKeep, Submit, subst, sym, Take, Took, ℕ, ⊎_elim}
 use Rattle.pipeline_manager.specs.declared.life.Life.TheVariants as life
-use Rattle.core_state.specs.Cutting.{end_in, first_in}
-use Rattle.core_state.specs.Events.{MayCut, after_event}
+use Rattle.core_state.specs.Events.{after_event}
 use Rattle.core_state.specs.Numbered.{counted, last_number}
-use Rattle.core_state.specs.Sound.{IsSound}
-use Rattle.core_state.specs.State.{Scan, State}
-use Rattle.core_state.specs.declared.event.Event.{Event}
-use Rattle.core_state.specs.declared.event.Event.TheVariants.{Submit, Reserve, Build, Start, Cut, Take, Give, Distribute, Finish, Clear, Release, Reorder, Abandon}
-use Rattle.core_state.proofs.CutRunsLemmas.{Runs, cuts, life-runs, some-runs}
-use Rattle.core_state.proofs.StepLemmas.{StepsKeep}
-use Rattle.event_core.specs.Took.{IsLed, Took}
-use Rattle.core_driver.specs.Driven.{IsDriven, IsOfAdmission, Rises}
 use Rattle.core_driver.proofs.LedLemmas.{led-holds, led-keeps}
 use Rattle.core_driver.proofs.PassedLemmas.{took-hands}
 use Rattle.core_driver.proofs.SettleLemmas.{some-run}

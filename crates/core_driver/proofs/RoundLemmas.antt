@@ -1,21 +1,8 @@
 -- What a round of the driver leaves, by its phases.
-use Rattle.std.proofs.Common.{◌≡◌, ℕ, zero, suc, ◌<◌, List, [], ◌∷◌, length, Option, Some, None, sym, subst, arith}
-use Rattle.std.specs.Prelude.{IsSomeAnd, slice_index_or}
-use Rattle.std.proofs.lemmas.List.Elements.{All-head, All-tail, All-weaker}
-use Rattle.pipeline_manager.specs.Conditions.{IsRunning}
-use Rattle.pipeline_manager.specs.Lives.{life_in}
-use Rattle.pipeline_manager.specs.declared.life.Life.{Life}
+use Rattle.core_driver.proofs.Words.{◌<◌, ◌∷◌, ◌≡◌, [], All-head, All-tail, All-weaker, arith, Clearing, Event, EventKind, Free, Held, IsFreeOrRuns, IsFreeOrUnderWay, IsLanded, IsLed, IsOfKind, IsOfSome, IsRunning, IsSettled, IsSomeAnd, IsSound, IsUnderWay, length, Life, life_in, List, None, NoneMayCome, NoneOfMayCome, Option, SlotState, Some, State, subst, suc, sym, zero, ℕ}
+use Rattle.std.specs.Prelude.{slice_index_or}
 use Rattle.pipeline_manager.specs.declared.life.Life.TheVariants as life
-use Rattle.pipeline_manager.specs.declared.life.SlotState.{SlotState}
-use Rattle.pipeline_manager.specs.declared.life.SlotState.TheVariants.{Free, Held, Clearing}
-use Rattle.core_state.specs.Sound.{IsSound}
-use Rattle.core_state.specs.State.{State}
-use Rattle.core_state.specs.declared.event.Event.{Event}
-use Rattle.event_core.specs.Chosen.{IsOfKind, NoneMayCome}
-use Rattle.event_core.specs.Took.{IsLed}
-use Rattle.event_core.specs.declared.choosing.EventKind.{EventKind}
 use Rattle.event_core.specs.declared.choosing.EventKind.TheVariants as kind
-use Rattle.core_driver.specs.Driven.{IsFreeOrRuns, IsFreeOrUnderWay, IsLanded, IsOfSome, IsSettled, IsUnderWay, NoneOfMayCome}
 use Rattle.core_driver.proofs.KindLemmas.{still-kinds}
 use Rattle.core_driver.proofs.LandLemmas.{AreThrough, landed-led}
 use Rattle.core_driver.proofs.LedLemmas.{led-wider}

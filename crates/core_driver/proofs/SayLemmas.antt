@@ -1,18 +1,6 @@
 -- What is said of the life of a query stays said of it through the events of the driver.
-use Rattle.std.proofs.Common.{ℕ, ◌-◌, Option, sym, subst, inl, inr, ⊎_elim}
-use Rattle.continuous_scan.specs.Range.{first_of}
-use Rattle.pipeline_manager.specs.Lives.{Lives, extent_in, life_in, life_of}
-use Rattle.pipeline_manager.specs.declared.life.Life.{Life}
+use Rattle.core_driver.proofs.Words.{◌-◌, Abandon, Build, Clear, Cut, Distribute, end_in, Event, extent_in, Finish, first_in, first_of, Give, inl, inr, IsDriven, IsEnabled, IsOfAdmission, IsOfRound, IsSound, Life, life_in, life_of, Lives, Option, Release, Reorder, Reserve, Start, State, Submit, subst, sym, Take, Took, versions_in, ℕ, ⊎_elim}
 use Rattle.pipeline_manager.specs.declared.life.Life.TheVariants as life
-use Rattle.core_state.specs.Cutting.{end_in, first_in}
-use Rattle.core_state.specs.Events.{IsEnabled}
-use Rattle.core_state.specs.Sound.{IsSound}
-use Rattle.core_state.specs.State.{State}
-use Rattle.core_state.specs.Tables.{versions_in}
-use Rattle.core_state.specs.declared.event.Event.{Event}
-use Rattle.core_state.specs.declared.event.Event.TheVariants.{Submit, Reserve, Build, Start, Cut, Take, Give, Distribute, Finish, Clear, Release, Reorder, Abandon}
-use Rattle.event_core.specs.Took.{Took}
-use Rattle.core_driver.specs.Driven.{IsDriven, IsOfAdmission, IsOfRound}
 use Rattle.core_driver.proofs.TakenLemmas.{Spoils, lives_by, taken-lives}
 use Rattle.core_driver.proofs.TurnLemmas.{AdmissionKeeps, RoundKeeps, built-queries, says-cut, says-ended, says-reserved, says-spoiled, says-started, says-written}
 

@@ -1,21 +1,7 @@
 -- What a sound core is where no more events of some kinds may come.
-use Rattle.std.proofs.Common.{◌≡◌, ◌≢◌, ◌⊎◌, ℕ, zero, suc, Bool, true, false, cond, eqb, List, [], ◌∷◌, length, find, Option, Some, None, option_map, refl, sym, ap, ◌∙◌, subst, inl, inr, ⊎_elim, arith}
-use Rattle.std.specs.Prelude.{All, Any, IsSomeAnd}
-use Rattle.std.proofs.lemmas.List.{get_or_default}
-use Rattle.std.proofs.lemmas.List.Elements.{All-get_or, All-nil}
-use Rattle.pipeline_manager.specs.Conditions.{IsRunning}
-use Rattle.pipeline_manager.specs.Lives.{is_waiting, life_in, life_of, oldest_waiting, query_in}
-use Rattle.pipeline_manager.specs.declared.life.Life.{Life}
-use Rattle.pipeline_manager.specs.declared.life.QueryLife.{QueryLife}
-use Rattle.pipeline_manager.specs.declared.life.SlotState.TheVariants.{Free}
+use Rattle.core_driver.proofs.Words.{◌∙◌, ◌∷◌, ◌≡◌, ◌≢◌, ◌⊎◌, [], All, All-get_or, All-nil, Any, ap, arith, Bool, Build, Clear, cond, Cut, eqb, false, find, find-none, Finish, Free, get_or_default, inl, inr, is_waiting, IsFinished, IsLanded, IsRunning, IsSettled, IsSomeAnd, IsSound, length, Life, life_in, life_of, List, None, NoneMayCome, oldest_waiting, Option, option_map, query_in, QueryLife, refl, Release, Reserve, Some, Start, State, subst, suc, sym, true, zero, ℕ, ⊎_elim}
 use Rattle.core_state.specs.Found.{is_on_roster}
-use Rattle.core_state.specs.Sound.{IsSound}
-use Rattle.core_state.specs.State.{State}
-use Rattle.core_state.specs.declared.event.Event.TheVariants.{Reserve, Build, Start, Cut, Finish, Clear, Release}
-use Rattle.core_state.proofs.AcceptedLemmas.{find-none}
-use Rattle.event_core.specs.Chosen.{NoneMayCome}
 use Rattle.event_core.specs.declared.choosing.EventKind.TheVariants as kind
-use Rattle.core_driver.specs.Driven.{IsFinished, IsLanded, IsSettled}
 use Rattle.core_driver.proofs.SlotEndLemmas.{NoneIsBuilding, none-building, none-open, slots-free, slots-run, slots-under-way}
 
 -- where no filter may be built and no query may begin to run, none is built for

@@ -1,13 +1,12 @@
 -- How many dimensions are in a set that gets one more, or loses one.
-use Rattle.std.proofs.Common.{◌≡◌, ◌≢◌, ℕ, zero, suc, ◌<◌, ◌≤◌, ◌+◌, ◌^◌, cond, eqb, eq-eqb, refl, ap, ◌∙◌, ⊎_elim, arith}
-use Rattle.std.specs.Prelude.{count_by}
-use Rattle.std.specs.Int.{bit_at}
+use Rattle.core_driver.proofs.Words.{◌+◌, ◌<◌, ◌∙◌, ◌≡◌, ◌≢◌, ◌≤◌, ap, arith, bit_at, cases_eq, cond, count_by, eq-eqb, eqb, Has, refl, suc, sum_by-cons, zero, ℕ, ⊎_elim}
+use Rattle.std.proofs.Common.{◌^◌}
 use Rattle.std.specs.List.{range_with_len}
-use Rattle.std.proofs.lemmas.Bool.{cases_eq, ne_eqb}
+use Rattle.std.proofs.lemmas.Bool.{ne_eqb}
 use Rattle.std.proofs.lemmas.List.FromFn.{length-range_with_len}
-use Rattle.std.proofs.lemmas.List.Sums.{count_by-le-length, sum_by-cons}
+use Rattle.std.proofs.lemmas.List.Sums.{count_by-le-length}
 use Rattle.std.proofs.lemmas.Nat.Bits.{bit_at-lt, bit_at-pow_other, bit_at-pow_same, bit_at_or}
-use Rattle.bit_words.specs.Sets.{Has, with_number, without}
+use Rattle.bit_words.specs.Sets.{with_number, without}
 use Rattle.bit_words.proofs.SetLemmas.{bit_at-without}
 use Rattle.core_driver.specs.Work.{size_of}
 

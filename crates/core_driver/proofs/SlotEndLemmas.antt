@@ -1,22 +1,12 @@
 -- Which slots and lives are left where no more calls may come.
-use Rattle.std.proofs.Common.{◌≡◌, ◌≢◌, ℕ, ◌<◌, ◌≤◌, true, false, cond, eq-eqb, List, [], ◌∷◌, length, get_or, Option, Some, None, option_map, refl, sym, ap, ◌∙◌, subst, ⊎_elim, arith}
-use Rattle.std.specs.Prelude.{All, IsSomeAnd, IsTrue}
-use Rattle.std.specs.Int.{bit_at}
-use Rattle.std.specs.Option.{option_map_or}
-use Rattle.std.proofs.lemmas.Bool.{cases_eq}
-use Rattle.std.proofs.lemmas.List.Elements.{All-from_get_or, All-head, All-tail, All-weaker}
-use Rattle.std.proofs.lemmas.List.Sums.{get_or-le-sum_by, sum_by-cons}
+use Rattle.core_driver.proofs.Words.{◌<◌, ◌∙◌, ◌∷◌, ◌≡◌, ◌≢◌, ◌≤◌, [], All, All-head, All-tail, All-weaker, ap, arith, bit_at, CanBuild, CanClear, CanEnd, CanFree, CanRun, cases_eq, Clearing, cond, eq-eqb, false, Free, get_or, Held, is_held_by, is_open, is_waiting, IsFreeOrRuns, IsFreeOrUnderWay, IsOver, IsRunning, IsSomeAnd, IsToClear, IsTrue, IsUnderWay, length, Life, life_in, life_of, List, Lives, None, Option, option_map, option_map_or, query_in, query_in-found, QueryLife, refl, slot_at, slots_held, SlotState, Some, subst, sum_by-cons, sym, true, ℕ, ⊎_elim}
+use Rattle.std.proofs.lemmas.List.Elements.{All-from_get_or}
+use Rattle.std.proofs.lemmas.List.Sums.{get_or-le-sum_by}
 use Rattle.bit_words.proofs.SetLemmas.{no_members}
-use Rattle.pipeline_manager.specs.Conditions.{CanBuild, CanClear, CanEnd, CanFree, CanRun, IsOver, IsRunning, IsToClear, gives_up, is_open}
-use Rattle.pipeline_manager.specs.Lives.{Lives, built_of, is_held_by, is_waiting, life_in, life_of, query_in, slot_at}
-use Rattle.pipeline_manager.specs.Sound.{FitsSlots, IsSound, slots_held}
-use Rattle.pipeline_manager.specs.declared.life.Life.{Life}
+use Rattle.pipeline_manager.specs.Conditions.{gives_up}
+use Rattle.pipeline_manager.specs.Lives.{built_of}
+use Rattle.pipeline_manager.specs.Sound.{FitsSlots, IsSound}
 use Rattle.pipeline_manager.specs.declared.life.Life.TheVariants as life
-use Rattle.pipeline_manager.specs.declared.life.QueryLife.{QueryLife}
-use Rattle.pipeline_manager.specs.declared.life.SlotState.{SlotState}
-use Rattle.pipeline_manager.specs.declared.life.SlotState.TheVariants.{Free, Held, Clearing}
-use Rattle.pipeline_manager.proofs.QueryLemmas.{query_in-found}
-use Rattle.core_driver.specs.Driven.{IsFreeOrRuns, IsFreeOrUnderWay, IsUnderWay}
 
 -- no query is built for
 abbrev pub NoneIsBuilding : Lives → Type 0

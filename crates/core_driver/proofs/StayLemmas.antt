@@ -1,17 +1,6 @@
 -- What stays so of the queries through the events of the driver.
-use Rattle.std.proofs.Common.{◌≡◌, ◌≢◌, ℕ, Bool, true, false, cond, eqb, Option, Some, ap}
-use Rattle.std.specs.Prelude.{IsSomeAnd}
-use Rattle.pipeline_manager.specs.Changes.{cut_life, started}
-use Rattle.pipeline_manager.specs.Lives.{life_of}
-use Rattle.pipeline_manager.specs.declared.life.Life.{Life}
+use Rattle.core_driver.proofs.Words.{◌≡◌, ◌≢◌, ap, Bool, cond, cut-cases, cut_life, eqb, Event, false, IsDriven, IsLed, IsOfAdmission, IsOfRound, IsSomeAnd, IsSound, Life, life_of, Option, Some, started, State, StepsKeep, Took, true, ℕ}
 use Rattle.pipeline_manager.specs.declared.life.Life.TheVariants as life
-use Rattle.core_state.specs.State.{State}
-use Rattle.core_state.specs.Sound.{IsSound}
-use Rattle.core_state.specs.declared.event.Event.{Event}
-use Rattle.core_state.proofs.CutLifeLemmas.{cut-cases}
-use Rattle.core_state.proofs.StepLemmas.{StepsKeep}
-use Rattle.event_core.specs.Took.{IsLed, Took}
-use Rattle.core_driver.specs.Driven.{IsDriven, IsOfAdmission, IsOfRound}
 use Rattle.core_driver.proofs.LedLemmas.{led-holds, led-keeps}
 use Rattle.core_driver.proofs.SayLemmas.{admission-says, driven-says, round-says}
 use Rattle.core_driver.proofs.SlotEndLemmas.{NoneIsBuilding}

@@ -1,13 +1,5 @@
 -- Sums over lists of which one member is another, or each is changed.
-use Rattle.std.proofs.Common.{◌≡◌, ℕ, zero, suc, ◌<◌, ◌≤◌, ◌+◌, Bool, true, false, cond, eqb, List, [], ◌∷◌, length, get_or, map, Option, Some, None, refl, ap, arith}
-use Rattle.std.specs.Prelude.{sum_by}
-use Rattle.std.proofs.lemmas.List.Sums.{sum_by-cons}
-use Rattle.std.proofs.lemmas.Bool.{eqb-true}
-use Rattle.pipeline_manager.specs.Changes.{with_life}
-use Rattle.pipeline_manager.specs.Lives.{query_in}
-use Rattle.pipeline_manager.specs.Sound.{AreRising}
-use Rattle.pipeline_manager.specs.declared.life.Life.{Life}
-use Rattle.pipeline_manager.specs.declared.life.QueryLife.{QueryLife}
+use Rattle.core_driver.proofs.Words.{◌+◌, ◌<◌, ◌∷◌, ◌≡◌, ◌≤◌, [], ap, AreRising, arith, Bool, cond, eqb, eqb-true, false, get_or, length, Life, List, map, None, Option, query_in, QueryLife, refl, Some, suc, sum_by, sum_by-cons, true, with_life, zero, ℕ}
 use Rattle.pipeline_manager.proofs.QueryLemmas.{head_is_only, map-missing, tail_rises}
 
 -- another life of the one query with this number changes the sum by what that query counts

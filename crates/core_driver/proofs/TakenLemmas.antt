@@ -1,24 +1,12 @@
 -- What an event that was taken makes of the parts of a core.
-use Rattle.std.proofs.Common.{◌≡◌, ◌⊎◌, ℕ, ◌+◌, ◌-◌, false, true, Option, Some, None, List, [], map, find, refl, sym, ap, ◌∙◌, subst, inl, inr, ⊎_elim}
-use Rattle.std.specs.Prelude.{IsSome}
-use Rattle.std.specs.List.{fold}
-use Rattle.std.specs.Option.{option_map_or}
+use Rattle.core_driver.proofs.Words.{◌+◌, ◌-◌, ◌∙◌, ◌≡◌, ◌⊎◌, [], Abandon, Accepted, accepted_at, after_built, after_cleared, after_end, after_free, after_reserve, after_run, after_spoil, ap, Build, Clear, Cut, Distribute, end_in, Event, false, find, Finish, first_in, first_of, Flight, flight_at, fold, Give, inl, inr, IsDriven, IsSome, IsSpoilt, List, Lives, map, None, Option, option_map_or, refl, Release, Reorder, Reserve, slot_of, Some, Start, State, Submit, subst, sym, tables_of, Take, Took, true, versions_in, with_flight, without_flight, ℕ, ⊎_elim}
 use Rattle.star_history.specs.Store.{rows_in}
-use Rattle.continuous_scan.specs.Range.{first_of}
 use Rattle.dimension_filter.specs.Changes.{filter_with}
-use Rattle.pipeline_manager.specs.Changes.{after_built, after_cleared, after_cut, after_end, after_free, after_reserve, after_run, after_spoil}
-use Rattle.pipeline_manager.specs.Lives.{Lives, slot_of}
+use Rattle.pipeline_manager.specs.Changes.{after_cut}
 use Rattle.core_state.specs.Admitting.{selection_in, with_built, with_version}
-use Rattle.core_state.specs.Cutting.{after_distribute, end_in, fed, first_in, given_back, tallies_after, unkept, with_flight}
+use Rattle.core_state.specs.Cutting.{after_distribute, fed, given_back, tallies_after, unkept}
 use Rattle.core_state.specs.Events.{after_event, after_want}
-use Rattle.core_state.specs.Found.{accepted_at, flight_at, is_held_by}
-use Rattle.core_state.specs.State.{Accepted, Flight, State}
-use Rattle.core_state.specs.Tables.{tables_of, versions_in}
-use Rattle.core_state.specs.declared.event.Event.{Event}
-use Rattle.core_state.specs.declared.event.Event.TheVariants.{Submit, Reserve, Build, Start, Cut, Take, Give, Distribute, Finish, Clear, Release, Reorder, Abandon}
-use Rattle.core_state.proofs.DistributeLemmas.{without_flight}
-use Rattle.event_core.specs.Took.{IsSpoilt, Took}
-use Rattle.core_driver.specs.Driven.{IsDriven}
+use Rattle.core_state.specs.Found.{is_held_by}
 
 -- what holds where nothing is found, and of what is made of anything that is found
 pub either-way : {X : Type 0} (P : State → Type 0) (change : X → State) (o : Option X) (state : State) → P state → ((x : X) → P (change x))

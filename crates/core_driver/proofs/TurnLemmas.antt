@@ -1,18 +1,8 @@
 -- What is said of the life of a query stays said of it through calls.
-use Rattle.std.proofs.Common.{◌≡◌, ℕ, Bool, true, false, cond, List, [], ◌∷◌, map, set, Option, Some, None, option_map, refl, sym, ap, ◌∙◌, subst, ⊎_elim}
-use Rattle.std.specs.List.{fold}
-use Rattle.std.specs.Option.{option_map_or}
-use Rattle.std.proofs.lemmas.Bool.{cases_eq}
-use Rattle.pipeline_manager.specs.Changes.{after_built, after_end, after_reserve, after_run, after_spoil, covered, cut_life, cut_query, given_up, is_ending, started, with_dimension, with_life, with_slot}
-use Rattle.pipeline_manager.specs.Conditions.{CanRun}
-use Rattle.pipeline_manager.specs.Lives.{Lives, extent_in, life_in, oldest_waiting, query_in, slot_at, slot_of}
+use Rattle.core_driver.proofs.Words.{◌∙◌, ◌∷◌, ◌≡◌, [], after_built, after_end, after_reserve, after_run, after_spoil, ap, Bool, CanRun, cases_eq, Clearing, cond, covered, cut_life, cut_query, extent_in, false, fold, Free, given_up, Held, is_ending, Life, life_in, life_in-same, List, Lives, map, None, oldest-waits, oldest_waiting, Option, option_map, option_map_or, query_in, QueryLife, refl, set, slot_at, slot_of, SlotState, Some, started, subst, sym, true, with_dimension, with_life, with_slot, ℕ, ⊎_elim}
 use Rattle.pipeline_manager.specs.Sound.{IsSound}
-use Rattle.pipeline_manager.specs.declared.life.Life.{Life}
 use Rattle.pipeline_manager.specs.declared.life.Life.TheVariants as life
-use Rattle.pipeline_manager.specs.declared.life.QueryLife.{QueryLife}
-use Rattle.pipeline_manager.specs.declared.life.SlotState.{SlotState}
-use Rattle.pipeline_manager.specs.declared.life.SlotState.TheVariants.{Free, Held, Clearing}
-use Rattle.pipeline_manager.proofs.LifeLemmas.{life_in-cut, life_in-other, life_in-same, oldest-waits}
+use Rattle.pipeline_manager.proofs.LifeLemmas.{life_in-cut, life_in-other}
 
 -- what is said of a life, where a query is found, stays said through a round
 pub record RoundKeeps (Says : Option Life → Type 0) : Type 0 where

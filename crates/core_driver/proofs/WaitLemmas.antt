@@ -1,19 +1,8 @@
 -- The query that waits the longest stays the one, while others are admitted.
-use Rattle.std.proofs.Common.{◌≡◌, ℕ, ◌<◌, Bool, true, false, cond, eqb, List, [], ◌∷◌, length, get_or, set, find, Option, Some, None, option_map, refl, sym, ap, ◌∙◌, subst, ⊎_elim}
-use Rattle.std.specs.Prelude.{All}
-use Rattle.std.specs.Option.{option_map_or}
-use Rattle.std.proofs.lemmas.Bool.{cases_eq, eqb-true}
-use Rattle.std.proofs.lemmas.List.{get_or-set_other, get_or-set_same, length-set}
-use Rattle.std.proofs.lemmas.List.Elements.{All-head, All-tail}
-use Rattle.pipeline_manager.specs.Changes.{after_built, after_reserve, started, with_dimension, with_life, with_slot}
-use Rattle.pipeline_manager.specs.Lives.{Lives, is_waiting, life_in, life_of, oldest_waiting, slot_at, slot_of}
-use Rattle.pipeline_manager.specs.Sound.{AreRising, IsSound}
-use Rattle.pipeline_manager.specs.declared.life.Life.{Life}
+use Rattle.core_driver.proofs.Words.{◌<◌, ◌∙◌, ◌∷◌, ◌≡◌, [], after_built, after_reserve, All, All-head, All-tail, ap, AreRising, Bool, cases_eq, cond, eqb, eqb-true, false, find, Free, get_or, Held, is_waiting, length, length-set, Life, life_in, life_in-same, life_of, List, Lives, None, oldest-waits, oldest_waiting, Option, option_map, option_map_or, query_in-found, QueryLife, refl, set, slot_at, slot_of, Some, started, subst, sym, true, with_dimension, with_life, with_slot, ℕ, ⊎_elim}
+use Rattle.std.proofs.lemmas.List.{get_or-set_other, get_or-set_same}
+use Rattle.pipeline_manager.specs.Sound.{IsSound}
 use Rattle.pipeline_manager.specs.declared.life.Life.TheVariants as life
-use Rattle.pipeline_manager.specs.declared.life.QueryLife.{QueryLife}
-use Rattle.pipeline_manager.specs.declared.life.SlotState.TheVariants.{Free, Held}
-use Rattle.pipeline_manager.proofs.LifeLemmas.{life_in-same, oldest-waits}
-use Rattle.pipeline_manager.proofs.QueryLemmas.{query_in-found}
 
 -- what is found first of the queries that wait
 abbrev oldest_in : List QueryLife → Option ℕ

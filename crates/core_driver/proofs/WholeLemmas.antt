@@ -1,23 +1,8 @@
 -- What a whole turn leaves, by its two halves: an admission, and a round.
-use Rattle.std.proofs.Common.{◌≡◌, ◌⊎◌, ◌<◌, ℕ, List, [], ◌∷◌, length, get_or, Option, Some, None, refl, sym, ap, subst, inl, inr, ⊎_elim, arith}
-use Rattle.std.specs.Prelude.{All, IsSome, false, position, true}
-use Rattle.std.proofs.lemmas.List.Elements.{All-cons, All-nil}
-use Rattle.std.proofs.lemmas.List.Quantifiers.{position-Some}
-use Rattle.pipeline_manager.specs.Lives.{is_free}
-use Rattle.pipeline_manager.specs.declared.life.SlotState.{SlotState}
-use Rattle.pipeline_manager.specs.declared.life.SlotState.TheVariants.{Free}
-use Rattle.core_state.specs.Events.{IsEnabled, MayCut}
-use Rattle.core_state.specs.Sound.{IsSound}
-use Rattle.core_state.specs.State.{Scan, State}
-use Rattle.core_state.specs.declared.event.Event.{Event}
-use Rattle.core_state.specs.declared.event.Event.TheVariants.{Reserve, Build, Start, Cut}
-use Rattle.core_state.proofs.StepLemmas.{StepsKeep}
-use Rattle.event_core.specs.Chosen.{kind_of}
-use Rattle.event_core.specs.Took.{IsLed}
-use Rattle.event_core.specs.declared.choosing.EventKind.{EventKind}
+use Rattle.core_driver.proofs.Words.{◌<◌, ◌∷◌, ◌≡◌, ◌⊎◌, [], Admits, All, All-cons, All-nil, ap, arith, Build, Cut, Event, EventKind, Free, get_or, inl, inr, is_free, IsDriven, IsEnabled, IsLanded, IsLed, IsOfAdmission, IsOfRound, IsSettled, IsSome, IsSound, kind_of, length, List, MayCut, MayGoOn, None, Option, position-Some, refl, Reserve, Rises, Scan, SlotState, Some, Start, State, StepsKeep, subst, sym, TookSome, work_in, ℕ, ⊎_elim}
+use Rattle.std.specs.Prelude.{false, position, true}
 use Rattle.event_core.specs.declared.choosing.EventKind.TheVariants as kind
-use Rattle.core_driver.specs.Driven.{Admits, AdmitsOldest, IsDriven, IsLanded, IsOfAdmission, IsOfRound, IsSettled, MayGoOn, Rises}
-use Rattle.core_driver.specs.Work.{TookSome, work_in}
+use Rattle.core_driver.specs.Driven.{AdmitsOldest}
 use Rattle.core_driver.proofs.KindLemmas.{IsKindOf, kind-of-some}
 use Rattle.core_driver.proofs.LapBeginLemmas.{led-admitted}
 use Rattle.core_driver.proofs.LapStartLemmas.{free-is}

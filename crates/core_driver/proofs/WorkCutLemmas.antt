@@ -1,23 +1,7 @@
 -- A cut leaves less work.
-use Rattle.std.proofs.Common.{◌≡◌, ℕ, ◌<◌, ◌≤◌, ◌+◌, ◌-◌, length, map, get_or, sym, ap, ◌∙◌, subst, inl, inr, ⊎_elim, refl, arith, ◌⊎◌}
-use Rattle.std.specs.Prelude.{sum_by}
+use Rattle.core_driver.proofs.Words.{◌+◌, ◌-◌, ◌<◌, ◌∙◌, ◌≡◌, ◌≤◌, ◌⊎◌, after_cutting, all_to_cut, ap, arith, covered, covered-same, cut_flight, cut_query, Cuts, cuts, end_in, first_cases, first_in, get_or, inl, inr, IsLeft, IsRunning, IsSound, length, Life, map, MayCut, QueryLife, refl, State, steps_to_free, subst, sum_by, sym, versions_in, work_in, ℕ, ⊎_elim}
 use Rattle.std.proofs.lemmas.List.{length_push}
-use Rattle.continuous_scan.proofs.LapLemmas.{first_cases}
-use Rattle.pipeline_manager.specs.Changes.{covered, cut_query}
-use Rattle.pipeline_manager.specs.Conditions.{IsRunning}
-use Rattle.pipeline_manager.specs.Sound.{IsLeft}
-use Rattle.pipeline_manager.specs.declared.life.Life.{Life}
 use Rattle.pipeline_manager.specs.declared.life.Life.TheVariants as life
-use Rattle.pipeline_manager.specs.declared.life.QueryLife.{QueryLife}
-use Rattle.core_state.specs.Cutting.{after_cutting, end_in, first_in}
-use Rattle.core_state.specs.Events.{MayCut}
-use Rattle.core_state.specs.Sound.{IsSound}
-use Rattle.core_state.specs.State.{State}
-use Rattle.core_state.specs.Tables.{versions_in}
-use Rattle.core_state.proofs.CutLapLemmas.{covered-same}
-use Rattle.core_state.proofs.CutRowsLemmas.{cut_flight}
-use Rattle.core_state.proofs.CutRunsLemmas.{Cuts, cuts}
-use Rattle.core_driver.specs.Work.{all_to_cut, steps_to_free, work_in}
 use Rattle.core_driver.proofs.WorkLifeLemmas.{cut-leaves, cut-less, steps_in}
 use Rattle.core_driver.proofs.WorkNumberLemmas.{cut-falls, work_of}
 

@@ -1,24 +1,10 @@
 -- Each event that is taken by its kind leaves less work.
-use Rattle.std.proofs.Common.{◌≡◌, ℕ, ◌<◌, ◌+◌, List, [], ◌∷◌, length, Some, None, Option, refl, sym, ap, ◌∙◌, subst, inl, inr, ⊎_elim, false, true, arith}
-use Rattle.std.specs.Prelude.{All, IsSome, sum_by}
-use Rattle.std.specs.List.{fold}
-use Rattle.std.proofs.lemmas.List.Elements.{All-contains, All-map}
-use Rattle.continuous_scan.specs.Range.{first_of}
-use Rattle.pipeline_manager.specs.Changes.{after_spoil}
-use Rattle.pipeline_manager.specs.Lives.{Lives}
+use Rattle.core_driver.proofs.Words.{◌+◌, ◌<◌, ◌∙◌, ◌∷◌, ◌≡◌, [], Abandon, after_spoil, All, All-map, all_to_cut, ap, arith, Build, Clear, Cut, Distribute, Event, EventKind, false, Finish, first_of, Flight, flight_at, fold, Give, inl, inr, IsDriven, IsOfKind, IsSome, IsSound, length, List, Lives, None, Option, refl, Release, Reorder, Reserve, Scan, Some, Start, State, steps_to_free, Submit, subst, sum_by, sym, tables_of, Take, Took, true, versions_in, without_flight, work_in, ℕ, ⊎_elim}
+use Rattle.std.proofs.lemmas.List.Elements.{All-contains}
 use Rattle.core_state.specs.Events.{after_event}
-use Rattle.core_state.specs.Found.{flight_at}
-use Rattle.core_state.specs.Sound.{IsSound}
-use Rattle.core_state.specs.State.{FilterVersion, Flight, Scan, State}
-use Rattle.core_state.specs.Tables.{filter_dimensions, tables_of, versions_in}
-use Rattle.core_state.specs.declared.event.Event.{Event}
-use Rattle.core_state.specs.declared.event.Event.TheVariants.{Submit, Reserve, Build, Start, Cut, Take, Give, Distribute, Finish, Clear, Release, Reorder, Abandon}
-use Rattle.core_state.proofs.DistributeLemmas.{length-landed, without_flight}
-use Rattle.event_core.specs.Chosen.{IsOfKind}
-use Rattle.event_core.specs.Took.{Took}
-use Rattle.event_core.specs.declared.choosing.EventKind.{EventKind}
-use Rattle.core_driver.specs.Driven.{IsDriven}
-use Rattle.core_driver.specs.Work.{all_to_cut, steps_to_free, work_in}
+use Rattle.core_state.specs.State.{FilterVersion}
+use Rattle.core_state.specs.Tables.{filter_dimensions}
+use Rattle.core_state.proofs.DistributeLemmas.{length-landed}
 use Rattle.core_driver.proofs.PassedLemmas.{work_by}
 use Rattle.core_driver.proofs.TakenLemmas.{Distributes, IsStill, LeavesBatches, Spoils, distributes, lives_by, still-leaves, taken-lives}
 use Rattle.core_driver.proofs.WorkCutLemmas.{work-cut}

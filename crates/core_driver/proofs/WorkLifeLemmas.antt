@@ -1,16 +1,7 @@
 -- What is to be cut and to be done for queries, where one has another life, or a batch is cut.
-use Rattle.std.proofs.Common.{◌≡◌, ℕ, ◌<◌, ◌≤◌, ◌+◌, ◌-◌, Bool, true, false, cond, eqb, List, [], ◌∷◌, length, get_or, map, Option, Some, None, option_map, refl, sym, ap, subst, arith}
-use Rattle.std.specs.Prelude.{sum_by}
-use Rattle.std.specs.List.{fold}
-use Rattle.std.specs.Option.{option_map_or}
-use Rattle.std.proofs.lemmas.Bool.{eqb-true}
-use Rattle.pipeline_manager.specs.Changes.{after_spoil, covered, cut_life, cut_query, is_ending, renewed, started, with_answer, with_life}
-use Rattle.pipeline_manager.specs.Lives.{Lives, extent_in, life_in, query_in}
-use Rattle.pipeline_manager.specs.Sound.{AreRising}
-use Rattle.pipeline_manager.specs.declared.life.Life.{Life}
+use Rattle.core_driver.proofs.Words.{◌+◌, ◌-◌, ◌<◌, ◌∷◌, ◌≡◌, ◌≤◌, [], after_spoil, all_to_cut, ap, AreRising, arith, Bool, cond, covered, cut_life, cut_query, eqb, eqb-true, extent_in, false, fold, get_or, is_ending, length, Life, life_in, List, Lives, map, None, Option, option_map, option_map_or, query_in, QueryLife, refl, renewed, Some, started, subst, sum_by, sym, true, with_answer, with_life, ℕ}
 use Rattle.pipeline_manager.specs.declared.life.Life.TheVariants as life
-use Rattle.pipeline_manager.specs.declared.life.QueryLife.{QueryLife}
-use Rattle.core_driver.specs.Work.{all_to_cut, steps_to_run, to_cut}
+use Rattle.core_driver.specs.Work.{steps_to_run, to_cut}
 use Rattle.core_driver.proofs.SumLemmas.{sum-changed, sum-less, sum-same, sum-written}
 
 -- the most steps until all queries run

@@ -1,16 +1,7 @@
 -- Fewer steps are left for the lives and slots after each call, and no more is to be cut.
-use Rattle.std.proofs.Common.{◌≡◌, ℕ, ◌<◌, ◌≤◌, ◌+◌, length, set, Some, refl, sym, subst, arith}
-use Rattle.std.specs.Prelude.{sum_by}
-use Rattle.std.specs.Option.{option_map_or}
-use Rattle.pipeline_manager.specs.Changes.{after_built, after_cleared, after_end, after_free, after_reserve, after_run, after_spoil, given_up, started, with_dimension, with_life, with_slot}
-use Rattle.pipeline_manager.specs.Conditions.{CanBuild, CanClear, CanEnd, CanFree, CanRun, IsOver, IsToClear}
-use Rattle.pipeline_manager.specs.Lives.{Lives, extent_in, life_in, oldest_waiting, slot_at}
+use Rattle.core_driver.proofs.Words.{◌+◌, ◌<◌, ◌≡◌, ◌≤◌, after_built, after_cleared, after_end, after_free, after_reserve, after_run, after_spoil, all_to_cut, arith, CanBuild, CanClear, CanEnd, CanFree, CanRun, Clearing, extent_in, Free, given_up, Held, IsOver, IsToClear, length, life_in, Lives, oldest-waits, oldest_waiting, option_map_or, refl, set, slot_at, SlotState, Some, started, steps_to_free, subst, sum_by, sym, with_dimension, with_life, with_slot, ℕ}
 use Rattle.pipeline_manager.specs.Sound.{IsSound}
 use Rattle.pipeline_manager.specs.declared.life.Life.TheVariants as life
-use Rattle.pipeline_manager.specs.declared.life.SlotState.{SlotState}
-use Rattle.pipeline_manager.specs.declared.life.SlotState.TheVariants.{Free, Held, Clearing}
-use Rattle.pipeline_manager.proofs.LifeLemmas.{oldest-waits}
-use Rattle.core_driver.specs.Work.{all_to_cut, steps_to_free}
 use Rattle.core_driver.proofs.WorkLifeLemmas.{WritesOver, cut-started, no-more-answered, steps-started, steps_in, written-over}
 use Rattle.core_driver.proofs.WorkSlotLemmas.{FiltersAreBelow, building-holds, free-built, free-cleared, free-released, free-reserved, free-taken, there-clearing, there-held}
 

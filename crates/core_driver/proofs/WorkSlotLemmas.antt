@@ -1,21 +1,10 @@
 -- What is to be done until slots are free, where one has another state.
-use Rattle.std.proofs.Common.{◌≡◌, ℕ, ◌<◌, ◌+◌, true, false, List, length, get_or, set, Option, Some, None, refl, sym, ap, ◌∙◌, subst, ⊎_elim, arith, IsSome}
-use Rattle.std.specs.Prelude.{sum_by}
-use Rattle.std.specs.Option.{option_map_or}
-use Rattle.std.proofs.lemmas.Bool.{cases_lt, eqb-true}
+use Rattle.core_driver.proofs.Words.{◌+◌, ◌<◌, ◌∙◌, ◌≡◌, All-get_or, ap, arith, CanBuild, cases_lt, Clearing, eqb-true, false, Free, get_or, Has, Held, is_held_by, length, List, Lives, None, Option, option_map_or, position-Some, refl, set, slot_at, slot_of, SlotState, Some, steps_to_free, subst, sum_by, sum_by-set, sym, true, with_dimension, without_dimension, ℕ, ⊎_elim}
+use Rattle.std.proofs.Common.{IsSome}
 use Rattle.std.proofs.lemmas.List.{get_or_past}
-use Rattle.std.proofs.lemmas.List.Elements.{All-get_or}
-use Rattle.std.proofs.lemmas.List.Quantifiers.{position-Some}
-use Rattle.std.proofs.lemmas.List.Sums.{sum_by-set}
-use Rattle.bit_words.specs.Sets.{Has}
-use Rattle.pipeline_manager.specs.Changes.{with_dimension, without_dimension}
-use Rattle.pipeline_manager.specs.Conditions.{CanBuild, is_begun}
-use Rattle.pipeline_manager.specs.Lives.{Lives, is_held_by, slot_at, slot_of}
+use Rattle.pipeline_manager.specs.Conditions.{is_begun}
 use Rattle.pipeline_manager.specs.Sound.{IsOfFilters, IsSound}
-use Rattle.pipeline_manager.specs.declared.life.SlotState.{SlotState}
-use Rattle.pipeline_manager.specs.declared.life.SlotState.TheVariants.{Free, Held, Clearing}
 use Rattle.pipeline_manager.proofs.HolderLemmas.{built_of-holder, slot_of-begun}
-use Rattle.core_driver.specs.Work.{steps_to_free}
 use Rattle.core_driver.proofs.SizeLemmas.{size-most, size-with, size-without}
 
 -- another state of a slot changes what is to be done by what is for that slot

@@ -1,28 +1,8 @@
 -- A query that loses its answer keeps a core sound.
-use Rattle.std.proofs.Common.{◌≡◌, ◌≢◌, ◌⊎◌, ℕ, ◌<◌, ◌≤◌, true, false, cond, eqb, eq-eqb, not, List, [], length, get_or, map, set, Option, Some, None, slice_get, refl, sym, ap, ◌∙◌, subst, ⊎_elim, inl, inr, arith}
-use Rattle.std.specs.Prelude.{Contains, IfSome, IsTrue, ◌↔◌}
-use Rattle.std.specs.Option.{option_map_or}
-use Rattle.std.proofs.lemmas.Bool.{cases_eq, cases_lt, eqb-true, ne_eqb}
-use Rattle.std.proofs.lemmas.List.{get_or-set_other, get_or-set_same, get_or_default, get_or_past, length-set}
-use Rattle.std.proofs.lemmas.List.Elements.{All-weaker, filter_passes}
-use Rattle.bit_words.specs.Sets.{Has}
-use Rattle.pipeline_manager.specs.Changes.{with_life}
-use Rattle.pipeline_manager.specs.Conditions.{CanAbandon, CanSpoil, is_begun, is_open}
-use Rattle.pipeline_manager.specs.Lives.{life_in, query_in}
+use Rattle.core_state.proofs.Words.{◌<◌, ◌↔◌, ◌∙◌, ◌≡◌, ◌≢◌, ◌≤◌, ◌⊎◌, [], Accepted, accepted_at, after_abandoning, after_build_wants, All-weaker, ap, AreSoundSeats, arith, CanAbandon, CanSpoil, cases_eq, cases_lt, cond, Contains, empty_seat, eq-eqb, eqb, eqb-true, false, filter_passes, forgotten, get_or, get_or-set_other, get_or-set_same, get_or_default, get_or_past, gets_rows, Has, IfSome, inl, inr, is_begun, is_open, IsKept, IsSound, IsSoundSeat, IsTrue, length, length-set, Life, life_in, life_in-other, List, map, MayBeOnRoster, ne_eqb, None, not, Option, option_map_or, query_in, QueryLife, refl, Seat, seat_at, set, slice_get, Some, State, subst, sym, tables_of, true, versions_in, with_life, without_pending, ℕ, ⊎_elim}
 use Rattle.pipeline_manager.specs.Sound as managed
-use Rattle.pipeline_manager.specs.declared.life.Life.{Life}
 use Rattle.pipeline_manager.specs.declared.life.Life.TheVariants as life
-use Rattle.pipeline_manager.specs.declared.life.QueryLife.{QueryLife}
 use Rattle.pipeline_manager.proofs.CallLemmas.{sound-after_abandon, sound-after_spoil}
-use Rattle.pipeline_manager.proofs.LifeLemmas.{life_in-other}
-use Rattle.core_state.specs.Admitting.{after_build_wants}
-use Rattle.core_state.specs.Cutting.{gets_rows}
-use Rattle.core_state.specs.Flown.{MayBeOnRoster}
-use Rattle.core_state.specs.Found.{accepted_at}
-use Rattle.core_state.specs.Sound.{AreSoundSeats, IsKept, IsSound, IsSoundSeat}
-use Rattle.core_state.specs.State.{Accepted, Seat, State}
-use Rattle.core_state.specs.Submitting.{after_abandoning, empty_seat, forgotten, seat_at, without_pending}
-use Rattle.core_state.specs.Tables.{tables_of, versions_in}
 use Rattle.core_state.proofs.AcceptedLemmas.{find-holds}
 use Rattle.core_state.proofs.FoundLemmas.{find-passes, life-written, some-at, with_life-found, with_life-numbers}
 use Rattle.core_state.proofs.AnewLemmas.{LivesAs, StayTaken, batches-anew, filters-anew, forgets, hands-anew, kept-anew, kept_anew, queries-anew}

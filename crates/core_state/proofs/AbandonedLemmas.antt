@@ -1,26 +1,10 @@
 -- Every step but the event that abandons a query leaves it as it is: whoever is abandoned after it was so before.
-use Rattle.std.proofs.Common.{◌≡◌, ◌⊎◌, ◌-◌, ◌+◌, ℕ, List, [], Option, Some, None, map, not, eqb, set, find, inl, inr, sym, ap, ⊎_elim}
-use Rattle.std.specs.List.{filter, fold}
-use Rattle.std.specs.Option.{option_map_or}
-use Rattle.std.proofs.lemmas.Bool.{cases_eq}
-use Rattle.star_history.specs.History.{Change, DimensionDeclared, FactDeclared, Loaded, Ended}
+use Rattle.core_state.proofs.Words.{◌+◌, ◌-◌, ◌≡◌, ◌⊎◌, [], Abandon, accepted_at, after_abandon, after_abandoning, after_build, after_distribute, after_give, after_outcome, after_reserving, after_spoil, after_start, after_step, ap, Build, cases_eq, Change, Clear, Cut, DimensionDeclared, Distribute, Done, end_in, Ended, eqb, Event, extent_in, FactDeclared, fed, filter, Finish, first_in, first_of, flight_at, fold, forgotten, Give, given_back, Held, inl, inr, is_held_by, life_of, List, Loaded, map, None, not, Option, option_map_or, outcome_of, Release, Reorder, Replying, Reserve, set, slot_at, slot_of, Some, Start, started, State, Step, Submit, sym, tables_of, Take, tallies_after, Told, unkept, versions_in, Wanting, with_change, with_dimension, with_flight, with_life, with_query, with_seat, with_slot, without_pending, ℕ, ⊎_elim}
+use Rattle.std.proofs.Common.{find}
 use Rattle.star_statement.specs.Outcome as outcome
-use Rattle.star_statement.specs.Outcome.{Told, outcome_of}
-use Rattle.continuous_scan.specs.Range.{first_of}
-use Rattle.pipeline_manager.specs.Changes.{after_abandon, after_spoil, started, with_dimension, with_life, with_slot}
-use Rattle.pipeline_manager.specs.Lives.{extent_in, life_of, oldest_waiting, slot_at, slot_of}
+use Rattle.pipeline_manager.specs.Lives.{oldest_waiting}
 use Rattle.pipeline_manager.specs.declared.life.Life.TheVariants as life
-use Rattle.pipeline_manager.specs.declared.life.SlotState.TheVariants.{Held}
-use Rattle.core_state.specs.Admitting.{after_build, after_reserving, after_start}
-use Rattle.core_state.specs.Cutting.{after_distribute, after_give, end_in, fed, first_in, given_back, tallies_after, unkept, with_flight}
 use Rattle.core_state.specs.Events.{after_event, after_want}
-use Rattle.core_state.specs.Found.{accepted_at, flight_at, is_held_by}
-use Rattle.core_state.specs.State.{State}
-use Rattle.core_state.specs.Steps.{Done, Replying, Step, Wanting, after_step}
-use Rattle.core_state.specs.Submitting.{after_abandoning, after_outcome, forgotten, with_change, with_query, with_seat, without_pending}
-use Rattle.core_state.specs.Tables.{tables_of, versions_in}
-use Rattle.core_state.specs.declared.event.Event.{Event}
-use Rattle.core_state.specs.declared.event.Event.TheVariants.{Submit, Reserve, Build, Start, Cut, Take, Give, Distribute, Finish, Clear, Release, Reorder, Abandon}
 use Rattle.core_state.proofs.AbandonedLivesLemmas.{WereLost, started-never, were-behind, were-cut, were-ended, were-others, were-spoiled, were-written}
 use Rattle.core_state.proofs.WholeFrameLemmas.{by-option}
 use Rattle.core_state.proofs.WholeToldLemmas.{seated}

@@ -1,16 +1,6 @@
 -- Whoever is abandoned after another life was written was so before.
-use Rattle.std.proofs.Common.{◌≡◌, ◌≢◌, ℕ, Bool, true, false, cond, eqb, List, [], ◌∷◌, ◌++◌, map, Option, Some, None, option_map, sym, ap, ◌∙◌, subst, ⊎_elim}
-use Rattle.std.specs.List.{fold}
-use Rattle.std.specs.Option.{option_map_or}
-use Rattle.std.proofs.lemmas.Bool.{cases_eq}
-use Rattle.pipeline_manager.specs.Changes.{after_end, after_spoil, covered, cut_life, cut_query, given_up, is_ending, started, with_life}
-use Rattle.pipeline_manager.specs.Lives.{Lives, life_in, query_in, slot_at}
-use Rattle.pipeline_manager.specs.declared.life.Life.{Life}
+use Rattle.core_state.proofs.Words.{◌++◌, ◌∙◌, ◌∷◌, ◌≡◌, ◌≢◌, [], after_end, after_spoil, ap, Bool, cases_eq, Clearing, cond, covered, cut_life, cut_query, eqb, false, fold, Free, given_up, Held, is_ending, Life, life_in, life_in-cut, life_in-other, life_in-same, List, Lives, map, None, Option, option_map, option_map_or, query_in, QueryLife, slot_at, SlotState, Some, started, subst, sym, true, with_life, ℕ, ⊎_elim}
 use Rattle.pipeline_manager.specs.declared.life.Life.TheVariants as life
-use Rattle.pipeline_manager.specs.declared.life.QueryLife.{QueryLife}
-use Rattle.pipeline_manager.specs.declared.life.SlotState.{SlotState}
-use Rattle.pipeline_manager.specs.declared.life.SlotState.TheVariants.{Free, Held, Clearing}
-use Rattle.pipeline_manager.proofs.LifeLemmas.{life_in-cut, life_in-other, life_in-same}
 use Rattle.core_state.proofs.CutLifeLemmas.{cut-cases}
 
 -- who is abandoned was so

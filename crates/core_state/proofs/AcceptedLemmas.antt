@@ -1,19 +1,9 @@
 -- Who holds a slot has a life, and was accepted.
-use Rattle.std.proofs.Common.{◌≡◌, ℕ, ◌<◌, ◌≤◌, Bool, true, false, cond, eqb, eq-eqb, List, [], ◌∷◌, length, map, Option, Some, None, option_map, refl, sym, ap, ◌∙◌, subst, arith}
-use Rattle.std.specs.Prelude.{All, IsSome, find, is_some, ◌||◌}
-use Rattle.std.specs.List.{list_any}
-use Rattle.std.proofs.lemmas.List.Elements.{All-cons, All-head, All-nil, All-tail}
-use Rattle.std.proofs.lemmas.List.Sums.{get_or-le-sum_by}
-use Rattle.std.proofs.lemmas.Option.{none-some}
-use Rattle.pipeline_manager.specs.Lives.{Lives, is_held_by, query_in, slot_at}
+use Rattle.core_state.proofs.Words.{◌<◌, ◌∙◌, ◌∷◌, ◌≡◌, ◌≤◌, [], accepted_at, All, All-cons, All-head, All-nil, All-tail, ap, arith, Bool, cond, eq-eqb, eqb, false, find, Free, get_or-le-sum_by, Held, is_some, IsSome, IsSound, length, List, list_any, Lives, map, None, none-some, Option, option_map, query_in, QueryLife, refl, slot_at, SlotState, Some, State, subst, sym, true, ℕ}
+use Rattle.std.specs.Prelude.{◌||◌}
+use Rattle.pipeline_manager.specs.Lives.{is_held_by}
 use Rattle.pipeline_manager.specs.Sound as managed
 use Rattle.pipeline_manager.specs.Sound.{FitsSlots}
-use Rattle.pipeline_manager.specs.declared.life.QueryLife.{QueryLife}
-use Rattle.pipeline_manager.specs.declared.life.SlotState.{SlotState}
-use Rattle.pipeline_manager.specs.declared.life.SlotState.TheVariants.{Free, Held}
-use Rattle.core_state.specs.Found.{accepted_at}
-use Rattle.core_state.specs.Sound.{IsSound}
-use Rattle.core_state.specs.State.{State}
 
 -- what is found is one of the list
 pub find-holds : {X : Type 0} (P : X → Type 0) (p : X → Bool) (xs : List X) (x : X) → find p xs ≡ Some x → All P xs → P x

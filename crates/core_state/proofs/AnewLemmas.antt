@@ -1,25 +1,6 @@
 -- What stays sound where other groups are kept of accepted queries, and lives and seats are others.
-use Rattle.std.proofs.Common.{◌≡◌, ℕ, ◌+◌, ◌<◌, ◌≤◌, Bool, true, false, cond, eqb, List, [], ◌∷◌, length, get_or, map, Option, Some, None, option_map, slice_get, refl, sym, ap, ◌∙◌, subst, ⊎_elim, inl, inr}
-use Rattle.std.specs.Prelude.{All, Contains, IfSome, IsSomeAnd, IsTrue, ◌↔◌}
-use Rattle.std.proofs.lemmas.List.Elements.{All-map, Contains-get_or}
-use Rattle.std.proofs.lemmas.Option.{IfSome_then}
-use Rattle.star_plan.specs.Test.{Query}
-use Rattle.star_history.specs.Store.{rows_in}
-use Rattle.pipeline_manager.specs.Conditions.{is_open}
-use Rattle.pipeline_manager.specs.Lives.{life_in, query_in, slot_at}
-use Rattle.pipeline_manager.specs.declared.life.Life.{Life}
+use Rattle.core_state.proofs.Words.{◌+◌, ◌<◌, ◌↔◌, ◌∙◌, ◌∷◌, ◌≡◌, ◌≤◌, [], Accepted, accepted_at, All, All-map, ap, AreSoundBatches, AreSoundFilters, AreSoundHands, AreSoundQueries, Bool, Clearing, cond, Contains, Contains-get_or, empty_seat, Encodes, eqb, false, Filter, FitsSlot, forgotten, Free, get_or, Grouped, HasAccepted, Held, IfSome, IfSome_then, inl, inr, is_open, IsKept, IsOnRoster, IsSomeAnd, IsSoundBatch, IsSoundQuery, IsTrue, length, Life, life_in, List, map, MayBeOnRoster, None, OnRoster, Option, option_map, Query, query_in, QueryLife, refl, rows_in, Scan, Seat, slice_get, slot_at, SlotState, Some, State, subst, sym, tables_of, true, versions_in, ℕ, ⊎_elim}
 use Rattle.pipeline_manager.specs.declared.life.Life.TheVariants as life
-use Rattle.pipeline_manager.specs.declared.life.QueryLife.{QueryLife}
-use Rattle.pipeline_manager.specs.declared.life.SlotState.{SlotState}
-use Rattle.pipeline_manager.specs.declared.life.SlotState.TheVariants.{Free, Held, Clearing}
-use Rattle.dimension_filter.specs.Filter.{Filter}
-use Rattle.aggregations.specs.Grouped.{Grouped}
-use Rattle.core_state.specs.Flown.{Encodes, FitsSlot, IsOnRoster, IsSoundBatch, MayBeOnRoster}
-use Rattle.core_state.specs.Found.{accepted_at}
-use Rattle.core_state.specs.Sound.{AreSoundBatches, AreSoundFilters, AreSoundHands, AreSoundQueries, HasAccepted, IsKept, IsSoundQuery}
-use Rattle.core_state.specs.State.{Accepted, OnRoster, Scan, Seat, State}
-use Rattle.core_state.specs.Submitting.{empty_seat, forgotten}
-use Rattle.core_state.specs.Tables.{tables_of, versions_in}
 
 -- a change of what is kept of accepted queries, and of nothing else of them
 abbrev pub KeepsAsked : (Accepted → Accepted) → Type 0

@@ -1,30 +1,8 @@
 -- What a seat may take is right, and it waits only for what may still be answered.
-use Rattle.std.proofs.Common.{◌≡◌, ◌≢◌, ◌⊎◌, ℕ, ◌<◌, ◌++◌, suc, zero, true, false, eqb, List, [], ◌∷◌, length, map, Option, Some, None, option_map, slice_get, refl, sym, ap, ◌∙◌, subst, ⊎_elim, inl, inr, arith}
-use Rattle.std.specs.Prelude.{All, AllPairs, Contains, IfSome, IsSomeAnd, IsTrue, is_some}
-use Rattle.std.specs.List.{list_any}
-use Rattle.std.specs.List.Sorted.{IsPermutation}
-use Rattle.std.specs.Option.{option_and_then, option_map_or}
-use Rattle.std.proofs.lemmas.Bool.{cases_lt, eqb-true}
-use Rattle.std.proofs.lemmas.List.{get_or_past}
-use Rattle.std.proofs.lemmas.List.Elements.{All-head, All-contains}
-use Rattle.star_plan.specs.Answer.{answer_of}
-use Rattle.star_plan.specs.Joined.{Joined}
-use Rattle.star_plan.specs.Test.{Query}
-use Rattle.star_history.specs.Alone.{kept}
-use Rattle.star_history.proofs.ListLemmas.{all_pairs_head, all_pairs_tail}
+use Rattle.core_state.proofs.Words.{◌++◌, ◌<◌, ◌∙◌, ◌∷◌, ◌≡◌, ◌≢◌, ◌⊎◌, [], Accepted, accepted_at, All, All-contains, All-head, all_pairs_head, all_pairs_tail, AllPairs, answer_of, ap, AreSoundQueries, arith, Asked, Awaited, cases_lt, Contains, empty_seat, eqb, eqb-true, false, get_or_past, Grouped, grouped_of, Grouping, groups_in, HasAccepted, HasTaken, IfSome, inl, inr, is_open, is_some, IsAnswer, IsAwaited, IsKept, IsPermutation, IsRight, IsSomeAnd, IsSound, IsSoundQuery, IsSoundSeat, IsTrue, Joined, kept, length, Life, life_of, List, list_any, map, next_ready, None, Option, option_and_then, option_map, option_map_or, Pending, Query, query_in, QueryLife, Ready, ready_by, ready_to, refl, Replied, Seat, seat_at, slice_get, Some, State, subst, suc, sym, tables_of, true, Whole, zero, ℕ, ⊎_elim}
 use Rattle.reply_text.specs.declared.reply.Reply.TheVariants.{Memory}
-use Rattle.pipeline_manager.specs.Conditions.{is_open}
-use Rattle.pipeline_manager.specs.Lives.{life_of, query_in}
-use Rattle.pipeline_manager.specs.declared.life.Life.{Life}
 use Rattle.pipeline_manager.specs.declared.life.Life.TheVariants as life
-use Rattle.pipeline_manager.specs.declared.life.QueryLife.{QueryLife}
-use Rattle.aggregations.specs.Grouped.{Grouped, grouped_of}
-use Rattle.core_state.specs.Answers.{AnswersAlone, IsRight}
-use Rattle.core_state.specs.Found.{accepted_at}
-use Rattle.core_state.specs.Sound.{AreSoundQueries, HasAccepted, HasTaken, IsAnswer, IsAwaited, IsKept, IsSound, IsSoundQuery, IsSoundSeat}
-use Rattle.core_state.specs.State.{Accepted, Asked, Awaited, Pending, Replied, Seat, State}
-use Rattle.core_state.specs.Submitting.{Grouping, Ready, Whole, empty_seat, groups_in, next_ready, ready_by, ready_to, seat_at}
-use Rattle.core_state.specs.Tables.{tables_of}
+use Rattle.core_state.specs.Answers.{AnswersAlone}
 use Rattle.core_state.proofs.AcceptedLemmas.{find-holds, number-found}
 use Rattle.core_state.proofs.FoundLemmas.{find-passes, some-at}
 use Rattle.core_state.proofs.SeatLemmas.{one-seat, pending-submitted}

@@ -1,28 +1,9 @@
 -- A query that is accepted keeps what is sound beside the seats.
-use Rattle.std.proofs.Common.{◌≡◌, ◌≢◌, ◌⊎◌, ℕ, ◌<◌, ◌≤◌, true, false, cond, eqb, eq-eqb, List, [], ◌∷◌, ◌++◌, length, get_or, map, Option, Some, None, slice_get, refl, sym, ap, ◌∙◌, subst, inl, inr, arith}
-use Rattle.std.specs.Prelude.{All, IfSome, IsSome, IsTrue, ◌↔◌}
-use Rattle.std.proofs.lemmas.Bool.{cases_lt, ne_eqb}
-use Rattle.std.proofs.lemmas.List.{get_or-map, length-map, map_push}
-use Rattle.std.proofs.lemmas.List.Elements.{All-head, All-map, All-push, All-tail}
-use Rattle.std.proofs.lemmas.Option.{IfSome_then, none-some, slice_get_past}
-use Rattle.star_plan.specs.Over.{IsOver}
-use Rattle.star_plan.specs.Test.{Query}
-use Rattle.star_plan.specs.declared.table_def.TableDef.{TableDef}
-use Rattle.star_history.specs.Settled.{IsDated, IsSettled}
-use Rattle.star_history.specs.Store.{PlainVersion}
-use Rattle.star_history.proofs.LoadedLemmas.{all_at}
-use Rattle.aggregations.specs.Grouped.{grouped_of}
-use Rattle.pipeline_manager.specs.Conditions.{IsNew, is_open}
-use Rattle.pipeline_manager.specs.Lives.{query_in}
+use Rattle.core_state.proofs.Words.{◌++◌, ◌<◌, ◌↔◌, ◌∙◌, ◌∷◌, ◌≡◌, ◌≢◌, ◌≤◌, ◌⊎◌, [], Accepted, accepted_at, All, All-head, All-map, All-push, All-tail, all_at, ap, arith, cases_lt, cond, eq-eqb, eqb, false, get_or, get_or-map, grouped_of, IfSome, IfSome_then, inl, inr, is_open, IsDated, IsKept, IsOver, IsSettled, IsSome, IsSoundBeside, IsSoundQuery, IsTrue, length, length-map, List, map, map_push, ne_eqb, None, none-some, Option, PlainVersion, Query, query_in, query_in-push_other, query_in-push_same, QueryLife, refl, Seat, slice_get, Some, State, subst, sym, TableDef, tables_of, true, versions_in, ℕ}
+use Rattle.std.proofs.lemmas.Option.{slice_get_past}
+use Rattle.pipeline_manager.specs.Conditions.{IsNew}
 use Rattle.pipeline_manager.specs.declared.life.Life.TheVariants as life
-use Rattle.pipeline_manager.specs.declared.life.QueryLife.{QueryLife}
 use Rattle.pipeline_manager.proofs.CallLemmas.{sound-after_submit}
-use Rattle.pipeline_manager.proofs.LifeLemmas.{query_in-push_other, query_in-push_same}
-use Rattle.core_state.specs.Beside.{IsSoundBeside}
-use Rattle.core_state.specs.Found.{accepted_at}
-use Rattle.core_state.specs.Sound.{IsKept, IsSoundQuery}
-use Rattle.core_state.specs.State.{Accepted, Seat, State}
-use Rattle.core_state.specs.Tables.{tables_of, versions_in}
 use Rattle.core_state.proofs.AnewLemmas.{StayTaken}
 use Rattle.core_state.proofs.BesideLemmas.{beside-later, later, query-later}
 use Rattle.core_state.proofs.SubmitSeatLemmas.{Still}

@@ -1,32 +1,11 @@
 -- The other events leave as it is what a distributor has.
-use Rattle.std.proofs.Common.{◌≡◌, ◌≢◌, ℕ, ◌<◌, ◌+◌, ◌-◌, false, [], length, find, set, Option, Some, None, option_map, refl, ap, sym, ◌∙◌, subst, ⊎_elim}
-use Rattle.std.specs.Option.{option_map_or}
-use Rattle.std.proofs.lemmas.Bool.{cases_eq}
-use Rattle.std.proofs.lemmas.List.{get_or-set_other, get_or-set_same, length-set}
-use Rattle.star_history.specs.History.{Change, DimensionDeclared, FactDeclared, Loaded, Ended}
-use Rattle.star_history.specs.Store.{rows_in}
+use Rattle.core_state.proofs.Words.{◌+◌, ◌-◌, ◌<◌, ◌∙◌, ◌≡◌, ◌≢◌, [], Abandon, Accepted, accepted_at, after_build, after_clear, after_cutting, after_give, after_outcome, after_release, after_reserving, ap, attached_to, Build, cases_eq, Change, Clear, covered, Cut, cut_life, DimensionDeclared, Distribute, end_in, Ended, Event, FactDeclared, false, filter_with, Finish, first_in, Flight, Free, get_or-set_other, get_or-set_same, gets_rows, Give, given_back, grouped_of, Held, holder_of, is_held_by, IsEnabled, IsSound, length, length-set, life_in-cut, Lives, Loaded, MayReserve, None, oldest-waits, Option, option_map, option_map_or, outcome_of, query_in, query_in-push_other, QueryLife, refl, Release, Reorder, Reserve, rows_in, selection_in, set, slot_at, slot_of, SlotState, Some, Start, State, Submit, subst, sym, tables_of, Take, tallies_after, Told, versions_in, with_built, with_change, with_dimension, with_flight, with_life, with_query, with_slot, with_version, without_dimension, ℕ, ⊎_elim}
+use Rattle.std.proofs.Common.{find}
 use Rattle.star_statement.specs.Outcome as outcome
-use Rattle.star_statement.specs.Outcome.{Told, outcome_of}
-use Rattle.dimension_filter.specs.Changes.{filter_with}
-use Rattle.pipeline_manager.specs.Changes.{after_cut, covered, cut_life, with_dimension, with_life, with_slot, without_dimension}
-use Rattle.pipeline_manager.specs.Lives.{Lives, query_in, slot_at, slot_of}
+use Rattle.pipeline_manager.specs.Changes.{after_cut}
 use Rattle.pipeline_manager.specs.declared.life.Life.TheVariants as life
-use Rattle.pipeline_manager.specs.declared.life.QueryLife.{QueryLife}
-use Rattle.pipeline_manager.specs.declared.life.SlotState.{SlotState}
-use Rattle.pipeline_manager.specs.declared.life.SlotState.TheVariants.{Free, Held}
-use Rattle.pipeline_manager.proofs.LifeLemmas.{life_in-cut, oldest-waits, query_in-push_other}
-use Rattle.aggregations.specs.Grouped.{grouped_of}
-use Rattle.core_state.specs.Admitting.{after_build, after_clear, after_release, after_reserving, selection_in, with_built, with_version}
-use Rattle.core_state.specs.Cutting.{after_cutting, after_give, end_in, first_in, gets_rows, given_back, tallies_after, with_flight}
-use Rattle.core_state.specs.Events.{IsEnabled, MayReserve, after_event}
-use Rattle.core_state.specs.Found.{accepted_at, holder_of, is_held_by}
-use Rattle.core_state.specs.Handed.{LeavesAttached, attached_to}
-use Rattle.core_state.specs.Sound.{IsSound}
-use Rattle.core_state.specs.State.{Accepted, Flight, State}
-use Rattle.core_state.specs.Submitting.{after_outcome, with_change, with_query}
-use Rattle.core_state.specs.Tables.{tables_of, versions_in}
-use Rattle.core_state.specs.declared.event.Event.{Event}
-use Rattle.core_state.specs.declared.event.Event.TheVariants.{Submit, Reserve, Build, Start, Cut, Take, Give, Distribute, Finish, Clear, Release, Reorder, Abandon}
+use Rattle.core_state.specs.Events.{after_event}
+use Rattle.core_state.specs.Handed.{LeavesAttached}
 use Rattle.core_state.proofs.AskLemmas.{accepted-push}
 use Rattle.core_state.proofs.AttachedFrameLemmas.{attached-held, attached-same, gets-written, kept-none, slot-same}
 use Rattle.core_state.proofs.CutLifeLemmas.{cut-cases}

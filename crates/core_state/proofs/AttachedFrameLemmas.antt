@@ -1,19 +1,5 @@
 -- What leaves as it is what a distributor has, and what changes it at one slot.
-use Rattle.std.proofs.Common.{◌≡◌, ◌≢◌, ℕ, ◌<◌, Bool, true, false, cond, length, get_or, set, Option, Some, None, option_map, slice_get, refl, ap, sym, ◌∙◌, ⊎_elim, arith}
-use Rattle.std.specs.Option.{option_and_then, option_map_or}
-use Rattle.std.proofs.lemmas.Bool.{cases_eq}
-use Rattle.std.proofs.lemmas.List.{ext_get_or, get_or-set_other, get_or-set_same, length-set}
-use Rattle.std.proofs.lemmas.List.FromFn.{get_or-map-range_with_len, length-map-range_with_len}
-use Rattle.std.proofs.lemmas.Option.{slice_get-get_or}
-use Rattle.pipeline_manager.specs.Lives.{Lives, life_in, slot_at}
-use Rattle.pipeline_manager.specs.declared.life.Life.{Life}
-use Rattle.pipeline_manager.proofs.LifeLemmas.{life_in-other, life_in-same}
-use Rattle.aggregations.specs.Grouped.{Grouped}
-use Rattle.core_state.specs.Cutting.{gets_rows}
-use Rattle.core_state.specs.Found.{holder_of}
-use Rattle.core_state.specs.Handed.{attached_at, attached_to}
-use Rattle.core_state.specs.State.{State}
-use Rattle.core_state.specs.Submitting.{groups_in}
+use Rattle.core_state.proofs.Words.{◌<◌, ◌∙◌, ◌≡◌, ◌≢◌, ap, arith, attached_at, attached_to, Bool, cases_eq, cond, ext_get_or, false, get_or, get_or-map-range_with_len, get_or-set_other, get_or-set_same, gets_rows, Grouped, groups_in, holder_of, length, length-map-range_with_len, length-set, Life, life_in, life_in-other, life_in-same, Lives, None, Option, option_and_then, option_map, option_map_or, refl, set, slice_get, slice_get-get_or, slot_at, Some, State, sym, true, ℕ, ⊎_elim}
 use Rattle.core_state.proofs.HandedAfterLemmas.{kept_by}
 use Rattle.core_state.proofs.HandedSlotLemmas.{gets}
 use Rattle.core_state.proofs.ScannedLifeLemmas.{lives_with}

@@ -1,24 +1,7 @@
 -- What a distributor has where a query is abandoned, finds no memory, or its reply is taken.
-use Rattle.std.proofs.Common.{◌≡◌, ◌≢◌, ℕ, ◌<◌, true, false, cond, eqb, List, [], ◌∷◌, length, get_or, map, set, take, Option, Some, None, option_map, slice_get, refl, ap, sym, ◌∙◌, subst, ⊎_elim}
-use Rattle.std.specs.Prelude.{All, IfSome, IsSome}
-use Rattle.std.specs.Option.{option_and_then, option_map_or}
-use Rattle.std.proofs.lemmas.Bool.{cases_lt, eqb-true, ne_eqb}
-use Rattle.std.proofs.lemmas.List.{get_or_past}
-use Rattle.std.proofs.lemmas.List.Elements.{All-head}
-use Rattle.std.proofs.lemmas.Option.{none-some}
-use Rattle.pipeline_manager.specs.Conditions.{CanAbandon, CanBuild, is_open}
-use Rattle.pipeline_manager.specs.Lives.{life_in, query_in, slot_of}
-use Rattle.pipeline_manager.specs.declared.life.Life.{Life}
+use Rattle.core_state.proofs.Words.{◌<◌, ◌∙◌, ◌∷◌, ◌≡◌, ◌≢◌, [], Accepted, accepted_at, after_abandoning, after_build_wants, after_taking, All, All-head, ap, attached_to, CanAbandon, CanBuild, cases_lt, cond, empty_seat, eqb, eqb-true, false, forgotten, get_or, get_or_past, gets_rows, holder_of, IfSome, is_open, IsAwaited, IsSome, IsSound, length, Life, life_in, life_in-same, List, map, ne_eqb, next_ready, None, none-some, Option, option_and_then, option_map, option_map_or, Pending, query_in, QueryLife, ready_to, refl, Seat, set, slice_get, slot_of, Some, State, subst, sym, take, true, with_seat, without_groups, without_pending, ℕ, ⊎_elim}
 use Rattle.pipeline_manager.specs.declared.life.Life.TheVariants as life
-use Rattle.pipeline_manager.specs.declared.life.QueryLife.{QueryLife}
-use Rattle.pipeline_manager.proofs.LifeLemmas.{life_in-same}
-use Rattle.core_state.specs.Admitting.{after_build_wants}
-use Rattle.core_state.specs.Cutting.{gets_rows}
-use Rattle.core_state.specs.Found.{accepted_at, holder_of}
-use Rattle.core_state.specs.Handed.{attached_to, detached_for}
-use Rattle.core_state.specs.Sound.{IsAwaited, IsSound}
-use Rattle.core_state.specs.State.{Accepted, Pending, Seat, State}
-use Rattle.core_state.specs.Submitting.{after_abandoning, after_taking, empty_seat, forgotten, next_ready, ready_to, with_seat, without_groups, without_pending}
+use Rattle.core_state.specs.Handed.{detached_for}
 use Rattle.core_state.proofs.AnewLemmas.{forgets, found-anew}
 use Rattle.core_state.proofs.AttachedFrameLemmas.{StaysKept, attached-held, attached-same, attached-set, gets-other, gets-written, kept-none, slot-same}
 use Rattle.core_state.proofs.AttachedStartLemmas.{apart-holder}

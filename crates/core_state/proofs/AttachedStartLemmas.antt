@@ -1,30 +1,7 @@
 -- What a distributor has of an empty core, where a query begins its lap, and where its slot is taken from it.
-use Rattle.std.proofs.Common.{◌≡◌, ◌≢◌, ℕ, ◌<◌, Bool, true, false, cond, eqb, List, [], length, replicate, set, Option, Some, None, option_map, slice_get, refl, ap, sym, ◌∙◌, subst, arith}
-use Rattle.std.specs.Prelude.{IfSome, IsSome, is_some}
-use Rattle.std.specs.Option.{option_map_or}
-use Rattle.std.proofs.lemmas.Bool.{eqb-true}
-use Rattle.std.proofs.lemmas.List.{ext_get_or, get_or-replicate, get_or-set_other, get_or-set_same, length-replicate, length-set}
-use Rattle.pipeline_manager.specs.Changes.{given_up, is_ending, started, with_life}
-use Rattle.pipeline_manager.specs.Conditions.{CanRun, IsOver}
-use Rattle.pipeline_manager.specs.Lives.{extent_in, life_in, life_of, query_in, slot_at, slot_of}
-use Rattle.pipeline_manager.specs.declared.life.Life.{Life}
+use Rattle.core_state.proofs.Words.{◌<◌, ◌∙◌, ◌≡◌, ◌≢◌, [], Accepted, accepted_at, after_finish, after_start, ap, arith, attached_to, Bool, CanRun, Clearing, cond, empty_core, eqb, eqb-true, ext_get_or, extent_in, false, first_of, Free, get_or-replicate, get_or-set_other, get_or-set_same, gets_rows, given_up, grouped_of, groups_in, Held, holder_of, IfSome, is_ending, is_some, IsKept, IsSome, IsSound, IsSoundQuery, length, length-replicate, length-set, Life, life_in, life_in-same, life_of, List, MayFinish, None, Option, option_map, option_map_or, query_in, QueryLife, refl, replicate, RunSettings, set, slice_get, slot_at, slot_of, SlotState, Some, started, State, subst, sym, true, versions_in, with_life, ℕ}
+use Rattle.pipeline_manager.specs.Conditions.{IsOver}
 use Rattle.pipeline_manager.specs.declared.life.Life.TheVariants as life
-use Rattle.pipeline_manager.specs.declared.life.QueryLife.{QueryLife}
-use Rattle.pipeline_manager.specs.declared.life.SlotState.{SlotState}
-use Rattle.pipeline_manager.specs.declared.life.SlotState.TheVariants.{Free, Held, Clearing}
-use Rattle.pipeline_manager.proofs.LifeLemmas.{life_in-same}
-use Rattle.continuous_scan.specs.Range.{first_of}
-use Rattle.aggregations.specs.Grouped.{grouped_of}
-use Rattle.core_state.specs.Admitting.{after_finish, after_start}
-use Rattle.core_state.specs.Cutting.{gets_rows}
-use Rattle.core_state.specs.Events.{MayFinish}
-use Rattle.core_state.specs.Found.{accepted_at, holder_of}
-use Rattle.core_state.specs.Handed.{attached_to}
-use Rattle.core_state.specs.Sound.{IsKept, IsSound, IsSoundQuery, empty_core}
-use Rattle.core_state.specs.State.{Accepted, State}
-use Rattle.core_state.specs.Submitting.{groups_in}
-use Rattle.core_state.specs.Tables.{versions_in}
-use Rattle.core_state.specs.declared.settings.RunSettings.{RunSettings}
 use Rattle.core_state.proofs.AcceptedLemmas.{find-holds}
 use Rattle.core_state.proofs.AttachedFrameLemmas.{attached-count, attached-get, attached-set, attached-slice, gets-other, kept-none, kept-some, slot-same}
 use Rattle.core_state.proofs.FoundLemmas.{find-passes}

@@ -1,27 +1,7 @@
 -- What stays sound beside the seats where a seat submits a statement: queries are accepted behind the others.
-use Rattle.std.proofs.Common.{◌≡◌, ℕ, ◌+◌, ◌<◌, ◌≤◌, true, false, eqb, List, length, get_or, Option, Some, None, option_map, slice_get, refl, sym, ap, ◌∙◌, subst, ⊎_elim, inl, inr, arith}
-use Rattle.std.specs.Prelude.{IfSome, IsSome, IsTrue, ◌↔◌}
-use Rattle.std.specs.List.{list_any}
-use Rattle.std.proofs.lemmas.Bool.{eqb-true}
-use Rattle.std.proofs.lemmas.Option.{IfSome_then}
-use Rattle.bit_words.specs.Sets.{Has}
-use Rattle.star_history.specs.Store.{rows_in}
-use Rattle.pipeline_manager.specs.Conditions.{is_open}
-use Rattle.pipeline_manager.specs.Lives.{query_in, slot_at}
+use Rattle.core_state.proofs.Words.{◌+◌, ◌<◌, ◌↔◌, ◌∙◌, ◌≡◌, ◌≤◌, Accepted, accepted_at, ap, AreSoundBatches, AreSoundFilters, AreSoundHands, AreSoundQueries, arith, Clearing, Encodes, eqb, eqb-true, false, Filter, FitsSlot, Free, get_or, gets_rows, Has, Held, IfSome, IfSome_then, inl, inr, is_open, IsKept, IsOnRoster, IsQuietBefore, IsSome, IsSoundBeside, IsSoundQuery, IsTrue, length, Life, List, list_any, MayBeOnRoster, None, OnRoster, Option, option_map, query_in, QueryLife, refl, rows_in, Seat, slice_get, slot_at, SlotState, Some, State, subst, sym, tables_of, true, versions_in, ℕ, ⊎_elim}
 use Rattle.pipeline_manager.specs.Sound as managed
-use Rattle.pipeline_manager.specs.declared.life.Life.{Life}
 use Rattle.pipeline_manager.specs.declared.life.Life.TheVariants as life
-use Rattle.pipeline_manager.specs.declared.life.QueryLife.{QueryLife}
-use Rattle.pipeline_manager.specs.declared.life.SlotState.{SlotState}
-use Rattle.pipeline_manager.specs.declared.life.SlotState.TheVariants.{Free, Held, Clearing}
-use Rattle.dimension_filter.specs.Filter.{Filter}
-use Rattle.core_state.specs.Beside.{IsSoundBeside}
-use Rattle.core_state.specs.Cutting.{gets_rows}
-use Rattle.core_state.specs.Flown.{Encodes, FitsSlot, IsOnRoster, MayBeOnRoster}
-use Rattle.core_state.specs.Found.{accepted_at}
-use Rattle.core_state.specs.Sound.{AreSoundBatches, AreSoundFilters, AreSoundHands, AreSoundQueries, IsKept, IsQuietBefore, IsSoundQuery}
-use Rattle.core_state.specs.State.{Accepted, OnRoster, Seat, State}
-use Rattle.core_state.specs.Tables.{tables_of, versions_in}
 use Rattle.core_state.proofs.AnewLemmas.{StayTaken}
 use Rattle.core_state.proofs.AcceptedLemmas.{find-holds, held-life, number-found}
 use Rattle.core_state.proofs.FoundLemmas.{find-passes}

@@ -1,37 +1,12 @@
 -- A filter that is built for a query keeps a core sound.
-use Rattle.std.proofs.Common.{◌≡◌, ℕ, ◌<◌, ◌≤◌, true, false, List, [], length, Option, Some, None, slice_get, refl, sym, ap, ◌∙◌, subst, ⊎_elim, inl, inr}
-use Rattle.std.specs.Prelude.{IfSome, IsSome, IsTrue, ◌↔◌}
-use Rattle.std.specs.Option.{option_map_or}
-use Rattle.std.proofs.lemmas.Bool.{eqb-true}
-use Rattle.std.proofs.lemmas.List.Quantifiers.{position-Some}
+use Rattle.core_state.proofs.Words.{◌<◌, ◌↔◌, ◌∙◌, ◌≡◌, ◌≤◌, [], Accepted, accepted_at, after_build, ap, built_of-holder, CanBuild, CanSpoil, Clearing, DimensionRow, Encodes, eqb-true, false, Filter, filter_with, FitsSlot, Free, gets_rows, Has, Has-with, Held, IfSome, inl, inr, is_begun, IsClearOf, IsSome, IsSound, IsSoundFilter, IsTrue, last_after, length, life_in, List, MayBeOnRoster, next_number, None, Option, option_map_or, position-Some, Query, refl, rows_in, Selection, selection_in, slice_get, slot_at, slot_of, slot_of-begun, SlotState, Some, State, subst, sym, tables_of, takes, true, vector_of, versions_in_hands, with_dimension, with_number, with_slot, with_version, ℕ, ⊎_elim}
 use Rattle.std.proofs.lemmas.Option.{slice_get_within}
-use Rattle.bit_words.specs.Sets.{Has, with_number}
-use Rattle.bit_words.proofs.SetLemmas.{Has-with}
-use Rattle.star_plan.specs.Joined.{takes}
-use Rattle.star_plan.specs.Test.{Query, Selection}
-use Rattle.star_history.specs.Store.{rows_in}
-use Rattle.dimension_rows.specs.declared.dimension_row.DimensionRow.{DimensionRow}
-use Rattle.dimension_filter.specs.Changes.{filter_with}
-use Rattle.dimension_filter.specs.Filter.{Filter, vector_of}
 use Rattle.dimension_filter.proofs.AddLemmas.{added-ascends, added-encoded, added-others, added-sound, added-stored}
 use Rattle.dimension_filter.proofs.SlotLemmas.{complement-here, complement-other}
-use Rattle.pipeline_manager.specs.Changes.{with_dimension, with_slot}
-use Rattle.pipeline_manager.specs.Conditions.{CanBuild, CanSpoil, is_begun}
-use Rattle.pipeline_manager.specs.Lives.{is_held_by, life_in, slot_at, slot_of}
+use Rattle.pipeline_manager.specs.Lives.{is_held_by}
 use Rattle.pipeline_manager.specs.Sound as managed
 use Rattle.pipeline_manager.specs.declared.life.Life.TheVariants as life
-use Rattle.pipeline_manager.specs.declared.life.SlotState.{SlotState}
-use Rattle.pipeline_manager.specs.declared.life.SlotState.TheVariants.{Free, Held, Clearing}
-use Rattle.pipeline_manager.proofs.HolderLemmas.{built_of-holder, slot_of-begun}
 use Rattle.pipeline_manager.proofs.LawLemmas.{sound-after_built}
-use Rattle.core_state.specs.Admitting.{after_build, selection_in, versions_in_hands, with_version}
-use Rattle.core_state.specs.Cutting.{gets_rows}
-use Rattle.core_state.specs.Flown.{Encodes, FitsSlot, IsClearOf, IsSoundFilter, MayBeOnRoster}
-use Rattle.core_state.specs.Found.{accepted_at}
-use Rattle.core_state.specs.Numbered.{last_after, next_number}
-use Rattle.core_state.specs.Sound.{IsSound}
-use Rattle.core_state.specs.State.{Accepted, State}
-use Rattle.core_state.specs.Tables.{tables_of}
 use Rattle.core_state.proofs.FoundLemmas.{some-at}
 use Rattle.core_state.proofs.AcceptedLemmas.{held-accepted}
 use Rattle.core_state.proofs.VersionLemmas.{IsNextVersion, Versions, sound-versioned}

@@ -1,23 +1,14 @@
 -- A filter that is cleared of a slot keeps a core sound.
-use Rattle.std.proofs.Common.{◌≡◌, ℕ, ◌<◌, ◌^◌, length, refl, sym, ◌∙◌, subst}
+use Rattle.core_state.proofs.Words.{◌<◌, ◌∙◌, ◌≡◌, after_clear, CanClear, Clearing, Filter, FitsSlot, Free, Held, IsSound, IsSoundFilter, last_after, length, next_number, refl, slot_at, SlotState, State, subst, sym, versions_in_hands, with_slot, with_version, without_dimension, ℕ}
+use Rattle.std.proofs.Common.{◌^◌}
 use Rattle.bit_words.specs.Sets.{without}
 use Rattle.bit_words.proofs.SetLemmas.{Has-less}
 use Rattle.dimension_filter.specs.Changes.{filter_without}
-use Rattle.dimension_filter.specs.Filter.{Filter}
 use Rattle.dimension_filter.proofs.ClearLemmas.{left-ascends, left-clear, left-others, left-sound, left-stored}
 use Rattle.dimension_filter.proofs.SlotLemmas.{taken-here, taken-other}
-use Rattle.pipeline_manager.specs.Changes.{with_slot, without_dimension}
-use Rattle.pipeline_manager.specs.Conditions.{CanClear, IsToClear}
-use Rattle.pipeline_manager.specs.Lives.{slot_at}
+use Rattle.pipeline_manager.specs.Conditions.{IsToClear}
 use Rattle.pipeline_manager.specs.Sound as managed
-use Rattle.pipeline_manager.specs.declared.life.SlotState.{SlotState}
-use Rattle.pipeline_manager.specs.declared.life.SlotState.TheVariants.{Free, Held, Clearing}
 use Rattle.pipeline_manager.proofs.LawLemmas.{sound-after_cleared}
-use Rattle.core_state.specs.Admitting.{after_clear, versions_in_hands, with_version}
-use Rattle.core_state.specs.Flown.{FitsSlot, IsSoundFilter}
-use Rattle.core_state.specs.Numbered.{last_after, next_number}
-use Rattle.core_state.specs.Sound.{IsSound}
-use Rattle.core_state.specs.State.{State}
 use Rattle.core_state.proofs.HeldLemmas.{slot-there}
 use Rattle.core_state.proofs.VersionLemmas.{IsNextVersion, Versions, sound-versioned}
 

@@ -1,12 +1,6 @@
 -- What is found in lists, which numbers are in a set that a list gives, and which number no list has.
-use Rattle.std.proofs.Common.{◌≡◌, ℕ, zero, suc, ◌<◌, ◌⊎◌, inl, inr, Bool, true, false, cond, List, [], ◌∷◌, length, get_or, Option, Some, None, refl, ap, sym, ◌∙◌, subst, arith}
-use Rattle.std.specs.Prelude.{All, Any, Contains, IsSome, find, fold}
-use Rattle.std.specs.List.{cons_option, filter_map, range_with_len}
-use Rattle.std.proofs.lemmas.List.Elements.{All-cons, All-head, All-nil, All-tail}
-use Rattle.std.proofs.lemmas.List.FromFn.{get_or-range_with_len, length-range_with_len}
-use Rattle.std.proofs.lemmas.Nat.Bits.{bit_at-zero}
-use Rattle.bit_words.specs.Sets.{Has, with_number}
-use Rattle.bit_words.proofs.SetLemmas.{Has-with}
+use Rattle.core_state.proofs.Words.{◌<◌, ◌∙◌, ◌∷◌, ◌≡◌, ◌⊎◌, [], All, All-cons, All-head, All-nil, All-tail, Any, ap, arith, bit_at-zero, Bool, cond, cons_option, Contains, false, filter_map, find, get_or, get_or-range_with_len, Has, Has-with, inl, inr, IsSome, length, length-range_with_len, List, None, Option, range_with_len, refl, Some, subst, suc, sym, true, with_number, zero, ℕ}
+use Rattle.std.specs.Prelude.{fold}
 
 -- what is found of an element is among what is found
 pub found-in : {X Y : Type 0} (h : X → Option Y) (xs : List X) (y : Y) (k : ℕ) (d : X) → k < length xs → h (get_or xs k d) ≡ Some y

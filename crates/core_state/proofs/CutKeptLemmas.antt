@@ -1,25 +1,9 @@
 -- What is covered of each query behind a cut.
-use Rattle.std.proofs.Common.{◌≡◌, ◌≢◌, inl, inr, ℕ, ◌≤◌, ◌-◌, ◌++◌, Bool, true, false, cond, eqb, List, [], ◌∷◌, Option, Some, None, option_map, refl, ap, sym, ◌∙◌, subst, ⊎_elim, arith, append_assoc, append-nil}
-use Rattle.std.specs.Prelude.{IsSome, find, flat_map}
-use Rattle.std.specs.List.{range_with_len}
-use Rattle.std.specs.List.Sorted.{IsPermutation}
-use Rattle.std.specs.Option.{option_map_or}
-use Rattle.std.proofs.lemmas.Bool.{eqb-true, eqb-false}
+use Rattle.core_state.proofs.Words.{◌++◌, ◌-◌, ◌∙◌, ◌∷◌, ◌≡◌, ◌≢◌, ◌≤◌, [], Accepted, ap, append-nil, append_assoc, arith, below, Bool, cond, cut_life, cut_query, end_in, eqb, eqb-false, eqb-true, false, Filters, find, first_in, flat_map, Flight, inl, inr, IsCovered, IsKept, IsNext, IsPermutation, IsSome, IsSound, lap, Life, life_of, List, None, Numbers, OnRoster, Option, option_map, option_map_or, positions_for, query_in, QueryLife, range_with_len, refl, Scan, SlotState, Some, starts_of, State, still_to_come, subst, sym, to_come, true, versions_in, ℕ, ⊎_elim}
 use Rattle.std.proofs.lemmas.List.Concat.{flat_map-append}
 use Rattle.pipeline_manager.specs.Changes as managed
-use Rattle.pipeline_manager.specs.Changes.{cut_life, cut_query}
-use Rattle.pipeline_manager.specs.Lives.{life_of, query_in}
-use Rattle.pipeline_manager.specs.declared.life.Life.{Life}
 use Rattle.pipeline_manager.specs.declared.life.Life.TheVariants as life
-use Rattle.pipeline_manager.specs.declared.life.QueryLife.{QueryLife}
-use Rattle.pipeline_manager.specs.declared.life.SlotState.{SlotState}
-use Rattle.continuous_scan.specs.Calls.{below}
-use Rattle.continuous_scan.specs.Lap.{lap, still_to_come}
 use Rattle.continuous_scan.specs.Range.{covered}
-use Rattle.core_state.specs.Cutting.{end_in, first_in, starts_of}
-use Rattle.core_state.specs.Sound.{IsCovered, IsKept, IsNext, IsSound, positions_for, to_come}
-use Rattle.core_state.specs.State.{Accepted, Filters, Flight, Numbers, OnRoster, Scan, State}
-use Rattle.core_state.specs.Tables.{versions_in}
 use Rattle.core_state.proofs.CutLapLemmas.{CutsLap, covered-same, cut-comes, cut-next, none-to-come}
 use Rattle.core_state.proofs.CutRangeLemmas.{end-to-start}
 use Rattle.core_state.proofs.CutRosterLemmas.{off-roster, on-roster, start-among}

@@ -1,12 +1,8 @@
 -- How a cut goes along the lap of a query that runs.
-use Rattle.std.proofs.Common.{◌≡◌, ℕ, ◌<◌, ◌≤◌, ◌+◌, ◌-◌, ◌⊎◌, inl, inr, min, Bool, true, false, cond, ltb, List, [], ◌++◌, length, take, drop, refl, ap, sym, ◌∙◌, arith, append_assoc, append-nil}
-use Rattle.std.specs.List.{range_with_len}
-use Rattle.std.proofs.lemmas.Bool.{ltb-true, ltb-false}
-use Rattle.std.proofs.lemmas.List.{drop_all, drop_at, length-take-le, take-append-drop}
-use Rattle.continuous_scan.specs.Lap.{lap, lap_start, next_below, place_in_lap, still_to_come}
-use Rattle.continuous_scan.specs.Range.{first_of, covered}
-use Rattle.continuous_scan.specs.Calls.{below}
-use Rattle.continuous_scan.proofs.LapLemmas.{start_cases, next_cases, first_cases, place_cases, lap_start_le, below-range, lap_more, length-lap}
+use Rattle.core_state.proofs.Words.{◌++◌, ◌+◌, ◌-◌, ◌<◌, ◌∙◌, ◌≡◌, ◌≤◌, ◌⊎◌, [], ap, append-nil, append_assoc, arith, below, Bool, cond, drop, false, first_cases, first_of, inl, inr, lap, lap_start, length, length-lap, length-take-le, List, ltb, ltb-false, ltb-true, min, next_below, next_cases, place_cases, place_in_lap, range_with_len, refl, start_cases, still_to_come, sym, take, true, ℕ}
+use Rattle.std.proofs.lemmas.List.{drop_all, drop_at, take-append-drop}
+use Rattle.continuous_scan.specs.Range.{covered}
+use Rattle.continuous_scan.proofs.LapLemmas.{lap_start_le, below-range, lap_more}
 use Rattle.pipeline_manager.specs.Changes as managed
 
 -- what is asked of a cut from `first` on, for a query that runs: the next position below its extent is the first of its

@@ -1,25 +1,8 @@
 -- A batch that the scan cuts keeps a core sound.
-use Rattle.std.proofs.Common.{◌≡◌, ◌≢◌, ◌⊎◌, ℕ, ◌<◌, ◌≤◌, ◌-◌, List, [], ◌∷◌, length, map, get_or, Some, option_map, slice_get, refl, ap, sym, ◌∙◌, subst, ⊎_elim, arith, append-nil}
-use Rattle.std.specs.Prelude.{AllPairs, IfSome, IsTrue, ◌↔◌}
-use Rattle.std.specs.List.{filter_map}
-use Rattle.std.proofs.lemmas.List.{get_or-map, length-map, length_push}
-use Rattle.std.proofs.lemmas.List.Elements.{All-map, All-push, filter_map-append}
-use Rattle.std.proofs.lemmas.List.Quantifiers.{all_pairs_push}
-use Rattle.std.proofs.lemmas.Option.{IfSome_then}
-use Rattle.bit_words.specs.Sets.{Has}
-use Rattle.pipeline_manager.specs.Changes.{cut_query}
-use Rattle.pipeline_manager.specs.Conditions.{is_open}
-use Rattle.pipeline_manager.specs.Lives.{query_in}
+use Rattle.core_state.proofs.Words.{◌-◌, ◌<◌, ◌↔◌, ◌∙◌, ◌∷◌, ◌≡◌, ◌≢◌, ◌≤◌, ◌⊎◌, [], Accepted, after_cutting, All-map, All-push, all_pairs_push, AllPairs, ap, append-nil, AreSoundBatches, AreSoundFilters, AreSoundHands, AreSoundNumbers, AreSoundQueries, AreSoundSeats, AreSoundSlots, arith, changes_of, counted, cut_query, end_in, filter_map, filter_map-append, first_in, Flight, get_or, get_or-map, gets_rows, Has, IfSome, IfSome_then, is_open, IsKept, IsOnRoster, IsSound, IsSoundBatch, IsSoundHand, IsSoundQuery, IsTrue, last_after, last_number, length, length-map, List, map, MayBeOnRoster, MayCut, Numbers, option_map, query_in, QueryLife, refl, Scan, slice_get, Some, State, subst, sym, tables_of, versions_in, ℕ, ⊎_elim}
+use Rattle.std.proofs.lemmas.List.{length_push}
 use Rattle.pipeline_manager.specs.declared.life.Life.TheVariants as life
-use Rattle.pipeline_manager.specs.declared.life.QueryLife.{QueryLife}
 use Rattle.pipeline_manager.proofs.CallLemmas.{sound-after_cut}
-use Rattle.core_state.specs.Cutting.{after_cutting, end_in, first_in, gets_rows}
-use Rattle.core_state.specs.Events.{MayCut}
-use Rattle.core_state.specs.Flown.{IsOnRoster, IsSoundBatch, IsSoundHand, MayBeOnRoster}
-use Rattle.core_state.specs.Numbered.{counted, last_after, last_number}
-use Rattle.core_state.specs.Sound.{AreSoundBatches, AreSoundFilters, AreSoundHands, AreSoundNumbers, AreSoundQueries, AreSoundSeats, AreSoundSlots, IsKept, IsSound, IsSoundQuery}
-use Rattle.core_state.specs.State.{Accepted, Flight, Numbers, Scan, State}
-use Rattle.core_state.specs.Tables.{changes_of, tables_of, versions_in}
 use Rattle.core_state.proofs.CutKeptLemmas.{covered_of, flights_after, kept-cut}
 use Rattle.core_state.proofs.CutLifeLemmas.{cut-cases, cut-found, gets-stays, life-cut, may-stay, open-stays, same-numbers}
 use Rattle.core_state.proofs.CutNumberLemmas.{next-apart, next-given, still-given}

@@ -1,15 +1,6 @@
 -- What a cut makes of the lives of queries.
-use Rattle.std.proofs.Common.{◌≡◌, ℕ, ◌-◌, Bool, true, false, cond, eqb, List, [], ◌∷◌, map, Option, Some, None, option_map, refl, ap, sym, subst}
-use Rattle.std.specs.Prelude.{IfSome, IsTrue}
-use Rattle.pipeline_manager.specs.Changes.{cut_life, cut_query, covered}
-use Rattle.pipeline_manager.specs.Conditions.{is_open}
-use Rattle.pipeline_manager.specs.Lives.{life_in, query_in}
-use Rattle.pipeline_manager.specs.declared.life.Life.{Life}
+use Rattle.core_state.proofs.Words.{◌-◌, ◌∷◌, ◌≡◌, [], ap, Bool, cond, covered, cut_life, cut_query, eqb, false, gets_rows, IfSome, is_open, IsTrue, Life, life_in, List, map, MayBeOnRoster, None, Option, option_map, query_in, query_in-map, QueryLife, refl, Some, subst, sym, true, ℕ}
 use Rattle.pipeline_manager.specs.declared.life.Life.TheVariants as life
-use Rattle.pipeline_manager.specs.declared.life.QueryLife.{QueryLife}
-use Rattle.pipeline_manager.proofs.LifeLemmas.{query_in-map}
-use Rattle.core_state.specs.Cutting.{gets_rows}
-use Rattle.core_state.specs.Flown.{MayBeOnRoster}
 
 -- what a cut makes of a life: it stays, or a query that runs has less left, or ends
 pub cut-cases : (P : Life → Life → Type 0) → ((now : Life) → P now now) → ((start left : ℕ) → P (life.Running start left) life.Ending)

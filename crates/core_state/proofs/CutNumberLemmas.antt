@@ -1,14 +1,9 @@
 -- The number of a batch that is cut, and where the keys of its rows stand.
-use Rattle.std.proofs.Common.{◌≡◌, ◌≢◌, ℕ, zero, suc, ◌<◌, ◌≤◌, ◌+◌, ◌*◌, ◌++◌, min, Bool, true, false, cond, eqb, ltb, eq-eqb, not, List, [], ◌∷◌, length, get_or, Option, Some, None, refl, ap, sym, ◌∙◌, arith}
-use Rattle.std.specs.Prelude.{All, find, flat_map}
-use Rattle.std.specs.List.{list_any, range_with_len}
-use Rattle.std.specs.Option.{option_map_or}
-use Rattle.std.proofs.lemmas.Bool.{eqb-true, lt-ltb, ltb-true}
-use Rattle.std.proofs.lemmas.List.{get_or_append_left, get_or-append-add, length-append}
-use Rattle.std.proofs.lemmas.List.Folds.{Any-from_list_any, list_any_at}
-use Rattle.std.proofs.lemmas.List.FromFn.{get_or-range_with_len, length-range_with_len}
+use Rattle.core_state.proofs.Words.{◌*◌, ◌++◌, ◌+◌, ◌<◌, ◌∙◌, ◌∷◌, ◌≡◌, ◌≢◌, ◌≤◌, [], All, Any-from_list_any, ap, arith, Bool, cond, eq-eqb, eqb, eqb-true, false, find, flat_map, get_or, get_or-range_with_len, get_or_append_left, last_number, length, length-range_with_len, List, list_any, list_any_at, ltb, ltb-true, min, next_number, None, not, Option, option_map_or, range_with_len, refl, Some, suc, sym, true, zero, ℕ}
+use Rattle.std.proofs.lemmas.Bool.{lt-ltb}
+use Rattle.std.proofs.lemmas.List.{get_or-append-add, length-append}
 use Rattle.std.proofs.lemmas.Map.Steps.{le-length_from_below}
-use Rattle.core_state.specs.Numbered.{last_number, least_unused, next_number}
+use Rattle.core_state.specs.Numbered.{least_unused}
 use Rattle.core_state.proofs.AcceptedLemmas.{find-none}
 use Rattle.core_state.proofs.FoundLemmas.{find-passes}
 

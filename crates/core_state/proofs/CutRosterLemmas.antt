@@ -1,25 +1,7 @@
 -- Which queries run, and how they stand on the roster of a batch that is cut.
-use Rattle.std.proofs.Common.{◌≡◌, ◌≢◌, ℕ, ◌<◌, true, false, eqb, eq-eqb, length, map, Option, Some, None, option_map, refl, ap, sym, ◌∙◌, subst}
-use Rattle.std.specs.Prelude.{All, Contains, IfSome, IsSome, IsTrue, find}
-use Rattle.std.specs.List.{range_with_len}
-use Rattle.std.specs.Option.{option_and_then, option_map_or}
-use Rattle.std.proofs.lemmas.Bool.{eqb-true, ne_eqb}
-use Rattle.std.proofs.lemmas.List.Quantifiers.{position-Some}
-use Rattle.std.proofs.lemmas.Option.{none-some, same_Some}
-use Rattle.bit_words.specs.Sets.{Has}
-use Rattle.pipeline_manager.specs.Changes.{cut_query}
-use Rattle.pipeline_manager.specs.Conditions.{is_begun}
-use Rattle.pipeline_manager.specs.Lives.{is_held_by, life_of, slot_at, slot_of}
-use Rattle.pipeline_manager.specs.declared.life.Life.{Life}
+use Rattle.core_state.proofs.Words.{◌<◌, ◌∙◌, ◌≡◌, ◌≢◌, Accepted, accepted_at, All, ap, Clearing, Contains, cut_query, entry_of, eq-eqb, eqb, eqb-true, false, Filters, find, Free, gets_rows, Has, Held, holder_of, IfSome, is_begun, IsOnRoster, IsSome, IsSound, IsTrue, length, Life, life_of, map, MayBeOnRoster, ne_eqb, None, none-some, Numbers, OnRoster, Option, option_and_then, option_map, option_map_or, position-Some, range_with_len, refl, roster_of, running_at, same_Some, Scan, slot_at, slot_of, slot_of-begun, SlotState, Some, start_at, start_in, starts_of, State, subst, sym, true, ℕ}
+use Rattle.pipeline_manager.specs.Lives.{is_held_by}
 use Rattle.pipeline_manager.specs.declared.life.Life.TheVariants as life
-use Rattle.pipeline_manager.specs.declared.life.SlotState.{SlotState}
-use Rattle.pipeline_manager.specs.declared.life.SlotState.TheVariants.{Free, Held, Clearing}
-use Rattle.pipeline_manager.proofs.HolderLemmas.{slot_of-begun}
-use Rattle.core_state.specs.Cutting.{gets_rows, roster_of, starts_of}
-use Rattle.core_state.specs.Flown.{IsOnRoster, MayBeOnRoster}
-use Rattle.core_state.specs.Found.{accepted_at, entry_of, holder_of, running_at, start_at, start_in}
-use Rattle.core_state.specs.Sound.{IsSound}
-use Rattle.core_state.specs.State.{Accepted, Filters, Numbers, OnRoster, Scan, State}
 use Rattle.core_state.proofs.AcceptedLemmas.{held-accepted}
 use Rattle.core_state.proofs.CutFoundLemmas.{all-below, all-found, find-there, found-below, none-found}
 use Rattle.core_state.proofs.CutLifeLemmas.{life-cut, may-stay}

@@ -1,29 +1,8 @@
 -- The rows of a batch that is cut: their bits are what the queries on its roster say of their versions.
-use Rattle.std.proofs.Common.{◌≡◌, ℕ, ◌<◌, ◌≤◌, ◌+◌, ◌-◌, ◌*◌, Bool, true, false, cond, eqb, eq-eqb, List, [], ◌∷◌, zero, suc, length, map, get_or, drop, Some, None, slice_get, refl, ap, sym, ◌∙◌, subst, arith}
-use Rattle.std.specs.Prelude.{All, Contains, ◌&&◌}
-use Rattle.std.specs.Int.{bit_at}
-use Rattle.std.specs.List.{filter, list_all, list_any, range_with_len}
-use Rattle.std.proofs.lemmas.List.{get_or-drop, get_or-map, get_or-take, length-drop, length-map, length-take-le}
-use Rattle.std.proofs.lemmas.List.Elements.{All-contains, All-contains_itself, All-filter, filter_passes}
-use Rattle.std.proofs.lemmas.List.Folds.{list_any_at}
-use Rattle.std.proofs.lemmas.List.FromFn.{get_or-map-range_with_len, length-map-range_with_len}
-use Rattle.std.proofs.lemmas.Nat.Bits.{bit_at-zero}
-use Rattle.std.proofs.lemmas.Option.{get_or_from_slice_get, same_Some}
-use Rattle.bit_words.specs.Sets.{Has}
-use Rattle.star_plan.specs.Joined.{takes_at}
-use Rattle.star_plan.specs.Truth.{passes}
-use Rattle.fact_versions.specs.Visible.{is_visible}
-use Rattle.star_history.specs.Alone.{joined}
-use Rattle.star_history.specs.Settled.{IsSettled}
-use Rattle.star_history.specs.Store.{PlainVersion, Store}
-use Rattle.pipeline_manager.specs.declared.life.QueryLife.{QueryLife}
-use Rattle.pipeline_manager.specs.declared.life.SlotState.{SlotState}
-use Rattle.core_state.specs.Cutting.{bits_of, end_in, first_in, roster_of, rows_of, slots_of, takes_version, versions_from}
-use Rattle.core_state.specs.Flown.{IsOnRoster, IsSoundBatch, IsSoundRow, keeps_so_far}
-use Rattle.core_state.specs.Found.{has_passed, running_at}
-use Rattle.core_state.specs.Sound.{IsSound}
-use Rattle.core_state.specs.State.{Filters, Flight, Numbers, OnRoster, Scan, State}
-use Rattle.core_state.specs.Tables.{key_number, key_numbers, tables_of, versions_in}
+use Rattle.core_state.proofs.Words.{◌*◌, ◌+◌, ◌-◌, ◌<◌, ◌∙◌, ◌∷◌, ◌≡◌, ◌≤◌, [], All, All-contains, All-contains_itself, All-filter, ap, arith, bit_at, bit_at-zero, bits_of, Bool, cond, Contains, drop, end_in, eq-eqb, eqb, false, filter, filter_passes, Filters, first_in, Flight, get_or, get_or-map, get_or-map-range_with_len, Has, has_passed, is_visible, IsOnRoster, IsSettled, IsSound, IsSoundBatch, IsSoundRow, joined, keeps_so_far, key_number, key_numbers, length, length-map, length-map-range_with_len, length-take-le, List, list_all, list_any, list_any_at, map, None, Numbers, OnRoster, passes, PlainVersion, QueryLife, range_with_len, refl, roster_of, rows_of, running_at, same_Some, Scan, slice_get, slots_of, SlotState, Some, State, Store, subst, suc, sym, tables_of, takes_at, takes_version, true, versions_from, versions_in, zero, ℕ}
+use Rattle.std.specs.Prelude.{◌&&◌}
+use Rattle.std.proofs.lemmas.List.{get_or-drop, get_or-take, length-drop}
+use Rattle.std.proofs.lemmas.Option.{get_or_from_slice_get}
 use Rattle.core_state.proofs.CutFoundLemmas.{has-any, has-at}
 use Rattle.core_state.proofs.CutNumberLemmas.{get_or-of_rows, length-of_rows}
 use Rattle.core_state.proofs.CutRosterLemmas.{roster-own}

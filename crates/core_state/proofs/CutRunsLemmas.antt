@@ -1,21 +1,8 @@
 -- Where a query runs, the scan cuts some versions of the table.
-use Rattle.std.proofs.Common.{◌≡◌, ℕ, ◌<◌, ◌≤◌, true, false, eqb, length, Option, Some, None, refl, ap, ◌∙◌, subst, arith}
-use Rattle.std.specs.Prelude.{IsSome}
-use Rattle.std.proofs.lemmas.Bool.{eqb-true}
+use Rattle.core_state.proofs.Words.{◌<◌, ◌∙◌, ◌≡◌, ◌≤◌, Accepted, accepted_at, ap, arith, end_in, eqb, eqb-true, false, first_in, Held, IsLeft, IsSome, IsSound, IsSoundQuery, length, Life, life_of, MayCut, None, Option, query_in, QueryLife, refl, slot_at, Some, starts_of, State, subst, true, versions_in, ℕ}
 use Rattle.pipeline_manager.specs.Conditions.{IsRunning}
-use Rattle.pipeline_manager.specs.Lives.{life_of, query_in, slot_at}
-use Rattle.pipeline_manager.specs.Sound.{IsLeft}
-use Rattle.pipeline_manager.specs.declared.life.Life.{Life}
 use Rattle.pipeline_manager.specs.declared.life.Life.TheVariants as life
-use Rattle.pipeline_manager.specs.declared.life.QueryLife.{QueryLife}
-use Rattle.pipeline_manager.specs.declared.life.SlotState.TheVariants.{Held}
 use Rattle.pipeline_manager.proofs.QueryLemmas.{query_in-found}
-use Rattle.core_state.specs.Cutting.{end_in, first_in, starts_of}
-use Rattle.core_state.specs.Events.{MayCut}
-use Rattle.core_state.specs.Found.{accepted_at}
-use Rattle.core_state.specs.Sound.{IsSound, IsSoundQuery}
-use Rattle.core_state.specs.State.{Accepted, State}
-use Rattle.core_state.specs.Tables.{versions_in}
 use Rattle.core_state.proofs.AcceptedLemmas.{find-holds, held-accepted}
 use Rattle.core_state.proofs.CutRangeLemmas.{end-after, end-last, first-below}
 use Rattle.core_state.proofs.CutRosterLemmas.{runs-here}

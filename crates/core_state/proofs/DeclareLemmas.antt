@@ -1,30 +1,9 @@
 -- A declaration that the tables take leaves everything sound beside the seats: before the fact table nothing was asked.
-use Rattle.std.proofs.Common.{◌≡◌, ◌⊎◌, ℕ, ◌+◌, ◌<◌, ◌≤◌, true, false, cond, List, [], ◌∷◌, ◌++◌, length, get_or, map, Option, Some, None, Result, Ok, Err, refl, sym, ap, ◌∙◌, subst, inl, inr, arith}
-use Rattle.std.specs.Prelude.{All, Contains, IfSome, is_some, fold, ◌↔◌}
-use Rattle.std.specs.List.{filter, list_any, range_with_len}
-use Rattle.std.specs.Option.{option_map_or}
-use Rattle.std.proofs.lemmas.List.Elements.{All-cons, All-filter, All-head, All-nil, All-tail, Contains-append_cases, Contains-append_right}
-use Rattle.std.proofs.lemmas.List.FromFn.{get_or-range_with_len, length-range_with_len}
-use Rattle.bit_words.specs.Sets.{Has, with_number}
-use Rattle.bit_words.proofs.SetLemmas.{Has-with}
-use Rattle.star_values.specs.declared.refusal.Refusal.{Refusal}
-use Rattle.star_values.specs.declared.refusal.Refusal.TheVariants.{OutOfOrder}
-use Rattle.star_plan.specs.Columns.{fact_columns}
-use Rattle.star_plan.specs.declared.schema.Schema.{Schema}
-use Rattle.star_plan.specs.declared.table_def.TableDef.{TableDef}
-use Rattle.star_schema.specs.Declaration.{references}
+use Rattle.core_state.proofs.Words.{◌++◌, ◌+◌, ◌<◌, ◌↔◌, ◌∙◌, ◌∷◌, ◌≡◌, ◌≤◌, ◌⊎◌, [], Accepts, AcceptsAll, All, All-cons, All-filter, All-head, All-nil, All-tail, ap, AreSoundFilters, arith, changes_of, cond, Contains, Contains-append_cases, Contains-append_right, empty_store, Entry, Err, fact_columns, false, Filter, filter, filter_dimensions, Filters, FilterVersion, first_versions, FitsSlot, Flight, Free, get_or, get_or-range_with_len, Has, Has-with, Held, IfSome, inl, inr, is_some, IsClearOf, IsQuietBefore, IsSound, IsSoundBatch, IsSoundBeside, IsSoundFilter, IsSoundHand, IsSoundOrder, IsSoundQuery, IsSoundStore, length, length-range_with_len, List, list_any, map, None, Ok, Option, option_map_or, OutOfOrder, range_with_len, references, refl, Refusal, Result, Schema, Some, State, subst, sym, TableDef, tables_by, tables_of, true, versions_in, with_number, ℕ}
+use Rattle.std.specs.Prelude.{fold}
 use Rattle.batch_flow.specs.declared.batch.TheConstants.{KEYS_IN_A_ROW}
-use Rattle.star_history.specs.Accepted.{Accepts, AcceptsAll}
-use Rattle.star_history.specs.Store.{empty_store}
 use Rattle.pipeline_manager.specs.Sound.{IsOfFilters}
-use Rattle.pipeline_manager.specs.declared.life.SlotState.TheVariants.{Free, Held}
-use Rattle.dimension_filter.specs.Filter.{Filter}
-use Rattle.core_state.specs.Beside.{IsSoundBeside}
-use Rattle.core_state.specs.Flown.{FitsSlot, IsClearOf, IsSoundBatch, IsSoundFilter, IsSoundHand}
-use Rattle.core_state.specs.Sound.{AreSoundFilters, IsQuietBefore, IsSound, IsSoundOrder, IsSoundQuery, IsSoundStore}
-use Rattle.core_state.specs.State.{Entry, FilterVersion, Filters, Flight, State}
-use Rattle.core_state.specs.Submitting.{first_version, first_versions}
-use Rattle.core_state.specs.Tables.{changes_of, filter_dimensions, tables_by, tables_of, versions_in}
+use Rattle.core_state.specs.Submitting.{first_version}
 use Rattle.core_state.proofs.GrownLemmas.{accepts-more, changes-with}
 use Rattle.core_state.proofs.ReleaseLemmas.{none-in}
 

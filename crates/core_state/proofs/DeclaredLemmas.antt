@@ -1,25 +1,7 @@
 -- Each declaration that the tables take leaves everything sound beside the seats.
-use Rattle.std.proofs.Common.{◌≡◌, ℕ, ◌+◌, ◌≤◌, List, [], ◌∷◌, ◌++◌, length, get_or, replicate, Some, None, sym, ap, ◌∙◌, subst, arith}
-use Rattle.std.specs.Prelude.{All, Contains, fold, ◌↔◌}
-use Rattle.std.specs.List.Sorted.{IsPermutation}
-use Rattle.std.proofs.lemmas.List.{length-map, length-replicate}
-use Rattle.std.proofs.lemmas.List.Elements.{All-nil, All-replicate, Contains-get_or}
-use Rattle.std.proofs.lemmas.List.Sorted.{IsPermutation-refl}
-use Rattle.std.proofs.lemmas.Option.{none-some}
-use Rattle.bit_words.specs.Sets.{Has, with_number}
-use Rattle.star_plan.specs.declared.table_def.TableDef.{TableDef}
-use Rattle.filter_order.specs.declared.tally.Tally.{Tally}
-use Rattle.star_history.specs.Accepted.{Accepts}
-use Rattle.star_history.specs.History.{Change, DimensionDeclared, FactDeclared, Loaded, Ended}
-use Rattle.star_history.specs.Settled.{IsSettled}
-use Rattle.star_history.specs.Store.{Store}
-use Rattle.core_state.specs.Beside.{IsOfRows, IsSoundBeside}
-use Rattle.core_state.specs.Flown.{IsSoundFilter}
-use Rattle.core_state.specs.Numbered.{counted}
-use Rattle.core_state.specs.Sound.{IsSound, IsSoundStore}
-use Rattle.core_state.specs.State.{Entry, FilterVersion, Filters, State}
-use Rattle.core_state.specs.Submitting.{first_versions, with_change}
-use Rattle.core_state.specs.Tables.{changes_of, filter_dimensions, tables_by, tables_of, versions_in}
+use Rattle.core_state.proofs.Words.{◌++◌, ◌+◌, ◌↔◌, ◌∙◌, ◌∷◌, ◌≡◌, ◌≤◌, [], Accepts, All, All-nil, ap, arith, Change, changes_of, Contains, Contains-get_or, counted, DimensionDeclared, Ended, Entry, FactDeclared, filter_dimensions, Filters, FilterVersion, first_versions, get_or, Has, IsOfRows, IsPermutation, IsPermutation-refl, IsSettled, IsSound, IsSoundBeside, IsSoundFilter, IsSoundStore, length, length-map, length-replicate, List, Loaded, None, none-some, replicate, Some, State, Store, subst, sym, TableDef, tables_by, tables_of, Tally, versions_in, with_change, with_number, ℕ}
+use Rattle.std.specs.Prelude.{fold}
+use Rattle.std.proofs.lemmas.List.Elements.{All-replicate}
 use Rattle.core_state.proofs.DeclareLemmas.{declared-quiet, declared_now, empty-sound, filters-low, first-dimensions, first-each, has-set, nil-by-map, no-filters, store-push, undeclared-by}
 use Rattle.core_state.proofs.GivenLemmas.{Settles}
 use Rattle.core_state.proofs.GrownLemmas.{tables-with}

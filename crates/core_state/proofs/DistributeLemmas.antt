@@ -1,24 +1,8 @@
 -- What becomes of positions and of what is kept where a batch is distributed.
-use Rattle.std.proofs.Common.{◌≡◌, ◌≢◌, ℕ, suc, ◌+◌, ◌++◌, Bool, true, false, cond, eqb, not, List, [], ◌∷◌, length, map, Option, Some, refl, sym, ap, ◌∙◌, subst, append_assoc, append-nil, arith}
-use Rattle.std.specs.Prelude.{All, AllPairs, flat_map, slice_get}
-use Rattle.std.specs.List.{filter}
-use Rattle.std.specs.List.Sorted.{IsPermutation}
-use Rattle.std.proofs.lemmas.Bool.{eqb-true, ne_eqb}
-use Rattle.std.proofs.lemmas.List.{map-append}
-use Rattle.std.proofs.lemmas.List.Elements.{All-head, All-tail, filter-append, filter_map-append}
-use Rattle.std.proofs.lemmas.List.Sorted.{IsPermutation-append_comm, IsPermutation-append_left, IsPermutation-append_right, IsPermutation-refl, IsPermutation-trans}
-use Rattle.star_plan.specs.Joined.{Joined, is_kept, kept_of, value_at}
-use Rattle.star_plan.specs.Test.{Query}
-use Rattle.fact_versions.specs.Visible.{is_visible}
-use Rattle.star_history.specs.Alone.{joined}
-use Rattle.star_history.specs.Store.{PlainVersion, Store}
-use Rattle.star_history.proofs.ListLemmas.{all_pairs_head, all_pairs_tail}
-use Rattle.aggregations.specs.Grouped.{grouped_of}
-use Rattle.aggregations.specs.Folding.{with_row}
-use Rattle.core_state.specs.Cutting.{with_rows}
-use Rattle.core_state.specs.Found.{flight_at}
-use Rattle.core_state.specs.Sound.{kept_at, versions_at}
-use Rattle.core_state.specs.State.{Flight}
+use Rattle.core_state.proofs.Words.{◌++◌, ◌+◌, ◌∙◌, ◌∷◌, ◌≡◌, ◌≢◌, [], All, All-head, All-tail, all_pairs_head, all_pairs_tail, AllPairs, ap, append-nil, append_assoc, arith, Bool, cond, eqb, eqb-true, false, filter, filter-append, filter_map-append, flat_map, Flight, flight_at, grouped_of, is_kept, is_visible, IsPermutation, IsPermutation-append_left, IsPermutation-append_right, IsPermutation-refl, IsPermutation-trans, Joined, joined, kept_at, length, List, map, map-append, ne_eqb, not, Option, PlainVersion, Query, refl, Some, Store, subst, suc, sym, true, versions_at, with_row, with_rows, ℕ}
+use Rattle.std.specs.Prelude.{slice_get}
+use Rattle.std.proofs.lemmas.List.Sorted.{IsPermutation-append_comm}
+use Rattle.star_plan.specs.Joined.{kept_of, value_at}
 
 -- the groups of rows, with one row more, are the groups of the rows and the one
 abbrev pub FoldsOne : Type 0

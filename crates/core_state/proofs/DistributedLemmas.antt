@@ -1,24 +1,7 @@
 -- A batch that is distributed keeps a core sound.
-use Rattle.std.proofs.Common.{◌≡◌, ◌≢◌, ℕ, ◌+◌, ◌<◌, ◌≤◌, Bool, true, false, cond, eqb, eq-eqb, not, List, [], ◌∷◌, length, get_or, map, Option, Some, None, option_map, slice_get, refl, sym, ap, ◌∙◌, subst, arith}
-use Rattle.std.specs.Prelude.{All, AllPairs, Contains, IfSome, IsTrue, ◌↔◌}
-use Rattle.std.specs.List.{cons_option, filter}
-use Rattle.std.proofs.lemmas.Bool.{ne_eqb}
-use Rattle.std.proofs.lemmas.List.{get_or-map, length-map}
-use Rattle.std.proofs.lemmas.List.Elements.{All-cons, All-contains, All-filter, All-nil}
-use Rattle.std.proofs.lemmas.List.Kept.{AllPairs-cons, AllPairs-filter}
-use Rattle.std.proofs.lemmas.Option.{IfSome_then}
-use Rattle.star_history.proofs.ListLemmas.{all_pairs_head, all_pairs_tail}
-use Rattle.pipeline_manager.specs.Conditions.{is_open}
-use Rattle.pipeline_manager.specs.Lives.{query_in}
+use Rattle.core_state.proofs.Words.{◌+◌, ◌<◌, ◌↔◌, ◌∙◌, ◌∷◌, ◌≡◌, ◌≢◌, ◌≤◌, [], Accepted, accepted_at, All, All-cons, All-contains, All-filter, All-nil, all_pairs_head, all_pairs_tail, AllPairs, AllPairs-cons, AllPairs-filter, ap, AreSoundHands, AreSoundQueries, arith, Bool, cond, cons_option, Contains, eq-eqb, eqb, false, filter, Flight, flight_at, get_or, get_or-map, Hand, IfSome, IfSome_then, is_open, IsKept, IsSound, IsSoundBatch, IsSoundHand, IsSoundQuery, IsThrough, IsTrue, length, length-map, List, map, ne_eqb, None, not, Option, option_map, query_in, QueryLife, refl, Scan, slice_get, Some, State, subst, sym, tables_of, true, versions_in, ℕ}
 use Rattle.pipeline_manager.specs.Sound.{AreRising}
 use Rattle.pipeline_manager.specs.declared.life.Life.TheVariants as life
-use Rattle.pipeline_manager.specs.declared.life.QueryLife.{QueryLife}
-use Rattle.core_state.specs.Events.{IsThrough}
-use Rattle.core_state.specs.Flown.{IsSoundBatch, IsSoundHand}
-use Rattle.core_state.specs.Found.{accepted_at, flight_at}
-use Rattle.core_state.specs.Sound.{AreSoundHands, AreSoundQueries, IsKept, IsSound, IsSoundQuery}
-use Rattle.core_state.specs.State.{Accepted, Flight, Hand, Scan, State}
-use Rattle.core_state.specs.Tables.{tables_of, versions_in}
 use Rattle.core_state.proofs.AnewLemmas.{LivesAs, batches-anew, filters-anew, hands-anew, queries-anew}
 use Rattle.core_state.proofs.DistributeLemmas.{FoldsOne, length-landed, without_flight}
 use Rattle.core_state.proofs.FoundLemmas.{life-found, some-at, some-by}

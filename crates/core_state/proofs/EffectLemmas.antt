@@ -1,25 +1,9 @@
 -- The reply to a statement that a seat takes is that of the statement's effect over the tables of its submission.
-use Rattle.std.proofs.Common.{◌≡◌, ℕ, ◌+◌, ◌<◌, ◌≤◌, cond, eqb, eq-eqb, List, [], ◌∷◌, length, Option, Some, None, option_map, slice_get, refl, sym, ap, ◌∙◌, subst, inl, inr, arith}
-use Rattle.std.specs.Prelude.{find}
-use Rattle.script_reader.specs.declared.statement.Statement.{Statement}
-use Rattle.star_plan.specs.Answer.{answer_of}
-use Rattle.star_plan.specs.Test.{Query}
-use Rattle.star_history.specs.Alone.{alone}
-use Rattle.star_history.specs.History.{Change}
-use Rattle.star_history.specs.Settled.{IsSettled}
-use Rattle.star_history.specs.Store.{Store}
+use Rattle.core_state.proofs.Words.{◌+◌, ◌<◌, ◌∙◌, ◌∷◌, ◌≡◌, ◌≤◌, [], after_steps, after_submitting, alone, answer_of, ap, arith, awaited_at, awaited_by, Change, changes_of, cond, Done, eq-eqb, eqb, find, FitsTables, Grouping, inl, inr, IsRight, IsSettled, IsSound, length, List, MayStepAll, next_ready, None, Option, option_map, outcome_of, Pending, Query, Ready, refl, seat_at, slice_get, Some, State, Statement, Step, Store, Submit, subst, sym, tables_of, Told, Whole, ℕ}
 use Rattle.star_statement.specs.Effect.{answer_reply, effect_of, reply_to}
 use Rattle.star_statement.specs.Outcome as outcome
-use Rattle.star_statement.specs.Outcome.{Told, outcome_of}
-use Rattle.core_state.specs.Answers.{Gives, IsRight}
+use Rattle.core_state.specs.Answers.{Gives}
 use Rattle.core_state.specs.Events.{after_event}
-use Rattle.core_state.specs.Fitting.{FitsTables}
-use Rattle.core_state.specs.Sound.{IsSound}
-use Rattle.core_state.specs.State.{Pending, State}
-use Rattle.core_state.specs.Steps.{Done, MayStepAll, Step, after_steps, awaited_at}
-use Rattle.core_state.specs.Submitting.{Grouping, Ready, Whole, after_submitting, awaited_by, next_ready, seat_at}
-use Rattle.core_state.specs.Tables.{changes_of, tables_of}
-use Rattle.core_state.specs.declared.event.Event.TheVariants.{Submit}
 use Rattle.core_state.proofs.AnswerLemmas.{IgnoresOrder, reply-right}
 use Rattle.core_state.proofs.FoundLemmas.{some-at}
 use Rattle.core_state.proofs.GivenLemmas.{Settles}

@@ -1,33 +1,10 @@
 -- A slot that is taken from its query keeps a core sound.
-use Rattle.std.proofs.Common.{◌≡◌, ◌≢◌, ℕ, ◌<◌, ◌≤◌, ◌++◌, Bool, true, false, cond, eqb, eq-eqb, List, [], ◌∷◌, length, get_or, set, Option, Some, None, find, slice_get, refl, sym, ap, ◌∙◌, subst, ⊎_elim, inr, append-nil, ◌||◌}
-use Rattle.std.specs.Prelude.{All, IfSome, IsTrue, flat_map, ◌↔◌}
-use Rattle.std.specs.List.{list_any, range_with_len}
-use Rattle.std.specs.List.Sorted.{IsPermutation}
-use Rattle.std.specs.Option.{option_map_or}
-use Rattle.std.proofs.lemmas.Bool.{eqb-true}
-use Rattle.std.proofs.lemmas.List.{get_or-set_same, get_or-set_other, length-set}
-use Rattle.std.proofs.lemmas.List.Elements.{All-cons, All-nil}
-use Rattle.bit_words.specs.Sets.{Has}
-use Rattle.pipeline_manager.specs.Changes.{given_up, is_ending, with_life}
-use Rattle.pipeline_manager.specs.Conditions.{IsOver, is_open}
-use Rattle.pipeline_manager.specs.Lives.{life_in, query_in, slot_at}
+use Rattle.core_state.proofs.Words.{◌++◌, ◌<◌, ◌||◌, ◌↔◌, ◌∙◌, ◌∷◌, ◌≡◌, ◌≢◌, ◌≤◌, [], Accepted, after_finish, All, All-cons, All-nil, ap, append-nil, AreSoundQueries, Bool, Clearing, cond, eq-eqb, eqb, eqb-true, false, FitsSlot, flat_map, Flight, Free, get_or, get_or-set_other, get_or-set_same, gets_rows, given_up, Has, Held, IfSome, inr, is_ending, is_on_roster, is_open, IsKept, IsOnRoster, IsPermutation, IsSound, IsSoundBatch, IsTrue, kept_at, length, length-set, Life, life_in, life_in-other, List, list_any, MayBeOnRoster, MayFinish, None, OnRoster, Option, option_map_or, positions_for, query_in, QueryLife, range_with_len, refl, set, slice_get, slot_at, slot_of-holder, SlotState, Some, State, subst, sym, tables_of, true, versions_in, with_life, ℕ, ⊎_elim}
+use Rattle.std.proofs.Common.{find}
+use Rattle.pipeline_manager.specs.Conditions.{IsOver}
 use Rattle.pipeline_manager.specs.Sound as managed
-use Rattle.pipeline_manager.specs.declared.life.Life.{Life}
 use Rattle.pipeline_manager.specs.declared.life.Life.TheVariants as life
-use Rattle.pipeline_manager.specs.declared.life.QueryLife.{QueryLife}
-use Rattle.pipeline_manager.specs.declared.life.SlotState.{SlotState}
-use Rattle.pipeline_manager.specs.declared.life.SlotState.TheVariants.{Free, Held, Clearing}
 use Rattle.pipeline_manager.proofs.EndLemmas.{sound-ended}
-use Rattle.pipeline_manager.proofs.HolderLemmas.{slot_of-holder}
-use Rattle.pipeline_manager.proofs.LifeLemmas.{life_in-other}
-use Rattle.core_state.specs.Admitting.{after_finish}
-use Rattle.core_state.specs.Cutting.{gets_rows}
-use Rattle.core_state.specs.Events.{MayFinish}
-use Rattle.core_state.specs.Flown.{FitsSlot, IsOnRoster, IsSoundBatch, MayBeOnRoster}
-use Rattle.core_state.specs.Found.{is_on_roster}
-use Rattle.core_state.specs.Sound.{AreSoundQueries, IsKept, IsSound, kept_at, positions_for}
-use Rattle.core_state.specs.State.{Accepted, Flight, OnRoster, State}
-use Rattle.core_state.specs.Tables.{tables_of, versions_in}
 use Rattle.core_state.proofs.FoundLemmas.{find-passes, some-at}
 use Rattle.core_state.proofs.HeldLemmas.{entry-set, filters-held, fits-set, queries-stay, slot-there}
 use Rattle.core_state.proofs.MovedLemmas.{Holds, StaysWanted, held_now, order-held, sound-held}

@@ -1,18 +1,8 @@
 -- What stays sound where the batches in flight change, and not their positions.
-use Rattle.std.proofs.Common.{◌≡◌, ℕ, ◌+◌, ◌<◌, ◌≤◌, ◌++◌, List, [], ◌∷◌, length, get_or, map, refl, sym, ap, ◌∙◌, subst, arith}
-use Rattle.std.specs.Prelude.{flat_map}
-use Rattle.std.specs.Option.{option_map_or}
-use Rattle.std.specs.List.{filter, find, range_with_len}
-use Rattle.std.proofs.lemmas.List.{get_or-map, length-map}
-use Rattle.std.proofs.lemmas.List.Elements.{All-map}
-use Rattle.std.proofs.lemmas.Option.{IfSome_then}
-use Rattle.std.specs.Prelude.{nat_lt, ◌==◌}
-use Rattle.pipeline_manager.specs.Lives.{query_in}
-use Rattle.core_state.specs.Flown.{IsOnRoster}
-use Rattle.core_state.specs.Sound.{AreSoundBatches, AreSoundFilters, AreSoundHands, AreSoundNumbers, AreSoundQueries, AreSoundSeats, IsSound, IsSoundOrder, positions_for}
-use Rattle.core_state.specs.State.{Flight, OnRoster, State}
+use Rattle.core_state.proofs.Words.{◌++◌, ◌+◌, ◌<◌, ◌==◌, ◌∙◌, ◌∷◌, ◌≡◌, ◌≤◌, [], All-map, ap, AreSoundBatches, AreSoundFilters, AreSoundHands, AreSoundNumbers, AreSoundQueries, AreSoundSeats, arith, filter, flat_map, Flight, get_or, get_or-map, IfSome_then, IsOnRoster, IsSound, IsSoundOrder, length, length-map, List, map, OnRoster, option_map_or, positions_for, query_in, range_with_len, refl, State, subst, sym, Tally, ℕ}
+use Rattle.std.specs.List.{find}
+use Rattle.std.specs.Prelude.{nat_lt}
 use Rattle.core_state.proofs.FrameLemmas.{filter-moved, kept-moved, moved, query-moved}
-use Rattle.filter_order.specs.declared.tally.Tally.{Tally}
 
 -- the core with changed batches in flight, and other tallies
 abbrev pub flown : State → List Tally → (Flight → Flight) → State

@@ -1,12 +1,6 @@
 -- What is found of queries whose lives change.
-use Rattle.std.proofs.Common.{◌≡◌, ◌≢◌, ℕ, Bool, true, false, cond, eqb, eq-eqb, List, [], ◌∷◌, map, find, Option, Some, None, option_map, refl, ap, sym, ◌∙◌, subst, ⊎_elim}
-use Rattle.std.specs.Prelude.{IfSome}
-use Rattle.std.proofs.lemmas.Bool.{cases_eq, eqb-true, ne_eqb}
-use Rattle.pipeline_manager.specs.Changes.{renewed, with_life}
-use Rattle.pipeline_manager.specs.Lives.{life_in, query_in}
-use Rattle.pipeline_manager.specs.declared.life.Life.{Life}
-use Rattle.pipeline_manager.specs.declared.life.QueryLife.{QueryLife}
-use Rattle.pipeline_manager.proofs.LifeLemmas.{query_in-map, renewed-number}
+use Rattle.core_state.proofs.Words.{◌∙◌, ◌∷◌, ◌≡◌, ◌≢◌, [], ap, Bool, cases_eq, cond, eq-eqb, eqb, eqb-true, false, IfSome, Life, life_in, List, map, ne_eqb, None, Option, option_map, query_in, query_in-map, QueryLife, refl, renewed, renewed-number, Some, subst, sym, true, with_life, ℕ, ⊎_elim}
+use Rattle.std.proofs.Common.{find}
 
 -- what is found passes
 pub find-passes : {X : Type 0} (p : X → Bool) (xs : List X) (x : X) → find p xs ≡ Some x → p x ≡ true

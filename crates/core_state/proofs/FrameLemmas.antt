@@ -1,23 +1,6 @@
 -- What stays sound where only the lives, the filters, the scan and the numbers of a core change.
-use Rattle.std.proofs.Common.{◌≡◌, ℕ, ◌+◌, ◌<◌, ◌≤◌, ◌++◌, List, length, get_or, slice_get, sym, arith, subst, ⊎_elim, inl, inr}
-use Rattle.std.specs.Prelude.{All, IfSome, IsTrue, ◌↔◌, flat_map}
-use Rattle.std.specs.List.{range_with_len}
-use Rattle.std.specs.List.Sorted.{IsPermutation}
-use Rattle.std.proofs.lemmas.Option.{IfSome_then}
-use Rattle.bit_words.specs.Sets.{Has}
-use Rattle.star_history.specs.Store.{PlainVersion}
-use Rattle.pipeline_manager.specs.Conditions.{is_open}
-use Rattle.pipeline_manager.specs.Lives.{life_in, query_in, slot_at}
-use Rattle.pipeline_manager.specs.declared.life.Life.{Life}
+use Rattle.core_state.proofs.Words.{◌++◌, ◌+◌, ◌<◌, ◌↔◌, ◌≡◌, ◌≤◌, Accepted, All, arith, Filter, Filters, FitsSlot, flat_map, Flight, Free, get_or, Hand, Has, Held, IfSome, IfSome_then, inl, inr, is_open, IsAnswer, IsCovered, IsKept, IsNext, IsOnRoster, IsPermutation, IsSoundBatch, IsSoundFilter, IsSoundHand, IsSoundQuery, IsSoundRow, IsTrue, length, Life, life_in, List, MayBeOnRoster, Numbers, OnRoster, PlainVersion, positions_for, query_in, QueryLife, range_with_len, Scan, slice_get, slot_at, SlotState, State, subst, sym, tables_of, to_come, versions_in, ℕ, ⊎_elim}
 use Rattle.pipeline_manager.specs.declared.life.Life.TheVariants as life
-use Rattle.pipeline_manager.specs.declared.life.QueryLife.{QueryLife}
-use Rattle.pipeline_manager.specs.declared.life.SlotState.{SlotState}
-use Rattle.pipeline_manager.specs.declared.life.SlotState.TheVariants.{Free, Held}
-use Rattle.dimension_filter.specs.Filter.{Filter}
-use Rattle.core_state.specs.Flown.{FitsSlot, IsOnRoster, IsSoundBatch, IsSoundFilter, IsSoundHand, IsSoundRow, MayBeOnRoster}
-use Rattle.core_state.specs.Sound.{IsAnswer, IsCovered, IsKept, IsNext, IsSoundQuery, positions_for, to_come}
-use Rattle.core_state.specs.State.{Accepted, Filters, Flight, Hand, Numbers, OnRoster, Scan, State}
-use Rattle.core_state.specs.Tables.{tables_of, versions_in}
 
 -- the core with other lives of the same filters, other filters, another scan and other numbers
 abbrev pub moved : State → List QueryLife → List SlotState → Filters → Scan → Numbers → State

@@ -1,26 +1,6 @@
 -- What becomes of the bits of a row, and of what a query keeps so far, where a batch passes a filter.
-use Rattle.std.proofs.Common.{◌≡◌, ℕ, ◌<◌, Bool, true, false, cond, eqb, eq-eqb, ◌&&◌, List, [], ◌∷◌, length, get_or, refl, sym, ap, ◌∙◌, subst, ⊎_elim, inl, inr, arith}
-use Rattle.std.specs.Prelude.{All, IsTrue, ◌↔◌}
-use Rattle.std.specs.List.{list_all, range_with_len}
-use Rattle.std.specs.Int.{bit_at}
-use Rattle.std.proofs.lemmas.Bool.{eqb-true}
-use Rattle.std.proofs.lemmas.List.Elements.{All-cons, All-head, All-nil, All-tail}
-use Rattle.std.proofs.lemmas.List.FromFn.{get_or-map-range_with_len, get_or-range_with_len, length-range_with_len}
-use Rattle.bit_words.specs.Sets.{Has, with_number}
-use Rattle.bit_words.proofs.SetLemmas.{Has-both, Has-with}
-use Rattle.batch_flow.specs.Rows.{key_place}
-use Rattle.dimension_filter.specs.Filter.{Filter, vector_of}
-use Rattle.dimension_filter.specs.Pass.{bits_left_at, filtered}
-use Rattle.std.specs.Prelude.{Contains}
-use Rattle.star_plan.specs.Joined.{takes_at}
-use Rattle.star_plan.specs.Truth.{passes}
-use Rattle.fact_versions.specs.Visible.{is_visible}
-use Rattle.star_history.specs.Alone.{joined}
-use Rattle.star_history.specs.Store.{PlainVersion}
-use Rattle.core_state.specs.Cutting.{passed_by}
-use Rattle.core_state.specs.Flown.{IsSoundRow, keeps_so_far}
-use Rattle.core_state.specs.State.{Flight, OnRoster, State}
-use Rattle.core_state.specs.Tables.{key_number, tables_of}
+use Rattle.core_state.proofs.Words.{◌&&◌, ◌<◌, ◌↔◌, ◌∙◌, ◌∷◌, ◌≡◌, [], All, All-cons, All-head, All-nil, All-tail, ap, arith, bit_at, bits_left_at, Bool, cond, Contains, eq-eqb, eqb, eqb-true, false, Filter, filtered, Flight, get_or, get_or-map-range_with_len, get_or-range_with_len, Has, Has-with, inl, inr, is_visible, IsSoundRow, IsTrue, joined, keeps_so_far, key_number, key_place, length, length-range_with_len, List, list_all, OnRoster, passed_by, passes, PlainVersion, range_with_len, refl, State, subst, sym, tables_of, takes_at, true, vector_of, with_number, ℕ, ⊎_elim}
+use Rattle.bit_words.proofs.SetLemmas.{Has-both}
 
 -- a row keeps those of its bits that are in the vector of its key
 pub given-bits : (filter : Filter) (keys bits : List ℕ) (row slot : ℕ) → row < length bits

@@ -1,26 +1,5 @@
 -- A batch that a worker gives back keeps a core sound.
-use Rattle.std.proofs.Common.{◌≡◌, ◌≢◌, ℕ, suc, zero, ◌+◌, ◌<◌, Bool, true, false, cond, eqb, List, [], ◌∷◌, length, get_or, map, Option, Some, None, option_map, slice_get, refl, ◌∙◌, subst, arith}
-use Rattle.std.specs.Prelude.{All, AllPairs, Contains, IfSome, IsSome, find}
-use Rattle.std.specs.List.{cons_option}
-use Rattle.std.specs.Option.{option_map_or}
-use Rattle.std.proofs.lemmas.List.Elements.{All-contains, All-map}
-use Rattle.std.proofs.lemmas.List.FromFn.{length-map-range_with_len}
-use Rattle.std.proofs.lemmas.List.Kept.{AllPairs-cons}
-use Rattle.star_plan.specs.Over.{IsOver}
-use Rattle.filter_order.specs.declared.tally.Tally.{Tally}
-use Rattle.dimension_filter.specs.Filter.{Filter}
-use Rattle.dimension_filter.specs.Pass.{bits_left_at}
-use Rattle.star_history.specs.Accepted.{AcceptsAll}
-use Rattle.star_history.specs.History.{Change, store_of}
-use Rattle.star_history.specs.Settled.{IsMatched, IsSettled}
-use Rattle.star_history.specs.Store.{PlainVersion, empty_store, rows_in}
-use Rattle.star_history.proofs.LoadedLemmas.{all_at}
-use Rattle.core_state.specs.Cutting.{after_give, given_back, passed_by, tallies_after}
-use Rattle.core_state.specs.Flown.{Encodes, IsOnRoster, IsSoundBatch, IsSoundHand, IsSoundRow}
-use Rattle.core_state.specs.Found.{accepted_at, held_by, is_held_by}
-use Rattle.core_state.specs.Sound.{IsSound, IsSoundQuery}
-use Rattle.core_state.specs.State.{Accepted, Flight, Hand, OnRoster, State}
-use Rattle.core_state.specs.Tables.{changes_of, tables_of}
+use Rattle.core_state.proofs.Words.{◌+◌, ◌<◌, ◌∙◌, ◌∷◌, ◌≡◌, ◌≢◌, [], Accepted, accepted_at, AcceptsAll, after_give, All, All-contains, All-map, all_at, AllPairs, AllPairs-cons, arith, bits_left_at, Bool, Change, changes_of, cond, cons_option, Contains, empty_store, Encodes, eqb, false, Filter, find, Flight, get_or, given_back, Hand, held_by, IfSome, is_held_by, IsMatched, IsOnRoster, IsOver, IsSettled, IsSome, IsSound, IsSoundBatch, IsSoundHand, IsSoundQuery, IsSoundRow, length, length-map-range_with_len, List, map, None, OnRoster, Option, option_map, option_map_or, passed_by, PlainVersion, refl, rows_in, slice_get, Some, State, store_of, subst, suc, tables_of, tallies_after, Tally, true, zero, ℕ}
 use Rattle.core_state.proofs.AcceptedLemmas.{find-holds, held-accepted}
 use Rattle.core_state.proofs.FlownLemmas.{Flies, KeepsPlace, entry-flown, flown, sound-flown}
 use Rattle.core_state.proofs.GiveLemmas.{SaysByKey, bits-given, given-bits}

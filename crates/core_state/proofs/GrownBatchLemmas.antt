@@ -1,15 +1,5 @@
 -- Batches in flight stay sound where the tables grow.
-use Rattle.std.proofs.Common.{ℕ, ◌+◌, ◌<◌, List, length, get_or, Option, Some, None, slice_get, sym, ap, ◌∙◌, subst, arith}
-use Rattle.std.specs.Prelude.{Contains, IfSome, IsTrue, ◌↔◌, slice_index_or}
-use Rattle.std.proofs.lemmas.List.Elements.{All-contains}
-use Rattle.bit_words.specs.Sets.{Has}
-use Rattle.star_history.specs.Settled.{IsMatched, IsSettled}
-use Rattle.star_history.specs.Store.{PlainVersion}
-use Rattle.star_history.proofs.LoadedLemmas.{all_at}
-use Rattle.core_state.specs.Flown.{IsOnRoster, IsSoundBatch, IsSoundRow}
-use Rattle.core_state.specs.Sound.{AreSoundBatches, IsSound}
-use Rattle.core_state.specs.State.{Entry, Flight, OnRoster, State}
-use Rattle.core_state.specs.Tables.{key_number, tables_by, tables_of}
+use Rattle.core_state.proofs.Words.{◌+◌, ◌<◌, ◌↔◌, ◌∙◌, All-contains, all_at, ap, AreSoundBatches, arith, Contains, Entry, Flight, get_or, Has, IfSome, IsMatched, IsOnRoster, IsSettled, IsSound, IsSoundBatch, IsSoundRow, IsTrue, key_number, length, List, None, OnRoster, Option, PlainVersion, slice_get, slice_index_or, Some, State, subst, sym, tables_by, tables_of, ℕ}
 use Rattle.core_state.proofs.GrownFilterLemmas.{entered, snapshot-on}
 use Rattle.core_state.proofs.GrownKeyLemmas.{keeps-stays, key-stays}
 use Rattle.core_state.proofs.GrownRowsLemmas.{Grows, Stays, StaysThere}

@@ -1,22 +1,5 @@
 -- Filters and hands stay sound where the tables grow.
-use Rattle.std.proofs.Common.{◌≡◌, ℕ, ◌<◌, ◌≤◌, eqb, false, true, List, length, length-append, get_or, Option, Some, None, refl, sym, ap, ◌∙◌, subst, arith}
-use Rattle.std.specs.Prelude.{Contains, IfSome, IsSome, IsTrue, ◌↔◌}
-use Rattle.std.proofs.lemmas.Option.{IfSome_then}
-use Rattle.bit_words.specs.Sets.{Has}
-use Rattle.star_plan.specs.Joined.{takes}
-use Rattle.star_plan.specs.Test.{Query}
-use Rattle.dimension_rows.specs.declared.dimension_row.DimensionRow.{DimensionRow}
-use Rattle.pipeline_manager.specs.Lives.{slot_at}
-use Rattle.pipeline_manager.specs.declared.life.SlotState.{SlotState}
-use Rattle.pipeline_manager.specs.declared.life.SlotState.TheVariants.{Free, Held, Clearing}
-use Rattle.dimension_filter.specs.Filter.{Filter, vector_of}
-use Rattle.star_history.specs.Store.{Store, rows_in}
-use Rattle.core_state.specs.Admitting.{selection_in}
-use Rattle.core_state.specs.Flown.{Encodes, FitsSlot, IsOnRoster, IsSoundFilter, IsSoundHand}
-use Rattle.core_state.specs.Found.{accepted_at}
-use Rattle.core_state.specs.Sound.{AreSoundFilters, AreSoundHands, IsSound, IsSoundQuery}
-use Rattle.core_state.specs.State.{Accepted, Entry, Flight, Hand, OnRoster, State}
-use Rattle.core_state.specs.Tables.{filter_dimensions, tables_by, tables_of}
+use Rattle.core_state.proofs.Words.{◌<◌, ◌↔◌, ◌∙◌, ◌≡◌, ◌≤◌, Accepted, accepted_at, ap, AreSoundFilters, AreSoundHands, arith, Clearing, Contains, DimensionRow, Encodes, Entry, eqb, false, Filter, filter_dimensions, FitsSlot, Flight, Free, get_or, Hand, Has, Held, IfSome, IfSome_then, IsOnRoster, IsSome, IsSound, IsSoundFilter, IsSoundHand, IsSoundQuery, IsTrue, length, length-append, List, None, OnRoster, Option, Query, refl, rows_in, selection_in, slot_at, SlotState, Some, State, Store, subst, sym, tables_by, tables_of, takes, true, vector_of, ℕ}
 use Rattle.core_state.proofs.AcceptedLemmas.{find-holds, held-accepted}
 use Rattle.core_state.proofs.FoundLemmas.{some-at, some-by}
 use Rattle.core_state.proofs.GrownRowsLemmas.{Behind, Grows, some-behind}

@@ -1,28 +1,11 @@
 -- What is found in tables by keys and snapshots is found there after they have grown.
-use Rattle.std.proofs.Common.{◌≡◌, ℕ, ◌<◌, ◌≤◌, ◌&&◌, Bool, true, false, cond, nat_le, List, [], ◌∷◌, ◌++◌, length, length-append, Option, Some, None, refl, sym, ap, ◌∙◌, subst, arith}
-use Rattle.std.specs.Prelude.{All, IfSome}
-use Rattle.std.specs.List.{find, list_all, position, range_with_len}
-use Rattle.std.specs.Option.{option_map_or, option_or}
-use Rattle.std.proofs.lemmas.Bool.Decides.{nat_tests}
-use Rattle.std.proofs.lemmas.List.{get_or_append_left}
-use Rattle.std.proofs.lemmas.List.Elements.{All-head, All-tail}
+use Rattle.core_state.proofs.Words.{◌&&◌, ◌++◌, ◌<◌, ◌∙◌, ◌∷◌, ◌≡◌, ◌≤◌, [], All, All-head, All-tail, ap, arith, Bool, cond, DimensionRow, false, Flight, foreign_key, get_or_append_left, has_key, has_passed, IfSome, index_of, is_matched, IsMatched, IsPlaceOf, Joined, joined, joined_row, keeps_so_far, key_number, length, length-append, List, list_all, nat_le, nat_tests, None, OnRoster, Option, option_map_or, passes, PlainVersion, position-Some, position_there, Query, range_with_len, refl, row_of_key, rows_in, Some, Store, subst, sym, takes_at, true, ℕ}
+use Rattle.std.specs.List.{find, position}
+use Rattle.std.specs.Option.{option_or}
 use Rattle.std.proofs.lemmas.List.Folds.{find-append}
-use Rattle.std.proofs.lemmas.List.Quantifiers.{position-Some}
 use Rattle.std.proofs.lemmas.List.Sums.{position_or_len_is}
 use Rattle.star_values.specs.declared.value.Value as cell
-use Rattle.star_plan.specs.Joined.{Joined, takes_at}
-use Rattle.star_plan.specs.Test.{Query}
-use Rattle.star_plan.specs.Truth.{passes}
-use Rattle.dimension_rows.specs.declared.dimension_row.DimensionRow.{DimensionRow}
-use Rattle.dimension_rows.specs.Keys.{has_key, index_of}
-use Rattle.star_history.specs.Alone.{foreign_key, is_matched, joined, joined_row, joined_with, row_of_key}
-use Rattle.star_history.specs.Settled.{IsMatched, IsPlaceOf}
-use Rattle.star_history.specs.Store.{PlainVersion, Store, rows_in}
-use Rattle.star_history.proofs.FoundLemmas.{position_there}
-use Rattle.core_state.specs.Flown.{keeps_so_far}
-use Rattle.core_state.specs.Found.{has_passed}
-use Rattle.core_state.specs.State.{Flight, OnRoster}
-use Rattle.core_state.specs.Tables.{key_number}
+use Rattle.star_history.specs.Alone.{joined_with}
 use Rattle.core_state.proofs.GrownRowsLemmas.{Behind, Grows, Stays}
 
 -- Key numbers.

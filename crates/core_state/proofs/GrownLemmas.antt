@@ -1,18 +1,5 @@
 -- Rows that are loaded, and versions that are ended, leave everything sound that a core keeps beside its seats.
-use Rattle.std.proofs.Common.{◌≡◌, ℕ, ◌≤◌, List, [], ◌∷◌, ◌++◌, sym, ap, ◌∙◌, subst, arith}
-use Rattle.std.specs.List.{fold}
-use Rattle.std.proofs.lemmas.List.{map-append}
-use Rattle.std.proofs.lemmas.List.Sums.{fold-append}
-use Rattle.star_plan.specs.Test.{Query}
-use Rattle.star_history.specs.Accepted.{Accepts, AcceptsAll}
-use Rattle.star_history.specs.Alone.{kept}
-use Rattle.star_history.specs.History.{Change, after_change, store_of}
-use Rattle.star_history.specs.Settled.{IsSettled}
-use Rattle.star_history.specs.Store.{Store, empty_store}
-use Rattle.core_state.specs.Beside.{IsOfRows, IsSoundBeside, with_entry}
-use Rattle.core_state.specs.Sound.{IsSound}
-use Rattle.core_state.specs.State.{Entry, State}
-use Rattle.core_state.specs.Tables.{changes_of, tables_by, tables_of}
+use Rattle.core_state.proofs.Words.{◌++◌, ◌∙◌, ◌∷◌, ◌≡◌, ◌≤◌, [], Accepts, AcceptsAll, after_change, ap, arith, Change, changes_of, empty_store, Entry, fold, fold-append, IsOfRows, IsSettled, IsSound, IsSoundBeside, kept, List, map-append, Query, State, Store, store_of, subst, sym, tables_by, tables_of, with_entry, ℕ}
 use Rattle.core_state.proofs.GivenLemmas.{Settles}
 use Rattle.core_state.proofs.GrownBatchLemmas.{batches-grown}
 use Rattle.core_state.proofs.GrownFilterLemmas.{filters-grown, hands-grown}

@@ -1,28 +1,8 @@
 -- What is kept of the accepted queries stays sound where the tables grow.
-use Rattle.std.proofs.Common.{◌≡◌, ℕ, ◌<◌, ◌≤◌, Bool, true, false, cond, List, [], ◌∷◌, ◌++◌, length, get_or, map, Option, Some, None, slice_get, refl, sym, ap, ◌∙◌, subst, ⊎_elim, inl, inr, append_assoc, arith}
-use Rattle.std.specs.Prelude.{All, IfSome, IsTrue, ◌↔◌, flat_map}
-use Rattle.std.specs.List.{cons_option, filter, range_with_len}
-use Rattle.std.specs.List.Sorted.{IsPermutation}
-use Rattle.std.proofs.lemmas.Bool.{cases_lt}
-use Rattle.std.proofs.lemmas.Option.{IfSome_then}
-use Rattle.std.proofs.lemmas.List.Elements.{All-head, All-tail}
-use Rattle.std.proofs.lemmas.List.FromFn.{get_or-range_with_len, length-range_with_len}
-use Rattle.std.proofs.lemmas.List.Sorted.{All-permutation, IsPermutation-sym}
-use Rattle.star_plan.specs.Joined.{Joined, kept_of}
-use Rattle.star_plan.specs.Over.{IsOver}
-use Rattle.star_plan.specs.Test.{Query}
-use Rattle.fact_versions.specs.Visible.{is_visible}
-use Rattle.pipeline_manager.specs.Conditions.{is_open}
-use Rattle.pipeline_manager.specs.Lives.{query_in}
-use Rattle.pipeline_manager.specs.declared.life.Life.{Life}
+use Rattle.core_state.proofs.Words.{◌++◌, ◌<◌, ◌↔◌, ◌∙◌, ◌∷◌, ◌≡◌, ◌≤◌, [], Accepted, All, All-head, All-permutation, All-tail, ap, append_assoc, AreSoundQueries, arith, Bool, cases_lt, cond, cons_option, Entry, false, filter, flat_map, get_or, get_or-range_with_len, grouped_of, IfSome, IfSome_then, inl, inr, is_open, is_visible, IsAnswer, IsCovered, IsKept, IsOver, IsPermutation, IsPermutation-sym, IsSoundQuery, IsTrue, Joined, joined, kept, kept_at, length, length-range_with_len, Life, List, map, None, Option, PlainVersion, positions_for, Query, query_in, range_with_len, refl, slice_get, Some, State, Store, subst, sym, tables_by, tables_of, to_come, true, versions_at, versions_in, ℕ, ⊎_elim}
+use Rattle.star_plan.specs.Joined.{kept_of}
 use Rattle.pipeline_manager.specs.declared.life.Life.TheVariants as life
-use Rattle.aggregations.specs.Grouped.{grouped_of}
-use Rattle.star_history.specs.Alone.{joined, kept}
-use Rattle.star_history.specs.Store.{PlainVersion, Store}
 use Rattle.star_history.proofs.LoadedLemmas.{all_front}
-use Rattle.core_state.specs.Sound.{AreSoundQueries, IsAnswer, IsCovered, IsKept, IsSoundQuery, kept_at, positions_for, to_come, versions_at}
-use Rattle.core_state.specs.State.{Accepted, Entry, State}
-use Rattle.core_state.specs.Tables.{tables_by, tables_of, versions_in}
 use Rattle.core_state.proofs.GrownFilterLemmas.{entered}
 use Rattle.core_state.proofs.GrownKeyLemmas.{version-joined}
 use Rattle.core_state.proofs.GrownRowsLemmas.{Grows, StaysThere}

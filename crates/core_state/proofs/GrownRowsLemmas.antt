@@ -1,19 +1,6 @@
 -- How the tables grow: rows come behind those of their dimension, versions behind the others, and versions are ended.
-use Rattle.std.proofs.Common.{◌≡◌, ◌≢◌, ℕ, zero, suc, ◌+◌, ◌<◌, ◌≤◌, List, [], ◌∷◌, ◌++◌, length, length-append, append-nil, Option, Some, None, slice_get, refl, sym, ap, ◌∙◌, arith}
-use Rattle.std.specs.Prelude.{All, AllPairs, IfSome}
-use Rattle.std.proofs.lemmas.Bool.Decides.{nat_tests}
-use Rattle.std.proofs.lemmas.List.Elements.{All-head, All-map, All-nil}
-use Rattle.star_plan.specs.declared.table.Table.TheVariants.{Fact, Dimension}
-use Rattle.fact_versions.specs.Visible.{is_visible}
-use Rattle.dimension_rows.specs.declared.dimension_row.DimensionRow.{DimensionRow}
+use Rattle.core_state.proofs.Words.{◌++◌, ◌+◌, ◌<◌, ◌∙◌, ◌∷◌, ◌≡◌, ◌≢◌, ◌≤◌, [], Accepts, after_change, All, All-head, All-map, All-nil, all_at, all_pairs_tail, AllPairs, ap, append-nil, arith, Change, Dimension, DimensionDeclared, DimensionRow, Ended, Fact, FactDeclared, IfSome, in_grown, is_visible, IsOfRows, length, length-append, List, Loaded, nat_tests, None, Option, PlainVersion, refl, rows_by, rows_in, slice_get, Some, still_live, Store, suc, sym, versions_by, with_end, with_ends, zero, ℕ}
 use Rattle.star_values.specs.declared.value.Value as cell
-use Rattle.star_history.specs.Accepted.{Accepts}
-use Rattle.star_history.specs.History.{Change, DimensionDeclared, FactDeclared, Loaded, Ended, after_change, rows_by, versions_by, with_end, with_ends}
-use Rattle.star_history.specs.Store.{PlainVersion, Store, rows_in}
-use Rattle.star_history.proofs.LaterLemmas.{still_live}
-use Rattle.star_history.proofs.ListLemmas.{all_pairs_tail}
-use Rattle.star_history.proofs.LoadedLemmas.{all_at, in_grown}
-use Rattle.core_state.specs.Beside.{IsOfRows}
 
 -- a version keeps its row and the commit that began it, and is seen as before by the snapshots so far
 pub record Stays (commits : ℕ) (before after : PlainVersion) : Type 0 where

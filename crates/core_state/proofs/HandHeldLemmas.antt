@@ -1,18 +1,6 @@
 -- What a worker took stays right while it holds it, whatever is committed meanwhile.
-use Rattle.std.proofs.Common.{◌≡◌, ℕ, ◌+◌, ◌*◌, List, ◌++◌, length, Option, Some, None, slice_get, refl, sym, ap, ◌∙◌, subst, arith}
-use Rattle.std.specs.Prelude.{◌==◌, All, Contains, IfSome, IsSome}
-use Rattle.std.specs.Int.{bit_at}
-use Rattle.std.proofs.lemmas.List.Elements.{All-contains}
-use Rattle.std.proofs.lemmas.Option.{IfSome_then}
-use Rattle.bit_words.specs.Sets.{Has}
-use Rattle.star_plan.specs.declared.table_def.TableDef.{TableDef}
-use Rattle.star_history.specs.Accepted.{AcceptsAll}
-use Rattle.star_history.specs.Store.{empty_store, rows_in}
-use Rattle.core_state.specs.Flown.{Encodes, IsOnRoster, IsSoundBatch, IsSoundHand}
+use Rattle.core_state.proofs.Words.{◌*◌, ◌++◌, ◌+◌, ◌==◌, ◌∙◌, ◌≡◌, AcceptsAll, All, All-contains, ap, arith, bit_at, changes_of, Contains, empty_store, Encodes, Entry, filter_dimensions, Flight, Hand, Has, IfSome, IfSome_then, IsOnRoster, IsSome, IsSound, IsSoundBatch, IsSoundHand, length, List, None, OnRoster, Option, refl, rows_in, slice_get, Some, State, subst, sym, TableDef, tables_by, tables_of, ℕ}
 use Rattle.core_state.specs.Hands.{IsInHandAs}
-use Rattle.core_state.specs.Sound.{IsSound}
-use Rattle.core_state.specs.State.{Entry, Flight, Hand, OnRoster, State}
-use Rattle.core_state.specs.Tables.{changes_of, filter_dimensions, tables_by, tables_of}
 use Rattle.core_state.proofs.FoundLemmas.{some-at}
 use Rattle.core_state.proofs.GivenLemmas.{Settles}
 use Rattle.core_state.proofs.GrownBatchLemmas.{batch-grown}

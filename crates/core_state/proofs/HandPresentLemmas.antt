@@ -1,29 +1,7 @@
 -- A batch gets the same bits from each filter of a dimension that has every query on its roster.
-use Rattle.std.proofs.Common.{◌≡◌, ℕ, ◌+◌, ◌<◌, Bool, true, eqb, List, [], length, get_or, Some, slice_get, refl, sym, ◌∙◌, subst, arith}
-use Rattle.std.specs.Prelude.{Any, Contains, IfSome, IsTrue, ◌↔◌}
-use Rattle.std.specs.List.{list_all, range_with_len}
-use Rattle.std.proofs.lemmas.Bool.{eqb-true}
-use Rattle.std.proofs.lemmas.List.Elements.{All-contains}
-use Rattle.std.proofs.lemmas.List.Folds.{Any-from_list_any}
-use Rattle.std.proofs.lemmas.List.FromFn.{fill_by_all, get_or-map-range_with_len, length-map-range_with_len}
-use Rattle.bit_words.specs.Sets.{Has}
+use Rattle.core_state.proofs.Words.{◌+◌, ◌<◌, ◌↔◌, ◌∙◌, ◌≡◌, [], All-contains, Any, Any-from_list_any, arith, bits_left_at, Bool, changes_of, Contains, Encodes, eqb, eqb-true, Filter, filtered, FilterVersion, Flight, get_or, get_or-map-range_with_len, Hand, Has, IfSome, is_visible, IsMatched, IsOnRoster, IsOver, IsSettled, IsSound, IsSoundBatch, IsSoundFilter, IsSoundHand, IsSoundRow, IsTrue, joined, key_place, length, length-map-range_with_len, List, list_all, OnRoster, passes, PlainVersion, range_with_len, refl, rows_in, slice_get, slice_get_at, Some, State, subst, sym, tables_of, takes_at, true, vector_of, version_at, ℕ}
+use Rattle.std.proofs.lemmas.List.FromFn.{fill_by_all}
 use Rattle.bit_words.proofs.SetLemmas.{same_members}
-use Rattle.batch_flow.specs.Rows.{key_place}
-use Rattle.dimension_filter.specs.Filter.{Filter, vector_of}
-use Rattle.dimension_filter.specs.Pass.{bits_left_at, filtered}
-use Rattle.star_plan.specs.Joined.{takes_at}
-use Rattle.star_plan.specs.Over.{IsOver}
-use Rattle.star_plan.specs.Truth.{passes}
-use Rattle.fact_versions.specs.Visible.{is_visible}
-use Rattle.star_history.specs.Alone.{joined}
-use Rattle.star_history.specs.Settled.{IsMatched, IsSettled}
-use Rattle.star_history.specs.Store.{PlainVersion, rows_in}
-use Rattle.star_history.proofs.FoundLemmas.{slice_get_at}
-use Rattle.core_state.specs.Flown.{Encodes, IsOnRoster, IsSoundBatch, IsSoundFilter, IsSoundHand, IsSoundRow}
-use Rattle.core_state.specs.Found.{version_at}
-use Rattle.core_state.specs.Sound.{IsSound}
-use Rattle.core_state.specs.State.{FilterVersion, Flight, Hand, OnRoster, State}
-use Rattle.core_state.specs.Tables.{changes_of, tables_of}
 use Rattle.core_state.proofs.AcceptedLemmas.{find-holds}
 use Rattle.core_state.proofs.FoundLemmas.{find-passes, some-at}
 use Rattle.core_state.proofs.GiveLemmas.{SaysByKey, all-three, asked, given-bits}

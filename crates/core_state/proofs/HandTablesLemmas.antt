@@ -1,22 +1,6 @@
 -- Once the fact table is declared, the tables grow by every change that they take.
-use Rattle.std.proofs.Common.{◌≡◌, ℕ, ◌<◌, ◌≤◌, Bool, true, false, cond, List, [], ◌∷◌, ◌++◌, append_assoc, length, Option, Some, None, slice_get, refl, sym, ap, ◌∙◌, subst, ⊎_elim, arith}
-use Rattle.std.specs.Prelude.{IfSome, IsSome, Ok, Err, Result}
-use Rattle.std.specs.List.{fold}
-use Rattle.std.proofs.lemmas.Bool.{cases_lt}
-use Rattle.std.proofs.lemmas.List.{map-append}
-use Rattle.std.proofs.lemmas.List.Elements.{All-append}
-use Rattle.std.proofs.lemmas.List.Sums.{fold-append}
-use Rattle.std.proofs.lemmas.Option.{IfSome_then}
-use Rattle.star_values.specs.declared.refusal.Refusal.{Refusal}
-use Rattle.star_values.specs.declared.refusal.Refusal.TheVariants.{OutOfOrder}
-use Rattle.star_plan.specs.declared.table_def.TableDef.{TableDef}
-use Rattle.dimension_rows.specs.declared.dimension_row.DimensionRow.{DimensionRow}
-use Rattle.star_history.specs.Accepted.{Accepts, AcceptsAll}
-use Rattle.star_history.specs.History.{Change, DimensionDeclared, FactDeclared, Loaded, Ended, after_change, store_of}
-use Rattle.star_history.specs.Store.{PlainVersion, Store, empty_store, rows_in}
-use Rattle.core_state.specs.Beside.{IsOfRows}
-use Rattle.core_state.specs.State.{Entry}
-use Rattle.core_state.specs.Tables.{changes_of, tables_by}
+use Rattle.core_state.proofs.Words.{◌++◌, ◌<◌, ◌∙◌, ◌∷◌, ◌≡◌, ◌≤◌, [], Accepts, AcceptsAll, after_change, All-append, ap, append_assoc, arith, Bool, cases_lt, Change, changes_of, cond, DimensionDeclared, DimensionRow, empty_store, Ended, Entry, FactDeclared, false, fold, fold-append, IfSome, IfSome_then, IsOfRows, IsSome, length, List, Loaded, map-append, None, Option, OutOfOrder, PlainVersion, refl, Refusal, rows_in, slice_get, Some, Store, store_of, subst, sym, TableDef, tables_by, true, ℕ, ⊎_elim}
+use Rattle.std.specs.Prelude.{Ok, Err, Result}
 use Rattle.core_state.proofs.GrownRowsLemmas.{Behind, Grows, StaysThere, grows-by, no-more, past-end, stays-next, stays-there}
 
 -- Tables that grow twice.

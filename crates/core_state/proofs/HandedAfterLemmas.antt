@@ -1,25 +1,5 @@
 -- Slot by slot a distributor has after a batch what the core keeps.
-use Rattle.std.proofs.Common.{◌≡◌, ℕ, Bool, true, false, cond, eqb, List, get_or, map, Option, Some, None, option_map, refl, sym, ap, ◌∙◌}
-use Rattle.std.specs.Prelude.{Contains, IsSome}
-use Rattle.std.specs.Int.{bit_at}
-use Rattle.std.specs.List.{list_any}
-use Rattle.std.specs.Option.{option_and_then, option_map_or}
-use Rattle.std.proofs.lemmas.Bool.{eqb-true}
-use Rattle.star_lists.specs.Roomy.{Roomy}
-use Rattle.dimension_rows.specs.declared.dimension_row.DimensionRow.{DimensionRow}
-use Rattle.star_history.specs.Keyed.{KeyedStore}
-use Rattle.pipeline_manager.specs.Lives.{slot_at}
-use Rattle.pipeline_manager.specs.declared.life.SlotState.{SlotState}
-use Rattle.pipeline_manager.specs.declared.life.SlotState.TheVariants.{Free, Held, Clearing}
-use Rattle.aggregations.specs.Grouped.{Grouped}
-use Rattle.distributor.specs.Folded.{with_batch}
-use Rattle.core_state.specs.Cutting.{after_distribute, gets_rows, unkept}
-use Rattle.core_state.specs.Flown.{IsSoundBatch}
-use Rattle.core_state.specs.Found.{accepted_at, flight_at, holder_of}
-use Rattle.core_state.specs.Handed.{AreKeyedTablesOf, attached_at, fed_in}
-use Rattle.core_state.specs.Sound.{IsSound}
-use Rattle.core_state.specs.State.{Accepted, Flight, State}
-use Rattle.core_state.specs.Submitting.{groups_in}
+use Rattle.core_state.proofs.Words.{◌∙◌, ◌≡◌, Accepted, accepted_at, after_distribute, ap, AreKeyedTablesOf, attached_at, bit_at, Bool, Clearing, cond, Contains, DimensionRow, eqb, eqb-true, false, fed_in, Flight, flight_at, Free, get_or, gets_rows, Grouped, groups_in, Held, holder_of, IsSome, IsSound, IsSoundBatch, KeyedStore, List, list_any, map, None, Option, option_and_then, option_map, option_map_or, refl, Roomy, slot_at, SlotState, Some, State, sym, true, unkept, with_batch, ℕ}
 use Rattle.core_state.proofs.AcceptedLemmas.{held-accepted}
 use Rattle.core_state.proofs.AnewLemmas.{found-anew}
 use Rattle.core_state.proofs.FoundLemmas.{find-passes}

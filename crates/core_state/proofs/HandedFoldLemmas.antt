@@ -1,24 +1,5 @@
 -- What a batch brings a query that gets rows is what a distributor folds for it.
-use Rattle.std.proofs.Common.{◌≡◌, ℕ, true, false, eqb, eq-eqb, List, get_or, Option, Some, None, option_map, refl, sym, ap, ◌∙◌}
-use Rattle.std.specs.Prelude.{Contains}
-use Rattle.std.proofs.lemmas.Bool.{eqb-true}
-use Rattle.std.proofs.lemmas.List.Elements.{All-contains, All-contains_itself}
-use Rattle.bit_words.specs.Sets.{Has}
-use Rattle.star_lists.specs.Roomy.{Roomy}
-use Rattle.star_plan.specs.Joined.{Joined}
-use Rattle.dimension_rows.specs.declared.dimension_row.DimensionRow.{DimensionRow}
-use Rattle.star_history.specs.Keyed.{KeyedStore}
-use Rattle.pipeline_manager.specs.Lives.{slot_at}
-use Rattle.pipeline_manager.specs.declared.life.SlotState.TheVariants.{Held}
-use Rattle.aggregations.specs.Grouped.{Grouped, grouped_of}
-use Rattle.distributor.specs.Folded.{with_batch, with_versions}
-use Rattle.core_state.specs.Cutting.{rows_for, with_rows}
-use Rattle.core_state.specs.Flown.{IsOnRoster, IsSoundBatch}
-use Rattle.core_state.specs.Found.{accepted_at}
-use Rattle.core_state.specs.Handed.{AreKeyedTablesOf}
-use Rattle.core_state.specs.Sound.{IsSound, IsSoundQuery}
-use Rattle.core_state.specs.State.{Accepted, Flight, OnRoster, State}
-use Rattle.core_state.specs.Tables.{tables_of}
+use Rattle.core_state.proofs.Words.{◌∙◌, ◌≡◌, Accepted, accepted_at, All-contains, All-contains_itself, ap, AreKeyedTablesOf, Contains, DimensionRow, eq-eqb, eqb, eqb-true, false, Flight, get_or, Grouped, grouped_of, Has, Held, IsOnRoster, IsSound, IsSoundBatch, IsSoundQuery, Joined, KeyedStore, List, None, OnRoster, Option, option_map, refl, Roomy, rows_for, slot_at, Some, State, sym, tables_of, true, with_batch, with_rows, with_versions, ℕ}
 use Rattle.core_state.proofs.AcceptedLemmas.{find-holds, find-none}
 use Rattle.core_state.proofs.FoundLemmas.{find-passes, some-at}
 use Rattle.core_state.proofs.HandedBatchLemmas.{entry-of, fed-groups, none-for}

@@ -1,21 +1,7 @@
 -- A version that a query sees is joined by its key numbers as by its keys.
-use Rattle.std.proofs.Common.{◌≡◌, ℕ, ◌≤◌, Bool, true, false, cond, eq-eqb, eqb, List, [], length, map, get_or, Some, slice_get, sym, ap, ◌∙◌, refl}
-use Rattle.std.specs.List.{list_any, position_or_len, range_with_len}
-use Rattle.std.specs.Option.{option_map_or}
-use Rattle.std.proofs.lemmas.List.Folds.{list_any-from_Any}
+use Rattle.core_state.proofs.Words.{◌∙◌, ◌≡◌, ◌≤◌, [], ap, Bool, cond, DimensionRow, eq-eqb, eqb, fact_columns, false, foreign_key, get_or, HasKeyNumbers, is_visible, IsOver, IsPlaceOf, joined, joined_by_keys, joined_row, KeyedStore, length, List, list_any, list_any-from_Any, map, names, option_map_or, plain, position_or_len, Query, range_with_len, references, refl, row_of_key, rows_in, slice_get, Some, sym, true, value_in, Version, ℕ}
 use Rattle.star_values.specs.declared.value.Value as cell
-use Rattle.star_plan.specs.Columns.{fact_columns}
-use Rattle.star_plan.specs.Over.{IsOver}
-use Rattle.star_plan.specs.Row.{value_in}
-use Rattle.star_plan.specs.Test.{Query}
-use Rattle.star_schema.specs.Declaration.{references}
-use Rattle.fact_versions.specs.declared.version.Version.{Version}
-use Rattle.fact_versions.specs.Visible.{is_visible}
-use Rattle.dimension_rows.specs.declared.dimension_row.DimensionRow.{DimensionRow}
-use Rattle.star_history.specs.Alone.{foreign_key, joined, joined_row, names, row_of_key}
-use Rattle.star_history.specs.Keyed.{HasKeyNumbers, KeyedStore, joined_by_keys, key_number, plain, row_at_key}
-use Rattle.star_history.specs.Settled.{IsPlaceOf}
-use Rattle.star_history.specs.Store.{rows_in}
+use Rattle.star_history.specs.Keyed.{key_number, row_at_key}
 use Rattle.core_state.proofs.FoundLemmas.{some-at}
 use Rattle.core_state.proofs.KeyedLemmas.{begun-by, foreign-there, key-row}
 

@@ -1,31 +1,8 @@
 -- What a distributor has after a batch is what the core keeps after it.
-use Rattle.std.proofs.Common.{◌≡◌, ℕ, ◌<◌, ◌≤◌, Bool, true, false, cond, eqb, List, [], ◌∷◌, length, get_or, map, Option, Some, None, option_map, refl, sym, ap, ◌∙◌, subst, ⊎_elim, arith}
-use Rattle.std.specs.Prelude.{All, Contains, IfSome, IsSomeAnd, Any}
-use Rattle.std.specs.Int.{bit_at}
-use Rattle.std.specs.List.{range_with_len}
-use Rattle.std.proofs.lemmas.Bool.{cases_lt}
-use Rattle.std.proofs.lemmas.List.{get_or_past}
-use Rattle.std.proofs.lemmas.List.Elements.{All-contains, All-contains_itself, All-head, All-tail}
-use Rattle.std.proofs.lemmas.List.FromFn.{get_or-map-range_with_len, get_or-range_with_len, length-map-range_with_len, length-range_with_len}
-use Rattle.bit_words.specs.Sets.{Has}
-use Rattle.star_lists.specs.Roomy.{Roomy}
-use Rattle.dimension_rows.specs.declared.dimension_row.DimensionRow.{DimensionRow}
-use Rattle.fact_versions.specs.declared.version.Version.{Version}
-use Rattle.star_history.specs.Keyed.{KeyedStore}
-use Rattle.batch_flow.specs.Rows.{Rows}
-use Rattle.pipeline_manager.specs.Lives.{slot_at}
-use Rattle.pipeline_manager.specs.declared.life.SlotState.{SlotState}
-use Rattle.pipeline_manager.specs.declared.life.SlotState.TheVariants.{Free, Held}
-use Rattle.aggregations.specs.Grouped.{Grouped}
-use Rattle.distributor.specs.Folded.{after_batch, with_batch}
+use Rattle.core_state.proofs.Words.{◌<◌, ◌∙◌, ◌∷◌, ◌≡◌, ◌≤◌, [], after_distribute, All, All-contains, All-contains_itself, All-head, All-tail, Any, ap, AreFed, AreKeyedTablesOf, arith, attached_at, attached_to, bit_at, Bool, cases_lt, cond, Contains, DimensionRow, eqb, false, fed_at, fed_in, Flight, flight_at, Free, get_or, get_or-map-range_with_len, get_or-range_with_len, get_or_past, Grouped, Has, Held, holder_of, IfSome, IsFed, IsOnRoster, IsSomeAnd, IsSound, IsSoundBatch, KeyedStore, length, length-map-range_with_len, length-range_with_len, List, map, None, Option, option_map, range_with_len, refl, Roomy, Rows, slot_at, SlotState, Some, State, subst, sym, true, Version, with_batch, ℕ, ⊎_elim}
+use Rattle.distributor.specs.Folded.{after_batch}
 use Rattle.distributor.specs.Masked.{HaveRows}
-use Rattle.core_state.specs.Cutting.{after_distribute}
-use Rattle.core_state.specs.Events.{AreFed, IsFed}
-use Rattle.core_state.specs.Flown.{IsOnRoster, IsSoundBatch}
-use Rattle.core_state.specs.Found.{flight_at, holder_of}
-use Rattle.core_state.specs.Handed.{HasWhatIsKept, AreKeyedTablesOf, attached_at, attached_to, fed_at, fed_in}
-use Rattle.core_state.specs.Sound.{IsSound}
-use Rattle.core_state.specs.State.{Flight, State}
+use Rattle.core_state.specs.Handed.{HasWhatIsKept}
 use Rattle.core_state.proofs.AcceptedLemmas.{find-holds}
 use Rattle.core_state.proofs.HandedBatchLemmas.{entry-of}
 use Rattle.core_state.proofs.HandedLivesLemmas.{slots-stay}

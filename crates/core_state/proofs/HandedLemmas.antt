@@ -1,34 +1,8 @@
 -- What a distributor folds into the groups of a query is what the core folds.
-use Rattle.std.proofs.Common.{◌≡◌, ℕ, ◌+◌, ◌<◌, true, cond, eqb, List, [], ◌∷◌, ◌++◌, length, get_or, map, take, drop, Option, Some, None, option_map, slice_get, refl, sym, ap, ◌∙◌, subst, append_assoc, append-nil, arith}
-use Rattle.std.specs.Prelude.{All, Contains, IfSome}
-use Rattle.std.specs.List.{filter_map, list_all, range_with_len}
-use Rattle.std.specs.Int.{bit_at}
-use Rattle.std.proofs.lemmas.List.Elements.{All-contains, All-head, All-tail}
+use Rattle.core_state.proofs.Words.{◌++◌, ◌+◌, ◌<◌, ◌∙◌, ◌∷◌, ◌≡◌, [], All, All-contains, All-head, All-tail, all_at, ap, append-nil, append_assoc, AreKeyedTablesOf, arith, bit_at, cond, Contains, DimensionRow, drop, eqb, filter_map, Flight, get_or, grouped_of, Has, HasKeyNumbers, IfSome, is_visible, IsOnRoster, IsOver, IsSound, IsSoundBatch, IsSoundRow, Joined, joined, joined_by_keys, KeyedStore, length, List, list_all, map, None, OnRoster, Option, option_map, passes, plain, plain_version, PlainVersion, Query, range_with_len, refl, Roomy, rows_for, slice_get, Some, State, Store, subst, sym, tables_of, take, takes_at, true, Version, versions_for, versions_of, with_batch, with_row, with_rows, with_versions, ℕ}
 use Rattle.std.proofs.lemmas.Option.{slice_get-map}
-use Rattle.bit_words.specs.Sets.{Has}
-use Rattle.star_lists.specs.Roomy.{Roomy}
-use Rattle.star_plan.specs.Joined.{Joined, takes_at}
-use Rattle.star_plan.specs.Over.{IsOver}
-use Rattle.star_plan.specs.Test.{Query}
-use Rattle.star_plan.specs.Truth.{passes}
-use Rattle.fact_versions.specs.declared.version.Version.{Version}
-use Rattle.fact_versions.specs.Visible.{is_visible}
-use Rattle.dimension_rows.specs.declared.dimension_row.DimensionRow.{DimensionRow}
-use Rattle.star_history.specs.Alone.{joined}
 use Rattle.star_history.specs.Kept.{rows_of_all}
-use Rattle.star_history.specs.Keyed.{HasKeyNumbers, KeyedStore, joined_by_keys, plain, plain_version}
 use Rattle.star_history.specs.Read.{NamesItsPlaces, value_by_key}
-use Rattle.star_history.specs.Store.{PlainVersion, Store}
-use Rattle.star_history.proofs.LoadedLemmas.{all_at}
-use Rattle.aggregations.specs.Grouped.{grouped_of}
-use Rattle.aggregations.specs.Folding.{with_row}
-use Rattle.distributor.specs.Folded.{versions_for, versions_of, with_batch, with_versions}
-use Rattle.core_state.specs.Cutting.{rows_for, with_rows}
-use Rattle.core_state.specs.Flown.{IsOnRoster, IsSoundBatch, IsSoundRow}
-use Rattle.core_state.specs.Handed.{AreKeyedTablesOf}
-use Rattle.core_state.specs.Sound.{IsSound}
-use Rattle.core_state.specs.State.{Flight, OnRoster, State}
-use Rattle.core_state.specs.Tables.{tables_of}
 use Rattle.core_state.proofs.DistributeLemmas.{FoldsOne, rows-folded}
 use Rattle.core_state.proofs.FoundLemmas.{some-at}
 use Rattle.core_state.proofs.GiveLemmas.{all-three, asked}

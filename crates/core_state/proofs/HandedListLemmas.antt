@@ -1,15 +1,6 @@
 -- The versions of a batch that a distributor folds into a slot are those that the core folds.
-use Rattle.std.proofs.Common.{◌≡◌, ℕ, zero, suc, ◌+◌, ◌<◌, Bool, true, false, cond, eqb, List, [], ◌∷◌, length, get_or, map, take, drop, Option, Some, None, slice_get, refl, ap, ◌∙◌, add-one, arith}
-use Rattle.std.specs.Prelude.{All, IfSome}
-use Rattle.std.specs.List.{cons_option, filter, filter_map, range_with_len, zip}
-use Rattle.std.specs.Int.{bit_at}
-use Rattle.std.proofs.lemmas.Bool.{eqb-true}
-use Rattle.std.proofs.lemmas.List.Elements.{All-cons, All-nil}
-use Rattle.bit_words.specs.Sets.{Has}
-use Rattle.fact_versions.specs.declared.version.Version.{Version}
-use Rattle.star_history.specs.Keyed.{plain_version}
-use Rattle.star_history.specs.Store.{PlainVersion}
-use Rattle.distributor.specs.Folded.{versions_for}
+use Rattle.core_state.proofs.Words.{◌+◌, ◌<◌, ◌∙◌, ◌∷◌, ◌≡◌, [], add-one, All, All-cons, All-nil, ap, arith, bit_at, Bool, cond, cons_option, drop, eqb, eqb-true, false, filter, filter_map, get_or, Has, IfSome, length, List, map, None, Option, plain_version, PlainVersion, range_with_len, refl, slice_get, Some, suc, take, true, Version, versions_for, zero, ℕ}
+use Rattle.std.specs.List.{zip}
 
 -- what a function gives of numbers from one on is what it gives of those before
 shifted : {X : Type 0} (f : ℕ → Option X) (count first : ℕ)

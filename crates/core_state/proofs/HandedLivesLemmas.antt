@@ -1,17 +1,6 @@
 -- What becomes of lives and of what is kept where queries find no memory for the rows of a batch.
-use Rattle.std.proofs.Common.{◌≡◌, ℕ, ◌||◌, Bool, true, false, cond, eqb, eq-eqb, List, [], ◌∷◌, Option, Some, None, option_map, refl, sym, ap, ◌∙◌, subst}
-use Rattle.std.specs.Prelude.{IfSome}
-use Rattle.std.specs.List.{fold, list_any}
-use Rattle.std.specs.Option.{option_map_or}
-use Rattle.std.proofs.lemmas.Bool.{eqb-true}
-use Rattle.pipeline_manager.specs.Changes.{after_spoil, with_life}
-use Rattle.pipeline_manager.specs.Lives.{Lives, life_of, query_in}
+use Rattle.core_state.proofs.Words.{◌||◌, ◌∙◌, ◌∷◌, ◌≡◌, [], Accepted, after_spoil, ap, Bool, cond, eq-eqb, eqb, eqb-true, false, fold, gets_rows, Grouped, IfSome, life_in-other, life_of, List, list_any, Lives, None, Option, option_map, option_map_or, query_in, QueryLife, refl, Some, subst, sym, true, unkept, with_life, ℕ}
 use Rattle.pipeline_manager.specs.declared.life.Life.TheVariants as life
-use Rattle.pipeline_manager.specs.declared.life.QueryLife.{QueryLife}
-use Rattle.pipeline_manager.proofs.LifeLemmas.{life_in-other}
-use Rattle.aggregations.specs.Grouped.{Grouped}
-use Rattle.core_state.specs.Cutting.{gets_rows, unkept}
-use Rattle.core_state.specs.State.{Accepted}
 use Rattle.core_state.proofs.AnewLemmas.{KeepsAsked}
 use Rattle.core_state.proofs.FoundLemmas.{with_life-found}
 use Rattle.core_state.proofs.HandedSlotLemmas.{gets}

@@ -1,35 +1,12 @@
 -- What is kept of a query has room for the rows of a batch.
-use Rattle.std.proofs.Common.{◌≡◌, ℕ, ◌+◌, ◌≤◌, ◌++◌, Bool, true, false, eqb, List, [], ◌∷◌, length, map, Option, Some, None, slice_get, refl, sym, ap, ◌∙◌, subst, ⊎_elim, arith}
-use Rattle.std.specs.Prelude.{All, Contains, IfSome, flat_map, is_some}
-use Rattle.std.specs.List.{cons_option, filter, filter_map, list_any, range_with_len}
-use Rattle.std.specs.Option.{option_and_then, option_map_or}
-use Rattle.std.proofs.lemmas.List.{length-append, length-map}
-use Rattle.std.proofs.lemmas.List.Elements.{All-contains, All-contains_itself}
-use Rattle.std.proofs.lemmas.List.FromFn.{get_or-map-range_with_len, length-map-range_with_len, length-range_with_len}
+use Rattle.core_state.proofs.Words.{◌++◌, ◌+◌, ◌∙◌, ◌∷◌, ◌≡◌, ◌≤◌, [], Accepted, accepted_at, All, All-contains, All-contains_itself, ap, AreKeyedTablesOf, arith, attached_at, attached_to, Bool, changes_of, cons_option, Contains, DimensionRow, eqb, false, fed_at, filter, filter_map, flat_map, Flight, get_or-map-range_with_len, Grouped, groups_in, IfSome, is_kept, is_some, is_visible, IsAnswer, IsCovered, IsKept, IsSettled, IsSound, IsSoundBatch, IsSoundQuery, Joined, joined, kept, kept_at, KeyedStore, length, length-map, length-map-range_with_len, length-range_with_len, Life, List, list_any, map, None, Option, option_and_then, option_map_or, plain_version, PlainVersion, positions_for, Query, query_in, QueryLife, range_with_len, refl, Roomy, slice_get, Some, State, Store, subst, sym, tables_of, to_come, true, versions_at, versions_in, ℕ, ⊎_elim}
+use Rattle.std.proofs.lemmas.List.{length-append}
 use Rattle.std.proofs.lemmas.List.Sorted.{length_permutation}
 use Rattle.std.proofs.lemmas.List.Sums.{count_by-le-length, length-filter}
-use Rattle.star_lists.specs.Roomy.{Roomy}
-use Rattle.star_plan.specs.Joined.{Joined, is_kept, kept_of}
-use Rattle.star_plan.specs.Test.{Query}
-use Rattle.dimension_rows.specs.declared.dimension_row.DimensionRow.{DimensionRow}
-use Rattle.fact_versions.specs.Visible.{is_visible}
-use Rattle.star_history.specs.Alone.{joined, kept, visible}
-use Rattle.star_history.specs.Keyed.{KeyedStore, plain_version}
-use Rattle.star_history.specs.Settled.{IsSettled}
-use Rattle.star_history.specs.Store.{PlainVersion, Store}
-use Rattle.pipeline_manager.specs.Lives.{query_in}
-use Rattle.pipeline_manager.specs.declared.life.Life.{Life}
+use Rattle.star_plan.specs.Joined.{kept_of}
+use Rattle.star_history.specs.Alone.{visible}
 use Rattle.pipeline_manager.specs.declared.life.Life.TheVariants as life
-use Rattle.pipeline_manager.specs.declared.life.QueryLife.{QueryLife}
-use Rattle.aggregations.specs.Grouped.{Grouped}
 use Rattle.distributor.specs.Masked.{HaveRoom}
-use Rattle.core_state.specs.Flown.{IsSoundBatch}
-use Rattle.core_state.specs.Found.{accepted_at}
-use Rattle.core_state.specs.Handed.{AreKeyedTablesOf, attached_at, attached_to, fed_at}
-use Rattle.core_state.specs.Sound.{IsAnswer, IsCovered, IsKept, IsSound, IsSoundQuery, kept_at, positions_for, to_come, versions_at}
-use Rattle.core_state.specs.State.{Accepted, Flight, State}
-use Rattle.core_state.specs.Submitting.{groups_in}
-use Rattle.core_state.specs.Tables.{changes_of, tables_of, versions_in}
 use Rattle.core_state.proofs.AcceptedLemmas.{find-holds, number-found}
 use Rattle.core_state.proofs.DistributedLemmas.{found-itself}
 use Rattle.core_state.proofs.FoundLemmas.{some-at}

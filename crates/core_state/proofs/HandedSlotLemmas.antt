@@ -1,28 +1,11 @@
 -- Which queries hold the slots that found no memory, and what becomes of their lives.
-use Rattle.std.proofs.Common.{◌≡◌, ◌≢◌, ℕ, zero, suc, ◌+◌, ◌<◌, ◌≤◌, ◌||◌, Bool, true, false, cond, eqb, eq-eqb, List, [], ◌∷◌, length, get_or, set, Option, Some, None, refl, sym, ap, ◌∙◌, subst, ⊎_elim, arith}
-use Rattle.std.specs.Prelude.{All, AllPairs, IfSome}
-use Rattle.std.specs.Int.{bit_at}
-use Rattle.std.specs.List.{cons_option, filter_map, list_any, range_with_len}
-use Rattle.std.specs.Option.{option_and_then, option_map_or}
-use Rattle.std.proofs.lemmas.Bool.{cases_eq, eqb-true, ne_eqb}
-use Rattle.std.proofs.lemmas.List.{get_or-set_other, length-set}
-use Rattle.std.proofs.lemmas.List.Elements.{All-head, All-nil, All-tail}
+use Rattle.core_state.proofs.Words.{◌+◌, ◌<◌, ◌||◌, ◌∙◌, ◌∷◌, ◌≡◌, ◌≢◌, ◌≤◌, [], All, All-head, All-nil, All-tail, AllPairs, AllPairs-cons, ap, arith, bit_at, Bool, cases_eq, Clearing, cond, cons_option, eq-eqb, eqb, eqb-true, false, fed_at, fed_in, filter_map, Free, get_or, get_or-le-sum_by, get_or-range_with_len, get_or-set_other, gets_rows, Held, holder_of, IfSome, length, length-range_with_len, length-set, Life, life_in, life_of, List, list_any, Lives, ne_eqb, None, Option, option_and_then, option_map_or, range_with_len, refl, set, slot_at, SlotState, Some, State, subst, suc, sym, true, zero, ℕ, ⊎_elim}
 use Rattle.std.proofs.lemmas.List.Folds.{list_any_none}
-use Rattle.std.proofs.lemmas.List.FromFn.{get_or-range_with_len, length-range_with_len}
-use Rattle.std.proofs.lemmas.List.Kept.{AllPairs-cons}
-use Rattle.std.proofs.lemmas.List.Sums.{get_or-le-sum_by}
-use Rattle.pipeline_manager.specs.Lives.{Lives, is_held_by, life_in, life_of, slot_at}
+use Rattle.pipeline_manager.specs.Lives.{is_held_by}
 use Rattle.pipeline_manager.specs.Sound as managed
 use Rattle.pipeline_manager.specs.Sound.{most_slots}
-use Rattle.pipeline_manager.specs.declared.life.Life.{Life}
 use Rattle.pipeline_manager.specs.declared.life.Life.TheVariants as life
-use Rattle.pipeline_manager.specs.declared.life.SlotState.{SlotState}
-use Rattle.pipeline_manager.specs.declared.life.SlotState.TheVariants.{Free, Held, Clearing}
 use Rattle.pipeline_manager.proofs.SoundLemmas.{slots_held-set}
-use Rattle.core_state.specs.Cutting.{gets_rows}
-use Rattle.core_state.specs.Found.{holder_of}
-use Rattle.core_state.specs.Handed.{fed_at, fed_in}
-use Rattle.core_state.specs.State.{State}
 use Rattle.core_state.proofs.FoundLemmas.{some-by}
 use Rattle.core_state.proofs.HeldLemmas.{slot-there}
 use Rattle.core_state.proofs.ReleaseLemmas.{none-in}

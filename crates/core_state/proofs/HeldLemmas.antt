@@ -1,19 +1,5 @@
 -- What stays sound of slots, queries and filters where one slot or one life is written.
-use Rattle.std.proofs.Common.{◌≡◌, ◌≢◌, ℕ, ◌<◌, ◌≤◌, List, length, get_or, set, map, Option, Some, None, slice_get, refl, sym, ◌∙◌, subst, ⊎_elim}
-use Rattle.std.specs.Prelude.{IfSome, IsTrue, ◌↔◌}
-use Rattle.std.proofs.lemmas.Bool.{cases_eq, cases_lt}
-use Rattle.std.proofs.lemmas.Option.{IfSome_then}
-use Rattle.std.proofs.lemmas.List.{get_or-set_same, get_or-set_other, get_or_past, length-set}
-use Rattle.pipeline_manager.specs.Conditions.{is_open}
-use Rattle.pipeline_manager.specs.Lives.{life_in, query_in, slot_at}
-use Rattle.pipeline_manager.specs.declared.life.QueryLife.{QueryLife}
-use Rattle.pipeline_manager.specs.declared.life.SlotState.{SlotState}
-use Rattle.pipeline_manager.specs.declared.life.SlotState.TheVariants.{Free}
-use Rattle.dimension_filter.specs.Filter.{Filter}
-use Rattle.core_state.specs.Flown.{FitsSlot, IsOnRoster, IsSoundFilter, MayBeOnRoster}
-use Rattle.core_state.specs.Sound.{AreSoundFilters, AreSoundQueries, IsKept, IsSoundQuery}
-use Rattle.core_state.specs.State.{Accepted, Filters, OnRoster, State}
-use Rattle.core_state.specs.Tables.{tables_of, versions_in}
+use Rattle.core_state.proofs.Words.{◌<◌, ◌↔◌, ◌∙◌, ◌≡◌, ◌≢◌, ◌≤◌, Accepted, AreSoundFilters, AreSoundQueries, cases_eq, cases_lt, Filter, Filters, FitsSlot, Free, get_or, get_or-set_other, get_or-set_same, get_or_past, IfSome, IfSome_then, is_open, IsKept, IsOnRoster, IsSoundFilter, IsSoundQuery, IsTrue, length, length-set, life_in, List, map, MayBeOnRoster, None, OnRoster, Option, query_in, QueryLife, refl, set, slice_get, slot_at, SlotState, Some, State, subst, sym, tables_of, versions_in, ℕ, ⊎_elim}
 use Rattle.core_state.proofs.FrameLemmas.{entry-moved, filter-moved, kept-moved, query-moved}
 use Rattle.core_state.proofs.MovedLemmas.{held_now}
 

@@ -1,34 +1,6 @@
 -- What the bits of a batch say that has passed every filter, or has no bit left.
-use Rattle.std.proofs.Common.{◌≡◌, ◌⊎◌, ℕ, ◌+◌, ◌<◌, ◌≤◌, ◌&&◌, Bool, true, false, cond, eqb, eq-eqb, nat_lt, List, [], ◌∷◌, length, get_or, map, Some, slice_get, refl, sym, ap, ◌∙◌, subst, ⊎_elim, arith}
-use Rattle.std.specs.Prelude.{All, Contains, IfSome, IsTrue, ◌↔◌}
-use Rattle.std.specs.List.{filter, list_all, list_any, range_with_len}
-use Rattle.std.specs.Int.{bit_at}
-use Rattle.std.specs.Option.{option_map_or}
-use Rattle.std.proofs.lemmas.Bool.{eqb-true}
-use Rattle.std.proofs.lemmas.Bool.Decides.{nat_tests}
-use Rattle.std.proofs.lemmas.List.Elements.{All-cons, All-head, All-nil, All-tail}
-use Rattle.std.proofs.lemmas.List.Folds.{list_any-from_Any}
-use Rattle.std.proofs.lemmas.List.FromFn.{get_or-range_with_len, length-range_with_len}
-use Rattle.std.proofs.lemmas.List.Sorted.{All-permutation, IsPermutation-sym}
-use Rattle.bit_words.specs.Sets.{Has}
+use Rattle.core_state.proofs.Words.{◌&&◌, ◌+◌, ◌<◌, ◌↔◌, ◌∙◌, ◌∷◌, ◌≡◌, ◌≤◌, ◌⊎◌, [], All, All-cons, All-head, All-nil, All-permutation, All-tail, AllRows, ap, AreSoundFilters, arith, bit_at, Bool, Chosen, cond, Contains, eq-eqb, eqb, eqb-true, fact_columns, false, filter, Flight, get_or, get_or-range_with_len, Has, has_passed, has_passed_all, IfSome, is_empty, is_kept, is_named, is_visible, IsOver, IsPermutation-sym, IsSoundBatch, IsSoundOrder, IsSoundRow, IsTrue, Joined, joined, joined_row, keeps_so_far, length, length-range_with_len, List, list_all, list_any, list_any-from_Any, map, nat_lt, nat_tests, OnRoster, option_map_or, passes, PlainVersion, Query, range_with_len, references, refl, Schema, Selection, selection_in, slice_get, slice_get_at, Some, State, Store, subst, sym, tables_of, takes, takes_at, true, Unnamed, ℕ, ⊎_elim}
 use Rattle.star_values.specs.declared.value.Value as cell
-use Rattle.star_plan.specs.declared.schema.Schema.{Schema}
-use Rattle.star_plan.specs.Columns.{fact_columns}
-use Rattle.star_plan.specs.Joined.{Joined, is_kept, takes, takes_at}
-use Rattle.star_plan.specs.Over.{IsOver, is_named}
-use Rattle.star_plan.specs.Test.{Query, Selection, Unnamed, AllRows, Chosen}
-use Rattle.star_plan.specs.Truth.{passes}
-use Rattle.star_schema.specs.Declaration.{references}
-use Rattle.fact_versions.specs.Visible.{is_visible}
-use Rattle.star_history.specs.Alone.{joined, joined_row}
-use Rattle.star_history.specs.Store.{PlainVersion, Store}
-use Rattle.star_history.proofs.FoundLemmas.{slice_get_at}
-use Rattle.core_state.specs.Admitting.{selection_in}
-use Rattle.core_state.specs.Flown.{IsSoundBatch, IsSoundRow, keeps_so_far}
-use Rattle.core_state.specs.Found.{has_passed, has_passed_all, is_empty}
-use Rattle.core_state.specs.Sound.{AreSoundFilters, IsSoundOrder}
-use Rattle.core_state.specs.State.{Flight, OnRoster, State}
-use Rattle.core_state.specs.Tables.{tables_of}
 use Rattle.core_state.proofs.FoundLemmas.{some-at}
 use Rattle.core_state.proofs.GiveLemmas.{all-asked, all-pass, all-three, asked, pass-all, three-all}
 use Rattle.core_state.proofs.KeyedLemmas.{begun-by, takes-at}

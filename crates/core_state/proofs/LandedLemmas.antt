@@ -1,26 +1,6 @@
 -- What is kept of a query where a batch is distributed.
-use Rattle.std.proofs.Common.{◌≡◌, ◌≢◌, ◌⊎◌, ℕ, ◌+◌, ◌++◌, Bool, true, false, cond, eqb, nat_lt, List, [], Option, Some, None, option_map, refl, sym, ap, ◌∙◌, subst, ⊎_elim, inl, inr, append_assoc, append-nil}
-use Rattle.std.specs.Prelude.{AllPairs, Contains, IsTrue, find, flat_map}
-use Rattle.std.specs.List.{filter, range_with_len}
-use Rattle.std.specs.List.Sorted.{IsPermutation}
-use Rattle.std.specs.Option.{option_map_or}
-use Rattle.std.proofs.lemmas.Bool.{eqb-true}
-use Rattle.std.proofs.lemmas.List.Elements.{All-contains_itself}
-use Rattle.std.proofs.lemmas.List.Sorted.{IsPermutation-append_left, IsPermutation-append_right, IsPermutation-sym, IsPermutation-trans}
-use Rattle.star_plan.specs.Joined.{Joined}
-use Rattle.star_plan.specs.Over.{IsOver}
-use Rattle.star_history.specs.Store.{Store}
-use Rattle.pipeline_manager.specs.Conditions.{is_open}
-use Rattle.pipeline_manager.specs.Lives.{life_of}
-use Rattle.pipeline_manager.specs.declared.life.Life.{Life}
+use Rattle.core_state.proofs.Words.{◌++◌, ◌+◌, ◌∙◌, ◌≡◌, ◌≢◌, ◌⊎◌, [], Accepted, accepted_at, All-contains_itself, AllPairs, ap, append-nil, append_assoc, AreSoundFilters, Bool, cond, Contains, eqb, eqb-true, false, fed, filter, find, flat_map, Flight, flight_at, gets_rows, Grouped, grouped_of, has_passed_all, inl, inr, is_empty, is_open, IsCovered, IsKept, IsOnRoster, IsOver, IsPermutation, IsPermutation-append_left, IsPermutation-append_right, IsPermutation-sym, IsPermutation-trans, IsSoundBatch, IsSoundOrder, IsTrue, Joined, kept_at, Life, life_of, List, nat_lt, None, OnRoster, Option, option_map, option_map_or, positions_for, range_with_len, refl, rows_for, Some, State, Store, subst, sym, tables_of, to_come, true, with_rows, ℕ, ⊎_elim}
 use Rattle.pipeline_manager.specs.declared.life.Life.TheVariants as life
-use Rattle.aggregations.specs.Grouped.{Grouped, grouped_of}
-use Rattle.core_state.specs.Cutting.{fed, gets_rows, rows_for, with_rows}
-use Rattle.core_state.specs.Flown.{IsOnRoster, IsSoundBatch}
-use Rattle.core_state.specs.Found.{accepted_at, flight_at, has_passed_all, is_empty}
-use Rattle.core_state.specs.Sound.{AreSoundFilters, IsCovered, IsKept, IsSoundOrder, kept_at, positions_for, to_come}
-use Rattle.core_state.specs.State.{Accepted, Flight, OnRoster, State}
-use Rattle.core_state.specs.Tables.{tables_of}
 use Rattle.core_state.proofs.AcceptedLemmas.{find-holds}
 use Rattle.core_state.proofs.AnewLemmas.{KeepsAsked, kept_anew}
 use Rattle.core_state.proofs.DistributeLemmas.{FoldsOne, kept_at-append, landed-permutes, rows-folded, without_flight}

@@ -1,14 +1,6 @@
 -- Which rows of a batch a query keeps, position by position.
-use Rattle.std.proofs.Common.{◌≡◌, ℕ, zero, suc, ◌+◌, ◌<◌, ◌&&◌, Bool, true, false, cond, eqb, nat_lt, List, ◌∷◌, length, get_or, map, Option, Some, None, slice_get, refl, sym, ap, ◌∙◌, subst, arith}
-use Rattle.std.specs.List.{cons_option, filter, filter_map, range_with_len}
-use Rattle.std.specs.Int.{bit_at}
-use Rattle.star_plan.specs.Joined.{Joined, is_kept, kept_of}
-use Rattle.fact_versions.specs.Visible.{is_visible}
-use Rattle.star_history.specs.Alone.{joined}
-use Rattle.star_history.specs.Store.{PlainVersion, Store}
-use Rattle.core_state.specs.Cutting.{rows_for}
-use Rattle.core_state.specs.Sound.{kept_at}
-use Rattle.core_state.specs.State.{Flight, OnRoster}
+use Rattle.core_state.proofs.Words.{◌&&◌, ◌+◌, ◌<◌, ◌∙◌, ◌∷◌, ◌≡◌, ap, arith, bit_at, Bool, cond, cons_option, eqb, false, filter, filter_map, Flight, get_or, is_kept, is_visible, Joined, joined, kept_at, length, List, map, nat_lt, None, OnRoster, Option, PlainVersion, range_with_len, refl, rows_for, slice_get, Some, Store, subst, suc, sym, true, zero, ℕ}
+use Rattle.star_plan.specs.Joined.{kept_of}
 
 -- a position below the extent has what is kept of its version, where the test of its row says so
 module _ (version_at : ℕ → Option PlainVersion) (row_of : PlainVersion → Joined) (seen : PlainVersion → Bool) (kept : Joined → Bool)

@@ -1,28 +1,8 @@
 -- No later step changes an answer.
-use Rattle.std.proofs.Common.{◌≡◌, ◌⊎◌, ℕ, ◌+◌, ◌≤◌, List, [], ◌∷◌, Option, Some, None, refl, sym, ap, ◌∙◌, subst, inl, inr, arith}
-use Rattle.std.specs.Prelude.{find}
-use Rattle.std.specs.Option.{option_map_or}
-use Rattle.pipeline_manager.specs.Lives.{slot_of}
-use Rattle.star_plan.specs.Test.{Query}
-use Rattle.star_history.specs.Accepted.{Accepts}
-use Rattle.star_history.specs.Alone.{alone}
-use Rattle.star_history.specs.History.{Change, DimensionDeclared, FactDeclared, Loaded, Ended, after_change}
-use Rattle.star_history.specs.Settled.{IsSettled}
-use Rattle.star_history.specs.Store.{Store}
-use Rattle.star_plan.specs.declared.table.Table.TheVariants.{Fact, Dimension}
-use Rattle.script_reader.specs.declared.statement.Statement.{Statement}
+use Rattle.core_state.proofs.Words.{◌+◌, ◌∙◌, ◌∷◌, ◌≡◌, ◌≤◌, ◌⊎◌, [], Abandon, accepted_at, Accepts, after_change, after_outcome, after_step, after_steps, after_submitting, alone, ap, arith, Build, Change, changes_of, Clear, Cut, Dimension, DimensionDeclared, Distribute, Done, Ended, Event, Fact, FactDeclared, find, Finish, FitsTables, flight_at, Give, inl, inr, is_held_by, IsSettled, IsSound, List, Loaded, MayStepAll, None, Option, option_map_or, outcome_of, Query, refl, Release, Reorder, Replying, Reserve, slot_of, Some, Start, State, Statement, Step, Store, Submit, subst, sym, tables_by, tables_of, Take, Told, Wanting, ℕ}
 use Rattle.star_statement.specs.Outcome as outcome
-use Rattle.star_statement.specs.Outcome.{Told, outcome_of}
 use Rattle.core_state.specs.Events.{after_event, after_want}
-use Rattle.core_state.specs.Found.{accepted_at, flight_at, is_held_by}
-use Rattle.core_state.specs.Fitting.{FitsTables}
-use Rattle.core_state.specs.Sound.{IsSound}
-use Rattle.core_state.specs.State.{State}
-use Rattle.core_state.specs.Steps.{Done, MayStepAll, Replying, Step, Wanting, after_step, after_steps}
-use Rattle.core_state.specs.Submitting.{after_outcome, after_submitting, filters_by}
-use Rattle.core_state.specs.Tables.{changes_of, tables_by, tables_of}
-use Rattle.core_state.specs.declared.event.Event.{Event}
-use Rattle.core_state.specs.declared.event.Event.TheVariants.{Submit, Reserve, Build, Start, Cut, Take, Give, Distribute, Finish, Clear, Release, Reorder, Abandon}
+use Rattle.core_state.specs.Submitting.{filters_by}
 use Rattle.core_state.proofs.GivenLemmas.{Settles}
 use Rattle.core_state.proofs.GrownLemmas.{tables-with}
 use Rattle.core_state.proofs.StepLemmas.{StepsKeep}

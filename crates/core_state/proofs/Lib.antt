@@ -1,3 +1,4 @@
+pub mod Words
 pub mod FrameLemmas
 pub mod MovedLemmas
 pub mod FoundLemmas

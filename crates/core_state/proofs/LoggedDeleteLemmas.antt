@@ -1,33 +1,14 @@
 -- The deletes of statements name their positions ascending.
-use Rattle.std.proofs.Common.{ℕ, ◌+◌, ◌<◌, Bool, true, false, cond, List, length, Option, Some, None, Result, Ok, Err, arith}
-use Rattle.std.specs.Prelude.{AllPairs, IfOk, IfSome, is_none, nat_lt, slice_get}
-use Rattle.std.specs.List.{list_any, range_with_len}
-use Rattle.std.specs.Option.{option_map_or}
-use Rattle.std.proofs.lemmas.List.FromFn.{get_or-range_with_len, length-range_with_len}
-use Rattle.std.proofs.lemmas.List.Kept.{AllPairs-filter}
-use Rattle.star_values.specs.declared.refusal.Refusal.{Refusal}
-use Rattle.star_values.specs.declared.refusal.Refusal.TheVariants.{OutOfOrder, DanglingReference, DuplicateKey, Limit, BadRecord, UnknownName}
+use Rattle.core_state.proofs.Words.{◌+◌, ◌<◌, AllPairs, AllPairs-filter, arith, Block, block_bytes, Bool, bound_delete, bound_select, Change, committed, cond, declared, declared_dimension, declared_fact, declared_table, delete_change, deleted, Dimension, DimensionDeclared, Ended, EndsAscending, Err, Fact, FactDeclared, false, get_or-range_with_len, IfOk, IfSome, is_none, length, length-range_with_len, Limit, List, list_any, Loaded, meaning_of, meaning_outcome, None, Ok, Option, option_map_or, Outcome, outcome_by, OutOfOrder, PlainVersion, Query, range_with_len, Refusal, refused, Result, rows_in, select_of, selected, Some, Statement, Store, TableDef, Test, true, UnknownName, where_conjuncts, ℕ}
+use Rattle.std.specs.Prelude.{nat_lt, slice_get}
+use Rattle.star_values.specs.declared.refusal.Refusal.TheVariants.{DanglingReference, DuplicateKey, BadRecord}
 use Rattle.star_values.specs.declared.value.Value as cell
-use Rattle.script_reader.specs.declared.statement.Statement.{Statement}
-use Rattle.script_reader.specs.declared.statement.Block.{Block}
 use Rattle.star_parser.specs.Statement as written
-use Rattle.star_plan.specs.Test.{Query, Test}
 use Rattle.star_plan.specs.declared.table.Table.{Table}
-use Rattle.star_plan.specs.declared.table.Table.TheVariants.{Fact, Dimension}
-use Rattle.star_plan.specs.declared.table_def.TableDef.{TableDef}
-use Rattle.star_schema.specs.Declaration.{declared_dimension, declared_fact}
 use Rattle.star_schema.specs.Named.{table_named}
-use Rattle.star_binder.specs.Named.{where_conjuncts}
-use Rattle.star_binder.specs.Refused.{bound_delete, bound_select}
-use Rattle.star_binder.specs.Select.{select_of}
-use Rattle.star_binder.specs.Table.{declared_table}
-use Rattle.star_history.specs.History.{Change, DimensionDeclared, FactDeclared, Loaded, Ended}
-use Rattle.star_history.specs.Store.{PlainVersion, Store, rows_in}
-use Rattle.star_store.specs.Deletes.{delete_change, is_ended_by, positions_of}
+use Rattle.star_store.specs.Deletes.{is_ended_by, positions_of}
 use Rattle.star_store.specs.Loads.{count_in, dangles, load_change, loaded_records, loaded_rows, most_in, repeats_a_key}
-use Rattle.star_statement.specs.Outcome.{Outcome, block_bytes, committed, declared, deleted, meaning_outcome, outcome_by, outcome_of, refused, selected}
-use Rattle.star_statement.specs.Text.{meaning_of}
-use Rattle.core_state.specs.Logged.{EndsAscending}
+use Rattle.star_statement.specs.Outcome.{outcome_of}
 
 range-ascends : (first count : ℕ) → AllPairs (λ x y. x < y) (range_with_len first count)
 range-ascends first count i j d before within =

@@ -1,21 +1,9 @@
 -- The changes of a history follow from its tables and their kinds.
-use Rattle.std.proofs.Common.{◌≡◌, ◌≢◌, ℕ, ◌+◌, ◌<◌, ◌≤◌, ◌⊎◌, inl, inr, List, [], ◌∷◌, ◌++◌, length, length-append, map, get_or, Some, None, refl, ap, ◌∙◌, arith}
-use Rattle.std.specs.Prelude.{All}
-use Rattle.std.specs.List.{fold}
-use Rattle.std.specs.Option.{option_map_or}
-use Rattle.std.proofs.lemmas.List.{get_or-set_same, get_or_append_left}
-use Rattle.std.proofs.lemmas.List.Elements.{All-head, All-tail}
-use Rattle.star_plan.specs.declared.table.Table.TheVariants.{Fact, Dimension}
-use Rattle.star_plan.specs.declared.table_def.TableDef.{TableDef}
-use Rattle.dimension_rows.specs.declared.dimension_row.DimensionRow.{DimensionRow}
-use Rattle.star_history.specs.Accepted.{Accepts, AcceptsAll}
-use Rattle.star_history.specs.History.{Change, DimensionDeclared, FactDeclared, Loaded, Ended, after_change, rows_by}
-use Rattle.star_history.specs.Settled.{IsDated, IsSettled}
-use Rattle.star_history.specs.Store.{PlainVersion, Store, rows_in}
+use Rattle.core_state.proofs.Words.{◌++◌, ◌+◌, ◌<◌, ◌∙◌, ◌∷◌, ◌≡◌, ◌≢◌, ◌≤◌, ◌⊎◌, [], Accepts, AcceptsAll, after_change, All, All-head, All-tail, ap, arith, Change, Dimension, DimensionDeclared, DimensionRow, Ended, EndsAscending, Fact, FactDeclared, facts_loaded_by, fold, get_or, get_or-set_same, get_or_append_left, in_grown, inl, inr, IsDated, IsSettled, length, length-append, List, Loaded, map, None, option_map_or, PlainVersion, positions_ended_by, refl, rows_by, rows_in, rows_loaded_by, Some, Store, TableDef, ℕ}
 use Rattle.star_history.proofs.LaterLemmas.{rows_in_declared, undeclared}
-use Rattle.star_history.proofs.LoadedLemmas.{in_grown, loaded_in}
+use Rattle.star_history.proofs.LoadedLemmas.{loaded_in}
 use Rattle.star_statement.specs.Kinds.{kind_of_change}
-use Rattle.core_state.specs.Logged.{EndsAscending, change_told, changes_told, facts_loaded_by, no_table, positions_ended_by, rows_loaded_by}
+use Rattle.core_state.specs.Logged.{change_told, changes_told, no_table}
 use Rattle.core_state.proofs.LoggedPlaceLemmas.{positions-new, positions-other-ends, positions-other-rows}
 use Rattle.core_state.proofs.LoggedRowsLemmas.{facts-later, facts-new, facts-with-ends, rows-later, rows-new}
 

@@ -1,10 +1,6 @@
 -- Ascending numbers are the members of a range that a filter keeps.
-use Rattle.std.proofs.Common.{◌≡◌, ◌≢◌, ℕ, zero, suc, ◌+◌, ◌<◌, ◌≤◌, Bool, true, false, cond, List, [], ◌∷◌, refl, sym, ap, ◌∙◌, subst, arith}
-use Rattle.std.specs.Prelude.{◌==◌, ◌||◌, All, AllPairs}
-use Rattle.std.specs.List.{filter, range_with_len}
-use Rattle.std.proofs.lemmas.Bool.Decides.{nat_tests}
-use Rattle.std.proofs.lemmas.List.Elements.{All-head, All-tail}
-use Rattle.star_history.proofs.ListLemmas.{all_pairs_head, all_pairs_tail}
+use Rattle.core_state.proofs.Words.{◌+◌, ◌<◌, ◌==◌, ◌∙◌, ◌∷◌, ◌≡◌, ◌≢◌, ◌≤◌, [], All, All-head, All-tail, all_pairs_head, all_pairs_tail, AllPairs, ap, arith, Bool, cond, false, filter, List, nat_tests, range_with_len, refl, subst, suc, sym, true, zero, ℕ}
+use Rattle.std.specs.Prelude.{◌||◌}
 
 pub same-number : (n : ℕ) → (n == n) ≡ true
 same-number n = grind (arith, nat_tests)

@@ -1,15 +1,8 @@
 -- The positions that a commit ended are told by the versions that it ended.
-use Rattle.std.proofs.Common.{◌≡◌, ◌≢◌, ℕ, zero, suc, ◌+◌, ◌<◌, ◌≤◌, Bool, true, false, List, [], ◌∷◌, ◌++◌, length, length-append, slice_get, refl, sym, ap, ◌∙◌, subst, arith}
-use Rattle.std.specs.Prelude.{◌==◌, ◌||◌, All, AllPairs, IfSome}
-use Rattle.std.specs.List.{filter, range_with_len}
-use Rattle.std.specs.Option.{option_map_or}
-use Rattle.std.proofs.lemmas.List.Elements.{All-head, All-tail, filter_agree}
+use Rattle.core_state.proofs.Words.{◌++◌, ◌+◌, ◌<◌, ◌==◌, ◌∙◌, ◌∷◌, ◌≡◌, ◌≢◌, ◌≤◌, [], All, All-head, All-tail, all_pairs_tail, AllPairs, ap, arith, Bool, false, filter, IfSome, length, length-append, List, option_map_or, PlainVersion, positions_ended_by, range_with_len, refl, slice_get, still_live, subst, suc, sym, true, versions_by, with_end, with_ends, zero, ℕ}
+use Rattle.std.specs.Prelude.{◌||◌}
+use Rattle.std.proofs.lemmas.List.Elements.{filter_agree}
 use Rattle.star_values.specs.declared.value.Value as cell
-use Rattle.star_history.specs.History.{versions_by, with_end, with_ends}
-use Rattle.star_history.specs.Store.{PlainVersion}
-use Rattle.star_history.proofs.LaterLemmas.{still_live}
-use Rattle.star_history.proofs.ListLemmas.{all_pairs_tail}
-use Rattle.core_state.specs.Logged.{positions_ended_by}
 use Rattle.core_state.proofs.LoggedNumberLemmas.{ascends-by, has, kept-of-longer, kept-of-range, next-number, other-number, same-number}
 
 -- whether a commit ended the version at a position

@@ -1,14 +1,6 @@
 -- The rows that a commit loaded are told by its number.
-use Rattle.std.proofs.Common.{◌≡◌, ◌≢◌, ℕ, zero, suc, ◌<◌, Bool, true, false, cond, List, [], ◌∷◌, ◌++◌, map, append-nil, refl, ap, ◌∙◌, arith}
-use Rattle.std.specs.Prelude.{◌==◌, All}
-use Rattle.std.specs.List.{filter}
-use Rattle.std.proofs.lemmas.List.{map-append}
-use Rattle.std.proofs.lemmas.List.Elements.{All-head, All-tail, filter-append}
+use Rattle.core_state.proofs.Words.{◌++◌, ◌<◌, ◌==◌, ◌∙◌, ◌∷◌, ◌≡◌, ◌≢◌, [], All, All-head, All-tail, ap, append-nil, arith, Bool, cond, DimensionRow, facts_loaded_by, false, filter, filter-append, List, map, map-append, PlainVersion, refl, rows_by, rows_loaded_by, suc, true, versions_by, with_end, with_ends, zero, ℕ}
 use Rattle.star_values.specs.declared.value.Value as cell
-use Rattle.dimension_rows.specs.declared.dimension_row.DimensionRow.{DimensionRow}
-use Rattle.star_history.specs.History.{rows_by, versions_by, with_end, with_ends}
-use Rattle.star_history.specs.Store.{PlainVersion}
-use Rattle.core_state.specs.Logged.{facts_loaded_by, rows_loaded_by}
 use Rattle.core_state.proofs.LoggedNumberLemmas.{other-number, same-number}
 
 -- what was made of some rows by a commit

@@ -1,20 +1,7 @@
 -- The deletes in the history of every core name their positions ascending.
-use Rattle.std.proofs.Common.{◌≡◌, ℕ, ◌+◌, List, [], ◌∷◌, ◌++◌, Option, Some, None, refl, sym, ◌∙◌, subst}
-use Rattle.std.specs.Prelude.{All, IfSome, find}
-use Rattle.std.proofs.lemmas.List.Elements.{All-append, All-cons, All-nil}
-use Rattle.pipeline_manager.specs.Lives.{slot_of}
-use Rattle.star_history.specs.History.{Change}
+use Rattle.core_state.proofs.Words.{◌++◌, ◌+◌, ◌∙◌, ◌∷◌, ◌≡◌, [], Abandon, accepted_at, after_outcome, after_step, after_steps, All, All-append, All-cons, All-nil, Build, Change, changes_of, Clear, Cut, Distribute, Done, EndsAscending, Entry, Event, find, Finish, flight_at, Give, IfSome, is_held_by, List, None, Option, outcome_of, refl, Release, Reorder, Replying, Reserve, slot_of, Some, Start, State, Step, Submit, subst, sym, tables_of, Take, Told, Wanting, with_query, ℕ}
 use Rattle.star_statement.specs.Outcome as outcome
-use Rattle.star_statement.specs.Outcome.{Told, outcome_of}
 use Rattle.core_state.specs.Events.{after_event, after_want}
-use Rattle.core_state.specs.Found.{accepted_at, flight_at, is_held_by}
-use Rattle.core_state.specs.Logged.{EndsAscending}
-use Rattle.core_state.specs.State.{Entry, State}
-use Rattle.core_state.specs.Steps.{Done, Replying, Step, Wanting, after_step, after_steps}
-use Rattle.core_state.specs.Submitting.{after_outcome, with_query}
-use Rattle.core_state.specs.Tables.{changes_of, tables_of}
-use Rattle.core_state.specs.declared.event.Event.{Event}
-use Rattle.core_state.specs.declared.event.Event.TheVariants.{Submit, Reserve, Build, Start, Cut, Take, Give, Distribute, Finish, Clear, Release, Reorder, Abandon}
 use Rattle.core_state.proofs.GrownLemmas.{changes-with}
 use Rattle.core_state.proofs.LaterLemmas.{by-option, entries-by}
 use Rattle.core_state.proofs.LoggedDeleteLemmas.{outcome-ascends}

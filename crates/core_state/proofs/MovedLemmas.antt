@@ -1,17 +1,6 @@
 -- A core whose lives, filters and numbers change is sound where what these changes touch is.
-use Rattle.std.proofs.Common.{◌≡◌, ◌≢◌, ◌⊎◌, ℕ, List, get_or, Option, Some, None}
-use Rattle.std.specs.Prelude.{All, IfSome}
-use Rattle.std.proofs.lemmas.Option.{IfSome_then}
-use Rattle.star_plan.specs.Test.{Query}
-use Rattle.pipeline_manager.specs.Lives.{life_in}
+use Rattle.core_state.proofs.Words.{◌≡◌, ◌≢◌, ◌⊎◌, All, AreSoundBatches, AreSoundFilters, AreSoundHands, AreSoundQueries, AreSoundSeats, AreSoundSlots, Asked, Awaited, Filters, Free, get_or, IfSome, IfSome_then, IsAwaited, IsOnRoster, IsSound, IsSoundOrder, IsSoundSeat, IsTaken, life_in, List, None, Option, Query, QueryLife, Replied, Seat, SlotState, Some, State, tables_of, ℕ}
 use Rattle.pipeline_manager.specs.declared.life.Life.TheVariants as life
-use Rattle.pipeline_manager.specs.declared.life.QueryLife.{QueryLife}
-use Rattle.pipeline_manager.specs.declared.life.SlotState.{SlotState}
-use Rattle.pipeline_manager.specs.declared.life.SlotState.TheVariants.{Free}
-use Rattle.core_state.specs.Flown.{IsOnRoster}
-use Rattle.core_state.specs.Sound.{AreSoundBatches, AreSoundFilters, AreSoundHands, AreSoundQueries, AreSoundSeats, AreSoundSlots, IsAwaited, IsSound, IsSoundOrder, IsSoundSeat, IsTaken}
-use Rattle.core_state.specs.State.{Asked, Awaited, Filters, Replied, Seat, State}
-use Rattle.core_state.specs.Tables.{tables_of}
 use Rattle.core_state.proofs.FrameLemmas.{batch-moved, hand-moved, moved}
 
 -- the core with other lives of the same filters, other filters, and another number of the last version

@@ -1,36 +1,20 @@
 -- What each outcome of a statement is: a reply alone, a query over the schema, or a change that the tables take.
-use Rattle.std.proofs.Common.{◌≡◌, ◌↔◌, ℕ, ◌<◌, Bool, true, false, cond, List, [], ◌∷◌, length, map, Option, Some, None, Result, Ok, Err, refl, sym, ap, ◌∙◌, subst, arith}
-use Rattle.std.specs.Prelude.{All, IfOk, IsSome, is_none, is_some, nat_le, nat_lt, ◌||◌}
-use Rattle.std.specs.List.{list_any}
-use Rattle.std.proofs.lemmas.List.Elements.{All-cons, All-nil}
-use Rattle.star_values.specs.declared.refusal.Refusal.{Refusal}
-use Rattle.star_values.specs.declared.refusal.Refusal.TheVariants.{OutOfOrder, DuplicateName, Limit, UnknownName, TypeMismatch}
-use Rattle.script_reader.specs.declared.statement.Statement.{Statement}
-use Rattle.script_reader.specs.declared.statement.Block.{Block}
+use Rattle.core_state.proofs.Words.{◌<◌, ◌∙◌, ◌∷◌, ◌≡◌, [], Accepts, All, All-cons, All-nil, ap, arith, Block, block_bytes, Bool, bound_delete, bound_select, Change, committed, cond, declared, declared_dimension, declared_fact, declared_table, delete_change, deleted, DimensionDeclared, Err, FactDeclared, false, FitsTables, IfOk, is_none, is_some, IsOver, IsSettled, IsSome, length, Limit, List, list_any, map, meaning_of, meaning_outcome, None, Ok, Option, Outcome, outcome_by, OutOfOrder, Query, refl, Refusal, refused, Result, Schema, select_of, selected, Some, Statement, Store, subst, sym, TableDef, Test, true, UnknownName, where_conjuncts, ℕ}
+use Rattle.std.proofs.Common.{◌↔◌}
+use Rattle.std.specs.Prelude.{nat_le, nat_lt, ◌||◌}
+use Rattle.star_values.specs.declared.refusal.Refusal.TheVariants.{DuplicateName, TypeMismatch}
 use Rattle.star_parser.specs.declared.ast.AstColumn.{AstColumn}
 use Rattle.star_parser.specs.Printed.{HaveNoTargets, IsNonempty, IsShaped}
 use Rattle.star_parser.specs.Sentence.{IsSentence}
 use Rattle.star_parser.specs.Statement as written
-use Rattle.star_plan.specs.Over.{IsOver}
-use Rattle.star_plan.specs.Test.{Query, Test}
 use Rattle.star_plan.specs.declared.column_def.ColumnDef.{ColumnDef}
-use Rattle.star_plan.specs.declared.schema.Schema.{Schema}
-use Rattle.star_plan.specs.declared.table_def.TableDef.{TableDef}
-use Rattle.star_schema.specs.Declaration.{declared_dimension, declared_fact, references_another_kind, references_nothing, references_twice, takes_a_name_twice}
+use Rattle.star_schema.specs.Declaration.{references_another_kind, references_nothing, references_twice, takes_a_name_twice}
 use Rattle.star_schema.specs.declared.TheConstants.{MAX_COLUMNS, MAX_DIMENSIONS}
-use Rattle.star_binder.specs.Named.{where_conjuncts}
-use Rattle.star_binder.specs.Refused.{bound_delete, bound_select}
-use Rattle.star_binder.specs.Select.{SelectParts, select_of}
-use Rattle.star_binder.specs.Table.{declared_table, defined_column}
-use Rattle.star_history.specs.Accepted.{Accepts}
-use Rattle.star_history.specs.History.{Change, DimensionDeclared, FactDeclared}
-use Rattle.star_history.specs.Settled.{IsSettled}
-use Rattle.star_history.specs.Store.{Store}
-use Rattle.star_store.specs.Deletes.{delete_change}
+use Rattle.star_binder.specs.Select.{SelectParts}
+use Rattle.star_binder.specs.Table.{defined_column}
 use Rattle.star_store.specs.Loads.{load_change}
-use Rattle.star_statement.specs.Outcome.{Outcome, block_bytes, committed, declared, deleted, meaning_outcome, outcome_by, outcome_of, refused, selected}
-use Rattle.star_statement.specs.Text.{IsWhole, IsWithin, meaning_of}
-use Rattle.core_state.specs.Fitting.{FitsTables}
+use Rattle.star_statement.specs.Outcome.{outcome_of}
+use Rattle.star_statement.specs.Text.{IsWhole, IsWithin}
 
 -- what the lower laws say of the statements that are read
 pub record Readings : Type 0 where

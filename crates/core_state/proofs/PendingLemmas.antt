@@ -1,13 +1,6 @@
 -- What is found of the statements that a seat waits for.
-use Rattle.std.proofs.Common.{◌≡◌, ◌≢◌, ◌⊎◌, ℕ, ◌<◌, Bool, true, false, cond, eqb, eq-eqb, not, List, [], ◌∷◌, ◌++◌, length, get_or, map, set, drop, Option, Some, None, option_map, refl, sym, ap, ◌∙◌, subst, ⊎_elim, inl, inr, arith}
-use Rattle.std.specs.Prelude.{All, AllPairs, IfSome, find}
-use Rattle.std.specs.List.{filter}
-use Rattle.std.proofs.lemmas.Bool.{cases_eq, cases_lt, eqb-true, ne_eqb}
-use Rattle.std.proofs.lemmas.List.{get_or-set_other, get_or-set_same, set_past}
-use Rattle.std.proofs.lemmas.List.Elements.{All-head, All-tail, All-weaker, filter_passes}
-use Rattle.star_history.proofs.ListLemmas.{all_pairs_head, all_pairs_tail}
-use Rattle.core_state.specs.State.{Awaited, Pending, Seat}
-use Rattle.core_state.specs.Submitting.{empty_seat}
+use Rattle.core_state.proofs.Words.{◌++◌, ◌<◌, ◌∙◌, ◌∷◌, ◌≡◌, ◌≢◌, ◌⊎◌, [], All, All-head, All-tail, All-weaker, all_pairs_head, all_pairs_tail, AllPairs, ap, arith, Awaited, Bool, cases_eq, cases_lt, cond, drop, empty_seat, eq-eqb, eqb, eqb-true, false, filter, filter_passes, find, get_or, get_or-set_other, get_or-set_same, IfSome, inl, inr, length, List, map, ne_eqb, None, not, Option, option_map, Pending, refl, Seat, set, Some, subst, sym, true, ℕ, ⊎_elim}
+use Rattle.std.proofs.lemmas.List.{set_past}
 use Rattle.core_state.proofs.SeatLemmas.{awaited-there}
 
 -- what is waited for as the reply to a statement of this number

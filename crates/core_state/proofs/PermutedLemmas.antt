@@ -1,8 +1,7 @@
 -- What is kept or found of a list comes in the list's order.
-use Rattle.std.proofs.Common.{ℕ, zero, suc, ◌<◌, Bool, true, false, cond, List, [], ◌∷◌, length, get_or, set, Option, Some, None, arith}
-use Rattle.std.specs.List.{cons_option, filter, filter_map, swap}
-use Rattle.std.specs.List.Sorted.{IsPermutation}
-use Rattle.std.proofs.lemmas.List.Sorted.{IsPermutation-refl, IsPermutation-trans, IsPermutation-cons, IsPermutation-middle, IsPermutation-keeps}
+use Rattle.core_state.proofs.Words.{◌<◌, ◌∷◌, [], arith, Bool, cond, cons_option, false, filter, filter_map, get_or, IsPermutation, IsPermutation-refl, IsPermutation-trans, length, List, None, Option, set, Some, suc, true, zero, ℕ}
+use Rattle.std.specs.List.{swap}
+use Rattle.std.proofs.lemmas.List.Sorted.{IsPermutation-cons, IsPermutation-middle, IsPermutation-keeps}
 
 -- what holds of each list and itself, from one to the next, behind a first element, and of two
 -- neighbours that change places, holds of permutations

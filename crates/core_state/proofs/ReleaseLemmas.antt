@@ -1,18 +1,6 @@
 -- A slot that is given free keeps a core sound.
-use Rattle.std.proofs.Common.{◌≡◌, ◌≢◌, ℕ, ◌<◌, length, get_or, set, refl, sym, ◌∙◌, subst, arith}
-use Rattle.std.proofs.lemmas.List.{get_or-set_same, get_or-set_other, length-set}
-use Rattle.std.proofs.lemmas.List.Elements.{All-set}
-use Rattle.std.proofs.lemmas.Nat.Bits.{bit_at-zero}
-use Rattle.bit_words.specs.Sets.{Has}
-use Rattle.dimension_filter.specs.Filter.{Filter}
-use Rattle.pipeline_manager.specs.Conditions.{CanFree}
-use Rattle.pipeline_manager.specs.Lives.{slot_at}
-use Rattle.pipeline_manager.specs.declared.life.SlotState.TheVariants.{Free, Held, Clearing}
+use Rattle.core_state.proofs.Words.{◌<◌, ◌∙◌, ◌≡◌, ◌≢◌, after_release, All-set, arith, bit_at-zero, CanFree, Clearing, Filter, FitsSlot, Free, get_or, get_or-set_other, get_or-set_same, Has, Held, IsSound, length, length-set, refl, set, slot_at, State, subst, sym, ℕ}
 use Rattle.pipeline_manager.proofs.LawLemmas.{sound-after_free}
-use Rattle.core_state.specs.Admitting.{after_release}
-use Rattle.core_state.specs.Flown.{FitsSlot}
-use Rattle.core_state.specs.Sound.{IsSound}
-use Rattle.core_state.specs.State.{State}
 use Rattle.core_state.proofs.HeldLemmas.{entry-set, filters-held, fits-set, queries-stay, slot-there}
 use Rattle.core_state.proofs.MovedLemmas.{Holds, order-held, sound-held}
 

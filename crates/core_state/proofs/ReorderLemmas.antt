@@ -1,10 +1,6 @@
 -- Filters that are ordered anew keep a core sound.
-use Rattle.std.proofs.Common.{ℕ, get_or, refl}
-use Rattle.std.specs.Prelude.{All}
-use Rattle.core_state.specs.Cutting.{after_reorder, order_by}
-use Rattle.core_state.specs.Flown.{IsOnRoster}
-use Rattle.core_state.specs.Sound.{AreSoundBatches, IsSound}
-use Rattle.core_state.specs.State.{Filters, State}
+use Rattle.core_state.proofs.Words.{after_reorder, All, AreSoundBatches, Filters, get_or, IsOnRoster, IsSound, refl, State, ℕ}
+use Rattle.core_state.specs.Cutting.{order_by}
 use Rattle.core_state.proofs.FrameLemmas.{entry-moved}
 use Rattle.core_state.proofs.HeldLemmas.{filters-held, queries-stay}
 use Rattle.core_state.proofs.MovedLemmas.{Holds, held_now, sound-held}

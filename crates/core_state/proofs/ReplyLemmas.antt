@@ -1,12 +1,5 @@
 -- A seat takes its replies in the order of its statements.
-use Rattle.std.proofs.Common.{◌≡◌, ℕ, ◌<◌, true, false, List, [], ◌∷◌, ◌++◌, length, get_or, map, set, drop, take, Some, slice_get, refl, sym, ap, ◌∙◌, subst, ⊎_elim, arith}
-use Rattle.std.specs.Prelude.{AllPairs, IsSome}
-use Rattle.std.specs.Option.{option_and_then}
-use Rattle.std.proofs.lemmas.Bool.{cases_lt}
-use Rattle.std.proofs.lemmas.List.{get_or-set_same, get_or_past}
-use Rattle.core_state.specs.Sound.{IsSound}
-use Rattle.core_state.specs.State.{Pending, Seat, State}
-use Rattle.core_state.specs.Submitting.{after_taking, empty_seat, next_ready, ready_to, seat_at, taken_by, with_taken}
+use Rattle.core_state.proofs.Words.{◌++◌, ◌<◌, ◌∙◌, ◌∷◌, ◌≡◌, [], after_taking, AllPairs, ap, arith, cases_lt, drop, empty_seat, false, get_or, get_or-set_same, get_or_past, IsSome, IsSound, length, List, map, next_ready, option_and_then, Pending, ready_to, refl, Seat, seat_at, set, slice_get, Some, State, subst, sym, take, taken_by, true, with_taken, ℕ, ⊎_elim}
 
 -- the numbers that a seat took and waits for
 abbrev numbers_of : Seat → List ℕ

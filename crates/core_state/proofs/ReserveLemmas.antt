@@ -1,24 +1,7 @@
 -- A reservation keeps a core sound.
-use Rattle.std.proofs.Common.{◌≡◌, ◌≢◌, ◌⊎◌, ℕ, ◌<◌, [], length, get_or, set, map, Some, None, refl, sym, ap, ◌∙◌, subst, ⊎_elim, inl, inr}
-use Rattle.std.specs.Prelude.{IfSome, IsTrue}
-use Rattle.std.specs.Option.{option_map_or}
-use Rattle.std.proofs.lemmas.Bool.{cases_eq}
-use Rattle.std.proofs.lemmas.List.{get_or-set_same, get_or-set_other, length-set}
-use Rattle.bit_words.specs.Sets.{Has}
-use Rattle.dimension_filter.specs.Filter.{Filter}
-use Rattle.pipeline_manager.specs.Changes.{with_life}
-use Rattle.pipeline_manager.specs.Lives.{life_in, slot_at}
-use Rattle.pipeline_manager.specs.declared.life.Life.{Life}
+use Rattle.core_state.proofs.Words.{◌<◌, ◌∙◌, ◌≡◌, ◌≢◌, ◌⊎◌, [], after_reserving, ap, cases_eq, Filter, FitsSlot, Free, get_or, get_or-set_other, get_or-set_same, gets_rows, Has, Held, IfSome, inl, inr, IsSound, IsTrue, length, length-set, Life, life_in, map, MayBeOnRoster, MayReserve, None, oldest-waits, option_map_or, refl, set, slot_at, Some, State, subst, sym, with_life, ℕ, ⊎_elim}
 use Rattle.pipeline_manager.specs.declared.life.Life.TheVariants as life
-use Rattle.pipeline_manager.specs.declared.life.SlotState.TheVariants.{Free, Held}
 use Rattle.pipeline_manager.proofs.CallLemmas.{sound-reserved}
-use Rattle.pipeline_manager.proofs.LifeLemmas.{oldest-waits}
-use Rattle.core_state.specs.Admitting.{after_reserving}
-use Rattle.core_state.specs.Cutting.{gets_rows}
-use Rattle.core_state.specs.Events.{MayReserve}
-use Rattle.core_state.specs.Flown.{FitsSlot, MayBeOnRoster}
-use Rattle.core_state.specs.Sound.{IsSound}
-use Rattle.core_state.specs.State.{State}
 use Rattle.core_state.proofs.FoundLemmas.{life-written, no-life}
 use Rattle.core_state.proofs.HeldLemmas.{entry-set, filters-held, fits-set}
 use Rattle.core_state.proofs.MovedLemmas.{Holds, order-held, sound-held}

@@ -1,17 +1,10 @@
 -- What the positions of a whole extent give is what a query keeps.
-use Rattle.std.proofs.Common.{◌≡◌, ℕ, zero, suc, ◌+◌, ◌<◌, ◌≤◌, ◌&&◌, ◌||◌, eqb, ltb, leb, Bool, true, false, cond, List, [], ◌∷◌, length, map, take, Option, Some, None, slice_get, refl, sym, ap, ◌∙◌, subst, arith, add-one}
-use Rattle.std.specs.Prelude.{IfSome, ◌↔◌}
-use Rattle.std.specs.List.{cons_option, filter, range_with_len}
-use Rattle.std.specs.List.Sorted.{IsPermutation}
+use Rattle.core_state.proofs.Words.{◌&&◌, ◌+◌, ◌<◌, ◌||◌, ◌↔◌, ◌∙◌, ◌∷◌, ◌≡◌, ◌≤◌, [], add-one, ap, arith, Bool, cond, cons_option, eqb, false, filter, IfSome, is_kept, is_visible, IsPermutation, Joined, joined, kept, kept_at, length, List, ltb, map, None, Option, PlainVersion, Query, range_with_len, refl, slice_get, Some, Store, subst, suc, sym, take, true, versions_at, zero, ℕ}
+use Rattle.std.proofs.Common.{leb}
 use Rattle.std.proofs.lemmas.Bool.{leb-true}
 use Rattle.std.proofs.lemmas.Simd.{map-map}
 use Rattle.std.proofs.lemmas.List.Sorted.{IsPermutation-map}
-use Rattle.star_plan.specs.Joined.{Joined, is_kept, kept_of}
-use Rattle.star_plan.specs.Test.{Query}
-use Rattle.fact_versions.specs.Visible.{is_visible}
-use Rattle.star_history.specs.Alone.{joined, kept}
-use Rattle.star_history.specs.Store.{PlainVersion, Store}
-use Rattle.core_state.specs.Sound.{kept_at, versions_at}
+use Rattle.star_plan.specs.Joined.{kept_of}
 use Rattle.core_state.proofs.PermutedLemmas.{filter-IsPermutation, filter_map-IsPermutation}
 
 -- the kept rows come in the order of the rows

@@ -1,17 +1,6 @@
 -- Behind a cut a scan has what runs in the core behind that cut.
-use Rattle.std.proofs.Common.{◌≡◌, ℕ, ◌<◌, cond, length, map, get_or, None, refl, ap, sym, ◌∙◌, subst, arith}
-use Rattle.std.proofs.lemmas.List.{get_or-map, length-map}
-use Rattle.star_history.specs.Keyed.{KeyedStore}
-use Rattle.pipeline_manager.specs.Lives.{slot_at}
+use Rattle.core_state.proofs.Words.{◌<◌, ◌∙◌, ◌≡◌, after_cutting, ap, AreTablesOf, arith, cond, cut_slot, end_in, first_in, get_or, get_or-map, holder_of, IsScannedAs, IsSound, KeyedStore, length, length-map, map, MayCut, None, refl, Scanning, slot_at, State, subst, sym, ℕ}
 use Rattle.continuous_scan.specs.Range as scanned
-use Rattle.continuous_scan.specs.Range.{cut_slot}
-use Rattle.continuous_scan.specs.Scanning.{Scanning}
-use Rattle.core_state.specs.Cutting.{after_cutting, end_in, first_in}
-use Rattle.core_state.specs.Events.{MayCut}
-use Rattle.core_state.specs.Found.{holder_of}
-use Rattle.core_state.specs.Scanned.{AreTablesOf, IsScannedAs}
-use Rattle.core_state.specs.Sound.{IsSound}
-use Rattle.core_state.specs.State.{State}
 use Rattle.core_state.proofs.CutRunsLemmas.{cuts}
 use Rattle.core_state.proofs.ScannedCutLemmas.{RunsBy, held-cut}
 use Rattle.core_state.proofs.ScannedRunLemmas.{same-first, same-last, some-scanned}

@@ -1,25 +1,11 @@
 -- The batch that a scan cuts is the batch that the core cuts.
-use Rattle.std.proofs.Common.{◌≡◌, ℕ, ◌-◌, ◌++◌, true, List, [], ◌∷◌, length, map, get_or, drop, take, Some, None, refl, ap, sym, ◌∙◌}
-use Rattle.std.specs.Prelude.{All, flat_map, is_some}
-use Rattle.std.specs.List.{range_with_len}
+use Rattle.core_state.proofs.Words.{◌++◌, ◌-◌, ◌∙◌, ◌∷◌, ◌≡◌, [], All, All-head, All-tail, ap, AreTablesOf, bits_of, DimensionRow, drop, end_in, first_in, flat_map, get_or, HasKeyNumbers, is_some, IsScannedAs, IsSound, key_numbers, KeyedStore, length, life_at, List, map, next_number, None, OnRoster, plain, plain_version, PlainVersion, range_with_len, refl, roster_of, Rows, rows_of, running_at, Scanning, Schema, slots_of, Some, State, Store, sym, tables_of, take, takes_version, true, Version, versions_from, ℕ}
 use Rattle.std.proofs.lemmas.List.{drop-map, take-map}
-use Rattle.std.proofs.lemmas.List.Elements.{All-drop, All-head, All-tail, All-take}
-use Rattle.star_plan.specs.declared.schema.Schema.{Schema}
-use Rattle.dimension_rows.specs.declared.dimension_row.DimensionRow.{DimensionRow}
-use Rattle.fact_versions.specs.declared.version.Version.{Version}
-use Rattle.star_history.specs.Keyed.{HasKeyNumbers, KeyedStore, number_by_key, plain, plain_version}
-use Rattle.star_history.specs.Store.{PlainVersion, Store}
-use Rattle.batch_flow.specs.Rows.{Rows}
+use Rattle.std.proofs.lemmas.List.Elements.{All-drop, All-take}
+use Rattle.star_history.specs.Keyed.{number_by_key}
 use Rattle.continuous_scan.specs.Range as scanned
-use Rattle.continuous_scan.specs.Scanning.{Scanning}
 use Rattle.continuous_scan.specs.Stamped as stamped
-use Rattle.core_state.specs.Cutting.{bits_of, end_in, first_in, frame_words, roster_of, rows_of, slots_of, takes_version, versions_from}
-use Rattle.core_state.specs.Found.{running_at}
-use Rattle.core_state.specs.Numbered.{next_number}
-use Rattle.core_state.specs.Scanned.{AreTablesOf, IsScannedAs, life_at}
-use Rattle.core_state.specs.Sound.{IsSound}
-use Rattle.core_state.specs.State.{OnRoster, State}
-use Rattle.core_state.specs.Tables.{key_numbers, tables_of}
+use Rattle.core_state.specs.Cutting.{frame_words}
 use Rattle.core_state.proofs.CutRosterLemmas.{runs-in}
 use Rattle.core_state.proofs.ScannedListLemmas.{all-kept, same-slots}
 use Rattle.core_state.proofs.ScannedRunLemmas.{same-first, same-last}

@@ -1,19 +1,6 @@
 -- What a scan that has what runs in the core has behind a cut.
-use Rattle.std.proofs.Common.{◌≡◌, ℕ, ◌<◌, ◌-◌, eqb, List, map, Option, Some, None, option_map, refl, ap, sym, ◌∙◌, subst}
-use Rattle.std.specs.Option.{option_and_then, option_map_or}
-use Rattle.std.proofs.lemmas.Bool.{eqb-true}
-use Rattle.std.proofs.lemmas.Option.{none-some, same_Some}
+use Rattle.core_state.proofs.Words.{◌-◌, ◌<◌, ◌∙◌, ◌≡◌, Accepted, accepted_at, ap, cut_life, cut_query, cut_slot, entry_of, eqb, eqb-true, extent_in, Life, life_in-cut, life_of, List, Lives, map, None, none-some, OnRoster, Option, option_and_then, option_map, option_map_or, query_in, query_in-map, QueryLife, refl, Running, RunsAs, same_Some, Some, subst, sym, ℕ}
 use Rattle.pipeline_manager.specs.Changes as managed
-use Rattle.pipeline_manager.specs.Changes.{cut_life, cut_query}
-use Rattle.pipeline_manager.specs.Lives.{Lives, extent_in, life_of, query_in}
-use Rattle.pipeline_manager.specs.declared.life.Life.{Life}
-use Rattle.pipeline_manager.specs.declared.life.QueryLife.{QueryLife}
-use Rattle.pipeline_manager.proofs.LifeLemmas.{life_in-cut, query_in-map}
-use Rattle.continuous_scan.specs.Range.{cut_slot}
-use Rattle.continuous_scan.specs.Scanning.{Running}
-use Rattle.core_state.specs.Found.{accepted_at, entry_of}
-use Rattle.core_state.specs.Scanned.{RunsAs}
-use Rattle.core_state.specs.State.{Accepted, OnRoster}
 use Rattle.core_state.proofs.FoundLemmas.{find-passes}
 use Rattle.core_state.proofs.ScannedRunLemmas.{found_by}
 use Rattle.core_state.proofs.ScannedSlotLemmas.{cut-as, run_in}

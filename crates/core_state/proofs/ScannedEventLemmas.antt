@@ -1,28 +1,8 @@
 -- Events that leave a scan as it is.
-use Rattle.std.proofs.Common.{◌≡◌, ℕ, Bool, true, false, cond, List, [], ◌∷◌, length, map, set, find, take, Option, Some, None, refl, ap, sym, ◌∙◌, subst, inl, inr}
-use Rattle.std.specs.Option.{option_and_then, option_map_or}
-use Rattle.std.proofs.lemmas.List.{length-set}
-use Rattle.star_history.specs.Store.{rows_in}
-use Rattle.dimension_filter.specs.Changes.{filter_with}
-use Rattle.pipeline_manager.specs.Changes.{given_up, is_ending, with_dimension, with_life, with_slot, without_dimension}
-use Rattle.pipeline_manager.specs.Conditions.{CanFree, IsOver, gives_up}
-use Rattle.pipeline_manager.specs.Lives.{Lives, life_in, life_of, slot_at, slot_of}
-use Rattle.pipeline_manager.specs.declared.life.Life.{Life}
+use Rattle.core_state.proofs.Words.{◌∙◌, ◌∷◌, ◌≡◌, [], Accepted, accepted_at, after_build, after_clear, after_finish, after_give, after_release, after_reserving, after_taking, ap, Bool, CanFree, Clearing, cond, false, filter_with, Flight, forgotten, Free, given_back, given_up, Held, holder_of, inl, inr, is_ending, is_held_by, IsScannedAs, IsSound, length, length-set, Life, life_in, life_of, List, Lives, map, MayFinish, MayReserve, None, oldest-waits, Option, option_and_then, option_map_or, Pending, QueryLife, refl, rows_in, Scanning, seat_at, selection_in, set, slot_at, slot_of, SlotState, Some, start_in, State, subst, sym, tables_of, take, tallies_after, true, with_built, with_dimension, with_flight, with_life, with_slot, with_version, without_dimension, without_groups, ℕ}
+use Rattle.std.proofs.Common.{find}
+use Rattle.pipeline_manager.specs.Conditions.{IsOver, gives_up}
 use Rattle.pipeline_manager.specs.declared.life.Life.TheVariants as life
-use Rattle.pipeline_manager.specs.declared.life.QueryLife.{QueryLife}
-use Rattle.pipeline_manager.specs.declared.life.SlotState.{SlotState}
-use Rattle.pipeline_manager.specs.declared.life.SlotState.TheVariants.{Free, Held, Clearing}
-use Rattle.pipeline_manager.proofs.LifeLemmas.{oldest-waits}
-use Rattle.continuous_scan.specs.Scanning.{Scanning}
-use Rattle.core_state.specs.Admitting.{after_build, after_clear, after_finish, after_release, after_reserving, selection_in, with_built, with_version}
-use Rattle.core_state.specs.Cutting.{after_give, given_back, tallies_after, with_flight}
-use Rattle.core_state.specs.Events.{MayFinish, MayReserve}
-use Rattle.core_state.specs.Found.{accepted_at, holder_of, is_held_by, start_in}
-use Rattle.core_state.specs.Scanned.{IsScannedAs}
-use Rattle.core_state.specs.Sound.{IsSound}
-use Rattle.core_state.specs.State.{Accepted, Flight, Pending, State}
-use Rattle.core_state.specs.Submitting.{after_taking, forgotten, seat_at, without_groups}
-use Rattle.core_state.specs.Tables.{tables_of}
 use Rattle.core_state.proofs.AnewLemmas.{forgets}
 use Rattle.core_state.proofs.ScannedFrameLemmas.{StaysBy, found-kept, held-stays, scanned-stays, slot-written, start_by, written-rests, written-stays}
 use Rattle.core_state.proofs.ScannedRunLemmas.{found_by}

@@ -1,17 +1,5 @@
 -- What leaves a scan as it is: in each slot the same runs as before, or nothing runs before and after.
-use Rattle.std.proofs.Common.{◌≡◌, ◌≢◌, ◌⊎◌, ℕ, ◌<◌, List, length, map, get_or, set, Option, Some, None, option_map, refl, ap, sym, ◌∙◌, subst, ⊎_elim, inl, inr, arith}
-use Rattle.std.specs.Option.{option_and_then}
-use Rattle.std.proofs.lemmas.Bool.{cases_eq}
-use Rattle.std.proofs.lemmas.List.{get_or-set_other, get_or-set_same}
-use Rattle.pipeline_manager.specs.Lives.{Lives, life_in, life_of, slot_at}
-use Rattle.pipeline_manager.specs.declared.life.Life.{Life}
-use Rattle.pipeline_manager.specs.declared.life.SlotState.{SlotState}
-use Rattle.pipeline_manager.specs.declared.life.SlotState.TheVariants.{Free}
-use Rattle.pipeline_manager.proofs.LifeLemmas.{life_in-other, life_in-same}
-use Rattle.continuous_scan.specs.Scanning.{Running, Scanning}
-use Rattle.core_state.specs.Found.{accepted_at, entry_of, holder_of, start_in}
-use Rattle.core_state.specs.Scanned.{IsScannedAs, RunsAs}
-use Rattle.core_state.specs.State.{Accepted, State}
+use Rattle.core_state.proofs.Words.{◌<◌, ◌∙◌, ◌≡◌, ◌≢◌, ◌⊎◌, Accepted, accepted_at, ap, arith, cases_eq, entry_of, Free, get_or, get_or-set_other, get_or-set_same, holder_of, inl, inr, IsScannedAs, length, Life, life_in, life_in-other, life_in-same, life_of, List, Lives, map, None, Option, option_and_then, option_map, refl, Running, RunsAs, Scanning, set, slot_at, SlotState, Some, start_in, State, subst, sym, ℕ, ⊎_elim}
 use Rattle.core_state.proofs.AnewLemmas.{KeepsAsked, by-change, found-anew}
 use Rattle.core_state.proofs.ScannedCutLemmas.{RunsBy}
 use Rattle.core_state.proofs.ScannedLifeLemmas.{found-written, lives_with}

@@ -1,22 +1,7 @@
 -- A scan where another life is written for the query that holds a slot.
-use Rattle.std.proofs.Common.{◌≡◌, ◌≢◌, ℕ, ◌<◌, Bool, true, false, cond, eqb, List, length, get_or, Option, Some, None, option_map, refl, ap, sym, ◌∙◌, subst, ⊎_elim}
-use Rattle.std.proofs.lemmas.Bool.{cases_eq}
-use Rattle.std.proofs.lemmas.List.Quantifiers.{position-Some}
-use Rattle.std.proofs.lemmas.Option.{none-some, same_Some}
-use Rattle.pipeline_manager.specs.Changes.{renewed, with_life}
-use Rattle.pipeline_manager.specs.Lives.{Lives, is_held_by, life_in, life_of, slot_at, slot_of}
+use Rattle.core_state.proofs.Words.{◌<◌, ◌∙◌, ◌≡◌, ◌≢◌, Accepted, ap, Bool, cases_eq, Clearing, cond, eqb, false, Free, get_or, Held, holder_of, IsScannedAs, IsSound, length, Life, life_in, life_in-other, life_in-same, life_of, List, Lives, None, none-some, Option, option_map, position-Some, QueryLife, refl, renewed, renewed-number, Running, RunsAs, RunsAt, same_Some, Scanning, slot_at, slot_of, slot_of-holder, SlotState, Some, State, subst, sym, true, with_life, ℕ, ⊎_elim}
+use Rattle.pipeline_manager.specs.Lives.{is_held_by}
 use Rattle.pipeline_manager.specs.Sound as managed
-use Rattle.pipeline_manager.specs.declared.life.Life.{Life}
-use Rattle.pipeline_manager.specs.declared.life.QueryLife.{QueryLife}
-use Rattle.pipeline_manager.specs.declared.life.SlotState.{SlotState}
-use Rattle.pipeline_manager.specs.declared.life.SlotState.TheVariants.{Free, Held, Clearing}
-use Rattle.pipeline_manager.proofs.HolderLemmas.{slot_of-holder}
-use Rattle.pipeline_manager.proofs.LifeLemmas.{life_in-other, life_in-same, renewed-number}
-use Rattle.continuous_scan.specs.Scanning.{Running, Scanning}
-use Rattle.core_state.specs.Found.{holder_of}
-use Rattle.core_state.specs.Scanned.{IsScannedAs, RunsAs, RunsAt}
-use Rattle.core_state.specs.Sound.{IsSound}
-use Rattle.core_state.specs.State.{Accepted, State}
 use Rattle.core_state.proofs.CutRosterLemmas.{held-by}
 use Rattle.core_state.proofs.ScannedCutLemmas.{RunsBy, extents-stay, same-found}
 use Rattle.core_state.proofs.ScannedRunLemmas.{found_by}

@@ -1,17 +1,8 @@
 -- What a scan's slots say, and a roster that is found in them: the same end of a cut, and the same sets of slots.
-use Rattle.std.proofs.Common.{◌≡◌, ℕ, zero, suc, ◌<◌, ◌+◌, ◌++◌, Bool, true, false, cond, List, [], ◌∷◌, length, get_or, Option, Some, None, option_map, refl, ap, sym, ◌∙◌, arith, append-nil}
+use Rattle.core_state.proofs.Words.{◌++◌, ◌+◌, ◌<◌, ◌∙◌, ◌∷◌, ◌≡◌, [], ap, append-nil, arith, Bool, cond, cons_option, end_at_start, false, filter, filter-append, filter_map, filter_map-append, fold-append, get_or, length, List, None, OnRoster, Option, option_map, option_map_or, range_with_len, refl, Running, slots_of, Some, suc, sym, true, with_number, zero, ℕ}
 use Rattle.std.specs.Prelude.{fold}
-use Rattle.std.specs.List.{cons_option, filter, filter_map, range_with_len}
-use Rattle.std.specs.Option.{option_map_or}
-use Rattle.std.proofs.lemmas.List.Elements.{filter-append, filter_map-append}
-use Rattle.std.proofs.lemmas.List.Sums.{fold-append}
-use Rattle.bit_words.specs.Sets.{with_number}
-use Rattle.continuous_scan.specs.Range.{end_at_start}
-use Rattle.continuous_scan.specs.Scanning.{Running}
 use Rattle.continuous_scan.specs.Stamped.{numbers_below}
 use Rattle.continuous_scan.proofs.LapLemmas.{range_parts}
-use Rattle.core_state.specs.Cutting.{slots_of}
-use Rattle.core_state.specs.State.{OnRoster}
 use Rattle.core_state.proofs.CutRangeLemmas.{lowered}
 
 -- an end is lowered to the starts that are found in the slots

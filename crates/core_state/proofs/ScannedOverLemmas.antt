@@ -1,29 +1,8 @@
 -- A scan where queries have no answer any more, and where a batch is distributed.
-use Rattle.std.proofs.Common.{◌≡◌, ◌≢◌, ℕ, ◌<◌, ◌+◌, true, false, eqb, List, [], ◌∷◌, length, map, not, get_or, set, Option, Some, None, option_map, refl, ap, sym, ◌∙◌, subst, ⊎_elim, inr, arith}
-use Rattle.std.specs.Prelude.{IsSome}
-use Rattle.std.specs.List.{filter, fold, list_any}
-use Rattle.std.specs.Option.{option_and_then, option_map_or}
-use Rattle.std.proofs.lemmas.Bool.{cases_eq}
-use Rattle.std.proofs.lemmas.List.{get_or-set_other, get_or-set_same, length-set}
-use Rattle.std.proofs.lemmas.Option.{none-some, same_Some}
-use Rattle.pipeline_manager.specs.Changes.{after_abandon, after_spoil}
-use Rattle.pipeline_manager.specs.Conditions.{CanAbandon, CanBuild, is_open}
-use Rattle.pipeline_manager.specs.Lives.{Lives, life_of, query_in, slot_at, slot_of}
-use Rattle.pipeline_manager.specs.declared.life.Life.{Life}
+use Rattle.core_state.proofs.Words.{◌+◌, ◌<◌, ◌∙◌, ◌∷◌, ◌≡◌, ◌≢◌, [], Accepted, accepted_at, after_abandon, after_abandoning, after_build_wants, after_distribute, after_spoil, ap, arith, CanAbandon, CanBuild, cases_eq, eqb, false, fed, filter, Flight, flight_at, fold, forgotten, get_or, get_or-set_other, get_or-set_same, Held, holder_of, inr, is_open, IsScannedAs, IsSome, IsSound, length, length-set, Life, life_of, List, list_any, Lives, map, None, none-some, not, Option, option_and_then, option_map, option_map_or, query_in, QueryLife, refl, Running, RunsAs, RunsAt, same_Some, Scanning, set, slot_at, slot_of, slot_of-holder, Some, start_in, State, subst, sym, tables_of, true, unkept, with_seat, without_pending, ℕ, ⊎_elim}
 use Rattle.pipeline_manager.specs.declared.life.Life.TheVariants as life
-use Rattle.pipeline_manager.specs.declared.life.QueryLife.{QueryLife}
-use Rattle.pipeline_manager.specs.declared.life.SlotState.TheVariants.{Held}
-use Rattle.pipeline_manager.proofs.HolderLemmas.{slot_of-holder}
 use Rattle.continuous_scan.specs.Range.{after_stop}
-use Rattle.continuous_scan.specs.Scanning.{Running, Scanning}
-use Rattle.core_state.specs.Admitting.{after_build_wants}
-use Rattle.core_state.specs.Cutting.{after_distribute, fed, unkept}
-use Rattle.core_state.specs.Found.{accepted_at, flight_at, holder_of, start_in}
-use Rattle.core_state.specs.Scanned.{IsScannedAs, RunsAs, RunsAt, stopped_for}
-use Rattle.core_state.specs.Sound.{IsSound}
-use Rattle.core_state.specs.State.{Accepted, Flight, State}
-use Rattle.core_state.specs.Submitting.{after_abandoning, forgotten, with_seat, without_pending}
-use Rattle.core_state.specs.Tables.{tables_of}
+use Rattle.core_state.specs.Scanned.{stopped_for}
 use Rattle.core_state.proofs.AcceptedLemmas.{number-found}
 use Rattle.core_state.proofs.AnewLemmas.{forgets}
 use Rattle.core_state.proofs.LandedLemmas.{feeds}

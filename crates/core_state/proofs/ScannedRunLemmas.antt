@@ -1,31 +1,11 @@
 -- A scan that has what runs in a sound core cuts where the core cuts.
-use Rattle.std.proofs.Common.{◌≡◌, ℕ, ◌<◌, ◌≤◌, ◌+◌, min, true, false, eqb, List, length, get_or, Option, Some, None, option_map, refl, ap, sym, ◌∙◌, subst, arith}
-use Rattle.std.specs.Prelude.{IsSome, fold, is_some}
-use Rattle.std.specs.List.{filter_map, range_with_len}
-use Rattle.std.specs.Option.{option_and_then, option_map_or}
-use Rattle.std.proofs.lemmas.List.{get_or_default, length-map}
-use Rattle.std.proofs.lemmas.List.Folds.{list_any_at}
-use Rattle.std.proofs.lemmas.Option.{none-some, same_Some}
-use Rattle.star_history.specs.Keyed.{KeyedStore, plain_version}
-use Rattle.star_history.specs.Store.{Store}
-use Rattle.pipeline_manager.specs.Lives.{Lives, life_of, query_in, slot_at}
-use Rattle.pipeline_manager.specs.Sound.{IsLeft}
+use Rattle.core_state.proofs.Words.{◌+◌, ◌<◌, ◌∙◌, ◌≡◌, ◌≤◌, Accepted, accepted_at, ap, AreTablesOf, arith, Clearing, end_at_start, end_in, entry_of, eqb, false, filter_map, first_in, first_of, Free, get_or, get_or_default, Held, holder_of, is_some, IsKept, IsLeft, IsSameRun, IsScannedAs, IsSome, IsSound, IsSoundQuery, KeyedStore, lap_start, length, length-map, life_at, life_of, List, list_any_at, Lives, MayCut, min, next_below, None, none-some, OnRoster, Option, option_and_then, option_map, option_map_or, place_in_lap, plain_version, query_in, QueryLife, range_with_len, refl, Running, running_at, RunsAs, same_Some, Scanning, slot_at, SlotState, Some, start_at, start_in, State, Store, subst, sym, true, versions_in, ℕ}
+use Rattle.std.specs.Prelude.{fold}
 use Rattle.pipeline_manager.specs.declared.life.Life.TheVariants as life
-use Rattle.pipeline_manager.specs.declared.life.QueryLife.{QueryLife}
-use Rattle.pipeline_manager.specs.declared.life.SlotState.{SlotState}
-use Rattle.pipeline_manager.specs.declared.life.SlotState.TheVariants.{Free, Held, Clearing}
 use Rattle.continuous_scan.specs.Calls.{AreInStep, CanCut, IsWithin, SlotInStep}
-use Rattle.continuous_scan.specs.Lap.{IsInStep, lap_start, next_below, place_in_lap}
+use Rattle.continuous_scan.specs.Lap.{IsInStep}
 use Rattle.continuous_scan.specs.Range as scanned
-use Rattle.continuous_scan.specs.Range.{end_at_start, first_of, some_run}
-use Rattle.continuous_scan.specs.Scanning.{Running, Scanning}
-use Rattle.core_state.specs.Cutting.{end_in, first_in}
-use Rattle.core_state.specs.Events.{MayCut}
-use Rattle.core_state.specs.Found.{accepted_at, entry_of, holder_of, running_at, start_at, start_in}
-use Rattle.core_state.specs.Scanned.{AreTablesOf, IsSameRun, IsScannedAs, RunsAs, life_at}
-use Rattle.core_state.specs.Sound.{IsKept, IsSound, IsSoundQuery}
-use Rattle.core_state.specs.State.{Accepted, OnRoster, State}
-use Rattle.core_state.specs.Tables.{versions_in}
+use Rattle.continuous_scan.specs.Range.{some_run}
 use Rattle.core_state.proofs.AcceptedLemmas.{find-holds, held-accepted}
 use Rattle.core_state.proofs.CutRangeLemmas.{lowered}
 use Rattle.core_state.proofs.CutRosterLemmas.{RunsIn, runs-here, runs-in, runs-there}

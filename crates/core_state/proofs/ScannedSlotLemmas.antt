@@ -1,23 +1,10 @@
 -- What a scan has in a slot, by what the core says that runs there.
-use Rattle.std.proofs.Common.{◌≡◌, ℕ, ◌<◌, ◌-◌, Bool, true, false, cond, eqb, Option, Some, None, option_map, refl, ap, sym, ◌∙◌, subst}
-use Rattle.std.specs.Prelude.{IsSome, is_some, ◌&&◌}
-use Rattle.std.specs.Option.{option_and_then, option_map_or}
-use Rattle.star_plan.specs.Test.{Query, query_of}
-use Rattle.star_plan.specs.Truth.{passes}
-use Rattle.fact_versions.specs.declared.version.Version.{Version}
-use Rattle.fact_versions.specs.Visible.{is_visible}
-use Rattle.star_history.specs.Keyed.{plain_version}
+use Rattle.core_state.proofs.Words.{◌-◌, ◌<◌, ◌∙◌, ◌≡◌, ap, Bool, cond, cut_life, cut_slot, eqb, false, is_some, is_visible, IsSome, Life, None, OnRoster, Option, option_and_then, option_map, option_map_or, passes, plain_version, Query, query_of, refl, Running, RunsAs, Some, start_in, subst, sym, takes_version, true, Version, ℕ}
+use Rattle.std.specs.Prelude.{◌&&◌}
 use Rattle.pipeline_manager.specs.Changes as managed
-use Rattle.pipeline_manager.specs.Changes.{cut_life}
-use Rattle.pipeline_manager.specs.declared.life.Life.{Life}
 use Rattle.pipeline_manager.specs.declared.life.Life.TheVariants as life
-use Rattle.continuous_scan.specs.Range.{covered, cut_slot, with_left}
-use Rattle.continuous_scan.specs.Scanning.{Running}
+use Rattle.continuous_scan.specs.Range.{covered, with_left}
 use Rattle.continuous_scan.specs.Stamped as stamped
-use Rattle.core_state.specs.Cutting.{takes_version}
-use Rattle.core_state.specs.Found.{start_in}
-use Rattle.core_state.specs.Scanned.{RunsAs}
-use Rattle.core_state.specs.State.{OnRoster}
 use Rattle.core_state.proofs.CutLapLemmas.{covered-same}
 
 -- what stands on a roster of a query that is found, where it runs

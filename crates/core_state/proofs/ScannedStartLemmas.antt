@@ -1,29 +1,9 @@
 -- A scan starts what the core starts, and stops what the core stops.
-use Rattle.std.proofs.Common.{◌≡◌, ◌≢◌, ℕ, ◌<◌, ◌≤◌, true, false, cond, eqb, eq-eqb, length, get_or, set, Option, Some, None, option_map, refl, ap, sym, ◌∙◌, subst, arith}
-use Rattle.std.specs.Prelude.{IsSome}
-use Rattle.std.specs.Option.{option_and_then, option_map_or}
-use Rattle.std.proofs.lemmas.Bool.{eqb-true, ne_eqb}
-use Rattle.std.proofs.lemmas.List.{get_or-set_other, get_or-set_same, length-set}
-use Rattle.std.proofs.lemmas.Option.{slice_get-get_or}
+use Rattle.core_state.proofs.Words.{◌<◌, ◌∙◌, ◌≡◌, ◌≢◌, ◌≤◌, Accepted, accepted_at, after_start, ap, AreTablesOf, arith, CanRun, cond, entry_of, eq-eqb, eqb, eqb-true, extent_in, false, first_of, get_or, get_or-set_other, get_or-set_same, Held, holder_of, IsScannedAs, IsSome, IsSound, IsSoundQuery, KeyedStore, length, length-set, Life, life_of, ne_eqb, None, Option, option_and_then, option_map, option_map_or, query_in, query_of, QueryLife, refl, Running, RunsAs, Scanning, set, slice_get-get_or, slot_at, slot_of, Some, start_in, State, subst, sym, true, versions_in, ℕ}
 use Rattle.star_plan.specs.declared.star_query.StarQuery.{StarQuery}
-use Rattle.star_plan.specs.Test.{query_of}
-use Rattle.star_history.specs.Keyed.{KeyedStore}
-use Rattle.pipeline_manager.specs.Conditions.{CanRun}
-use Rattle.pipeline_manager.specs.Lives.{extent_in, life_of, query_in, slot_at, slot_of}
-use Rattle.pipeline_manager.specs.declared.life.Life.{Life}
 use Rattle.pipeline_manager.specs.declared.life.Life.TheVariants as life
-use Rattle.pipeline_manager.specs.declared.life.QueryLife.{QueryLife}
-use Rattle.pipeline_manager.specs.declared.life.SlotState.TheVariants.{Held}
 use Rattle.continuous_scan.specs.Calls.{CanStart}
 use Rattle.continuous_scan.specs.Range as scanned
-use Rattle.continuous_scan.specs.Range.{first_of}
-use Rattle.continuous_scan.specs.Scanning.{Running, Scanning}
-use Rattle.core_state.specs.Admitting.{after_start}
-use Rattle.core_state.specs.Found.{accepted_at, entry_of, holder_of, start_in}
-use Rattle.core_state.specs.Scanned.{AreTablesOf, IsScannedAs, RunsAs}
-use Rattle.core_state.specs.Sound.{IsSound, IsSoundQuery}
-use Rattle.core_state.specs.State.{Accepted, State}
-use Rattle.core_state.specs.Tables.{versions_in}
 use Rattle.core_state.proofs.AcceptedLemmas.{find-holds, held-life}
 use Rattle.core_state.proofs.FoundLemmas.{find-passes, life-found, some-at}
 use Rattle.core_state.proofs.ScannedCutLemmas.{RunsBy}

@@ -1,30 +1,10 @@
 -- A scan where a statement is submitted, a scan of an empty core, and each event that leaves a scan.
-use Rattle.std.proofs.Common.{◌≡◌, ◌≢◌, ℕ, ◌<◌, ◌+◌, true, false, eqb, List, [], ◌∷◌, ◌++◌, length, get_or, replicate, Option, Some, None, option_map, refl, ap, sym, ◌∙◌, subst, inl, inr, arith}
-use Rattle.std.specs.Prelude.{IsSome}
-use Rattle.std.specs.Option.{option_map_or}
-use Rattle.std.proofs.lemmas.Bool.{eqb-true}
-use Rattle.std.proofs.lemmas.List.{get_or-replicate, length-replicate}
-use Rattle.star_history.specs.History.{Change, DimensionDeclared, FactDeclared, Loaded, Ended}
+use Rattle.core_state.proofs.Words.{◌++◌, ◌+◌, ◌<◌, ◌∙◌, ◌∷◌, ◌≡◌, ◌≢◌, [], Abandon, Accepted, accepted_at, after_outcome, ap, arith, Build, Change, Clear, Cut, DimensionDeclared, Distribute, empty_core, Ended, entry_of, eqb, eqb-true, Event, extent_in, FactDeclared, false, Finish, Free, get_or, get_or-replicate, Give, grouped_of, Held, holder_of, inl, inr, IsEnabled, IsScannedAs, IsSome, IsSound, IsSoundQuery, length, length-replicate, List, Lives, Loaded, None, OnRoster, Option, option_map, option_map_or, outcome_of, query_in-push_other, QueryLife, refl, Release, Reorder, replicate, Reserve, RunSettings, Scanning, slot_at, Some, Start, State, Submit, subst, sym, tables_of, Take, Told, true, versions_in, with_change, with_query, ℕ}
 use Rattle.star_statement.specs.Outcome as outcome
-use Rattle.star_statement.specs.Outcome.{Told, outcome_of}
-use Rattle.aggregations.specs.Grouped.{grouped_of}
-use Rattle.pipeline_manager.specs.Lives.{Lives, extent_in, slot_at}
 use Rattle.pipeline_manager.specs.declared.life.Life.TheVariants as life
-use Rattle.pipeline_manager.specs.declared.life.QueryLife.{QueryLife}
-use Rattle.pipeline_manager.specs.declared.life.SlotState.TheVariants.{Free, Held}
-use Rattle.pipeline_manager.proofs.LifeLemmas.{query_in-push_other}
 use Rattle.continuous_scan.specs.Range.{new_scan}
-use Rattle.continuous_scan.specs.Scanning.{Scanning}
-use Rattle.core_state.specs.Events.{IsEnabled, after_event}
-use Rattle.core_state.specs.Found.{accepted_at, entry_of, holder_of}
-use Rattle.core_state.specs.Scanned.{IsScannedAs, LeavesScan}
-use Rattle.core_state.specs.Sound.{IsSound, IsSoundQuery, empty_core}
-use Rattle.core_state.specs.State.{Accepted, OnRoster, State}
-use Rattle.core_state.specs.Submitting.{after_outcome, with_change, with_query}
-use Rattle.core_state.specs.Tables.{tables_of, versions_in}
-use Rattle.core_state.specs.declared.event.Event.{Event}
-use Rattle.core_state.specs.declared.event.Event.TheVariants.{Submit, Reserve, Build, Start, Cut, Take, Give, Distribute, Finish, Clear, Release, Reorder, Abandon}
-use Rattle.core_state.specs.declared.settings.RunSettings.{RunSettings}
+use Rattle.core_state.specs.Events.{after_event}
+use Rattle.core_state.specs.Scanned.{LeavesScan}
 use Rattle.core_state.proofs.AcceptedLemmas.{find-holds, held-accepted}
 use Rattle.core_state.proofs.AskLemmas.{accepted-push}
 use Rattle.core_state.proofs.FoundLemmas.{find-passes}

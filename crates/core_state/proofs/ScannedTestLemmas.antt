@@ -1,26 +1,10 @@
 -- The conditions of the queries that a scan has may be asked of each version of the fact table.
-use Rattle.std.proofs.Common.{◌≡◌, ℕ, ◌<◌, true, eqb, List, [], length, map, get_or, Option, Some, None, refl, ap, sym, ◌∙◌, subst, arith}
-use Rattle.std.specs.Prelude.{All, IfSome, IsTrue, ◌↔◌}
-use Rattle.std.specs.Option.{option_map_or}
-use Rattle.std.proofs.lemmas.List.{get_or-map, get_or_default, length-map}
-use Rattle.std.proofs.lemmas.List.Elements.{All-nil, All-weaker}
+use Rattle.core_state.proofs.Words.{◌<◌, ◌↔◌, ◌∙◌, ◌≡◌, [], All, All-nil, All-weaker, ap, AreTablesOf, arith, changes_of, eqb, fact_columns, get_or, get_or-map, get_or_default, IfSome, IsSameRun, IsScannedAs, IsSettled, IsSound, IsSoundQuery, IsTrue, KeyedStore, length, length-map, life_at, List, map, None, OnRoster, Option, option_map_or, plain_version, PlainVersion, Query, query_of, refl, Running, running_at, RunsAs, Scanning, Some, State, Store, subst, sym, TableDef, tables_of, true, Version, ℕ}
 use Rattle.star_values.specs.Value.{kinds_in}
 use Rattle.star_values.specs.declared.value.Value as cell
-use Rattle.star_plan.specs.declared.table_def.TableDef.{TableDef}
-use Rattle.star_plan.specs.Columns.{fact_columns, kinds_of}
+use Rattle.star_plan.specs.Columns.{kinds_of}
 use Rattle.star_plan.specs.Fits.{fits_table, some_test_fits}
-use Rattle.star_plan.specs.Test.{Query, query_of}
-use Rattle.fact_versions.specs.declared.version.Version.{Version}
-use Rattle.star_history.specs.Keyed.{KeyedStore, plain_version}
-use Rattle.star_history.specs.Settled.{IsSettled}
-use Rattle.star_history.specs.Store.{PlainVersion, Store}
-use Rattle.continuous_scan.specs.Scanning.{Running, Scanning}
 use Rattle.continuous_scan.specs.Stamped.{CanTest, CanTestAll}
-use Rattle.core_state.specs.Found.{running_at}
-use Rattle.core_state.specs.Scanned.{AreTablesOf, IsSameRun, IsScannedAs, RunsAs, life_at}
-use Rattle.core_state.specs.Sound.{IsSound, IsSoundQuery}
-use Rattle.core_state.specs.State.{OnRoster, State}
-use Rattle.core_state.specs.Tables.{changes_of, tables_of}
 use Rattle.core_state.proofs.AcceptedLemmas.{find-holds}
 use Rattle.core_state.proofs.CutRosterLemmas.{RunsIn, runs-in}
 use Rattle.core_state.proofs.GivenLemmas.{Settles}

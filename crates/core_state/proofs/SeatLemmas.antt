@@ -1,20 +1,6 @@
 -- What stays sound of seats where other groups are kept of accepted queries.
-use Rattle.std.proofs.Common.{◌≡◌, ◌≢◌, ◌⊎◌, ℕ, ◌<◌, ◌≤◌, Bool, true, false, cond, List, [], ◌∷◌, ◌++◌, length, get_or, map, set, Option, Some, None, option_map, sym, ap, ◌∙◌, subst, ⊎_elim, inl, inr, arith}
-use Rattle.std.specs.Prelude.{All, AllPairs, Contains, IfSome}
-use Rattle.std.specs.List.{filter}
-use Rattle.std.proofs.lemmas.Bool.{cases_eq, cases_lt}
-use Rattle.std.proofs.lemmas.List.{get_or-set_other, get_or-set_same, get_or_default, get_or_past}
-use Rattle.std.proofs.lemmas.List.Elements.{All-cons, All-filter, All-head, All-map, All-nil, All-tail}
-use Rattle.std.proofs.lemmas.List.Kept.{AllPairs-cons}
-use Rattle.star_plan.specs.Test.{Query}
-use Rattle.star_history.proofs.ListLemmas.{all_pairs_head, all_pairs_tail}
-use Rattle.pipeline_manager.specs.Lives.{life_in}
-use Rattle.pipeline_manager.specs.declared.life.Life.{Life}
+use Rattle.core_state.proofs.Words.{◌++◌, ◌<◌, ◌∙◌, ◌∷◌, ◌≡◌, ◌≢◌, ◌≤◌, ◌⊎◌, [], Accepted, All, All-cons, All-filter, All-head, All-map, All-nil, All-tail, all_pairs_head, all_pairs_tail, AllPairs, AllPairs-cons, ap, AreSoundSeats, arith, Asked, Awaited, Bool, cases_eq, cases_lt, cond, Contains, empty_seat, false, filter, get_or, get_or-set_other, get_or-set_same, get_or_default, get_or_past, IfSome, inl, inr, IsAwaited, IsSoundSeat, IsTaken, length, Life, life_in, List, map, None, Option, option_map, Pending, Query, QueryLife, Replied, Scan, Seat, set, Some, State, subst, sym, true, ℕ, ⊎_elim}
 use Rattle.pipeline_manager.specs.declared.life.Life.TheVariants as life
-use Rattle.pipeline_manager.specs.declared.life.QueryLife.{QueryLife}
-use Rattle.core_state.specs.Sound.{AreSoundSeats, IsAwaited, IsSoundSeat, IsTaken}
-use Rattle.core_state.specs.State.{Accepted, Asked, Awaited, Pending, Replied, Scan, Seat, State}
-use Rattle.core_state.specs.Submitting.{empty_seat}
 use Rattle.core_state.proofs.AnewLemmas.{KeepsAsked, by-change, found-anew, has-anew, kept_anew}
 
 -- a query that is waited for

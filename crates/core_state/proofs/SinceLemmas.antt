@@ -1,16 +1,6 @@
 -- What a seat waits for is what its statement was told over the tables of its submission, whatever steps came since.
-use Rattle.std.proofs.Common.{◌≡◌, ◌≢◌, ℕ, ◌+◌, ◌<◌, ◌≤◌, List, [], ◌∷◌, length, get_or, Option, Some, None, refl, sym, ap, ◌∙◌, subst, arith}
-use Rattle.std.specs.Prelude.{IfSome}
-use Rattle.std.proofs.lemmas.List.{get_or-set_other, get_or-set_same}
-use Rattle.script_reader.specs.declared.statement.Statement.{Statement}
-use Rattle.star_statement.specs.Outcome.{outcome_of}
+use Rattle.core_state.proofs.Words.{◌+◌, ◌<◌, ◌∙◌, ◌∷◌, ◌≡◌, ◌≢◌, ◌≤◌, [], after_step, after_steps, after_submitting, ap, arith, Awaited, awaited_at, awaited_by, Done, empty_seat, get_or, get_or-set_other, get_or-set_same, IfSome, IsSound, length, List, MayStepAll, None, Option, outcome_of, refl, Seat, Some, State, Statement, Step, Submit, subst, sym, tables_of, with_statement, ℕ}
 use Rattle.core_state.specs.Events.{after_event}
-use Rattle.core_state.specs.Sound.{IsSound}
-use Rattle.core_state.specs.State.{Awaited, Seat, State}
-use Rattle.core_state.specs.Steps.{Step, Done, MayStepAll, after_step, after_steps, awaited_at}
-use Rattle.core_state.specs.Submitting.{after_submitting, awaited_by, empty_seat, with_statement}
-use Rattle.core_state.specs.Tables.{tables_of}
-use Rattle.core_state.specs.declared.event.Event.TheVariants.{Submit}
 use Rattle.core_state.proofs.PendingLemmas.{Stays, stays-itself, stays-then, waited, waited-last, waited-none}
 use Rattle.core_state.proofs.StepLemmas.{StepsKeep}
 use Rattle.core_state.proofs.StepSeatLemmas.{aside-outcome, waiting-low}

@@ -1,26 +1,7 @@
 -- Queries that find no memory for the rows of a batch are spoiled one after the other.
-use Rattle.std.proofs.Common.{◌≡◌, ◌≢◌, ℕ, Bool, true, false, cond, eqb, eq-eqb, List, [], ◌∷◌, get_or, map, Option, Some, None, refl, sym, ap, ◌∙◌, subst, ◌||◌}
-use Rattle.std.specs.Prelude.{All, AllPairs, IsSome}
-use Rattle.std.specs.List.{fold, list_any}
-use Rattle.std.specs.Option.{option_map_or}
-use Rattle.std.proofs.lemmas.Bool.{eqb-true}
+use Rattle.core_state.proofs.Words.{◌||◌, ◌∙◌, ◌∷◌, ◌≡◌, ◌≢◌, [], Accepted, after_build_wants, after_distribute, after_spoil, All, All-head, All-tail, All-weaker, all_pairs_head, all_pairs_tail, AllPairs, ap, AreFed, Bool, CanSpoil, cond, eq-eqb, eqb, eqb-true, false, Flight, flight_at, fold, forgotten, get_or, gets_rows, is_begun, IsFed, IsSome, IsSound, IsSoundBatch, IsThrough, Life, life_in-other, life_of, List, list_any, map, MayDistribute, None, Option, option_map_or, refl, Some, State, subst, sym, true, unkept, ℕ}
 use Rattle.std.proofs.lemmas.List.{map-id}
-use Rattle.std.proofs.lemmas.List.Elements.{All-head, All-tail, All-weaker}
-use Rattle.star_history.proofs.ListLemmas.{all_pairs_head, all_pairs_tail}
-use Rattle.pipeline_manager.specs.Changes.{after_spoil}
-use Rattle.pipeline_manager.specs.Conditions.{CanSpoil, is_begun}
-use Rattle.pipeline_manager.specs.Lives.{life_of}
-use Rattle.pipeline_manager.specs.declared.life.Life.{Life}
 use Rattle.pipeline_manager.specs.declared.life.Life.TheVariants as life
-use Rattle.pipeline_manager.proofs.LifeLemmas.{life_in-other}
-use Rattle.core_state.specs.Admitting.{after_build_wants}
-use Rattle.core_state.specs.Cutting.{after_distribute, gets_rows, unkept}
-use Rattle.core_state.specs.Events.{AreFed, IsFed, IsThrough, MayDistribute}
-use Rattle.core_state.specs.Flown.{IsSoundBatch}
-use Rattle.core_state.specs.Found.{flight_at}
-use Rattle.core_state.specs.Sound.{IsSound}
-use Rattle.core_state.specs.State.{Accepted, Flight, State}
-use Rattle.core_state.specs.Submitting.{forgotten}
 use Rattle.core_state.proofs.AbandonLemmas.{sound-wanting}
 use Rattle.core_state.proofs.AcceptedLemmas.{find-holds}
 use Rattle.core_state.proofs.DistributeLemmas.{FoldsOne}

@@ -1,34 +1,11 @@
 -- A query that begins its lap keeps a core sound.
-use Rattle.std.proofs.Common.{◌≡◌, ◌≢◌, ◌⊎◌, ℕ, ◌-◌, ◌<◌, ◌≤◌, ◌++◌, Bool, true, false, cond, eqb, List, [], ◌∷◌, length, get_or, drop, Option, Some, None, find, nat_lt, refl, sym, ap, ◌∙◌, subst, ⊎_elim, inl, inr, arith}
-use Rattle.std.specs.Prelude.{All, IfSome, IsTrue, flat_map}
-use Rattle.std.specs.List.{range_with_len, filter}
-use Rattle.std.specs.List.Sorted.{IsPermutation}
-use Rattle.std.specs.Option.{option_map_or}
-use Rattle.std.proofs.lemmas.Bool.{cases_eq, eqb-true}
-use Rattle.std.proofs.lemmas.List.Elements.{All-head, All-tail}
-use Rattle.std.proofs.lemmas.List.Sorted.{IsPermutation-refl}
-use Rattle.bit_words.specs.Sets.{Has}
+use Rattle.core_state.proofs.Words.{◌++◌, ◌-◌, ◌<◌, ◌∙◌, ◌∷◌, ◌≡◌, ◌≢◌, ◌≤◌, ◌⊎◌, [], Accepted, after_start, All, All-head, All-tail, ap, AreSoundBatches, arith, Bool, built_of-holder, CanRun, cases_eq, cond, drop, eqb, eqb-true, extent_in, false, filter, first_cases, first_of, flat_map, Flight, get_or, gets_rows, grouped_of, Has, Held, IfSome, inl, inr, IsKept, IsOnRoster, IsPermutation, IsPermutation-refl, IsSound, IsSoundBatch, IsTrue, lap, lap_start, length, length-lap, Life, life_in, life_in-other, List, MayBeOnRoster, nat_lt, next_below, next_cases, None, OnRoster, Option, option_map_or, place_cases, place_in_lap, positions_for, Query, query_in, range_with_len, refl, slot_at, Some, start_cases, started, State, still_to_come, subst, sym, true, versions_in, with_life, ℕ, ⊎_elim}
+use Rattle.std.proofs.Common.{find}
 use Rattle.star_plan.specs.Joined.{kept_of}
-use Rattle.star_plan.specs.Test.{Query}
-use Rattle.aggregations.specs.Grouped.{grouped_of}
-use Rattle.continuous_scan.specs.Lap.{lap, lap_start, next_below, place_in_lap, still_to_come}
-use Rattle.continuous_scan.specs.Range.{first_of}
-use Rattle.continuous_scan.proofs.LapLemmas.{first_cases, lap-permutation, length-lap, next_cases, place_cases, start_cases}
-use Rattle.pipeline_manager.specs.Changes.{started, with_life}
-use Rattle.pipeline_manager.specs.Conditions.{CanRun}
-use Rattle.pipeline_manager.specs.Lives.{built_of, extent_in, life_in, query_in, slot_at}
-use Rattle.pipeline_manager.specs.declared.life.Life.{Life}
+use Rattle.continuous_scan.proofs.LapLemmas.{lap-permutation}
+use Rattle.pipeline_manager.specs.Lives.{built_of}
 use Rattle.pipeline_manager.specs.declared.life.Life.TheVariants as life
-use Rattle.pipeline_manager.specs.declared.life.SlotState.TheVariants.{Held}
 use Rattle.pipeline_manager.proofs.CallLemmas.{sound-after_run}
-use Rattle.pipeline_manager.proofs.HolderLemmas.{built_of-holder}
-use Rattle.pipeline_manager.proofs.LifeLemmas.{life_in-other}
-use Rattle.core_state.specs.Admitting.{after_start}
-use Rattle.core_state.specs.Cutting.{gets_rows}
-use Rattle.core_state.specs.Flown.{IsOnRoster, IsSoundBatch, MayBeOnRoster}
-use Rattle.core_state.specs.Sound.{AreSoundBatches, IsKept, IsSound, positions_for}
-use Rattle.core_state.specs.State.{Accepted, Flight, OnRoster, State}
-use Rattle.core_state.specs.Tables.{versions_in}
 use Rattle.core_state.proofs.FoundLemmas.{find-passes, life-written, some-at}
 use Rattle.core_state.proofs.FrameLemmas.{entry-moved}
 use Rattle.core_state.proofs.HeldLemmas.{filters-held}

@@ -1,20 +1,6 @@
 -- Each step keeps a core sound, and so does each list of steps.
-use Rattle.std.proofs.Common.{ℕ, ◌<◌, false, List, [], ◌∷◌, length, ap, arith}
-use Rattle.std.specs.Prelude.{IsSome}
-use Rattle.std.specs.Option.{option_map_or}
-use Rattle.std.proofs.lemmas.List.Elements.{All-nil}
-use Rattle.script_reader.specs.declared.statement.Statement.{Statement}
-use Rattle.pipeline_manager.specs.Conditions.{CanAbandon, CanBuild, CanClear, CanFree, CanRun, CanSpoil, is_begun}
-use Rattle.core_state.specs.Admitting.{after_build, after_build_wants, after_clear, after_finish, after_release, after_reserving, after_start}
-use Rattle.core_state.specs.Cutting.{after_cutting, after_distribute, after_give, after_reorder, after_take}
-use Rattle.core_state.specs.Events.{AreFed, IsEnabled, IsFed, MayCut, MayDistribute, MayFinish, MayReserve, MayTake, after_event, after_want}
-use Rattle.core_state.specs.Found.{held_by}
-use Rattle.core_state.specs.Sound.{IsSound}
-use Rattle.core_state.specs.State.{State}
-use Rattle.core_state.specs.Steps.{Done, MaySpoil, MayStep, MayStepAll, Replying, Step, Wanting, after_step, after_steps}
-use Rattle.core_state.specs.Submitting.{after_abandoning, after_submitting, after_taking, next_ready}
-use Rattle.core_state.specs.declared.event.Event.{Event}
-use Rattle.core_state.specs.declared.event.Event.TheVariants.{Submit, Reserve, Build, Start, Cut, Take, Give, Distribute, Finish, Clear, Release, Reorder, Abandon}
+use Rattle.core_state.proofs.Words.{◌<◌, ◌∷◌, [], Abandon, after_abandoning, after_build, after_build_wants, after_clear, after_cutting, after_distribute, after_finish, after_give, after_release, after_reorder, after_reserving, after_start, after_step, after_steps, after_submitting, after_take, after_taking, All-nil, ap, AreFed, arith, Build, CanAbandon, CanBuild, CanClear, CanFree, CanRun, CanSpoil, Clear, Cut, Distribute, Done, Event, false, Finish, Give, held_by, is_begun, IsEnabled, IsFed, IsSome, IsSound, length, List, MayCut, MayDistribute, MayFinish, MayReserve, MaySpoil, MayStep, MayStepAll, MayTake, next_ready, option_map_or, Release, Reorder, Replying, Reserve, Start, State, Statement, Step, Submit, Take, Wanting, ℕ}
+use Rattle.core_state.specs.Events.{after_event, after_want}
 
 -- what the laws say of the events
 pub record EventsKeep : Type 0 where

@@ -1,20 +1,6 @@
 -- What a written seat, an outcome and a reply leave of what the seats wait for, and of the last number of a statement.
-use Rattle.std.proofs.Common.{◌≡◌, ◌≢◌, ◌⊎◌, ℕ, ◌+◌, ◌<◌, ◌≤◌, true, false, [], ◌∷◌, ◌++◌, length, get_or, map, set, Option, Some, None, refl, sym, ap, ◌∙◌, subst, ⊎_elim, inl, inr, arith}
-use Rattle.std.specs.Prelude.{All, Contains, IsSome}
-use Rattle.std.specs.Option.{option_map_or}
-use Rattle.std.proofs.lemmas.Bool.{cases_eq, cases_lt}
-use Rattle.std.proofs.lemmas.List.{get_or-set_other, get_or_past}
-use Rattle.std.proofs.lemmas.List.Elements.{All-contains, All-nil, All-weaker}
-use Rattle.std.proofs.lemmas.Option.{none-some}
-use Rattle.star_history.specs.History.{Change, DimensionDeclared, FactDeclared, Loaded, Ended}
+use Rattle.core_state.proofs.Words.{◌++◌, ◌+◌, ◌<◌, ◌∙◌, ◌∷◌, ◌≡◌, ◌≢◌, ◌≤◌, ◌⊎◌, [], Accepted, accepted_at, after_abandon, after_abandoning, after_outcome, after_taking, All, All-contains, All-nil, All-weaker, ap, arith, Awaited, awaited_at, awaited_by, cases_eq, cases_lt, Change, Contains, DimensionDeclared, empty_seat, Ended, FactDeclared, false, forgotten, get_or, get_or-set_other, get_or_past, inl, inr, IsSome, IsSound, length, Loaded, map, None, none-some, Option, option_map_or, Outcome, Pending, refl, Seat, seat_at, set, Some, State, subst, sym, Told, true, with_change, with_query, with_seat, with_statement, with_taken, without_pending, ℕ, ⊎_elim}
 use Rattle.star_statement.specs.Outcome as outcome
-use Rattle.star_statement.specs.Outcome.{Outcome, Told}
-use Rattle.pipeline_manager.specs.Changes.{after_abandon}
-use Rattle.core_state.specs.Found.{accepted_at}
-use Rattle.core_state.specs.Sound.{IsSound}
-use Rattle.core_state.specs.State.{Accepted, Awaited, Pending, Seat, State}
-use Rattle.core_state.specs.Steps.{awaited_at}
-use Rattle.core_state.specs.Submitting.{after_abandoning, after_outcome, after_taking, awaited_by, empty_seat, forgotten, seat_at, with_change, with_query, with_seat, with_statement, with_taken, without_pending}
 use Rattle.core_state.proofs.PendingLemmas.{Stays, pairs-back, stays-dropped, stays-filtered, stays-same, stays-set, waited, waited-before, waited-none}
 use Rattle.core_state.proofs.ReplyLemmas.{in-order}
 use Rattle.core_state.proofs.SeatLemmas.{pending-submitted}

@@ -1,20 +1,6 @@
 -- What each step leaves of what the seats wait for, and what it adds.
-use Rattle.std.proofs.Common.{◌≡◌, ℕ, ◌+◌, ◌<◌, ◌≤◌, List, [], Option, Some, None, refl, ap}
-use Rattle.std.specs.Prelude.{IsSome, find}
-use Rattle.std.specs.Option.{option_map_or}
-use Rattle.script_reader.specs.declared.statement.Statement.{Statement}
-use Rattle.star_statement.specs.Outcome.{outcome_of}
-use Rattle.pipeline_manager.specs.Lives.{slot_of}
-use Rattle.core_state.specs.Admitting.{after_build, after_clear, after_finish, after_release, after_reserving, after_start, with_built}
-use Rattle.core_state.specs.Cutting.{after_cutting, after_distribute, after_give, after_reorder, after_take}
+use Rattle.core_state.proofs.Words.{◌+◌, ◌<◌, ◌≡◌, ◌≤◌, [], Abandon, accepted_at, after_build, after_clear, after_cutting, after_distribute, after_finish, after_give, after_release, after_reorder, after_reserving, after_start, after_step, after_take, ap, awaited_at, Build, Clear, Cut, Distribute, Done, Event, find, Finish, flight_at, Give, is_held_by, IsSome, IsSound, List, MayStep, None, Option, option_map_or, outcome_of, refl, Release, Reorder, Replying, Reserve, slot_of, Some, Start, State, Statement, Step, Submit, tables_of, Take, Wanting, with_built, ℕ}
 use Rattle.core_state.specs.Events.{after_event, after_want}
-use Rattle.core_state.specs.Found.{accepted_at, flight_at, is_held_by}
-use Rattle.core_state.specs.Sound.{IsSound}
-use Rattle.core_state.specs.State.{State}
-use Rattle.core_state.specs.Steps.{Step, Done, Wanting, Replying, MayStep, after_step, awaited_at}
-use Rattle.core_state.specs.Tables.{tables_of}
-use Rattle.core_state.specs.declared.event.Event.{Event}
-use Rattle.core_state.specs.declared.event.Event.TheVariants.{Submit, Reserve, Build, Start, Cut, Take, Give, Distribute, Finish, Clear, Release, Reorder, Abandon}
 use Rattle.core_state.proofs.PendingLemmas.{Stays}
 use Rattle.core_state.proofs.StepSeatLemmas.{IsAside, Tells, tells-abandoned, tells-aside, tells-outcome, tells-taken}
 

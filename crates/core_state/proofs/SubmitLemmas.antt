@@ -1,19 +1,6 @@
 -- A statement that a seat submits keeps a core sound.
-use Rattle.std.proofs.Common.{ℕ, ◌+◌, ◌<◌, length, Option, Some, None}
-use Rattle.script_reader.specs.declared.statement.Statement.{Statement}
-use Rattle.star_history.specs.Accepted.{Accepts}
-use Rattle.star_history.specs.History.{Change, DimensionDeclared, FactDeclared, Loaded, Ended}
-use Rattle.star_history.specs.Settled.{IsSettled}
-use Rattle.star_history.specs.Store.{Store}
+use Rattle.core_state.proofs.Words.{◌+◌, ◌<◌, Accepts, after_outcome, after_submitting, Change, changes_of, DimensionDeclared, Ended, FactDeclared, FitsTables, IsOfRows, IsSettled, IsSound, IsSoundBeside, length, Loaded, None, Option, outcome_of, Reply, Some, State, Statement, Store, tables_of, Told, with_change, with_entry, ℕ}
 use Rattle.star_statement.specs.Outcome as outcome
-use Rattle.star_statement.specs.Outcome.{Told, outcome_of}
-use Rattle.reply_text.specs.declared.reply.Reply.{Reply}
-use Rattle.core_state.specs.Beside.{IsOfRows, IsSoundBeside, with_entry}
-use Rattle.core_state.specs.Fitting.{FitsTables}
-use Rattle.core_state.specs.Sound.{IsSound}
-use Rattle.core_state.specs.State.{State}
-use Rattle.core_state.specs.Submitting.{after_outcome, after_submitting, with_change}
-use Rattle.core_state.specs.Tables.{changes_of, tables_of}
 use Rattle.core_state.proofs.DeclaredLemmas.{declared-beside}
 use Rattle.core_state.proofs.GivenLemmas.{Settles}
 use Rattle.core_state.proofs.ToldLemmas.{sound-asked, sound-changed, sound-told}

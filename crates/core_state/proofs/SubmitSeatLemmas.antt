@@ -1,18 +1,6 @@
 -- A seat is sound after it submits a statement, and after another does.
-use Rattle.std.proofs.Common.{◌≡◌, ◌≢◌, ◌⊎◌, ℕ, ◌<◌, ◌≤◌, List, [], ◌∷◌, ◌++◌, get_or, map, Option, Some, None, option_map, sym, ap, ◌∙◌, subst, arith, append_assoc}
-use Rattle.std.specs.Prelude.{All, AllPairs, Contains, IfSome, IsSomeAnd}
-use Rattle.std.proofs.lemmas.List.{map_push}
-use Rattle.std.proofs.lemmas.List.Elements.{All-cons, All-contains, All-head, All-nil, All-push, All-tail, All-weaker, Contains-append_left, Contains-push}
-use Rattle.std.proofs.lemmas.List.Quantifiers.{all_pairs_push}
-use Rattle.star_plan.specs.Test.{Query}
-use Rattle.star_statement.specs.Outcome.{Told}
-use Rattle.pipeline_manager.specs.Lives.{query_in}
+use Rattle.core_state.proofs.Words.{◌++◌, ◌<◌, ◌∙◌, ◌∷◌, ◌≡◌, ◌≢◌, ◌≤◌, ◌⊎◌, [], Accepted, accepted_at, All, All-cons, All-contains, All-head, All-nil, All-push, All-tail, All-weaker, all_pairs_push, AllPairs, ap, append_assoc, arith, Asked, Awaited, awaited_by, Contains, Contains-append_left, Contains-push, get_or, IfSome, IsAwaited, IsSomeAnd, IsSoundSeat, IsTaken, List, map, map_push, None, Option, option_map, Pending, Query, query_in, QueryLife, Replied, Seat, Some, State, subst, sym, Taken, Told, with_statement, ℕ}
 use Rattle.pipeline_manager.specs.declared.life.Life.TheVariants as life
-use Rattle.pipeline_manager.specs.declared.life.QueryLife.{QueryLife}
-use Rattle.core_state.specs.Found.{accepted_at}
-use Rattle.core_state.specs.Sound.{IsAwaited, IsSoundSeat, IsTaken}
-use Rattle.core_state.specs.State.{Accepted, Asked, Awaited, Pending, Replied, Seat, State, Taken}
-use Rattle.core_state.specs.Submitting.{awaited_by, with_statement}
 use Rattle.core_state.proofs.SeatLemmas.{awaited-there}
 
 -- what is found by the numbers that were given is as before

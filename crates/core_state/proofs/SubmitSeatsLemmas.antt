@@ -1,13 +1,5 @@
 -- The seats are sound after one of them submits a statement.
-use Rattle.std.proofs.Common.{◌≡◌, ◌≢◌, ◌⊎◌, ℕ, ◌<◌, ◌≤◌, List, [], ◌∷◌, length, get_or, set, refl, sym, ap, ◌∙◌, subst, ⊎_elim, inl, inr, arith}
-use Rattle.std.specs.Prelude.{All, AllPairs, Contains}
-use Rattle.std.proofs.lemmas.Bool.{cases_eq, cases_lt}
-use Rattle.std.proofs.lemmas.List.{get_or-set_other, get_or-set_same, get_or_default, get_or_past, length-set}
-use Rattle.std.proofs.lemmas.List.Elements.{All-contains, All-weaker, Contains-append_left, Contains-push, Contains-push_cases}
-use Rattle.star_statement.specs.Outcome.{Told}
-use Rattle.core_state.specs.Sound.{AreSoundSeats, IsAwaited, IsSoundSeat}
-use Rattle.core_state.specs.State.{Seat, State}
-use Rattle.core_state.specs.Submitting.{awaited_by, empty_seat, with_statement}
+use Rattle.core_state.proofs.Words.{◌<◌, ◌∙◌, ◌∷◌, ◌≡◌, ◌≢◌, ◌≤◌, ◌⊎◌, [], All, All-contains, All-weaker, AllPairs, ap, AreSoundSeats, arith, awaited_by, cases_eq, cases_lt, Contains, Contains-append_left, Contains-push, Contains-push_cases, empty_seat, get_or, get_or-set_other, get_or-set_same, get_or_default, get_or_past, inl, inr, IsAwaited, IsSoundSeat, length, length-set, List, refl, Seat, set, State, subst, sym, Told, with_statement, ℕ, ⊎_elim}
 use Rattle.core_state.proofs.SubmitSeatLemmas.{Still, seat-later, seat-with}
 
 -- the seats, of which one has a statement more

@@ -1,23 +1,9 @@
 -- A batch that is taken into a hand keeps a core sound.
-use Rattle.std.proofs.Common.{◌≡◌, ◌≢◌, ℕ, zero, suc, ◌+◌, ◌<◌, Bool, true, false, cond, eqb, eq-eqb, List, [], ◌∷◌, length, get_or, map, Option, Some, None, option_map, refl, sym, ap, ◌∙◌, subst, arith, slice_get}
-use Rattle.std.specs.Prelude.{All, AllPairs, IfSome, IsSome, find, not}
-use Rattle.std.specs.List.{filter_map, cons_option}
-use Rattle.std.specs.Option.{option_map_or}
-use Rattle.std.proofs.lemmas.Bool.{eqb-true, ne_eqb}
-use Rattle.std.proofs.lemmas.List.Elements.{All-cons, All-head, All-map, All-nil, All-tail}
-use Rattle.std.proofs.lemmas.List.Kept.{AllPairs-cons}
-use Rattle.std.proofs.lemmas.Option.{IfSome_then, option_and_then_some}
-use Rattle.dimension_filter.specs.Filter.{Filter}
-use Rattle.star_history.specs.Store.{rows_in}
-use Rattle.filter_order.specs.declared.tally.Tally.{Tally}
-use Rattle.core_state.specs.Cutting.{after_take}
-use Rattle.core_state.specs.Events.{MayTake}
-use Rattle.core_state.specs.Flown.{Encodes, FitsSlot, IsOnRoster, IsSoundBatch, IsSoundFilter, IsSoundHand}
+use Rattle.core_state.proofs.Words.{◌+◌, ◌<◌, ◌∙◌, ◌∷◌, ◌≡◌, ◌≢◌, [], Accepted, accepted_at, after_take, All, All-cons, All-head, All-map, All-nil, All-tail, AllPairs, AllPairs-cons, ap, arith, Bool, cond, cons_option, Encodes, eq-eqb, eqb, eqb-true, false, Filter, filter_map, Filters, FilterVersion, find, FitsSlot, Flight, get_or, Hand, has_passed, held_by, IfSome, IfSome_then, IsOnRoster, IsSome, IsSound, IsSoundBatch, IsSoundFilter, IsSoundHand, length, List, map, MayTake, ne_eqb, None, OnRoster, Option, option_map, option_map_or, refl, rows_in, slice_get, Some, State, subst, suc, sym, tables_of, Tally, true, version_at, zero, ℕ}
+use Rattle.std.specs.Prelude.{not}
+use Rattle.std.proofs.lemmas.Option.{option_and_then_some}
 use Rattle.core_state.specs.Found as found
-use Rattle.core_state.specs.Found.{accepted_at, has_passed, held_by, next_filter, version_at}
-use Rattle.core_state.specs.Sound.{IsSound}
-use Rattle.core_state.specs.State.{Accepted, FilterVersion, Filters, Flight, Hand, OnRoster, State}
-use Rattle.core_state.specs.Tables.{tables_of}
+use Rattle.core_state.specs.Found.{next_filter}
 use Rattle.core_state.proofs.FlownLemmas.{Flies, KeepsPlace, entry-flown, flown, sound-flown}
 use Rattle.core_state.proofs.FoundLemmas.{find-passes}
 use Rattle.core_state.proofs.AcceptedLemmas.{find-holds, find-none, held-accepted}

@@ -1,20 +1,7 @@
 -- A reply that is taken keeps a core sound.
-use Rattle.std.proofs.Common.{◌≡◌, ◌≢◌, ◌⊎◌, ℕ, ◌<◌, ◌≤◌, ◌++◌, true, false, cond, eqb, eq-eqb, List, [], ◌∷◌, length, get_or, map, set, take, drop, Option, Some, None, option_map, slice_get, refl, sym, ap, ◌∙◌, subst, ⊎_elim, inl, inr, append_assoc}
-use Rattle.std.specs.Prelude.{All, AllPairs, Contains, IfSome, IsSome, IsTrue, is_some, ◌↔◌}
-use Rattle.std.specs.List.{list_any}
-use Rattle.std.specs.Option.{option_and_then}
-use Rattle.std.proofs.lemmas.Bool.{cases_eq, cases_lt, ne_eqb}
-use Rattle.std.proofs.lemmas.List.{get_or-set_other, get_or-set_same, get_or_past, length-set, map-append}
-use Rattle.std.proofs.lemmas.List.Elements.{All-contains, All-head, All-push, All-tail, Contains-append_left, Contains-push}
-use Rattle.pipeline_manager.specs.Conditions.{is_open}
-use Rattle.pipeline_manager.specs.Lives.{life_in, query_in}
-use Rattle.pipeline_manager.specs.declared.life.Life.{Life}
+use Rattle.core_state.proofs.Words.{◌++◌, ◌<◌, ◌↔◌, ◌∙◌, ◌∷◌, ◌≡◌, ◌≢◌, ◌≤◌, ◌⊎◌, [], Accepted, after_taking, All, All-contains, All-head, All-push, All-tail, AllPairs, ap, append_assoc, AreSoundQueries, Asked, Awaited, cases_eq, cases_lt, cond, Contains, Contains-append_left, Contains-push, drop, empty_seat, eq-eqb, eqb, false, forgotten, get_or, get_or-set_other, get_or-set_same, get_or_past, HasTaken, IfSome, inl, inr, is_open, is_some, IsAwaited, IsKept, IsSome, IsSound, IsSoundQuery, IsSoundSeat, IsTaken, IsTrue, length, length-set, Life, life_in, List, list_any, map, map-append, ne_eqb, next_ready, None, Option, option_and_then, option_map, Pending, query_in, QueryLife, ready_by, ready_to, refl, Replied, Seat, set, slice_get, Some, State, subst, sym, tables_of, take, Taken, taken_by, true, versions_in, without_groups, ℕ, ⊎_elim}
 use Rattle.pipeline_manager.specs.declared.life.Life.TheVariants as life
-use Rattle.pipeline_manager.specs.declared.life.QueryLife.{QueryLife}
-use Rattle.core_state.specs.Sound.{AreSoundQueries, HasTaken, IsAwaited, IsKept, IsSound, IsSoundQuery, IsSoundSeat, IsTaken}
-use Rattle.core_state.specs.State.{Accepted, Asked, Awaited, Pending, Replied, Seat, State, Taken}
-use Rattle.core_state.specs.Submitting.{after_taking, asked_by, empty_seat, forgotten, next_ready, ready_by, ready_to, taken_by, without_groups}
-use Rattle.core_state.specs.Tables.{tables_of, versions_in}
+use Rattle.core_state.specs.Submitting.{asked_by}
 use Rattle.core_state.proofs.AcceptedLemmas.{number-found}
 use Rattle.core_state.proofs.FoundLemmas.{life-found, some-at, some-by}
 use Rattle.core_state.proofs.AnewLemmas.{LivesAs, StayTaken, by-change, batches-anew, filters-anew, forgets, hands-anew, kept-anew, kept_anew, queries-anew}

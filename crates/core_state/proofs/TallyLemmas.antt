@@ -1,16 +1,8 @@
 -- What a batch that is given back makes of the tallies.
-use Rattle.std.proofs.Common.{◌≡◌, ℕ, suc, ◌+◌, ◌≤◌, Bool, true, false, cond, eqb, ◌&&◌, List, [], ◌∷◌, length, Option, Some, None, ap, arith}
-use Rattle.std.specs.Prelude.{All, fold, slice_index_or}
-use Rattle.std.specs.List.{range_with_len}
-use Rattle.std.specs.Option.{option_map_or}
-use Rattle.std.proofs.lemmas.List.Elements.{All-cons, All-head, All-tail}
-use Rattle.filter_order.specs.declared.tally.Tally.{Tally}
-use Rattle.batch_flow.specs.Rows.{Rows}
-use Rattle.dimension_filter.specs.Filter.{Filter}
+use Rattle.core_state.proofs.Words.{◌&&◌, ◌+◌, ◌∷◌, ◌≡◌, ◌≤◌, [], All, All-cons, All-head, All-tail, ap, arith, Bool, cond, counted, eqb, false, Filter, FilterVersion, Flight, Hand, length, List, None, Option, option_map_or, range_with_len, Rows, slice_index_or, Some, suc, tallies_after, Tally, true, ℕ}
+use Rattle.std.specs.Prelude.{fold}
 use Rattle.dimension_filter.specs.Pass.{bits_left, drops_below, is_asked_at, key_in, probes_below}
-use Rattle.core_state.specs.Cutting.{tallies_after, with_batch, with_tally}
-use Rattle.core_state.specs.Numbered.{counted}
-use Rattle.core_state.specs.State.{FilterVersion, Flight, Hand}
+use Rattle.core_state.specs.Cutting.{with_batch, with_tally}
 
 -- of those that pass a test no more pass another one, too
 fewer-from : (p q : ℕ → Bool) (few many : ℕ) (xs : List ℕ) → few ≤ many

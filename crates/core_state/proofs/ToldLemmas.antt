@@ -1,26 +1,7 @@
 -- A core is sound after a statement by what is told of it: a reply, with a change or without one, or that it is accepted.
-use Rattle.std.proofs.Common.{◌≡◌, ◌≢◌, ℕ, ◌+◌, ◌<◌, cond, List, [], ◌∷◌, length, get_or, map, Option, Some, None, option_map, refl, sym, ap, ◌∙◌, subst, arith}
-use Rattle.std.specs.Prelude.{All, Contains, IfSome, IsSome, IsSomeAnd}
-use Rattle.std.proofs.lemmas.Bool.{ne_eqb}
-use Rattle.std.proofs.lemmas.List.{length-set}
-use Rattle.std.proofs.lemmas.List.Elements.{All-head, All-push, All-tail}
-use Rattle.std.proofs.lemmas.List.Quantifiers.{all_pairs_push}
-use Rattle.star_plan.specs.Over.{IsOver}
-use Rattle.star_plan.specs.Test.{Query}
-use Rattle.star_history.specs.History.{Change}
-use Rattle.star_history.specs.Settled.{IsSettled}
+use Rattle.core_state.proofs.Words.{◌+◌, ◌<◌, ◌∙◌, ◌∷◌, ◌≡◌, ◌≢◌, [], Accepted, accepted_at, All, All-head, All-push, All-tail, all_pairs_push, ap, arith, Change, cond, Contains, empty_seat, Entry, Filters, get_or, IfSome, IsOver, IsSettled, IsSome, IsSomeAnd, IsSound, IsSoundBeside, length, length-set, List, map, ne_eqb, None, Option, option_map, outcome_of, Query, query_in-push_same, QueryLife, refl, Reply, Seat, Some, State, subst, sym, tables_of, Told, versions_in, with_statement, ℕ}
 use Rattle.star_statement.specs.Outcome as outcome
-use Rattle.star_statement.specs.Outcome.{Told, outcome_of}
-use Rattle.reply_text.specs.declared.reply.Reply.{Reply}
 use Rattle.pipeline_manager.specs.declared.life.Life.TheVariants as life
-use Rattle.pipeline_manager.specs.declared.life.QueryLife.{QueryLife}
-use Rattle.pipeline_manager.proofs.LifeLemmas.{query_in-push_same}
-use Rattle.core_state.specs.Beside.{IsSoundBeside}
-use Rattle.core_state.specs.Found.{accepted_at}
-use Rattle.core_state.specs.Sound.{IsSound}
-use Rattle.core_state.specs.State.{Accepted, Entry, Filters, Seat, State}
-use Rattle.core_state.specs.Submitting.{empty_seat, with_statement}
-use Rattle.core_state.specs.Tables.{tables_of, versions_in}
 use Rattle.core_state.proofs.AnewLemmas.{StayTaken}
 use Rattle.core_state.proofs.AskLemmas.{accepted-push_same, accepted_as, asked_now, beside-asked, of-numbers, still-asked}
 use Rattle.core_state.proofs.BesideLemmas.{beside-seated, later}

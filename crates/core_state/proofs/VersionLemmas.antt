@@ -1,29 +1,8 @@
 -- A core in which a filter has a next version, and a slot another state.
-use Rattle.std.proofs.Common.{◌≡◌, ◌≢◌, ◌⊎◌, ℕ, ◌<◌, ◌≤◌, Bool, true, false, cond, eqb, List, [], ◌∷◌, length, get_or, set, map, Option, Some, None, slice_get, refl, sym, ap, ◌∙◌, subst, inl, inr, arith}
-use Rattle.std.specs.Prelude.{IfSome, IsTrue, ◌↔◌}
-use Rattle.std.specs.List.Sorted.{IsPermutation}
-use Rattle.std.proofs.lemmas.Bool.{cases_eq, eqb-true, eqb-false}
-use Rattle.std.proofs.lemmas.List.{get_or-set_same, get_or-set_other, length-map, length-set}
-use Rattle.std.proofs.lemmas.List.Elements.{All-map}
-use Rattle.bit_words.specs.Sets.{Has}
-use Rattle.star_plan.specs.Joined.{takes}
-use Rattle.star_plan.specs.Test.{Query}
-use Rattle.dimension_rows.specs.declared.dimension_row.DimensionRow.{DimensionRow}
+use Rattle.core_state.proofs.Words.{◌<◌, ◌↔◌, ◌∙◌, ◌∷◌, ◌≡◌, ◌≢◌, ◌≤◌, ◌⊎◌, [], accepted_at, All-map, ap, arith, Bool, cases_eq, Clearing, cond, DimensionRow, Encodes, eqb, eqb-false, eqb-true, false, Filter, Filters, FilterVersion, FitsSlot, Free, get_or, get_or-set_other, get_or-set_same, gets_rows, Has, Held, IfSome, IfSome_then, inl, inr, IsClearOf, IsOnRoster, IsPermutation, IsSound, IsSoundFilter, IsTrue, length, length-map, length-set, life_in, List, map, None, OnRoster, Option, Query, refl, rows_in, selection_in, set, slice_get, slot_at, SlotState, Some, State, subst, sym, tables_of, takes, true, vector_of, ℕ}
 use Rattle.dimension_filter.specs.Filter as table
-use Rattle.dimension_filter.specs.Filter.{AreAscending, Filter, is_stored, vector_of}
-use Rattle.pipeline_manager.specs.Lives.{life_in, slot_at}
+use Rattle.dimension_filter.specs.Filter.{AreAscending, is_stored}
 use Rattle.pipeline_manager.specs.Sound as managed
-use Rattle.pipeline_manager.specs.declared.life.SlotState.{SlotState}
-use Rattle.pipeline_manager.specs.declared.life.SlotState.TheVariants.{Free, Held, Clearing}
-use Rattle.star_history.specs.Store.{rows_in}
-use Rattle.core_state.specs.Admitting.{selection_in}
-use Rattle.core_state.specs.Cutting.{gets_rows}
-use Rattle.core_state.specs.Flown.{Encodes, FitsSlot, IsClearOf, IsOnRoster, IsSoundFilter}
-use Rattle.core_state.specs.Found.{accepted_at}
-use Rattle.core_state.specs.Sound.{IsSound}
-use Rattle.core_state.specs.State.{FilterVersion, Filters, OnRoster, State}
-use Rattle.core_state.specs.Tables.{tables_of}
-use Rattle.std.proofs.lemmas.Option.{IfSome_then}
 use Rattle.core_state.proofs.FrameLemmas.{filter-moved}
 use Rattle.core_state.proofs.HeldLemmas.{entry-set, fits-set, queries-stay}
 use Rattle.core_state.proofs.MovedLemmas.{Holds, held_now, sound-held}

@@ -1,29 +1,7 @@
 -- Events that leave the seats as they are, leave who was abandoned, and what is asked.
-use Rattle.std.proofs.Common.{◌≡◌, ◌+◌, ◌-◌, ℕ, Bool, true, false, cond, eqb, List, [], ◌∷◌, ◌++◌, map, set, Option, Some, None, find, not, option_map, refl, sym, ap, ◌∙◌, subst}
-use Rattle.std.specs.Prelude.{All, IsSomeAnd}
-use Rattle.std.specs.List.{filter, fold, list_any}
-use Rattle.std.specs.Option.{option_map_or}
-use Rattle.std.proofs.lemmas.List.Elements.{All-weaker}
-use Rattle.star_plan.specs.Test.{Query}
-use Rattle.star_history.specs.Store.{rows_in}
-use Rattle.continuous_scan.specs.Range.{first_of}
-use Rattle.dimension_filter.specs.Changes.{filter_with}
-use Rattle.pipeline_manager.specs.Changes.{after_spoil, started, with_dimension, with_life, with_slot}
-use Rattle.pipeline_manager.specs.Conditions.{CanBuild, CanRun}
-use Rattle.pipeline_manager.specs.Lives.{extent_in, life_in, slot_at, slot_of}
-use Rattle.pipeline_manager.specs.declared.life.Life.{Life}
+use Rattle.core_state.proofs.Words.{◌++◌, ◌+◌, ◌-◌, ◌∙◌, ◌∷◌, ◌≡◌, [], Accepted, accepted_at, after_build, after_build_wants, after_clear, after_cutting, after_distribute, after_finish, after_give, after_release, after_reorder, after_reserving, after_spoil, after_start, after_take, All, All-weaker, ap, Bool, CanBuild, CanRun, cond, end_in, eqb, extent_in, false, fed, filter, filter_with, first_in, first_of, flight_at, fold, forgotten, gets_rows, given_back, Held, is_held_by, IsFed, IsSomeAnd, IsSound, Life, life_in, List, list_any, map, MayReserve, None, not, oldest-waits, Option, option_map, option_map_or, Query, QueryLife, refl, rows_in, selection_in, set, slot_at, slot_of, Some, started, State, subst, sym, tables_of, tallies_after, true, unkept, versions_in, with_built, with_dimension, with_flight, with_life, with_slot, with_version, ℕ}
+use Rattle.std.proofs.Common.{find}
 use Rattle.pipeline_manager.specs.declared.life.Life.TheVariants as life
-use Rattle.pipeline_manager.specs.declared.life.QueryLife.{QueryLife}
-use Rattle.pipeline_manager.specs.declared.life.SlotState.TheVariants.{Held}
-use Rattle.pipeline_manager.proofs.LifeLemmas.{oldest-waits}
-use Rattle.core_state.specs.Admitting.{after_build, after_build_wants, after_clear, after_finish, after_release, after_reserving, after_start, selection_in, with_built, with_version}
-use Rattle.core_state.specs.Cutting.{after_cutting, after_distribute, after_give, after_reorder, after_take, end_in, fed, first_in, gets_rows, given_back, tallies_after, unkept, with_flight}
-use Rattle.core_state.specs.Events.{IsFed, MayReserve}
-use Rattle.core_state.specs.Found.{accepted_at, flight_at, is_held_by}
-use Rattle.core_state.specs.Sound.{IsSound}
-use Rattle.core_state.specs.State.{Accepted, State}
-use Rattle.core_state.specs.Submitting.{forgotten}
-use Rattle.core_state.specs.Tables.{tables_of, versions_in}
 use Rattle.core_state.proofs.AnewLemmas.{KeepsAsked, by-change, forgets, found-anew}
 use Rattle.core_state.proofs.LandedLemmas.{feeds}
 use Rattle.core_state.proofs.WholeLivesLemmas.{StayLost, lost-cut, lost-ended, lost-spoiled, lost-written}

@@ -1,9 +1,5 @@
 -- Steps, one after the other, lose no statement.
-use Rattle.std.proofs.Common.{List, [], ◌∷◌}
-use Rattle.core_state.specs.Sound.{IsSound}
-use Rattle.core_state.specs.State.{State}
-use Rattle.core_state.specs.Steps.{MayStep, MayStepAll, Step, after_step, after_steps}
-use Rattle.core_state.specs.Whole.{LosesNone}
+use Rattle.core_state.proofs.Words.{◌∷◌, [], after_step, after_steps, IsSound, List, LosesNone, MayStep, MayStepAll, State, Step}
 use Rattle.core_state.proofs.StepLemmas.{StepsKeep}
 
 -- no step loses a statement

@@ -1,16 +1,7 @@
 -- The statements of the seats stay accounted for where nothing is submitted, where one is, and where one is taken or not wanted.
-use Rattle.std.proofs.Common.{◌≡◌, ◌≢◌, ◌⊎◌, ℕ, Bool, true, false, Some, cond, eqb, not, List, [], ◌∷◌, ◌++◌, length, get_or, map, set, take, drop, refl, sym, ◌∙◌, subst, ⊎_elim, inl, inr, arith}
-use Rattle.std.specs.Prelude.{All, Contains}
-use Rattle.std.specs.List.{filter}
-use Rattle.std.proofs.lemmas.Bool.{cases_eq, cases_lt, eqb-true}
-use Rattle.std.proofs.lemmas.List.{get_or_past, map-append, map_push}
-use Rattle.std.proofs.lemmas.List.Elements.{All-nil, All-push, All-set, All-weaker, Contains-append_cases, Contains-append_left, Contains-append_right, Contains-push, Contains-push_cases}
-use Rattle.star_statement.specs.Outcome.{Told}
+use Rattle.core_state.proofs.Words.{◌++◌, ◌∙◌, ◌∷◌, ◌≡◌, ◌≢◌, ◌⊎◌, [], All, All-nil, All-push, All-set, All-weaker, arith, awaited_by, Bool, cases_eq, cases_lt, cond, Contains, Contains-append_cases, Contains-append_left, Contains-append_right, Contains-push, Contains-push_cases, drop, empty_seat, eqb, eqb-true, false, filter, get_or, get_or_past, inl, inr, length, life_in, List, LosesNone, map, map-append, map_push, not, Pending, refl, Seat, set, Some, State, subst, sym, take, Taken, taken_by, Told, true, with_statement, with_taken, without_pending, ℕ, ⊎_elim}
 use Rattle.pipeline_manager.specs.declared.life.Life.TheVariants as life
-use Rattle.pipeline_manager.specs.Lives.{life_in}
-use Rattle.core_state.specs.State.{Pending, Seat, State, Taken}
-use Rattle.core_state.specs.Submitting.{awaited_by, empty_seat, taken_by, with_statement, with_taken, without_pending}
-use Rattle.core_state.specs.Whole.{IsAccountedFor, LosesNone}
+use Rattle.core_state.specs.Whole.{IsAccountedFor}
 use Rattle.core_state.proofs.SubmitSeatsLemmas.{seats_by}
 use Rattle.core_state.proofs.WholeLivesLemmas.{StayLost}
 

@@ -1,27 +1,7 @@
 -- No step loses a statement, takes one back, or changes what is asked.
-use Rattle.std.proofs.Common.{◌≡◌, ℕ, ◌+◌, false, true, List, [], ◌∷◌, get_or, map, set, length, take, Option, Some, None, refl, sym, subst, ⊎_elim, arith}
-use Rattle.std.specs.Prelude.{Contains}
-use Rattle.std.specs.Option.{option_map_or}
-use Rattle.std.proofs.lemmas.Bool.{cases_eq, cases_lt}
-use Rattle.std.proofs.lemmas.List.{get_or-set_other, get_or-set_same, get_or_past}
-use Rattle.std.proofs.lemmas.List.Elements.{All-nil, Contains-append_left}
-use Rattle.star_plan.specs.Test.{Query}
+use Rattle.core_state.proofs.Words.{◌+◌, ◌∷◌, ◌≡◌, [], Abandon, Accepted, accepted_at, after_abandon, after_abandoning, after_outcome, after_step, after_taking, All-nil, arith, Build, CanAbandon, cases_eq, cases_lt, Clear, Contains, Contains-append_left, Cut, Distribute, Done, empty_seat, Event, false, Finish, forgotten, get_or, get_or-set_other, get_or-set_same, get_or_past, Give, HasAccepted, is_open, IsEnabled, IsFed, IsSound, length, Life, life_in, List, LosesNone, map, MaySpoil, MayStep, None, Option, option_map_or, outcome_of, Pending, Query, refl, Release, Reorder, Replying, Reserve, Seat, seat_at, set, Some, Start, State, Step, Submit, subst, sym, tables_of, Take, take, true, Wanting, with_seat, with_statement, with_taken, without_groups, without_pending, ℕ, ⊎_elim}
 use Rattle.star_statement.specs.Outcome as outcome
-use Rattle.star_statement.specs.Outcome.{outcome_of}
-use Rattle.pipeline_manager.specs.Changes.{after_abandon}
-use Rattle.pipeline_manager.specs.Conditions.{CanAbandon, is_open}
-use Rattle.pipeline_manager.specs.Lives.{life_in}
-use Rattle.pipeline_manager.specs.declared.life.Life.{Life}
-use Rattle.core_state.specs.Events.{IsEnabled, IsFed, after_event, after_want}
-use Rattle.core_state.specs.Found.{accepted_at}
-use Rattle.core_state.specs.Sound.{HasAccepted, IsSound}
-use Rattle.core_state.specs.State.{Accepted, Pending, Seat, State}
-use Rattle.core_state.specs.Steps.{Done, MaySpoil, MayStep, Replying, Step, Wanting, after_step}
-use Rattle.core_state.specs.Submitting.{after_abandoning, after_outcome, after_taking, empty_seat, forgotten, seat_at, with_seat, with_statement, with_taken, without_groups, without_pending}
-use Rattle.core_state.specs.Tables.{tables_of}
-use Rattle.core_state.specs.Whole.{LosesNone}
-use Rattle.core_state.specs.declared.event.Event.{Event}
-use Rattle.core_state.specs.declared.event.Event.TheVariants.{Submit, Reserve, Build, Start, Cut, Take, Give, Distribute, Finish, Clear, Release, Reorder, Abandon}
+use Rattle.core_state.specs.Events.{after_event, after_want}
 use Rattle.core_state.proofs.AnewLemmas.{forgets}
 use Rattle.core_state.proofs.WholeFrameLemmas.{Leaves, StayAsked, asked-anew, by-option, leaves-all, leaves-build, leaves-clear, leaves-cutting, leaves-distribute, leaves-finish, leaves-give, leaves-release, leaves-reorder, leaves-reserving, leaves-start, leaves-take, leaves-wanting}
 use Rattle.core_state.proofs.WholeLivesLemmas.{StayLost, lost-more, lost-now}

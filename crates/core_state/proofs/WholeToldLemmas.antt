@@ -1,14 +1,8 @@
 -- What a statement changes beside the seat that submits it, which no other seat sees.
-use Rattle.std.proofs.Common.{ℕ, ◌+◌, [], Some, refl, ◌∙◌}
-use Rattle.std.specs.Option.{option_map_or}
-use Rattle.star_history.specs.History.{Change, DimensionDeclared, FactDeclared, Loaded, Ended}
+use Rattle.core_state.proofs.Words.{◌+◌, ◌∙◌, [], Change, DimensionDeclared, Ended, FactDeclared, grouped_of, Loaded, option_map_or, refl, Some, State, Told, versions_in, with_change, with_query, with_seat, with_statement, ℕ}
 use Rattle.star_statement.specs.Outcome as outcome
-use Rattle.star_statement.specs.Outcome.{Told}
-use Rattle.aggregations.specs.Grouped.{grouped_of}
 use Rattle.pipeline_manager.specs.declared.life.Life.TheVariants as life
-use Rattle.core_state.specs.State.{State}
-use Rattle.core_state.specs.Submitting.{with_change, with_outcome, with_query, with_seat, with_statement}
-use Rattle.core_state.specs.Tables.{versions_in}
+use Rattle.core_state.specs.Submitting.{with_outcome}
 use Rattle.core_state.proofs.WholeFrameLemmas.{Leaves, asked-behind, by-option, leaves-all}
 use Rattle.core_state.proofs.WholeLivesLemmas.{lost-behind}
 

@@ -1,16 +1,6 @@
 -- What stays sound where the life of one query is written.
-use Rattle.std.proofs.Common.{◌≡◌, ◌≢◌, ◌⊎◌, ℕ, ◌<◌, ◌≤◌, List, Some, slice_get, sym, ap, ◌∙◌, subst}
-use Rattle.std.specs.Prelude.{IfSome, IsTrue, ◌↔◌}
-use Rattle.pipeline_manager.specs.Changes.{with_life}
-use Rattle.pipeline_manager.specs.Conditions.{is_open}
-use Rattle.pipeline_manager.specs.Lives.{life_in, query_in}
-use Rattle.pipeline_manager.specs.declared.life.Life.{Life}
+use Rattle.core_state.proofs.Words.{◌<◌, ◌↔◌, ◌∙◌, ◌≡◌, ◌≢◌, ◌≤◌, ◌⊎◌, Accepted, ap, AreSoundQueries, Filters, IfSome, is_open, IsKept, IsSoundQuery, IsTrue, Life, life_in, List, query_in, QueryLife, slice_get, SlotState, Some, State, subst, sym, tables_of, versions_in, with_life, ℕ}
 use Rattle.pipeline_manager.specs.declared.life.Life.TheVariants as life
-use Rattle.pipeline_manager.specs.declared.life.QueryLife.{QueryLife}
-use Rattle.pipeline_manager.specs.declared.life.SlotState.{SlotState}
-use Rattle.core_state.specs.Sound.{AreSoundQueries, IsKept, IsSoundQuery}
-use Rattle.core_state.specs.State.{Accepted, Filters, State}
-use Rattle.core_state.specs.Tables.{tables_of, versions_in}
 use Rattle.core_state.proofs.FoundLemmas.{life-written, query_in-number, same-life, some-at, with_life-found, with_life-numbers}
 use Rattle.core_state.proofs.HeldLemmas.{queries-held}
 use Rattle.core_state.proofs.MovedLemmas.{StaysWanted, held_now}

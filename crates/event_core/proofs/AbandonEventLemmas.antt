@@ -1,28 +1,6 @@
 -- The parts of a core where nobody wants the answer of a query any more.
-use Rattle.std.proofs.Common.{◌≡◌, ℕ, ◌<◌, List, [], length, get_or, map, set, Option, Some, None, ap, sym, ◌∙◌, subst, arith}
-use Rattle.std.specs.Prelude.{AllPairs, IfSome}
-use Rattle.std.specs.List.{refill}
-use Rattle.std.specs.Option.{option_map_or}
+use Rattle.event_core.proofs.Words.{◌<◌, ◌∙◌, ◌≡◌, [], abandoned, after_abandon, after_abandoning, after_stop, AllPairs, ap, arith, asked_at, AskedQuery, Becomes, CanAbandon, empty_seat, get_or, get_or-map, get_or-set_same, Grouped, IfSome, IsCore, Known, known_in, length, List, Lives, map, map-set, None, Option, option_map_or, Parts, refill, refill-all, Roomy, Scanning, Seat, seat_as, set, slot_of, Some, state_of, statements_at, Submitted, subst, sym, with_kept_at, without_pending, ℕ}
 use Rattle.std.proofs.Math.ListN as lists
-use Rattle.std.proofs.lemmas.List.{get_or-map, get_or-set_same, map-set}
-use Rattle.star_lists.specs.Roomy.{Roomy}
-use Rattle.pipeline_manager.specs.Changes.{after_abandon}
-use Rattle.pipeline_manager.specs.Conditions.{CanAbandon}
-use Rattle.pipeline_manager.specs.Lives.{Lives, slot_of}
-use Rattle.continuous_scan.specs.Range.{after_stop}
-use Rattle.continuous_scan.specs.Scanning.{Scanning}
-use Rattle.aggregations.specs.Grouped.{Grouped}
-use Rattle.core_state.specs.State.{Seat}
-use Rattle.core_state.specs.Submitting.{after_abandoning, empty_seat, without_pending}
-use Rattle.core_parts.specs.declared.submitted.Submitted.{Submitted}
-use Rattle.core_parts.specs.Asked.{AskedQuery, asked_at, known_in, with_kept_at}
-use Rattle.event_core.specs.Changes.{abandoned, statements_at}
-use Rattle.event_core.specs.Core.{Becomes, IsCore}
-use Rattle.core_parts.specs.Known.{Known}
-use Rattle.event_core.specs.Parts.{Parts}
-use Rattle.core_parts.specs.Seats.{seat_as}
-use Rattle.event_core.specs.Seen.{state_of}
-use Rattle.core_parts.proofs.PlaceLemmas.{refill-all}
 use Rattle.event_core.proofs.SlotEventLemmas.{attached-count}
 
 -- the statements of seats with room for more

@@ -1,35 +1,8 @@
 -- The parts of a core where a query is abandoned.
-use Rattle.std.proofs.Common.{◌≡◌, ℕ, ◌<◌, true, false, eqb, List, [], length, get_or, map, set, Option, Some, None, option_map, refl, ap, sym, ◌∙◌, subst, ⊎_elim, arith}
-use Rattle.std.specs.Prelude.{Contains, IsSome, IsTrue}
-use Rattle.std.specs.Option.{option_map_or}
+use Rattle.event_core.proofs.Words.{◌<◌, ◌∙◌, ◌≡◌, [], Abandon, Abandoned, abandoned, Accepted, accepted_as, accepted_at, accepted_in, after_abandon, after_abandoning, ap, arith, asked_at, AskedQuery, attached_to, Becomes, CanAbandon, cases_lt, Contains, detached_for, Done, empty_seat, eqb, false, find-holds, forgotten, get_or, get_or_past, is_open, IsCore, IsScannedAs, IsSome, IsSound, IsTrue, Known, known_in, length, life-accepted, List, map, map-set, None, Option, option_map, option_map_or, Parts, query_in, QueryLife, reaches_in, refl, Scanning, Seat, seat_as, seat_at, set, Some, State, state_of, statements_at, stopped_for, Submitted, subst, sym, true, without_pending, ℕ, ⊎_elim}
 use Rattle.std.proofs.Math.ListN as lists
-use Rattle.std.proofs.lemmas.Bool.{cases_lt}
-use Rattle.std.proofs.lemmas.List.{get_or_past, map-set}
-use Rattle.pipeline_manager.specs.Changes.{after_abandon}
-use Rattle.pipeline_manager.specs.Conditions.{CanAbandon, is_open}
-use Rattle.pipeline_manager.specs.Lives.{query_in}
-use Rattle.pipeline_manager.specs.declared.life.Life.TheVariants.{Abandoned}
-use Rattle.pipeline_manager.specs.declared.life.QueryLife.{QueryLife}
-use Rattle.continuous_scan.specs.Scanning.{Scanning}
 use Rattle.core_state.specs.Events.{after_event}
-use Rattle.core_state.specs.Found.{accepted_at}
-use Rattle.core_state.specs.Handed.{attached_to, detached_for}
-use Rattle.core_state.specs.Scanned.{IsScannedAs, stopped_for}
-use Rattle.core_state.specs.Sound.{IsSound}
-use Rattle.core_state.specs.State.{Accepted, Seat, State}
-use Rattle.core_state.specs.Steps.{Done}
-use Rattle.core_state.specs.Submitting.{after_abandoning, empty_seat, forgotten, seat_at, with_seat, without_pending}
-use Rattle.core_state.specs.declared.event.Event.TheVariants.{Abandon}
-use Rattle.core_state.proofs.AcceptedLemmas.{find-holds}
-use Rattle.core_state.proofs.ScannedOverLemmas.{life-accepted}
-use Rattle.core_parts.specs.declared.submitted.Submitted.{Submitted}
-use Rattle.core_parts.specs.Asked.{AskedQuery, asked_at, known_in}
-use Rattle.event_core.specs.Changes.{abandoned, statements_at}
-use Rattle.event_core.specs.Core.{Becomes, IsCore}
-use Rattle.core_parts.specs.Known.{Known, reaches_in}
-use Rattle.event_core.specs.Parts.{Parts}
-use Rattle.core_parts.specs.Seats.{seat_as}
-use Rattle.event_core.specs.Seen.{accepted_as, accepted_in, state_of}
+use Rattle.core_state.specs.Submitting.{with_seat}
 use Rattle.event_core.proofs.AskedKeptLemmas.{accepted-forgotten, accepted-of, asked-there, beside-kept}
 use Rattle.event_core.proofs.CoreAtLemmas.{KeepSound, becomes-of}
 use Rattle.event_core.proofs.SeenLemmas.{known-with_kept, reaches-with_life, state-seen}

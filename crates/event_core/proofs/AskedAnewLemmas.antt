@@ -1,43 +1,13 @@
 -- A query that is accepted stands behind the others, and changes nothing of what is known of them.
-use Rattle.std.proofs.Common.{◌≡◌, ◌≢◌, ℕ, ◌+◌, ◌<◌, ◌≤◌, true, false, cond, List, [], ◌∷◌, ◌++◌, length, get_or, map, Option, Some, None, option_map, refl, ap, sym, ◌∙◌, subst, arith}
-use Rattle.std.specs.Prelude.{All, IsSome}
-use Rattle.std.specs.Option.{option_and_then, option_map_or}
-use Rattle.std.proofs.lemmas.List.{length-map, map_push}
-use Rattle.std.proofs.lemmas.List.Elements.{All-push, All-weaker}
-use Rattle.std.proofs.lemmas.List.Quantifiers.{position-Some}
+use Rattle.event_core.proofs.Words.{◌++◌, ◌+◌, ◌<◌, ◌∙◌, ◌∷◌, ◌≡◌, ◌≢◌, ◌≤◌, [], Accepted, accepted, accepted_as, accepted_in, after_outcome, after_submit, after_submitting, All, All-push, ap, arith, Asked, AskedQuery, attached_for, attached_or, Awaited, Becomes, cond, false, flights_as, Free, get_or, Grouped, grouped_of, is_held_by, IsAsked, IsCore, IsNew, IsSome, Known, known_at, known_in, length, length-map, life_in, List, Lives, map, map_push, None, of-numbers, Option, option_and_then, option_map, option_map_or, Outcome, outcome_of, Parts, plain_version, position-Some, query_of, QueryLife, Reach, reach_at, reaches_in, refl, Replied, Seat, seat_as, slot_of, SlotState, Some, StarQuery, State, state_of, Statement, statements_at, Store, subst, sym, tables_of, Told, true, versions_in, ℕ}
+use Rattle.std.proofs.lemmas.List.Elements.{All-weaker}
 use Rattle.std.proofs.lemmas.List.Sums.{get_or-le-sum_by}
-use Rattle.script_reader.specs.declared.statement.Statement.{Statement}
 use Rattle.reply_text.specs.declared.reply.Reply.TheVariants as reply
-use Rattle.star_plan.specs.Test.{query_of}
-use Rattle.star_plan.specs.declared.star_query.StarQuery.{StarQuery}
-use Rattle.star_history.specs.Keyed.{plain_version}
-use Rattle.star_history.specs.Store.{Store}
 use Rattle.star_statement.specs.Outcome as outcome
-use Rattle.star_statement.specs.Outcome.{Outcome, Told, outcome_of}
-use Rattle.aggregations.specs.Grouped.{Grouped, grouped_of}
-use Rattle.pipeline_manager.specs.Changes.{after_submit}
-use Rattle.pipeline_manager.specs.Conditions.{IsNew}
-use Rattle.pipeline_manager.specs.Lives.{Lives, is_held_by, life_in, slot_of}
 use Rattle.pipeline_manager.specs.Sound as managed
 use Rattle.pipeline_manager.specs.Sound.{FitsSlots, slots_held}
 use Rattle.pipeline_manager.specs.declared.life.Life.TheVariants as managed_life
-use Rattle.pipeline_manager.specs.declared.life.QueryLife.{QueryLife}
-use Rattle.pipeline_manager.specs.declared.life.SlotState.{SlotState}
-use Rattle.pipeline_manager.specs.declared.life.SlotState.TheVariants.{Free}
-use Rattle.core_state.specs.State.{Accepted, Asked, Awaited, Replied, Seat, State}
 use Rattle.core_state.specs.State as state
-use Rattle.core_state.specs.Submitting.{after_outcome, after_submitting}
-use Rattle.core_state.specs.Tables.{tables_of, versions_in}
-use Rattle.core_state.proofs.AskLemmas.{of-numbers}
-use Rattle.core_parts.specs.declared.submitted.Standing.TheVariants.{IsAsked}
-use Rattle.core_parts.specs.Asked.{AskedQuery, known_in}
-use Rattle.event_core.specs.Changes.{accepted, statements_at}
-use Rattle.event_core.specs.Core.{Becomes, IsCore}
-use Rattle.core_parts.specs.Flights.{flights_as}
-use Rattle.core_parts.specs.Known.{Known, Reach, known_at, reach_at, reaches_in}
-use Rattle.event_core.specs.Parts.{Parts}
-use Rattle.core_parts.specs.Seats.{seat_as}
-use Rattle.event_core.specs.Seen.{accepted_as, accepted_in, attached_for, attached_or, state_of}
 use Rattle.event_core.proofs.FoundAgainLemmas.{found-last, found-nowhere, found-other}
 use Rattle.event_core.proofs.RosterAgainLemmas.{flights-again}
 use Rattle.event_core.proofs.SeenLemmas.{state-seen}

@@ -1,17 +1,5 @@
 -- Accepted queries that are found by their numbers.
-use Rattle.std.proofs.Common.{◌≡◌, ℕ, Bool, true, false, cond, eqb, List, [], ◌∷◌, Option, Some, None, option_map, refl, subst}
-use Rattle.std.specs.Prelude.{IsSome}
-use Rattle.pipeline_manager.specs.Lives.{Lives, life_of, query_in}
-use Rattle.pipeline_manager.specs.declared.life.Life.{Life}
-use Rattle.pipeline_manager.specs.declared.life.QueryLife.{QueryLife}
-use Rattle.aggregations.specs.Grouped.{Grouped}
-use Rattle.core_state.specs.Found.{accepted_at}
-use Rattle.core_state.specs.State.{Accepted}
-use Rattle.core_state.proofs.ScannedOverLemmas.{life-accepted}
-use Rattle.core_parts.specs.Asked.{AskedQuery, asked_at}
-use Rattle.event_core.specs.Core.{IsCore}
-use Rattle.event_core.specs.Parts.{Parts}
-use Rattle.event_core.specs.Seen.{accepted_as, accepted_in, state_of}
+use Rattle.event_core.proofs.Words.{◌∷◌, ◌≡◌, [], Accepted, accepted_as, accepted_at, accepted_in, asked_at, AskedQuery, Bool, cond, eqb, false, Grouped, IsCore, IsSome, Life, life-accepted, life_of, List, Lives, None, Option, option_map, Parts, query_in, QueryLife, refl, Some, state_of, subst, true, ℕ}
 
 -- the state has the accepted query of a number where the parts have it
 pub accepted-found : (lives : Lives) (attached : List (Option Grouped)) (asked : List AskedQuery) (number : ℕ)

@@ -1,24 +1,8 @@
 -- Accepted queries of the parts and of the state that they stand for, and what is kept of them.
-use Rattle.std.proofs.Common.{◌≡◌, ◌≢◌, ℕ, ◌<◌, Bool, true, false, cond, eqb, eq-eqb, suc, List, [], ◌∷◌, length, get_or, map, Option, Some, None, option_map, refl, ap, sym, ◌∙◌, subst, ⊎_elim, arith}
-use Rattle.std.specs.Prelude.{All, IsSome}
-use Rattle.std.proofs.lemmas.Bool.{cases_eq, eqb-true, ne_eqb}
-use Rattle.std.proofs.lemmas.List.{get_or-map}
-use Rattle.std.proofs.lemmas.List.Elements.{All-cons, All-head, All-map, All-nil, All-tail}
+use Rattle.event_core.proofs.Words.{◌<◌, ◌∙◌, ◌∷◌, ◌≡◌, ◌≢◌, [], Accepted, accepted_as, accepted_at, accepted_in, All, All-cons, All-head, All-map, All-nil, All-tail, ap, AreRising, arith, asked_at, AskedQuery, attached_for, attached_or, Bool, cases_eq, cond, eq-eqb, eqb, eqb-true, false, find-passes, forgotten, get_or, get_or-map, Grouped, IsCore, IsSome, length, List, Lives, map, ne_eqb, None, Option, option_map, Parts, query_of, QueryLife, refl, Some, subst, suc, sym, true, with_kept, with_kept_at, ℕ, ⊎_elim}
 use Rattle.std.proofs.Math.ListN as lists
-use Rattle.pipeline_manager.specs.Lives.{Lives}
 use Rattle.pipeline_manager.specs.Sound as managed
 use Rattle.pipeline_manager.specs.declared.life.Life.TheVariants as life
-use Rattle.pipeline_manager.specs.declared.life.QueryLife.{QueryLife}
-use Rattle.aggregations.specs.Grouped.{Grouped}
-use Rattle.star_plan.specs.Test.{query_of}
-use Rattle.core_state.specs.Found.{accepted_at}
-use Rattle.core_state.specs.State.{Accepted}
-use Rattle.core_state.specs.Submitting.{forgotten}
-use Rattle.core_state.proofs.FoundLemmas.{find-passes}
-use Rattle.core_parts.specs.Asked.{AreRising, AskedQuery, asked_at, with_kept, with_kept_at}
-use Rattle.event_core.specs.Core.{IsCore}
-use Rattle.event_core.specs.Parts.{Parts}
-use Rattle.event_core.specs.Seen.{accepted_as, accepted_in, attached_for, attached_or}
 
 -- a query is found by its number as in the parts
 pub accepted-found : (lives : Lives) (attached : List (Option Grouped)) (asked : List AskedQuery) (query : ℕ)

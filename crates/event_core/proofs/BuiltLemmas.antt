@@ -1,40 +1,14 @@
 -- A filter of a core is built for a query.
-use Rattle.std.specs.Prelude.{◌≡◌, ℕ, ◌<◌, ◌≤◌, All, IsTrue, false, eqb, length, Option, Some, IsSome, option_map, refl}
-use Rattle.std.proofs.Common.{ap, sym, ◌∙◌, subst, arith}
-use Rattle.std.specs.Option.{option_map_or}
-use Rattle.bit_words.specs.Sets.{Has}
-use Rattle.star_values.specs.Value.{kinds_in}
-use Rattle.star_plan.specs.Fits.{selection_fits}
-use Rattle.star_plan.specs.Test.{Selection, query_of}
-use Rattle.star_history.specs.Store.{Store, rows_in}
-use Rattle.pipeline_manager.specs.Changes.{after_built, with_dimension, with_slot}
-use Rattle.pipeline_manager.specs.Conditions.{CanBuild, CanSpoil, is_begun}
-use Rattle.pipeline_manager.specs.Lives.{Lives, slot_at, slot_of}
+use Rattle.event_core.proofs.Words.{◌∙◌, Accepted, accepted_as, accepted_at, after_build, All, ap, arith, asked_at, AskedQuery, Becomes, Build, built, CanAdd, CanBuild, CanSpoil, changes_of, Filter, filter_with, FilterVersion, find-holds, FitByKinds, Has, Held, holds-slot, is_begun, IsCore, IsSome, IsSoundQuery, IsTrue, kinds_in, last_after, Lives, next_number, Numbers, option_map_or, Parts, query_of, rows_in, Selection, selection_fits, selection_in, slot_at, slot_of, slot_of-begun, State, state_of, Store, subst, sym, tables_of, version_at, versions_in_hands, with_new, with_slot}
+use Rattle.std.specs.Prelude.{◌≡◌, ℕ, ◌<◌, ◌≤◌, false, eqb, length, Option, Some, option_map, refl}
+use Rattle.pipeline_manager.specs.Changes.{after_built, with_dimension}
 use Rattle.pipeline_manager.specs.declared.life.Life.TheVariants as life
-use Rattle.pipeline_manager.specs.declared.life.SlotState.TheVariants.{Held}
 use Rattle.pipeline_manager.proofs.CallLemmas.{holder-with_dimension}
-use Rattle.pipeline_manager.proofs.HolderLemmas.{built_of-holder, slot_of-begun}
-use Rattle.dimension_filter.specs.Changes.{filter_with}
-use Rattle.dimension_filter.specs.Filter.{Filter}
-use Rattle.core_state.specs.Admitting.{after_build, selection_in, versions_in_hands, with_version}
+use Rattle.pipeline_manager.proofs.HolderLemmas.{built_of-holder}
+use Rattle.core_state.specs.Admitting.{with_version}
 use Rattle.core_state.specs.Events.{after_event}
 use Rattle.core_state.specs.Flown.{FitsSlot, IsClearOf}
-use Rattle.core_state.specs.Found.{accepted_at, version_at}
-use Rattle.core_state.specs.Numbered.{last_after, next_number}
-use Rattle.core_state.specs.Sound.{IsSoundQuery}
-use Rattle.core_state.specs.State.{Accepted, FilterVersion, Numbers, State}
-use Rattle.core_state.specs.Tables.{changes_of, tables_of}
-use Rattle.core_state.specs.declared.event.Event.TheVariants.{Build}
-use Rattle.core_state.proofs.AcceptedLemmas.{find-holds}
 use Rattle.core_state.proofs.GivenLemmas.{Settles}
-use Rattle.core_state.proofs.ScannedLifeLemmas.{holds-slot}
-use Rattle.core_state.proofs.ScannedTestLemmas.{FitByKinds}
-use Rattle.core_parts.specs.Asked.{AskedQuery, asked_at}
-use Rattle.event_core.specs.Changes.{built}
-use Rattle.event_core.specs.Core.{Becomes, CanAdd, IsCore}
-use Rattle.core_parts.specs.Filters.{with_new}
-use Rattle.event_core.specs.Parts.{Parts}
-use Rattle.event_core.specs.Seen.{accepted_as, state_of}
 use Rattle.event_core.proofs.AskedFoundLemmas.{accepted-found, asked-there}
 use Rattle.event_core.proofs.HeldSlotLemmas.{attached_for-written}
 use Rattle.event_core.proofs.LivedLemmas.{IsSeenAs, QuietEventsLeave, becomes-lived, state_lived}

@@ -1,45 +1,14 @@
 -- A statement that changes the tables becomes the core's: its change is an entry more, and the fact table has its filters.
-use Rattle.std.proofs.Common.{◌≡◌, ℕ, ◌+◌, ◌<◌, ◌≤◌, List, [], ◌∷◌, ◌++◌, length, map, replicate, Some, None, refl, ap, sym, ◌∙◌, subst, arith}
-use Rattle.std.specs.Prelude.{All, IfSome, fold}
-use Rattle.std.specs.List.{list_any, range_with_len}
-use Rattle.std.proofs.lemmas.List.Elements.{All-push}
-use Rattle.std.proofs.lemmas.List.FromFn.{length-range_with_len}
+use Rattle.event_core.proofs.Words.{◌++◌, ◌+◌, ◌<◌, ◌∙◌, ◌∷◌, ◌≡◌, ◌≤◌, [], Accepts, AcceptsAll, after_change, after_outcome, after_submitting, All, All-push, ap, arith, Becomes, Change, changed, changes_of, counted, Dimension, empty_store, EndsAscending, entries_as, Entry, Fact, fact_columns, filter_dimensions, fold, IfSome, IsCore, IsKeyed, IsSettled, KeyedStore, kind_of_change, known_in, length, length-range_with_len, List, list_any, Logged, logged, map, None, none-some, Outcome, outcome_of, Parts, plain, range_with_len, references, refl, replicate, Reply, Schema, Seat, seat_as, Some, State, state_of, Statement, statements_at, Store, store_of, submitted, subst, sym, TableDef, tables_by, tables_of, Waits, with_first_filters, with_number, ℕ}
 use Rattle.std.proofs.lemmas.List.Sums.{count_by-le-length, length-filter}
-use Rattle.std.proofs.lemmas.Option.{none-some}
-use Rattle.bit_words.specs.Sets.{with_number}
-use Rattle.script_reader.specs.declared.statement.Statement.{Statement}
-use Rattle.reply_text.specs.declared.reply.Reply.{Reply}
-use Rattle.star_plan.specs.Columns.{fact_columns}
-use Rattle.star_plan.specs.declared.schema.Schema.{Schema}
 use Rattle.star_plan.specs.declared.table.Table.{Table}
-use Rattle.star_plan.specs.declared.table.Table.TheVariants.{Fact, Dimension}
-use Rattle.star_plan.specs.declared.table_def.TableDef.{TableDef}
-use Rattle.star_schema.specs.Declaration.{references}
-use Rattle.star_history.specs.Accepted.{Accepts, AcceptsAll}
-use Rattle.star_history.specs.History.{Change, DimensionDeclared, FactDeclared, Loaded, Ended, after_change, store_of}
-use Rattle.star_history.specs.Keyed.{IsKeyed, KeyedStore, plain}
-use Rattle.star_history.specs.Settled.{IsSettled}
-use Rattle.star_history.specs.Store.{Store, empty_store}
+use Rattle.star_history.specs.History.{DimensionDeclared, FactDeclared, Loaded, Ended}
 use Rattle.star_history.proofs.LaterLemmas.{undeclared}
-use Rattle.star_statement.specs.Kinds.{kind_of_change}
 use Rattle.star_statement.specs.Outcome as outcome
-use Rattle.star_statement.specs.Outcome.{Outcome, outcome_of}
 use Rattle.core_state.specs.Fitting.{FitsTables}
-use Rattle.core_state.specs.Logged.{EndsAscending}
-use Rattle.core_state.specs.Numbered.{counted}
-use Rattle.core_state.specs.State.{Entry, Seat, State}
-use Rattle.core_state.specs.Submitting.{after_outcome, after_submitting, filters_by, first_versions}
-use Rattle.core_state.specs.Tables.{changes_of, filter_dimensions, tables_by, tables_of}
+use Rattle.core_state.specs.Submitting.{filters_by, first_versions}
 use Rattle.core_state.proofs.GrownLemmas.{changes-with, tables-with}
-use Rattle.event_core.specs.declared.logged.Logged.{Logged}
-use Rattle.core_parts.specs.declared.submitted.Standing.TheVariants.{Waits}
-use Rattle.core_parts.specs.Asked.{known_in}
-use Rattle.event_core.specs.Changes.{changed, logged, statements_at, submitted, with_first_filters}
-use Rattle.event_core.specs.Core.{Becomes, IsCore}
 use Rattle.core_parts.specs.Filters.{no_probes}
-use Rattle.event_core.specs.Parts.{Parts}
-use Rattle.core_parts.specs.Seats.{seat_as}
-use Rattle.event_core.specs.Seen.{entries_as, state_of}
 use Rattle.event_core.proofs.EntryLemmas.{ChangesFollow, entries-logged}
 use Rattle.event_core.proofs.SubmittedCoreLemmas.{Laws, becomes-after}
 use Rattle.event_core.proofs.SubmittedSeatLemmas.{seats-one, statement_of}

@@ -1,25 +1,7 @@
 -- No event of a kind may come where the parts of a core offer none, and one that they offer may.
-use Rattle.std.proofs.Common.{◌≡◌, ◌≢◌, ℕ, Bool, true, false, cond, List, [], ◌∷◌, length, get_or, Option, Some, None, option_map, eqb, refl, ap, sym, ◌∙◌, subst, arith}
-use Rattle.std.specs.Prelude.{All, AllPairs, IfSome, IsSome, IsSomeAnd, find}
-use Rattle.std.specs.Int.{bit_at}
-use Rattle.std.specs.List.{list_any}
-use Rattle.std.proofs.lemmas.Bool.{not-true, not_from_false}
-use Rattle.std.proofs.lemmas.List.{get_or-map, length-map}
-use Rattle.std.proofs.lemmas.List.Elements.{All-head, All-map, All-tail}
-use Rattle.pipeline_manager.specs.Conditions.{CanBuild, CanClear, CanEnd, CanFree, CanRun}
-use Rattle.core_state.specs.Events.{IsThrough, IsWanting, MayCut, MayDistribute, MayFinish, MayReserve}
-use Rattle.core_state.specs.Found.{flight_at}
+use Rattle.event_core.proofs.Words.{◌∙◌, ◌∷◌, ◌≡◌, ◌≢◌, [], Abandon, All, All-head, All-map, All-tail, AllPairs, ap, arith, bit_at, Bool, Build, CanBuild, CanClear, CanEnd, CanFree, CanRun, Clear, cond, Cut, Distribute, eqb, false, find, Finish, Flight, flight_as, flight_at, flights_as, get_or, get_or-map, Give, IfSome, IsCore, IsSome, IsSomeAnd, IsThrough, IsWanting, Known, known_in, length, length-map, List, list_any, MayCut, MayDistribute, MayFinish, MayReserve, None, NoneMayCome, not-true, Option, option_map, Parts, Reach, reaches_in, refl, Release, Reorder, Reserve, Some, Start, State, state_of, Submit, subst, sym, Take, Through, true, Wants, ℕ}
+use Rattle.std.proofs.lemmas.Bool.{not_from_false}
 use Rattle.core_state.specs.State as state
-use Rattle.core_state.specs.State.{State}
-use Rattle.core_state.specs.declared.event.Event.TheVariants.{Submit, Reserve, Build, Start, Cut, Take, Give, Distribute, Finish, Clear, Release, Reorder, Abandon}
-use Rattle.core_parts.specs.Asked.{known_in}
-use Rattle.core_parts.specs.Flights.{Through, Wants, flight_as, flights_as}
-use Rattle.core_parts.specs.Known.{Known, Reach, reaches_in}
-use Rattle.core_parts.specs.declared.flight.Flight.{Flight}
-use Rattle.event_core.specs.Chosen.{NoneMayCome}
-use Rattle.event_core.specs.Core.{IsCore}
-use Rattle.event_core.specs.Parts.{Parts}
-use Rattle.event_core.specs.Seen.{state_of}
 use Rattle.event_core.specs.declared.choosing.EventKind.{EventKind}
 use Rattle.event_core.specs.declared.choosing.EventKind.TheVariants as kind
 use Rattle.event_core.proofs.EnablingLemmas.{find-map, finished-landed}

@@ -1,29 +1,14 @@
 -- A filter of a core is cleared of a slot.
-use Rattle.std.specs.Prelude.{◌≡◌, ℕ, ◌<◌, length, Some, IsSome, refl}
-use Rattle.std.proofs.Common.{ap, sym, ◌∙◌, subst, arith}
+use Rattle.event_core.proofs.Words.{◌∙◌, after_clear, ap, arith, Becomes, CanClear, Clear, cleared, Clearing, filter_without, FilterVersion, Free, Has, Held, IsCore, IsSome, last_after, Lives, next_number, Numbers, Parts, slot_at, SlotState, state_of, subst, sym, version_at, versions_in_hands, with_new}
+use Rattle.std.specs.Prelude.{◌≡◌, ℕ, ◌<◌, length, Some, refl}
 use Rattle.std.proofs.lemmas.List.Elements.{All-get_or}
-use Rattle.bit_words.specs.Sets.{Has}
 use Rattle.pipeline_manager.specs.Changes.{after_cleared, without_dimension}
-use Rattle.pipeline_manager.specs.Conditions.{CanClear, IsToClear}
-use Rattle.pipeline_manager.specs.Lives.{Lives, slot_at}
+use Rattle.pipeline_manager.specs.Conditions.{IsToClear}
 use Rattle.pipeline_manager.specs.Sound as managed
 use Rattle.pipeline_manager.specs.Sound.{IsOfFilters}
-use Rattle.pipeline_manager.specs.declared.life.SlotState.{SlotState}
-use Rattle.pipeline_manager.specs.declared.life.SlotState.TheVariants.{Free, Held, Clearing}
 use Rattle.pipeline_manager.proofs.CallLemmas.{holder-without_dimension}
-use Rattle.dimension_filter.specs.Changes.{filter_without}
-use Rattle.core_state.specs.Admitting.{after_clear, versions_in_hands}
 use Rattle.core_state.specs.Events.{after_event}
-use Rattle.core_state.specs.Found.{version_at}
-use Rattle.core_state.specs.Numbered.{last_after, next_number}
-use Rattle.core_state.specs.State.{FilterVersion, Numbers}
-use Rattle.core_state.specs.declared.event.Event.TheVariants.{Clear}
 use Rattle.core_state.proofs.HeldLemmas.{slot-there}
-use Rattle.event_core.specs.Changes.{cleared}
-use Rattle.event_core.specs.Core.{Becomes, IsCore}
-use Rattle.core_parts.specs.Filters.{with_new}
-use Rattle.event_core.specs.Parts.{Parts}
-use Rattle.event_core.specs.Seen.{state_of}
 use Rattle.event_core.proofs.HeldSlotLemmas.{attached_for-written}
 use Rattle.event_core.proofs.LivedLemmas.{IsSeenAs, QuietEventsLeave, becomes-lived, state_lived}
 use Rattle.event_core.proofs.NextVersionLemmas.{has-fact, has-few, has-present, is-present, with-next}

@@ -1,18 +1,6 @@
 -- Parts whose state is known are those of a core where they fit that state.
-use Rattle.std.specs.Prelude.{◌≡◌, All, None, IsSome}
-use Rattle.std.proofs.Common.{sym, subst}
-use Rattle.core_state.specs.Cutting.{frame_words}
-use Rattle.core_state.specs.Handed.{attached_to}
-use Rattle.core_state.specs.Logged.{EndsAscending}
-use Rattle.core_state.specs.Scanned.{AreTablesOf, IsScannedAs}
-use Rattle.core_state.specs.Settings.{frames_of}
-use Rattle.core_state.specs.Sound.{IsSound}
-use Rattle.core_state.specs.State.{State}
-use Rattle.core_state.specs.Steps.{MayStep, Step, after_step}
-use Rattle.core_state.specs.Tables.{changes_of, tables_of}
-use Rattle.event_core.specs.Core.{Becomes, IsCore}
-use Rattle.event_core.specs.Parts.{Parts}
-use Rattle.event_core.specs.Seen.{attached_for, state_of}
+use Rattle.event_core.proofs.Words.{after_step, All, AreTablesOf, attached_for, attached_to, Becomes, changes_of, EndsAscending, frame_words, frames_of, IsCore, IsScannedAs, IsSome, IsSound, MayStep, Parts, State, state_of, Step, subst, sym, tables_of}
+use Rattle.std.specs.Prelude.{◌≡◌, None}
 
 -- each step keeps a core sound
 abbrev pub KeepSound : Type 0

@@ -1,31 +1,9 @@
 -- Who is on the roster of a batch that is cut: at each slot of its set the query that the scan runs there.
-use Rattle.std.proofs.Common.{◌≡◌, ℕ, zero, suc, ◌+◌, ◌-◌, ◌<◌, ◌≤◌, ◌++◌, Bool, true, false, cond, eqb, eq-eqb, List, [], ◌∷◌, length, get_or, Option, Some, None, option_map, refl, ap, sym, ◌∙◌, arith, append-nil}
-use Rattle.std.specs.Prelude.{IsTrue, ◌↔◌, is_some, find}
-use Rattle.std.specs.Int.{bit_at}
-use Rattle.std.specs.List.{cons_option, filter_map, range_with_len}
-use Rattle.std.specs.Option.{option_map_or}
-use Rattle.std.proofs.lemmas.Bool.{ne_eqb}
-use Rattle.std.proofs.lemmas.List.{get_or_past}
-use Rattle.std.proofs.lemmas.List.Elements.{filter_map-append}
-use Rattle.bit_words.specs.Sets.{Has}
-use Rattle.pipeline_manager.specs.Lives.{Lives, extent_in}
-use Rattle.pipeline_manager.specs.declared.life.QueryLife.{QueryLife}
-use Rattle.aggregations.specs.Grouped.{Grouped}
-use Rattle.continuous_scan.specs.Scanning.{Running}
+use Rattle.event_core.proofs.Words.{◌++◌, ◌+◌, ◌-◌, ◌<◌, ◌↔◌, ◌∙◌, ◌∷◌, ◌≡◌, ◌≤◌, [], Accepted, accepted_as, accepted_at, accepted_in, ap, append-nil, AreHolders, arith, AskedQuery, bit_at, Bool, cond, cons_option, entry_by, entry_of, eq-eqb, eqb, extent_in, false, filter_map, filter_map-append, find, get_or, get_or_past, Grouped, Has, holder_of, is_some, IsCore, IsTrue, Known, known_at, known_in, length, life_at, List, Lives, ne_eqb, None, OnRoster, Option, option_map, option_map_or, Parts, QueryLife, range_parts, range_with_len, Reach, reach_at, reaches_in, refl, roster_by, roster_of, Running, Some, state_of, suc, sym, true, zero, ℕ}
 use Rattle.continuous_scan.specs.Stamped as stamped
-use Rattle.continuous_scan.proofs.LapLemmas.{range_parts}
-use Rattle.core_state.specs.Cutting.{roster_of}
-use Rattle.core_state.specs.Found.{accepted_at, entry_of, holder_of, running_at}
-use Rattle.core_state.specs.Scanned.{life_at}
-use Rattle.core_state.specs.State.{Accepted, OnRoster}
+use Rattle.core_state.specs.Found.{running_at}
 use Rattle.core_state.proofs.CutRosterLemmas.{RunsIn, runs-in}
 use Rattle.core_state.proofs.ScannedSlotLemmas.{runs-as}
-use Rattle.core_parts.specs.Asked.{AskedQuery, known_in}
-use Rattle.event_core.specs.Core.{AreHolders, IsCore}
-use Rattle.core_parts.specs.Flights.{entry_by, roster_by}
-use Rattle.core_parts.specs.Known.{Known, Reach, known_at, reach_at, reaches_in}
-use Rattle.event_core.specs.Parts.{Parts}
-use Rattle.event_core.specs.Seen.{accepted_as, accepted_in, state_of}
 
 -- what is known of an accepted query
 abbrev pub known_of : Accepted → Known

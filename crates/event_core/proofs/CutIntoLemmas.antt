@@ -1,30 +1,10 @@
 -- A batch that is cut: what becomes of the parts is what becomes of the state.
-use Rattle.std.proofs.Common.{◌≡◌, ℕ, ◌+◌, ◌-◌, ◌++◌, cond, List, [], ◌∷◌, length, map, None, refl, ap, sym, ◌∙◌, subst, arith}
-use Rattle.std.specs.Prelude.{IsTrue}
-use Rattle.std.proofs.lemmas.List.{length-append, map-append}
-use Rattle.pipeline_manager.specs.Changes.{after_cut}
+use Rattle.event_core.proofs.Words.{◌++◌, ◌+◌, ◌-◌, ◌∙◌, ◌∷◌, ◌≡◌, [], after_cut, after_cutting, ap, AreHolders, arith, attached_to, batch_of, Becomes, cond, counted, Cut, cut_into, Event, Flight, flight_as, flights_as, frame_words, IsCore, IsEnabled, IsScannedAs, IsSound, IsTrue, Known, known_in, last_after, LeavesAttached, length, length-append, List, map, MayCut, next_number, None, Parts, Reach, reaches_in, refl, roster_of, Scanning, some_run, State, state_of, subst, sym, ℕ}
+use Rattle.std.proofs.lemmas.List.{map-append}
 use Rattle.continuous_scan.specs.Range as scanned
-use Rattle.continuous_scan.specs.Range.{some_run}
-use Rattle.continuous_scan.specs.Scanning.{Scanning}
-use Rattle.continuous_scan.specs.Stamped.{batch_of}
-use Rattle.core_state.specs.Cutting.{after_cutting, end_in, first_in, frame_words, roster_of, rows_of}
-use Rattle.core_state.specs.Events.{IsEnabled, MayCut, after_event}
-use Rattle.core_state.specs.Handed.{LeavesAttached, attached_to}
-use Rattle.core_state.specs.Numbered.{counted, last_after, next_number}
-use Rattle.core_state.specs.Scanned.{IsScannedAs}
-use Rattle.core_state.specs.Sound.{IsSound}
+use Rattle.core_state.specs.Cutting.{end_in, first_in, rows_of}
+use Rattle.core_state.specs.Events.{after_event}
 use Rattle.core_state.specs.State as state
-use Rattle.core_state.specs.State.{State}
-use Rattle.core_state.specs.declared.event.Event.{Event}
-use Rattle.core_state.specs.declared.event.Event.TheVariants.{Cut}
-use Rattle.core_parts.specs.declared.flight.Flight.{Flight}
-use Rattle.core_parts.specs.Asked.{known_in}
-use Rattle.event_core.specs.Changes.{cut_into}
-use Rattle.event_core.specs.Core.{AreHolders, Becomes, IsCore}
-use Rattle.core_parts.specs.Flights.{flight_as, flights_as}
-use Rattle.core_parts.specs.Known.{Known, Reach, reaches_in}
-use Rattle.event_core.specs.Parts.{Parts}
-use Rattle.event_core.specs.Seen.{state_of}
 use Rattle.event_core.proofs.CutHolderLemmas.{RosterLaw, roster-found}
 use Rattle.event_core.proofs.SeenLemmas.{reaches-cut}
 

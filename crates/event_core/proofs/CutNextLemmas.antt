@@ -1,41 +1,17 @@
 -- Where the core may cut, its parts may: a frame is free, and each query that runs has as much left as the cut covers.
-use Rattle.std.proofs.Common.{◌≡◌, ◌≢◌, ℕ, ◌+◌, ◌-◌, ◌*◌, ◌<◌, ◌≤◌, true, false, eqb, List, [], length, get_or, Option, Some, None, refl, ap, sym, ◌∙◌, subst, arith, slice_get}
-use Rattle.std.specs.Prelude.{All, IsSome, IsTrue}
-use Rattle.std.specs.Option.{option_and_then, option_map_or}
-use Rattle.std.proofs.lemmas.Bool.{eqb-true}
-use Rattle.std.proofs.lemmas.List.{length-map}
-use Rattle.std.proofs.lemmas.Option.{slice_get-get_or}
+use Rattle.event_core.proofs.Words.{◌*◌, ◌+◌, ◌-◌, ◌<◌, ◌∙◌, ◌≡◌, ◌≢◌, ◌≤◌, [], Accepted, accepted_at, All, ap, arith, CanCut, CanCutNext, CanTestAll, end_in, entry_of, eqb, eqb-true, extent_in, false, find-passes, first_in, flight_as, frame_words, frames_of, get_or, Held, held-accepted, holder_of, IsCore, IsScannedAs, IsSome, IsSound, IsTrue, known_in, length, length-map, Life, life_at, life_of, List, MayCut, None, Option, option_and_then, option_map_or, Parts, query_in, QueryLife, reaches_in, refl, Running, Scanning, slice_get, slice_get-get_or, slot_at, Some, some_run, State, state_of, subst, sym, true, ℕ}
 use Rattle.batch_flow.specs.declared.batch.TheConstants.{KEYS_IN_A_ROW}
 use Rattle.pipeline_manager.specs.Changes as managed
 use Rattle.pipeline_manager.specs.Conditions as conditions
 use Rattle.pipeline_manager.specs.Conditions.{HasLeft}
-use Rattle.pipeline_manager.specs.Lives.{extent_in, life_of, query_in, slot_at}
-use Rattle.pipeline_manager.specs.declared.life.Life.{Life}
 use Rattle.pipeline_manager.specs.declared.life.Life.TheVariants as life
-use Rattle.pipeline_manager.specs.declared.life.QueryLife.{QueryLife}
-use Rattle.pipeline_manager.specs.declared.life.SlotState.TheVariants.{Held}
 use Rattle.pipeline_manager.proofs.QueryLemmas.{query_in-found}
-use Rattle.continuous_scan.specs.Calls.{AreInStep, CanCut}
-use Rattle.continuous_scan.specs.Range.{IsNearest, covered, end_in, first_in, some_run}
-use Rattle.continuous_scan.specs.Scanning.{Running, Scanning}
-use Rattle.continuous_scan.specs.Stamped.{CanTestAll}
-use Rattle.core_state.specs.Cutting.{frame_words}
-use Rattle.core_state.specs.Events.{MayCut}
-use Rattle.core_state.specs.Found.{accepted_at, entry_of, holder_of}
-use Rattle.core_state.specs.Scanned.{IsScannedAs, RunsAs, life_at}
-use Rattle.core_state.specs.Settings.{frames_of}
-use Rattle.core_state.specs.Sound.{IsSound}
-use Rattle.core_state.specs.State.{Accepted, State}
-use Rattle.core_state.proofs.AcceptedLemmas.{held-accepted}
+use Rattle.continuous_scan.specs.Calls.{AreInStep}
+use Rattle.continuous_scan.specs.Range.{IsNearest, covered}
+use Rattle.core_state.specs.Scanned.{RunsAs}
 use Rattle.core_state.proofs.CutLapLemmas.{covered-same}
 use Rattle.core_state.proofs.CutRosterLemmas.{runs-here, runs-there}
-use Rattle.core_state.proofs.FoundLemmas.{find-passes, life-found}
-use Rattle.core_parts.specs.Asked.{known_in}
-use Rattle.event_core.specs.Core.{CanCutNext, IsCore}
-use Rattle.core_parts.specs.Flights.{flight_as}
-use Rattle.core_parts.specs.Known.{reaches_in}
-use Rattle.event_core.specs.Parts.{Parts}
-use Rattle.event_core.specs.Seen.{state_of}
+use Rattle.core_state.proofs.FoundLemmas.{life-found}
 
 -- a cut takes no more of a query's extent than is left of it
 abbrev pub LeftLaw : Type 0

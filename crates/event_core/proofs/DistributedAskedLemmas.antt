@@ -1,29 +1,12 @@
 -- What is kept of the accepted queries once a batch is distributed, in the code and in the state.
-use Rattle.std.proofs.Common.{◌≡◌, ℕ, ◌<◌, Bool, true, false, cond, eqb, List, [], ◌∷◌, length, get_or, map, Option, Some, None, option_map, refl, sym, ap, ◌∙◌, subst, arith}
-use Rattle.std.specs.Prelude.{All, Contains, IsSome}
-use Rattle.std.specs.List.{list_any}
-use Rattle.std.specs.Option.{option_map_or}
-use Rattle.std.proofs.lemmas.Bool.{ne_eqb}
-use Rattle.std.proofs.lemmas.List.{get_or-map, length-map}
-use Rattle.std.proofs.lemmas.List.Elements.{All-head, All-tail, Contains-get_or}
-use Rattle.std.proofs.lemmas.List.Folds.{list_any_none}
-use Rattle.pipeline_manager.specs.Lives.{Lives}
-use Rattle.aggregations.specs.Grouped.{Grouped}
-use Rattle.core_state.specs.Cutting.{gets_rows, unkept}
-use Rattle.core_state.specs.Found.{accepted_at}
-use Rattle.core_state.specs.Handed.{attached_to}
-use Rattle.core_state.specs.Sound.{IsSound, IsSoundQuery}
-use Rattle.core_state.specs.State.{Accepted, Flight, OnRoster, State}
-use Rattle.core_state.proofs.AcceptedLemmas.{find-holds}
+use Rattle.event_core.proofs.Words.{◌<◌, ◌∙◌, ◌∷◌, ◌≡◌, [], Accepted, accepted_as, accepted_at, accepted_in, after_flight, All, All-head, All-tail, ap, arith, AskedQuery, attached_for, attached_or, attached_to, Bool, cond, Contains, Contains-get_or, eqb, false, find-holds, get_or, get_or-map, gets, gets_rows, Grouped, IsSome, IsSound, IsSoundQuery, length, length-map, List, list_any, list_any_none, Lives, map, ne_eqb, None, OnRoster, Option, option_map, option_map_or, others-stay, refl, Some, State, subst, sym, true, ℕ}
+use Rattle.core_state.specs.Cutting.{unkept}
+use Rattle.core_state.specs.State.{Flight}
 use Rattle.core_state.proofs.AnewLemmas.{KeepsAsked, found-anew}
 use Rattle.core_state.proofs.DistributedLemmas.{found-itself}
-use Rattle.core_state.proofs.HandedAfterLemmas.{after_flight}
 use Rattle.core_state.proofs.HandedBatchLemmas.{fed-groups}
-use Rattle.core_state.proofs.HandedLivesLemmas.{others-stay, still-kept, still-none, unkeeps}
-use Rattle.core_state.proofs.HandedSlotLemmas.{gets}
+use Rattle.core_state.proofs.HandedLivesLemmas.{still-kept, still-none, unkeeps}
 use Rattle.core_state.proofs.LandedLemmas.{entry_for, fed_by, feeds, with_more}
-use Rattle.core_parts.specs.Asked.{AskedQuery}
-use Rattle.event_core.specs.Seen.{accepted_as, accepted_in, attached_for, attached_or}
 use Rattle.event_core.proofs.DistributedSlotLemmas.{attached-shown}
 
 -- groups that are attached are those that are kept

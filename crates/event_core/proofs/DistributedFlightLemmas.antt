@@ -1,18 +1,7 @@
 -- A batch in flight is found at its place, and the others are left without it.
-use Rattle.std.proofs.Common.{◌≡◌, ◌≢◌, ℕ, zero, suc, ◌+◌, ◌<◌, ◌++◌, Bool, true, false, not, cond, eqb, List, [], ◌∷◌, length, get_or, map, take, drop, Option, Some, option_map, slice_get, refl, sym, ap, ◌∙◌, subst, ⊎_elim, arith}
-use Rattle.std.specs.Prelude.{AllPairs, Contains, find, position}
+use Rattle.event_core.proofs.Words.{◌++◌, ◌+◌, ◌<◌, ◌∙◌, ◌∷◌, ◌≡◌, ◌≢◌, [], AllPairs, ap, arith, Bool, cases_lt, cond, Contains, Contains-get_or, drop, eqb, eqb-true, false, find, find_position, Flight, flight_as, flight_at, flights_as, get_or, get_or-map, get_or_from_slice_get, Known, length, length-map, List, map, ne_eqb, not, Option, option_map, position, position-Some, Reach, refl, slice_get, Some, subst, suc, sym, take, true, zero, ℕ, ⊎_elim}
 use Rattle.std.specs.List.{filter}
-use Rattle.std.proofs.lemmas.Bool.{cases_lt, eqb-true, ne_eqb}
-use Rattle.std.proofs.lemmas.List.{get_or-map, length-map}
-use Rattle.std.proofs.lemmas.List.Elements.{Contains-get_or}
-use Rattle.std.proofs.lemmas.List.Quantifiers.{position-Some}
-use Rattle.std.proofs.lemmas.Option.{get_or_from_slice_get}
-use Rattle.star_history.proofs.FoundLemmas.{find_position}
-use Rattle.core_state.specs.Found.{flight_at}
-use Rattle.core_parts.specs.declared.flight.Flight.{Flight}
 use Rattle.event_core.specs.Changes.{without_place}
-use Rattle.core_parts.specs.Flights.{flight_as, flights_as}
-use Rattle.core_parts.specs.Known.{Known, Reach}
 
 -- what stands at the place of the first that passes is found
 pub found-there : {X : Type 0} (p : X → Bool) (xs : List X) (place : ℕ) (x : X) → position p xs ≡ Some place → slice_get xs place ≡ Some x

@@ -1,31 +1,10 @@
 -- Which queries hold the slots that have groups, and what a query has at its slot.
-use Rattle.std.proofs.Common.{◌≡◌, ℕ, Bool, true, false, cond, eqb, List, [], ◌∷◌, length, get_or, Option, Some, None, refl, ap, ◌∙◌, subst, arith}
-use Rattle.std.specs.Prelude.{All, IsSome, IsTrue}
-use Rattle.std.specs.Int.{bit_at}
-use Rattle.std.specs.List.{cons_option, filter_map, fold, range_with_len}
-use Rattle.std.specs.Option.{option_and_then, option_map_or}
-use Rattle.std.proofs.lemmas.Bool.{eqb-true}
-use Rattle.pipeline_manager.specs.Conditions.{CanSpoil, is_begun}
-use Rattle.pipeline_manager.specs.Lives.{Lives, life_of, slot_at, slot_of}
-use Rattle.pipeline_manager.specs.declared.life.Life.{Life}
+use Rattle.event_core.proofs.Words.{◌∙◌, ◌∷◌, ◌≡◌, [], Accepted, accepted_at, after_stop, All, ap, AreAttached, arith, attached-count, attached-get, attached_for, attached_to, bit_at, Bool, CanSpoil, cond, cons_option, eqb, eqb-true, false, fed_in, filter_map, get_or, gets, gets_rows, Grouped, holder_of, holders_in, holds-slot, is_begun, IsSome, IsSound, IsTrue, kept-none, kept_by, length, Life, life_of, List, Lives, None, Option, option_and_then, option_map_or, range_with_len, refl, Scanning, slot_at, slot_of, slot_of-begun, Some, State, stopped_for, subst, true, ℕ}
+use Rattle.std.specs.List.{fold}
 use Rattle.pipeline_manager.specs.declared.life.Life.TheVariants as life
-use Rattle.pipeline_manager.proofs.HolderLemmas.{slot_of-begun}
-use Rattle.continuous_scan.specs.Range.{after_stop}
-use Rattle.continuous_scan.specs.Scanning.{Scanning}
-use Rattle.aggregations.specs.Grouped.{Grouped}
-use Rattle.distributor.specs.Masked.{AreAttached}
-use Rattle.core_state.specs.Cutting.{gets_rows}
-use Rattle.core_state.specs.Found.{accepted_at, holder_of}
-use Rattle.core_state.specs.Handed.{attached_to, fed_at, fed_in}
-use Rattle.core_state.specs.Scanned.{stopped_for}
-use Rattle.core_state.specs.Sound.{IsSound}
-use Rattle.core_state.specs.State.{Accepted, State}
-use Rattle.core_state.proofs.AttachedFrameLemmas.{attached-count, attached-get, kept-none, kept-some}
-use Rattle.core_state.proofs.HandedAfterLemmas.{kept_by}
-use Rattle.core_state.proofs.HandedSlotLemmas.{all-fed, fed-holds, gets}
-use Rattle.core_state.proofs.ScannedLifeLemmas.{holds-slot}
-use Rattle.event_core.specs.Core.{holders_in}
-use Rattle.event_core.specs.Seen.{attached_for}
+use Rattle.core_state.specs.Handed.{fed_at}
+use Rattle.core_state.proofs.AttachedFrameLemmas.{kept-some}
+use Rattle.core_state.proofs.HandedSlotLemmas.{all-fed, fed-holds}
 
 -- what is found the same of each number is the same in all
 same-found : (f g : ℕ → Option ℕ) (xs : List ℕ) → ((x : ℕ) → f x ≡ g x) → filter_map f xs ≡ filter_map g xs

@@ -1,32 +1,12 @@
 -- When an event may come, by what the code asks of the batches in flight.
-use Rattle.std.proofs.Common.{◌≡◌, ◌↔◌, ℕ, ◌<◌, ◌≤◌, Bool, true, false, not, ◌||◌, cond, eqb, List, [], ◌∷◌, length, get_or, map, Option, Some, None, is_some, option_map, IsTrue, refl, ap, sym, ◌∙◌, subst, arith}
-use Rattle.std.specs.Prelude.{All, IfSome, IsSome, find, position}
-use Rattle.std.specs.Int.{bit_at}
-use Rattle.std.specs.List.{list_any}
-use Rattle.std.specs.Option.{option_map_or}
-use Rattle.std.proofs.lemmas.Bool.{not-true}
-use Rattle.std.proofs.lemmas.List.{length-map}
-use Rattle.std.proofs.lemmas.List.Elements.{All-head, All-tail}
-use Rattle.std.proofs.lemmas.List.Folds.{find_at, list_any_none}
+use Rattle.event_core.proofs.Words.{◌<◌, ◌||◌, ◌∙◌, ◌∷◌, ◌≡◌, ◌≤◌, [], All, All-head, All-tail, ap, arith, bit_at, Bool, CanEnd, cond, eqb, false, find, find_position, Flight, flight_as, flight_at, flights_as, get_or, held_by, IfSome, IsCore, IsSome, IsThrough, IsWanting, Known, known_in, length, length-map, List, list_any, list_any_none, map, MayDistribute, MayFinish, MayTake, None, not, not-true, Option, option_map, option_map_or, Parts, position, Reach, reaches_in, refl, Roomy, slots_of, Some, some-at, state_of, Submitted, subst, sym, Through, true, Wants, ℕ}
+use Rattle.std.proofs.Common.{◌↔◌, is_some, IsTrue}
+use Rattle.std.proofs.lemmas.List.Folds.{find_at}
 use Rattle.std.proofs.lemmas.Option.{slice_get_past}
-use Rattle.star_history.proofs.FoundLemmas.{find_position}
-use Rattle.pipeline_manager.specs.Conditions.{CanEnd}
-use Rattle.core_state.specs.Cutting.{slots_of}
-use Rattle.core_state.specs.Events.{IsThrough, IsWanting, MayDistribute, MayFinish, MayTake}
-use Rattle.core_state.specs.Found.{flight_at, held_by, is_on_roster}
+use Rattle.core_state.specs.Found.{is_on_roster}
 use Rattle.core_state.specs.State as state
 use Rattle.core_state.proofs.FinishLemmas.{none-passes}
-use Rattle.core_state.proofs.FoundLemmas.{some-at}
-use Rattle.core_parts.specs.declared.flight.Flight.{Flight}
-use Rattle.star_lists.specs.Roomy.{Roomy}
-use Rattle.core_parts.specs.declared.submitted.Submitted.{Submitted}
-use Rattle.core_parts.specs.Asked.{known_in}
 use Rattle.event_choice.proofs.FlightLemmas.{not-both}
-use Rattle.event_core.specs.Core.{IsCore}
-use Rattle.core_parts.specs.Flights.{Through, Wants, flight_as, flights_as}
-use Rattle.core_parts.specs.Known.{Known, Reach, reaches_in}
-use Rattle.event_core.specs.Parts.{Parts}
-use Rattle.event_core.specs.Seen.{state_of}
 use Rattle.event_core.proofs.EnablingSetLemmas.{bit-roster}
 use Rattle.core_parts.proofs.PlaceLemmas.{past-from_none}
 

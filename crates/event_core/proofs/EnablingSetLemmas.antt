@@ -1,14 +1,9 @@
 -- The set of the slots of a roster, by its entries.
-use Rattle.std.proofs.Common.{◌≡◌, ℕ, Bool, true, false, ◌||◌, eqb, List, [], ◌∷◌, fold, refl, ap, sym, ◌∙◌, inl, inr, eqb-true, eq-eqb}
+use Rattle.event_core.proofs.Words.{◌||◌, ◌∙◌, ◌∷◌, ◌≡◌, [], ap, bit_at, Bool, eq-eqb, eqb, false, Has-with, inl, inr, List, list_any, OnRoster, refl, slots_of, sym, true, with_number, ℕ}
+use Rattle.std.proofs.Common.{fold, eqb-true}
 use Rattle.std.specs.Prelude.{Decides}
-use Rattle.std.specs.Int.{bit_at}
-use Rattle.std.specs.List.{list_any}
 use Rattle.std.proofs.lemmas.Bool.Decides.{Decides-eqb, same_from_decides}
 use Rattle.std.proofs.lemmas.Nat.Bits.{bit_at-zero}
-use Rattle.bit_words.specs.Sets.{with_number}
-use Rattle.bit_words.proofs.SetLemmas.{Has-with}
-use Rattle.core_state.specs.Cutting.{slots_of}
-use Rattle.core_state.specs.State.{OnRoster}
 
 -- a set with a slot more
 bit-with : (set one slot : ℕ) → eqb (bit_at (with_number set one) slot) 1 ≡ (eqb (bit_at set slot) 1 || eqb one slot)

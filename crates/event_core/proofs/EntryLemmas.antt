@@ -1,22 +1,9 @@
 -- The entries of a log that grows by a change, told from the tables after it.
-use Rattle.std.proofs.Common.{◌≡◌, ℕ, ◌+◌, List, [], ◌∷◌, ◌++◌, length, map, refl, ap, sym, ◌∙◌, arith}
-use Rattle.std.specs.Prelude.{All}
-use Rattle.std.proofs.lemmas.List.{length-map, map_push}
-use Rattle.std.proofs.lemmas.List.Elements.{All-push}
-use Rattle.std.proofs.lemmas.List.Sums.{fold-append}
-use Rattle.star_plan.specs.declared.table.Table.TheVariants.{Fact, Dimension}
-use Rattle.star_history.specs.Accepted.{Accepts, AcceptsAll}
-use Rattle.star_history.specs.History.{Change, after_change, store_of}
-use Rattle.star_history.specs.Store.{Store, empty_store}
-use Rattle.star_statement.specs.Kinds.{kind_of_change}
-use Rattle.star_statement.specs.declared.applied.ChangeKind.{ChangeKind}
+use Rattle.event_core.proofs.Words.{◌++◌, ◌+◌, ◌∙◌, ◌∷◌, ◌≡◌, [], Accepts, AcceptsAll, after_change, All, All-push, ap, arith, Change, ChangeKind, changes_of, Dimension, empty_store, EndsAscending, entries_as, Entry, Fact, fold-append, kind_of_change, length, length-map, List, Logged, map, map_push, refl, Store, store_of, sym, tables_by, ℕ}
 use Rattle.star_statement.specs.declared.applied.ChangeKind.TheVariants.{DeclaresDimension, DeclaresFact, Loads, Ends}
-use Rattle.core_state.specs.Logged.{EndsAscending, changes_told}
-use Rattle.core_state.specs.State.{Entry}
-use Rattle.core_state.specs.Tables.{changes_of, tables_by}
+use Rattle.core_state.specs.Logged.{changes_told}
 use Rattle.core_state.proofs.GrownLemmas.{accepts-more}
-use Rattle.event_core.specs.declared.logged.Logged.{Logged}
-use Rattle.event_core.specs.Seen.{entries_as, entries_with}
+use Rattle.event_core.specs.Seen.{entries_with}
 
 -- the changes of a history follow from its tables and their kinds
 abbrev pub ChangesFollow : Type 0

@@ -1,50 +1,11 @@
 -- What the code makes of a statement that is submitted is what the law says.
-use Rattle.std.proofs.Common.{◌≡◌, ℕ, ◌+◌, ◌<◌, List, [], ◌∷◌, ◌++◌, length, map, get_or, set, Option, Some, None, option_map, Ok, refl, ap, sym, ◌∙◌, subst, arith}
-use Rattle.std.specs.Prelude.{All, fold}
-use Rattle.std.specs.List.{refill}
-use Rattle.std.specs.Option.{option_map_or}
+use Rattle.event_core.proofs.Words.{◌++◌, ◌+◌, ◌<◌, ◌∙◌, ◌∷◌, ◌≡◌, [], accepted, after_change, after_submit, after_submitting, All, ap, arith, AskedQuery, attached_to, Becomes, Change, Changed, changed, ChangeKind, changes_of, EndsAscending, entries_as, filter_dimensions, fold, Follows, get_or, get_or-map, grouped_of, IsAsked, IsCore, IsKeyed, IsScannedAs, IsSound, KeyedStore, kind_of_change, known_in, length, length-map, length-set, List, Lives, Logged, logged, map, map-set, None, Ok, Option, option_map, option_map_or, Outcome, outcome_of, Parts, plain, query_of, refill, refill-all, refl, Reply, Roomy, Schema, seat_as, set, Some, Standing, StarQuery, State, state_of, Statement, statements_at, Store, Submitted, submitted, subst, sym, tables_of, Told, Waits, with_filters_for, with_first_filters, with_number, ℕ}
 use Rattle.std.proofs.Math.Seq.{map-set_same}
-use Rattle.std.proofs.lemmas.List.{get_or-map, length-map, length-set, map-set}
-use Rattle.bit_words.specs.Sets.{with_number}
-use Rattle.star_lists.specs.Roomy.{Roomy}
-use Rattle.script_reader.specs.declared.statement.Statement.{Statement}
-use Rattle.star_plan.specs.Test.{query_of}
-use Rattle.star_plan.specs.declared.schema.Schema.{Schema}
-use Rattle.star_plan.specs.declared.star_query.StarQuery.{StarQuery}
-use Rattle.star_history.specs.History.{Change, after_change}
-use Rattle.star_history.specs.Keyed.{IsKeyed, KeyedStore, plain}
-use Rattle.star_history.specs.Store.{Store}
-use Rattle.star_statement.specs.Applied.{Follows}
-use Rattle.star_statement.specs.Kinds.{kind_of_change}
 use Rattle.star_statement.specs.Outcome as outcome
-use Rattle.star_statement.specs.Outcome.{Outcome, Told, outcome_of}
-use Rattle.star_statement.specs.declared.applied.Applied.TheVariants.{Replied, Changed, Accepted}
-use Rattle.star_statement.specs.declared.applied.ChangeKind.{ChangeKind}
-use Rattle.reply_text.specs.declared.reply.Reply.{Reply}
-use Rattle.pipeline_manager.specs.Changes.{after_submit}
-use Rattle.pipeline_manager.specs.Lives.{Lives}
-use Rattle.aggregations.specs.Grouped.{grouped_of}
-use Rattle.core_state.specs.Handed.{attached_to}
-use Rattle.core_state.specs.Logged.{EndsAscending}
-use Rattle.core_state.specs.Scanned.{IsScannedAs}
-use Rattle.core_state.specs.Sound.{IsSound}
+use Rattle.star_statement.specs.declared.applied.Applied.TheVariants.{Replied, Accepted}
 use Rattle.core_state.specs.State as state
-use Rattle.core_state.specs.State.{State}
-use Rattle.core_state.specs.Submitting.{after_submitting}
-use Rattle.core_state.specs.Tables.{changes_of, filter_dimensions, tables_of}
-use Rattle.event_core.specs.declared.logged.Logged.{Logged}
-use Rattle.core_parts.specs.declared.submitted.Standing.{Standing}
-use Rattle.core_parts.specs.declared.submitted.Standing.TheVariants.{IsAsked, Waits}
-use Rattle.core_parts.specs.declared.submitted.Submitted.{Submitted}
-use Rattle.core_parts.specs.Asked.{AskedQuery, known_in}
-use Rattle.event_core.specs.Changes.{accepted, changed, logged, statements_at, submitted, with_filters_for, with_first_filters}
-use Rattle.event_core.specs.Core.{Becomes, IsCore}
 use Rattle.core_parts.specs.Filters.{dimensions_of, first_filters}
-use Rattle.event_core.specs.Parts.{Parts}
-use Rattle.core_parts.specs.Seats.{seat_as}
-use Rattle.event_core.specs.Seen.{entries_as, state_of}
 use Rattle.core_parts.proofs.FirstFilterLemmas.{dimensions_of-first, length-first}
-use Rattle.core_parts.proofs.PlaceLemmas.{refill-all}
 use Rattle.event_core.proofs.SubmittedSeatLemmas.{statement_of}
 
 -- the statements of the seats

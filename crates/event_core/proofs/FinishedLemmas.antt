@@ -1,37 +1,9 @@
 -- The parts of a core where a slot is finished.
-use Rattle.std.proofs.Common.{◌≡◌, ◌≢◌, ℕ, true, false, List, get_or, set, slice_get, Option, Some, None, refl, ap, sym, ◌∙◌, subst, ⊎_elim}
-use Rattle.std.specs.Prelude.{All, IsSome, IsTrue}
-use Rattle.std.specs.Option.{option_map_or}
-use Rattle.std.proofs.lemmas.Bool.{cases_eq}
-use Rattle.std.proofs.lemmas.Option.{get_or_from_slice_get}
-use Rattle.pipeline_manager.specs.Changes.{after_end}
+use Rattle.event_core.proofs.Words.{◌∙◌, ◌≡◌, ◌≢◌, Accepted, accepted_as, accepted_at, accepted_in, after_end, after_finish, All, ap, asked_at, AskedQuery, attached_for, attached_or, attached_to, Becomes, cases_eq, Done, Event, false, Finish, finished, get_or, get_or_from_slice_get, Grouped, Held, held-accepted, held-there, IsCore, IsEnabled, IsKept, IsScannedAs, IsSome, IsSound, IsTrue, known_in, LeavesScan, Life, life_of, List, MayFinish, None, Option, option_map_or, Parts, reaches_in, refl, Scanning, set, slice_get, slot_at, slot_of-holder, Some, State, state_of, subst, sym, true, unheld, with_kept_at, ℕ, ⊎_elim}
 use Rattle.pipeline_manager.specs.Conditions.{IsOver, gives_up}
-use Rattle.pipeline_manager.specs.Lives.{life_of, slot_at}
-use Rattle.pipeline_manager.specs.declared.life.Life.{Life}
 use Rattle.pipeline_manager.specs.declared.life.Life.TheVariants as life
-use Rattle.pipeline_manager.specs.declared.life.SlotState.TheVariants.{Held}
-use Rattle.pipeline_manager.proofs.HolderLemmas.{slot_of-holder}
-use Rattle.continuous_scan.specs.Scanning.{Scanning}
-use Rattle.aggregations.specs.Grouped.{Grouped}
-use Rattle.core_state.specs.Admitting.{after_finish}
-use Rattle.core_state.specs.Events.{IsEnabled, MayFinish, after_event}
-use Rattle.core_state.specs.Found.{accepted_at}
-use Rattle.core_state.specs.Handed.{attached_to}
-use Rattle.core_state.specs.Scanned.{IsScannedAs, LeavesScan}
-use Rattle.core_state.specs.Sound.{IsKept, IsSound}
-use Rattle.core_state.specs.State.{Accepted, State}
-use Rattle.core_state.specs.Steps.{Done}
+use Rattle.core_state.specs.Events.{after_event}
 use Rattle.core_state.specs.Submitting.{groups_in}
-use Rattle.core_state.specs.declared.event.Event.{Event}
-use Rattle.core_state.specs.declared.event.Event.TheVariants.{Finish}
-use Rattle.core_state.proofs.AcceptedLemmas.{held-accepted}
-use Rattle.core_state.proofs.HandedSlotLemmas.{held-there}
-use Rattle.core_parts.specs.Asked.{AskedQuery, asked_at, known_in, with_kept_at}
-use Rattle.event_core.specs.Changes.{finished, unheld}
-use Rattle.event_core.specs.Core.{Becomes, IsCore}
-use Rattle.core_parts.specs.Known.{reaches_in}
-use Rattle.event_core.specs.Parts.{Parts}
-use Rattle.event_core.specs.Seen.{accepted_as, accepted_in, attached_for, attached_or, state_of}
 use Rattle.event_core.proofs.AskedKeptLemmas.{IsBeside, LeavesOthers, StaysGrouped, accepted-kept, accepted-of, asked-number, asked-there, beside-kept, beside-left, kept-this, kept_by, stays-other}
 use Rattle.event_core.proofs.CoreAtLemmas.{KeepSound, becomes-of}
 use Rattle.event_core.proofs.KeptLifeLemmas.{kept-with}

@@ -1,23 +1,6 @@
 -- The parts of a new core.
-use Rattle.std.proofs.Common.{◌≡◌, ℕ, zero, suc, List, [], ◌∷◌, length, map, replicate, None, refl, ap, sym, ◌∙◌, subst, arith}
+use Rattle.event_core.proofs.Words.{◌∙◌, ◌∷◌, ◌≡◌, [], All-nil, ap, AreWithin, arith, attached_to, Becomes, empty_core, empty_seat, empty_store, EndsAscending, first_parts, frame_words, frames_of, IsKeyed, IsScannedAs, IsSound, KeyedStore, length, List, map, new_scan, None, plain, refl, replicate, RunSettings, Seat, seat_as, State, state_of, subst, suc, sym, zero, ℕ}
 use Rattle.std.proofs.lemmas.List.{length-replicate}
-use Rattle.std.proofs.lemmas.List.Elements.{All-nil}
-use Rattle.star_history.specs.Keyed.{IsKeyed, KeyedStore, plain}
-use Rattle.star_history.specs.Store.{empty_store}
-use Rattle.continuous_scan.specs.Range.{new_scan}
-use Rattle.core_state.specs.Cutting.{frame_words}
-use Rattle.core_state.specs.Handed.{attached_to}
-use Rattle.core_state.specs.Logged.{EndsAscending}
-use Rattle.core_state.specs.Scanned.{IsScannedAs}
-use Rattle.core_state.specs.Settings.{AreWithin, frames_of}
-use Rattle.core_state.specs.Sound.{IsSound, empty_core}
-use Rattle.core_state.specs.State.{Seat, State}
-use Rattle.core_state.specs.Submitting.{empty_seat}
-use Rattle.core_state.specs.declared.settings.RunSettings.{RunSettings}
-use Rattle.event_core.specs.Changes.{first_parts}
-use Rattle.event_core.specs.Core.{Becomes}
-use Rattle.core_parts.specs.Seats.{seat_as}
-use Rattle.event_core.specs.Seen.{state_of}
 
 -- seats of no statements are empty
 seats-empty : (count : ℕ) → map (seat_as []) (replicate count []) ≡ replicate count empty_seat

@@ -1,47 +1,16 @@
 -- The first statement that a seat of a core waits for, and what may be taken as the reply to it.
-use Rattle.std.proofs.Common.{◌≡◌, ℕ, ◌<◌, true, false, List, [], length, get_or, Option, Some, None, option_map, slice_get, refl, ap, sym, ◌∙◌, subst, ⊎_elim}
-use Rattle.std.specs.Prelude.{IsSome, IsSomeAnd, IsTrue}
-use Rattle.std.specs.Option.{option_and_then, option_map_or}
+use Rattle.event_core.proofs.Words.{◌<◌, ◌∙◌, ◌≡◌, [], Accepted, accepted_as, accepted_at, accepted_in, ap, Asked, asked_at, AskedQuery, attached-get, attached_for, attached_or, Awaited, awaited_as, cases_lt, empty_seat, false, find-passes, first_of, get_or, get_or_from_slice_get, get_or_past, gets, gets_rows, Grouped, holder_of, holds-slot, is_open, IsAbandoned, IsAnswered, IsAsked, IsCore, IsSome, IsSomeAnd, IsSound, IsTaken, IsTrue, kept-none, kept_by, kept_for, Known, known_in, length, Life, life-accepted, life_of, List, next_ready, None, none-some, Option, option_and_then, option_map, option_map_or, Parts, Pending, pending_as, Query, query_in, query_of, QueryLife, Ready, ready_to, ready_with, refl, Replied, Reply, Seat, seat_as, seat_at, slice_get, slice_get_within, slot_of, snapshot_for, Some, Standing, State, state_of, statements_at, Submitted, subst, sym, true, Waits, ℕ, ⊎_elim}
 use Rattle.std.proofs.Math.ListN as lists
-use Rattle.std.proofs.lemmas.Bool.{cases_lt}
-use Rattle.std.proofs.lemmas.List.{get_or_past}
-use Rattle.std.proofs.lemmas.Option.{get_or_from_slice_get, none-some, slice_get_within}
-use Rattle.star_plan.specs.Test.{Query, query_of}
-use Rattle.reply_text.specs.declared.reply.Reply.{Reply}
 use Rattle.reply_text.specs.declared.reply.Reply.TheVariants.{Memory}
-use Rattle.aggregations.specs.Grouped.{Grouped}
-use Rattle.pipeline_manager.specs.Conditions.{is_open}
-use Rattle.pipeline_manager.specs.Lives.{life_of, query_in, slot_of}
-use Rattle.pipeline_manager.specs.declared.life.Life.{Life}
 use Rattle.pipeline_manager.specs.declared.life.Life.TheVariants as life
-use Rattle.pipeline_manager.specs.declared.life.QueryLife.{QueryLife}
-use Rattle.core_state.specs.Cutting.{gets_rows}
-use Rattle.core_state.specs.Found.{accepted_at, holder_of}
-use Rattle.core_state.specs.Sound.{IsAwaited, IsSound}
-use Rattle.core_state.specs.State.{Accepted, Asked, Awaited, Pending, Replied, Seat, State}
-use Rattle.core_state.specs.Submitting.{Grouping, Ready, Whole, empty_seat, next_ready, ready_by, ready_to, seat_at}
-use Rattle.core_state.proofs.AttachedFrameLemmas.{attached-get, kept-none}
-use Rattle.core_state.proofs.FoundLemmas.{find-passes}
-use Rattle.core_state.proofs.HandedAfterLemmas.{kept_by}
-use Rattle.core_state.proofs.HandedSlotLemmas.{gets}
-use Rattle.core_state.proofs.ScannedLifeLemmas.{holds-slot}
-use Rattle.core_state.proofs.ScannedOverLemmas.{life-accepted}
-use Rattle.core_parts.specs.declared.submitted.Standing.{Standing}
-use Rattle.core_parts.specs.declared.submitted.Standing.TheVariants.{Waits, IsAsked, IsTaken, IsAnswered, IsAbandoned}
-use Rattle.core_parts.specs.declared.submitted.Submitted.{Submitted}
-use Rattle.core_parts.specs.Asked.{AskedQuery, asked_at, known_in}
-use Rattle.event_core.specs.Changes.{statements_at}
-use Rattle.event_core.specs.Core.{IsCore}
-use Rattle.core_parts.specs.Known.{Known}
-use Rattle.event_core.specs.Parts.{Parts}
-use Rattle.core_parts.specs.Seats.{awaited_as, is_waited, pending_as, seat_as}
-use Rattle.event_core.specs.Seen.{accepted_as, accepted_in, attached_for, attached_or, state_of}
-use Rattle.event_core.specs.Taking.{groups_or_memory, kept_for, ready_with, snapshot_for}
+use Rattle.core_state.specs.Sound.{IsAwaited}
+use Rattle.core_state.specs.Submitting.{Grouping, Whole, ready_by}
+use Rattle.core_parts.specs.Seats.{is_waited}
+use Rattle.event_core.specs.Taking.{groups_or_memory}
 use Rattle.event_core.proofs.AskedKeptLemmas.{accepted-found, accepted-of, asked-number, asked-there}
 use Rattle.event_core.proofs.CutHolderLemmas.{known-found, known_of}
 use Rattle.event_core.proofs.KeptLifeLemmas.{kept-with}
 use Rattle.core_parts.proofs.SeatLemmas.{IsPendingAs, pending-first, pending-waited}
-use Rattle.core_parts.proofs.TurnLemmas.{first_of}
 
 -- where nothing may be taken the first statement that a seat waits for is a query that may still be answered
 abbrev pub WaitsOpen : Type 0

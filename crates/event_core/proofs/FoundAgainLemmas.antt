@@ -1,8 +1,6 @@
 -- What is found by its number where a list grows by one at its end.
-use Rattle.std.proofs.Common.{◌≡◌, ◌≢◌, ℕ, cond, eqb, eq-eqb, List, [], ◌∷◌, ◌++◌, find, Option, Some, None, refl, ap, ◌∙◌}
-use Rattle.std.specs.Prelude.{All}
-use Rattle.std.proofs.lemmas.Bool.{ne_eqb}
-use Rattle.std.proofs.lemmas.List.Elements.{All-head, All-tail}
+use Rattle.event_core.proofs.Words.{◌++◌, ◌∙◌, ◌∷◌, ◌≡◌, ◌≢◌, [], All, All-head, All-tail, ap, cond, eq-eqb, eqb, List, ne_eqb, None, Option, refl, Some, ℕ}
+use Rattle.std.proofs.Common.{find}
 
 -- another number is found as before
 pub found-other : {X : Type 0} (number_of : X → ℕ) (xs : List X) (new : X) (number : ℕ) → number_of new ≢ number

@@ -1,25 +1,6 @@
 -- What is attached for a query, by the slot that it holds.
-use Rattle.std.proofs.Common.{◌≡◌, ◌≢◌, ℕ, Bool, false, cond, ltb, List, length, get_or, set, Option, Some, None, position, refl, ap, sym, ◌∙◌, subst}
-use Rattle.std.specs.Prelude.{All, IsSome}
-use Rattle.std.specs.List.{position_or_len}
-use Rattle.std.specs.Option.{option_and_then}
-use Rattle.std.proofs.lemmas.Bool.{ne_eqb}
-use Rattle.std.proofs.lemmas.List.{length-set}
-use Rattle.std.proofs.lemmas.List.Folds.{position_or_len-set}
-use Rattle.pipeline_manager.specs.Changes.{with_slot}
-use Rattle.pipeline_manager.specs.Lives.{Lives, is_held_by, slot_at, slot_of}
-use Rattle.pipeline_manager.specs.declared.life.SlotState.{SlotState}
-use Rattle.pipeline_manager.specs.declared.life.SlotState.TheVariants.{Free, Held}
-use Rattle.aggregations.specs.Grouped.{Grouped}
-use Rattle.core_state.specs.Found.{holder_of}
-use Rattle.core_state.specs.Handed.{attached_to}
-use Rattle.core_state.specs.State.{State}
-use Rattle.core_state.proofs.AttachedFrameLemmas.{attached-get, kept-none}
-use Rattle.core_state.proofs.HandedAfterLemmas.{kept_by}
-use Rattle.core_state.proofs.HandedSlotLemmas.{gets}
-use Rattle.core_state.proofs.ScannedLifeLemmas.{holds-slot}
-use Rattle.core_parts.specs.Asked.{AskedQuery}
-use Rattle.event_core.specs.Seen.{attached_for}
+use Rattle.event_core.proofs.Words.{◌∙◌, ◌≡◌, ◌≢◌, All, ap, AskedQuery, attached-get, attached_for, attached_to, Bool, cond, false, Free, get_or, gets, Grouped, Held, holder_of, holds-slot, is_held_by, IsSome, kept-none, kept_by, length, length-set, List, Lives, ne_eqb, None, Option, option_and_then, position_or_len, position_or_len-set, refl, set, slot_at, slot_of, SlotState, Some, State, subst, sym, with_slot, ℕ}
+use Rattle.std.proofs.Common.{ltb, position}
 
 -- the first place of what passes stays where a place is written over by what passes as it did
 position-set : {A : Type 0} (p : A → Bool) (list : List A) (place : ℕ) (new d : A) → p new ≡ p (get_or list place d)

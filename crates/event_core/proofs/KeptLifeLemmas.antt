@@ -1,15 +1,5 @@
 -- What a sound core keeps of a query with a life.
-use Rattle.std.proofs.Common.{◌≡◌, ℕ, eqb, Option, Some, None, option_map, ap, ◌∙◌, subst}
-use Rattle.std.specs.Prelude.{IfSome}
-use Rattle.std.proofs.lemmas.Bool.{eqb-true}
-use Rattle.pipeline_manager.specs.Lives.{life_in, life_of, query_in}
-use Rattle.pipeline_manager.specs.declared.life.Life.{Life}
-use Rattle.pipeline_manager.specs.declared.life.QueryLife.{QueryLife}
-use Rattle.core_state.specs.Found.{accepted_at}
-use Rattle.core_state.specs.Sound.{IsKept, IsSound, IsSoundQuery}
-use Rattle.core_state.specs.State.{Accepted, State}
-use Rattle.core_state.proofs.AcceptedLemmas.{find-holds}
-use Rattle.core_state.proofs.FoundLemmas.{find-passes}
+use Rattle.event_core.proofs.Words.{◌∙◌, ◌≡◌, Accepted, accepted_at, ap, eqb, eqb-true, find-holds, find-passes, IfSome, IsKept, IsSound, IsSoundQuery, Life, life_in, life_of, None, Option, option_map, query_in, QueryLife, Some, State, subst, ℕ}
 
 -- what is kept is what its life says
 pub kept-with : (state : State) (query : ℕ) (accepted : Accepted) (now : Life) → IsSound state

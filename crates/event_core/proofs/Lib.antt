@@ -1,3 +1,4 @@
+pub mod Words
 pub mod AbandonEventLemmas
 pub mod AbandonedPartsLemmas
 pub mod AskedAnewLemmas

@@ -1,34 +1,14 @@
 -- A core of which the lives of queries, the filters and the last numbers change.
-use Rattle.std.specs.Prelude.{◌≡◌, ℕ, false, IsSome, List, Option, None, refl}
-use Rattle.std.proofs.Common.{ap, sym, ◌∙◌, subst, ⊎_elim}
-use Rattle.std.specs.Option.{option_map_or}
-use Rattle.std.proofs.lemmas.Bool.{cases_eq}
-use Rattle.pipeline_manager.specs.Changes.{after_free, after_reserve, with_life, with_slot}
-use Rattle.pipeline_manager.specs.Conditions.{CanFree}
-use Rattle.pipeline_manager.specs.Lives.{Lives, is_held_by}
+use Rattle.event_core.proofs.Words.{◌∙◌, accepted_in, after_reorder, after_reserve, after_reserving, ap, attached_for, attached_to, Becomes, CanFree, cases_eq, Event, Filters, Free, gets, gets_rows, Grouped, Held, is_held_by, IsCore, IsEnabled, IsSome, IsSound, known_in, LeavesAttached, LeavesRest, LeavesScan, Lives, MayReserve, Numbers, option_map_or, order_by, Parts, reaches_in, Release, Reorder, reordered, Reserve, reserved, State, state_of, subst, sym, tables_of, with_life, with_slot, ⊎_elim}
+use Rattle.std.specs.Prelude.{◌≡◌, ℕ, false, List, Option, None, refl}
+use Rattle.pipeline_manager.specs.Changes.{after_free}
 use Rattle.pipeline_manager.specs.declared.life.Life.TheVariants as life
-use Rattle.pipeline_manager.specs.declared.life.SlotState.TheVariants.{Free, Held}
 use Rattle.pipeline_manager.proofs.LifeLemmas.{oldest-waits}
-use Rattle.aggregations.specs.Grouped.{Grouped}
-use Rattle.core_state.specs.Admitting.{after_release, after_reserving}
-use Rattle.core_state.specs.Cutting.{after_reorder, gets_rows, order_by}
-use Rattle.core_state.specs.Events.{IsEnabled, MayReserve, after_event}
-use Rattle.core_state.specs.Handed.{LeavesAttached, attached_to}
-use Rattle.core_state.specs.Scanned.{LeavesScan}
-use Rattle.core_state.specs.Sound.{IsSound}
-use Rattle.core_state.specs.State.{Filters, Numbers, State}
-use Rattle.core_state.specs.Tables.{tables_of}
-use Rattle.core_state.specs.declared.event.Event.{Event}
-use Rattle.core_state.specs.declared.event.Event.TheVariants.{Release, Reorder, Reserve}
+use Rattle.core_state.specs.Admitting.{after_release}
+use Rattle.core_state.specs.Events.{after_event}
 use Rattle.core_state.proofs.AttachedEventLemmas.{attached-event}
 use Rattle.core_state.proofs.AttachedFrameLemmas.{gets-written}
-use Rattle.core_state.proofs.HandedSlotLemmas.{gets}
-use Rattle.core_parts.specs.Asked.{known_in}
-use Rattle.event_core.specs.Changes.{released, reordered, reserved}
-use Rattle.event_core.specs.Core.{Becomes, IsCore, LeavesRest}
-use Rattle.core_parts.specs.Known.{reaches_in}
-use Rattle.event_core.specs.Parts.{Parts}
-use Rattle.event_core.specs.Seen.{accepted_in, attached_for, state_of}
+use Rattle.event_core.specs.Changes.{released}
 use Rattle.event_core.proofs.HeldSlotLemmas.{attached_for-none, attached_for-written, beside-same, held-by_other}
 use Rattle.event_core.proofs.SeenLemmas.{accepted-same, reaches-with_life, state-seen}
 

@@ -1,22 +1,6 @@
 -- What a core answers, by its parts.
-use Rattle.std.proofs.Common.{◌≡◌, ℕ, ◌<◌, false, eqb, List, [], length, get_or, map, Option, find, option_map, ap, sym, ◌∙◌, subst, eq-eqb, arith}
-use Rattle.std.specs.Prelude.{Contains, IsSome}
-use Rattle.std.specs.Option.{option_map_or}
-use Rattle.std.proofs.lemmas.List.{get_or-map, length-map}
-use Rattle.bit_words.specs.Sets.{Has}
-use Rattle.star_lists.specs.Roomy.{Roomy}
-use Rattle.pipeline_manager.specs.Conditions.{is_open}
-use Rattle.pipeline_manager.specs.Lives.{Lives, life_of}
-use Rattle.core_state.specs.Found.{version_at}
-use Rattle.core_state.specs.State.{FilterVersion, Pending}
-use Rattle.core_state.specs.Submitting.{empty_seat, seat_at}
-use Rattle.core_state.proofs.CutFoundLemmas.{find-there}
-use Rattle.core_parts.specs.declared.submitted.Submitted.{Submitted}
-use Rattle.core_parts.specs.Asked.{known_in}
-use Rattle.event_core.specs.Core.{IsCore}
-use Rattle.event_core.specs.Parts.{Parts}
-use Rattle.core_parts.specs.Seats.{seat_as}
-use Rattle.event_core.specs.Seen.{state_of}
+use Rattle.event_core.proofs.Words.{◌<◌, ◌∙◌, ◌≡◌, [], ap, arith, Contains, empty_seat, eq-eqb, eqb, false, FilterVersion, find-there, get_or, get_or-map, Has, is_open, IsCore, IsSome, known_in, length, length-map, life_of, List, Lives, map, Option, option_map, option_map_or, Parts, Pending, Roomy, seat_as, seat_at, state_of, Submitted, subst, sym, version_at, ℕ}
+use Rattle.std.proofs.Common.{find}
 
 -- a dimension that is among those of versions has one
 version-there : (versions : List FilterVersion) (dimension : ℕ) → Contains (map (λ version. version.filter.dimension) versions) dimension

@@ -1,30 +1,8 @@
 -- The parts of a new core.
-use Rattle.std.proofs.Common.{◌≡◌, ℕ, ◌+◌, ◌*◌, ◌≤◌, List, [], ◌∷◌, map, replicate, Option, None, refl, ap, sym, ◌∙◌, subst, arith}
-use Rattle.std.specs.Prelude.{All}
-use Rattle.std.proofs.lemmas.List.Elements.{All-nil}
-use Rattle.star_lists.specs.Roomy.{Roomy}
-use Rattle.fact_versions.specs.declared.version.Version.{Version}
-use Rattle.star_history.specs.Keyed.{HasKeyNumbers, IsKeyed, KeyedStore, plain, plain_version}
-use Rattle.star_history.specs.Store.{Store, empty_store}
-use Rattle.frame_pool.specs.Stock.{Stock}
-use Rattle.pipeline_manager.specs.Lives.{Lives}
-use Rattle.pipeline_manager.specs.declared.life.SlotState.TheVariants.{Free}
-use Rattle.continuous_scan.specs.Range.{new_scan}
-use Rattle.continuous_scan.specs.Scanning.{Scanning}
-use Rattle.aggregations.specs.Grouped.{Grouped}
-use Rattle.core_state.specs.Cutting.{frame_words}
-use Rattle.core_state.specs.Settings.{AreWithin, frames_of}
-use Rattle.core_state.specs.Sound.{empty_core}
+use Rattle.event_core.proofs.Words.{◌*◌, ◌+◌, ◌∙◌, ◌∷◌, ◌≡◌, ◌≤◌, [], All, All-nil, ap, AreWithin, arith, AskedQuery, Becomes, empty_core, empty_store, first_parts, Flight, frame_words, frames_of, Free, Grouped, HasRoom, IsKeyed, KeyedStore, List, Lives, Logged, map, new_scan, None, Option, Parts, parts_by, plain, plain_version, refl, replicate, Roomy, RunSettings, Scanning, Stock, Store, Submitted, subst, sym, Version, ℕ}
+use Rattle.star_history.specs.Keyed.{HasKeyNumbers}
 use Rattle.core_state.specs.State as state
-use Rattle.core_state.specs.declared.settings.RunSettings.{RunSettings}
-use Rattle.core_parts.specs.declared.flight.Flight.{Flight}
-use Rattle.event_core.specs.declared.logged.Logged.{Logged}
-use Rattle.core_parts.specs.declared.submitted.Submitted.{Submitted}
-use Rattle.core_parts.specs.Asked.{AskedQuery}
-use Rattle.event_core.specs.Changes.{first_parts}
-use Rattle.event_core.specs.Core.{Becomes, HasRoom}
 use Rattle.core_parts.specs.Filters.{no_filters}
-use Rattle.event_core.specs.Parts.{Parts, parts_by}
 
 -- the law of new cores
 abbrev NewLaw : Type 0

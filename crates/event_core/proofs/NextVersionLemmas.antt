@@ -1,28 +1,11 @@
 -- The filters of a core, of which one has a next version.
-use Rattle.std.proofs.Common.{◌≡◌, ◌≢◌, ℕ, ◌<◌, suc, Bool, true, false, cond, eqb, eq-eqb, List, [], ◌∷◌, length, get_or, map, find, filter, Option, Some, None, refl, ap, sym, ◌∙◌, subst, arith}
-use Rattle.std.specs.Prelude.{All, AllPairs, Contains}
-use Rattle.std.specs.List.{list_any, range_with_len}
-use Rattle.std.proofs.lemmas.Bool.{eqb-true}
-use Rattle.std.proofs.lemmas.List.{get_or-map, length-map}
-use Rattle.std.proofs.lemmas.List.Elements.{All-cons, All-contains, All-head, All-map, All-nil, All-tail}
-use Rattle.std.proofs.lemmas.List.FromFn.{get_or-range_with_len, length-range_with_len}
+use Rattle.event_core.proofs.Words.{◌<◌, ◌∙◌, ◌∷◌, ◌≡◌, ◌≢◌, [], All, All-cons, All-contains, All-head, All-map, All-nil, All-tail, AllPairs, ap, arith, Bool, cond, Contains, eq-eqb, eqb, eqb-true, fact_columns, false, Filter, filter_dimensions, Filters, FilterVersion, find-holds, find-passes, get_or, get_or-map, get_or-range_with_len, Has, IsSound, length, length-map, length-range_with_len, List, list_any, map, None, Option, range_with_len, references, refl, same_Some, Schema, Some, State, subst, suc, sym, tables_of, true, version_at, with_new, ℕ}
+use Rattle.std.proofs.Common.{find, filter}
 use Rattle.std.proofs.lemmas.List.Kept.{AllPairs-filter}
-use Rattle.std.proofs.lemmas.Option.{same_Some}
-use Rattle.star_plan.specs.Columns.{fact_columns}
-use Rattle.star_plan.specs.declared.schema.Schema.{Schema}
-use Rattle.star_schema.specs.Declaration.{references}
-use Rattle.bit_words.specs.Sets.{Has}
-use Rattle.dimension_filter.specs.Filter.{Filter}
 use Rattle.core_state.specs.Flown.{IsSoundFilter}
-use Rattle.core_state.specs.Found.{version_at}
-use Rattle.core_state.specs.Sound.{IsSound}
-use Rattle.core_state.specs.State.{Filters, FilterVersion, State}
-use Rattle.core_state.specs.Tables.{filter_dimensions, tables_of}
-use Rattle.core_state.proofs.AcceptedLemmas.{find-holds, find-none}
+use Rattle.core_state.proofs.AcceptedLemmas.{find-none}
 use Rattle.core_state.proofs.DeclareLemmas.{no-filters}
-use Rattle.core_state.proofs.FoundLemmas.{find-passes}
 use Rattle.core_state.proofs.VersionLemmas.{versioned}
-use Rattle.core_parts.specs.Filters.{with_new}
 
 -- a number that is among those of a list is found
 found-among : {X : Type 0} (number_of : X → ℕ) (xs : List X) (number : ℕ) → Contains (map number_of xs) number

@@ -1,33 +1,11 @@
 -- A batch passes the filter that it meets next: the front takes it and gives it back.
-use Rattle.std.proofs.Common.{◌≡◌, ◌≢◌, ℕ, ◌+◌, ◌<◌, Bool, true, false, not, cond, eqb, eq-eqb, List, [], ◌∷◌, ◌++◌, length, Option, Some, None, refl, sym, ap, ◌∙◌, subst, inl, arith, slice_get}
-use Rattle.std.proofs.Math.Seq.{get_or-append_seam, set-append_seam}
-use Rattle.std.specs.List.{list_all, position, position_or_len}
-use Rattle.std.specs.Prelude.{All, IsSome, is_some}
-use Rattle.std.specs.Option.{option_map_or}
-use Rattle.std.proofs.lemmas.Bool.{ne_eqb}
-use Rattle.std.proofs.lemmas.List.{length-append, length-map}
-use Rattle.std.proofs.lemmas.List.Elements.{All-append, All-cons, All-head, All-nil, All-tail}
-use Rattle.std.proofs.lemmas.Option.{slice_get-get_or}
-use Rattle.filter_order.specs.declared.tally.Tally.{Tally}
-use Rattle.core_state.specs.Cutting.{after_give, after_take}
-use Rattle.core_state.specs.Events.{IsEnabled, MayTake, after_event}
+use Rattle.event_core.proofs.Words.{◌++◌, ◌+◌, ◌<◌, ◌∙◌, ◌∷◌, ◌≡◌, ◌≢◌, [], after_give, after_take, All, All-append, All-cons, All-head, All-nil, All-tail, ap, arith, Becomes, Bool, cond, eq-eqb, eqb, false, Flight, flight_as, flights_as, get_or-append_seam, Give, inl, is_some, IsCore, IsEnabled, IsLed, IsPassing, IsSome, Known, known_in, length, length-append, length-map, List, list_all, MayTake, ne_eqb, next_of, None, not, Option, option_map_or, Parts, passed_by, plus, position_or_len, Reach, reaches_in, refl, seat_as, slice_get, slice_get-get_or, Some, state_of, subst, sym, Take, Tally, tally_of, true, ℕ}
+use Rattle.std.proofs.Math.Seq.{set-append_seam}
+use Rattle.std.specs.List.{position}
+use Rattle.core_state.specs.Events.{after_event}
 use Rattle.core_state.specs.State as state
-use Rattle.core_state.specs.declared.event.Event.TheVariants.{Give, Take}
-use Rattle.core_parts.specs.declared.flight.Flight.{Flight}
-use Rattle.core_parts.specs.Asked.{known_in}
 use Rattle.core_parts.specs.Filtered.{with_tally}
-use Rattle.core_parts.specs.Filters.{next_of, plus}
-use Rattle.core_parts.specs.Flights.{flight_as, flights_as}
-use Rattle.core_parts.specs.InFlight.{passed_by}
-use Rattle.core_parts.specs.Known.{Known, Reach, reaches_in}
-use Rattle.core_parts.specs.Passed.{tally_of}
-use Rattle.core_parts.specs.Seats.{seat_as}
 use Rattle.core_parts.proofs.PlaceLemmas.{position-past, position-within}
-use Rattle.event_core.specs.Chosen.{IsPassing}
-use Rattle.event_core.specs.Core.{Becomes, IsCore}
-use Rattle.event_core.specs.Parts.{Parts}
-use Rattle.event_core.specs.Seen.{state_of}
-use Rattle.event_core.specs.Took.{IsLed}
 use Rattle.event_core.proofs.EnablingLemmas.{taken-wanting}
 use Rattle.event_core.proofs.HandLemmas.{AreApart, apart-head, apart-tail, becomes-given, becomes-taken, held-there}
 use Rattle.event_core.proofs.LivedLemmas.{QuietEventsLeave}

@@ -1,22 +1,6 @@
 -- Events that touch neither the scan nor what is attached.
-use Rattle.std.specs.Prelude.{◌≡◌, ◌+◌, ◌*◌, List, All}
-use Rattle.std.proofs.Common.{ap, sym, ◌∙◌, subst}
-use Rattle.continuous_scan.specs.Scanning.{Scanning}
-use Rattle.core_state.specs.Events.{IsEnabled, after_event}
-use Rattle.core_state.specs.Handed.{LeavesAttached, attached_to}
-use Rattle.core_state.specs.Logged.{EndsAscending}
-use Rattle.core_state.specs.Scanned.{IsScannedAs, LeavesScan}
-use Rattle.core_state.specs.Settings.{frames_of}
-use Rattle.core_state.specs.Sound.{IsSound}
-use Rattle.core_state.specs.State.{Entry, State}
-use Rattle.core_state.specs.Steps.{Done, MayStep, Step, after_step}
-use Rattle.core_state.specs.Tables.{changes_of, tables_by}
-use Rattle.core_state.specs.declared.event.Event.{Event}
-use Rattle.core_state.specs.declared.settings.RunSettings.{RunSettings}
-use Rattle.star_history.specs.Keyed.{IsKeyed, plain}
-use Rattle.event_core.specs.Core.{IsCore, LeavesRest}
-use Rattle.event_core.specs.Parts.{Parts}
-use Rattle.event_core.specs.Seen.{state_of}
+use Rattle.event_core.proofs.Words.{◌∙◌, after_event, after_step, All, ap, attached_to, changes_of, Done, EndsAscending, Entry, Event, frames_of, IsCore, IsEnabled, IsKeyed, IsScannedAs, IsSound, LeavesAttached, LeavesRest, LeavesScan, MayStep, Parts, plain, RunSettings, Scanning, State, state_of, Step, subst, sym, tables_by}
+use Rattle.std.specs.Prelude.{◌≡◌, ◌+◌, ◌*◌, List}
 
 -- each step keeps a core sound
 abbrev pub StepsKeep : Type 0

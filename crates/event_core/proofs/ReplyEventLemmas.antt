@@ -1,28 +1,6 @@
 -- The parts of a core where a reply was taken, and what was taken.
-use Rattle.std.proofs.Common.{◌≡◌, ℕ, Bool, true, false, not, cond, List, Option, Some, None, slice_get, set, refl, ap, sym, ◌∙◌, subst}
-use Rattle.std.specs.Prelude.{IfSome, IsSome}
-use Rattle.std.specs.Option.{option_and_then, option_map_or}
-use Rattle.std.proofs.lemmas.Option.{none-some, same_Some}
-use Rattle.aggregations.specs.Grouped.{Grouped}
-use Rattle.pipeline_manager.specs.Conditions.{is_open}
-use Rattle.pipeline_manager.specs.Lives.{Lives, life_of}
-use Rattle.core_state.specs.Answers.{IsRight}
-use Rattle.core_state.specs.Sound.{IsSound}
-use Rattle.core_state.specs.State.{Pending, State}
-use Rattle.core_state.specs.Submitting.{Ready, after_taking, next_ready, seat_at, with_taken}
-use Rattle.core_state.proofs.FoundLemmas.{some-at, some-by}
-use Rattle.core_parts.specs.declared.submitted.Standing.{Standing}
-use Rattle.core_parts.specs.declared.submitted.Standing.TheVariants.{Waits, IsAsked, IsTaken, IsAnswered, IsAbandoned}
-use Rattle.core_parts.specs.declared.submitted.Submitted.{Submitted}
-use Rattle.core_parts.specs.Asked.{AskedQuery, known_in, with_kept_at}
-use Rattle.event_core.specs.Changes.{forgotten_at, statements_at}
-use Rattle.event_core.specs.Core.{Becomes, IsCore}
-use Rattle.core_parts.specs.Known.{Known}
-use Rattle.event_core.specs.Parts.{Parts}
-use Rattle.core_parts.specs.Seats.{seat_as}
-use Rattle.event_core.specs.Seen.{state_of}
-use Rattle.event_core.specs.Taking.{kept_for, may_be_taken, next_number, number_to_take, ready_with, snapshot_for}
-use Rattle.core_parts.proofs.TurnLemmas.{first_of}
+use Rattle.event_core.proofs.Words.{◌∙◌, ◌≡◌, after_taking, ap, AskedQuery, Becomes, Bool, cond, false, first_of, forgotten_at, Grouped, IfSome, is_open, IsAbandoned, IsAnswered, IsAsked, IsCore, IsRight, IsSome, IsSound, IsTaken, kept_for, Known, known_in, life_of, List, Lives, next_ready, None, none-some, not, Option, option_and_then, option_map_or, Parts, Pending, Ready, ready_with, refl, same_Some, seat_as, seat_at, set, slice_get, snapshot_for, Some, some-at, some-by, Standing, State, state_of, statements_at, Submitted, subst, sym, true, Waits, with_kept_at, with_taken, ℕ}
+use Rattle.event_core.specs.Taking.{may_be_taken, next_number, number_to_take}
 
 -- nothing may be taken where nothing is waited for
 abbrev pub NothingNext : Type 0

@@ -1,19 +1,8 @@
 -- The rosters of batches in flight are as they were where a query with a new number is accepted.
-use Rattle.std.proofs.Common.{◌≡◌, ◌≢◌, ℕ, Bool, true, false, cond, eqb, List, [], ◌∷◌, length, get_or, Option, Some, None, option_map, refl, ap, sym, ◌∙◌, subst}
-use Rattle.std.specs.Prelude.{All, Any, IsSome}
-use Rattle.std.specs.Int.{bit_at}
-use Rattle.std.specs.List.{cons_option, filter_map, range_with_len}
-use Rattle.std.proofs.lemmas.Bool.{eqb-true}
-use Rattle.std.proofs.lemmas.List.Elements.{All-head, All-tail}
-use Rattle.std.proofs.lemmas.Option.{none-some, same_Some}
-use Rattle.bit_words.specs.Sets.{Has}
-use Rattle.core_state.specs.Cutting.{slots_of}
-use Rattle.core_state.specs.State.{OnRoster}
+use Rattle.event_core.proofs.Words.{◌∙◌, ◌∷◌, ◌≡◌, ◌≢◌, [], All, All-head, All-tail, ap, bit_at, Bool, cond, cons_option, entry_by, eqb, eqb-true, false, filter_map, Flight, flight_as, flights_as, get_or, Has, IsSome, Known, known_at, length, List, None, none-some, OnRoster, Option, option_map, range_with_len, Reach, reach_at, refl, roster_by, same_Some, slots_of, Some, subst, sym, true, ℕ}
+use Rattle.std.specs.Prelude.{Any}
 use Rattle.core_state.specs.State as state
 use Rattle.core_state.proofs.CutFoundLemmas.{all-found, has-any}
-use Rattle.core_parts.specs.declared.flight.Flight.{Flight}
-use Rattle.core_parts.specs.Flights.{entry_by, flight_as, flights_as, roster_by}
-use Rattle.core_parts.specs.Known.{Known, Reach, known_at, reach_at}
 
 -- what is found of each element is what another search finds
 filter_map-same : {X Y : Type 0} (h g : X → Option Y) (xs : List X) → ((x : X) → h x ≡ g x) → filter_map h xs ≡ filter_map g xs

@@ -1,20 +1,10 @@
 -- What a query takes of a dimension may be asked of its rows.
-use Rattle.std.proofs.Common.{◌≡◌, ℕ, zero, suc, ◌≤◌, true, List, [], ◌∷◌, length, get_or, Option, Some, None, slice_get, refl, ap, ◌∙◌, arith}
-use Rattle.std.specs.Prelude.{All, IfSome, IsTrue}
-use Rattle.std.specs.Option.{option_map_or}
-use Rattle.std.proofs.lemmas.List.{get_or_past}
+use Rattle.event_core.proofs.Words.{◌∙◌, ◌∷◌, ◌≡◌, ◌≤◌, [], All, ap, arith, DimensionRow, FitByKinds, get_or, get_or_past, IfSome, IsSettled, IsTrue, kinds_in, length, List, None, Option, option_map_or, Query, refl, rows_in, Selection, selection_fits, selection_in, slice_get, Some, Store, suc, TableDef, true, zero, ℕ}
 use Rattle.star_values.specs.declared.value.Kind.{Kind}
-use Rattle.star_values.specs.Value.{kinds_in}
-use Rattle.star_plan.specs.declared.table_def.TableDef.{TableDef}
 use Rattle.star_plan.specs.Columns.{kinds_of}
-use Rattle.star_plan.specs.Fits.{selection_fits}
 use Rattle.star_plan.specs.Over.{IsOver}
-use Rattle.star_plan.specs.Test.{Query, Selection, Unnamed}
-use Rattle.dimension_rows.specs.declared.dimension_row.DimensionRow.{DimensionRow}
-use Rattle.star_history.specs.Settled.{AreRowsOf, IsSettled}
-use Rattle.star_history.specs.Store.{Store, rows_in}
-use Rattle.core_state.specs.Admitting.{selection_in}
-use Rattle.core_state.proofs.ScannedTestLemmas.{FitByKinds}
+use Rattle.star_plan.specs.Test.{Unnamed}
+use Rattle.star_history.specs.Settled.{AreRowsOf}
 
 -- there is nothing past a list
 none_past : {X : Type 0} (xs : List X) (place : ℕ) → slice_get xs place ≡ None → length xs ≤ place

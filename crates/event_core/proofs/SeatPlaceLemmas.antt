@@ -1,18 +1,7 @@
 -- A seat among the seats: what is read there, and what is written over it.
-use Rattle.std.proofs.Common.{◌≡◌, ℕ, ◌<◌, List, [], length, get_or, set, map, ap, sym, ◌∙◌, subst, arith}
-use Rattle.std.specs.List.{refill}
+use Rattle.event_core.proofs.Words.{◌<◌, ◌∙◌, ◌≡◌, [], ap, arith, get_or, get_or-set_same, Known, known_in, length, length-set, List, map, map-set, Parts, refill, refill-all, Roomy, seat_as, set, state_of, statements_at, Submitted, subst, sym, with_taken, ℕ}
 use Rattle.std.proofs.Math.ListN as lists
-use Rattle.std.proofs.lemmas.List.{get_or-set_same, get_or_default, length-set, map-set}
-use Rattle.star_lists.specs.Roomy.{Roomy}
-use Rattle.core_state.specs.Submitting.{with_taken}
-use Rattle.core_parts.specs.declared.submitted.Submitted.{Submitted}
-use Rattle.core_parts.specs.Asked.{known_in}
-use Rattle.event_core.specs.Changes.{statements_at}
-use Rattle.core_parts.specs.Known.{Known}
-use Rattle.event_core.specs.Parts.{Parts}
-use Rattle.core_parts.specs.Seats.{seat_as}
-use Rattle.event_core.specs.Seen.{state_of}
-use Rattle.core_parts.proofs.PlaceLemmas.{refill-all}
+use Rattle.std.proofs.lemmas.List.{get_or_default}
 
 -- the statements of seats that have room for more
 abbrev pub statements_in : List (Roomy Submitted) → List (List Submitted)

@@ -1,18 +1,8 @@
 -- What of the parts the state reads: lives and groups that change leave what is known of queries.
-use Rattle.std.specs.Prelude.{◌≡◌, ℕ, ◌==◌, Bool, true, false, if◌then◌else◌, List, [], ◌∷◌, map, fold, Option, refl}
-use Rattle.std.proofs.Common.{ap, ◌∙◌}
-use Rattle.pipeline_manager.specs.Changes.{after_spoil, cut_query, with_life}
-use Rattle.pipeline_manager.specs.Lives.{Lives}
-use Rattle.star_plan.specs.Test.{query_of}
-use Rattle.pipeline_manager.specs.declared.life.Life.{Life}
-use Rattle.pipeline_manager.specs.declared.life.Life.TheVariants.{Spoiled}
-use Rattle.pipeline_manager.specs.declared.life.QueryLife.{QueryLife}
-use Rattle.aggregations.specs.Grouped.{Grouped}
-use Rattle.core_state.specs.State.{Accepted}
-use Rattle.core_parts.specs.Asked.{AskedQuery, known_in, with_kept_at}
-use Rattle.core_parts.specs.Known.{Known, Reach, reaches_in}
-use Rattle.event_core.specs.Parts.{Parts}
-use Rattle.event_core.specs.Seen.{accepted_as, accepted_in, attached_for, attached_or, state_of, state_with}
+use Rattle.event_core.proofs.Words.{◌∙◌, Accepted, accepted_as, accepted_in, after_spoil, ap, AskedQuery, attached_for, attached_or, fold, Grouped, Known, known_in, Life, Lives, Parts, query_of, QueryLife, Reach, reaches_in, Spoiled, state_of, with_kept_at, with_life}
+use Rattle.std.specs.Prelude.{◌≡◌, ℕ, ◌==◌, Bool, true, false, if◌then◌else◌, List, [], ◌∷◌, map, Option, refl}
+use Rattle.pipeline_manager.specs.Changes.{cut_query}
+use Rattle.event_core.specs.Seen.{state_with}
 
 -- how far a query goes
 abbrev reach : QueryLife → Reach

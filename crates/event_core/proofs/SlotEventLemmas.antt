@@ -1,25 +1,8 @@
 -- The parts of a core where a slot has been given to a query, or taken from it.
-use Rattle.std.proofs.Common.{◌≡◌, ◌≢◌, ℕ, ◌<◌, ◌⊎◌, inl, inr, List, length, get_or, set, Option, Some, None, refl, ap, sym, ◌∙◌, subst, ⊎_elim, arith}
-use Rattle.std.specs.List.{range_with_len}
+use Rattle.event_core.proofs.Words.{◌<◌, ◌∙◌, ◌≡◌, ◌≢◌, ◌⊎◌, Abandoned, after_end, after_finish, after_reserve, after_reserving, Answered, ap, AreRising, arith, AskedQuery, Becomes, Building, cases_lt, finished, Free, get_or, get_or_past, Grouped, Held, inl, inr, IsCore, length, length-range_with_len, Life, life_of, List, Lives, MayFinish, MayReserve, None, Option, Parts, range_with_len, refl, reserved, Roomy, set, slot_at, Some, Spoiled, state_of, subst, sym, unheld, with_kept_at, ℕ, ⊎_elim}
 use Rattle.std.proofs.Math.ListN as lists
-use Rattle.std.proofs.lemmas.Bool.{cases_lt}
-use Rattle.std.proofs.lemmas.List.{get_or_past}
-use Rattle.std.proofs.lemmas.List.FromFn.{length-range_with_len}
-use Rattle.star_lists.specs.Roomy.{Roomy}
-use Rattle.pipeline_manager.specs.Changes.{after_end, after_reserve}
-use Rattle.pipeline_manager.specs.Lives.{Lives, life_of, slot_at}
-use Rattle.pipeline_manager.specs.declared.life.Life.{Life}
-use Rattle.pipeline_manager.specs.declared.life.Life.TheVariants.{Waiting, Building, Running, Ending, Answered, Spoiled, Abandoned}
-use Rattle.pipeline_manager.specs.declared.life.SlotState.TheVariants.{Free, Held}
-use Rattle.aggregations.specs.Grouped.{Grouped}
-use Rattle.core_state.specs.Admitting.{after_finish, after_reserving}
-use Rattle.core_state.specs.Events.{MayFinish, MayReserve}
+use Rattle.pipeline_manager.specs.declared.life.Life.TheVariants.{Waiting, Running, Ending}
 use Rattle.core_state.specs.Handed.{attached_at}
-use Rattle.core_parts.specs.Asked.{AreRising, AskedQuery, with_kept_at}
-use Rattle.event_core.specs.Changes.{finished, reserved, unheld}
-use Rattle.event_core.specs.Core.{Becomes, IsCore}
-use Rattle.event_core.specs.Parts.{Parts}
-use Rattle.event_core.specs.Seen.{state_of}
 use Rattle.event_core.proofs.AskedKeptLemmas.{asked-rise}
 
 -- a query that gets a slot

@@ -1,24 +1,8 @@
 -- What is attached for queries where one slot has other groups, or is taken from its query.
-use Rattle.std.proofs.Common.{◌≡◌, ◌≢◌, ℕ, Bool, true, false, cond, List, length, get_or, set, Option, Some, None, refl, ap, sym, ◌∙◌, ⊎_elim, arith}
-use Rattle.std.specs.Prelude.{nat_lt, position}
-use Rattle.std.specs.List.{position_or_len}
-use Rattle.std.specs.Option.{option_and_then, option_map_or}
-use Rattle.std.proofs.lemmas.Bool.{cases_eq, cases_lt, ne_eqb}
-use Rattle.std.proofs.lemmas.List.{get_or-set_other, get_or-set_same, get_or_past, length-set}
-use Rattle.std.proofs.lemmas.List.Folds.{position_or_len-set}
-use Rattle.pipeline_manager.specs.Changes.{after_end, given_up, is_ending, with_life}
-use Rattle.pipeline_manager.specs.Lives.{Lives, is_held_by, life_in, slot_at, slot_of}
+use Rattle.event_core.proofs.Words.{◌∙◌, ◌≡◌, ◌≢◌, after_end, Answered, ap, arith, attached_for, Bool, cases_eq, cases_lt, Clearing, cond, detached_for, false, Free, get_or, get_or-set_other, get_or-set_same, get_or_past, Grouped, Held, held-there, holds-slot, is_held_by, length, length-set, life_in, List, Lives, ne_eqb, None, one-slot, Option, option_and_then, option_map_or, position, position_or_len, position_or_len-set, QueryLife, reaches_in, refl, set, slot_at, slot_of, slot_of-holder, Some, sym, true, with_life, ℕ, ⊎_elim}
+use Rattle.std.specs.Prelude.{nat_lt}
+use Rattle.pipeline_manager.specs.Changes.{given_up, is_ending}
 use Rattle.pipeline_manager.specs.Sound as managed
-use Rattle.pipeline_manager.specs.declared.life.Life.TheVariants.{Answered}
-use Rattle.pipeline_manager.specs.declared.life.QueryLife.{QueryLife}
-use Rattle.pipeline_manager.specs.declared.life.SlotState.TheVariants.{Free, Held, Clearing}
-use Rattle.aggregations.specs.Grouped.{Grouped}
-use Rattle.core_state.specs.Handed.{detached_for}
-use Rattle.core_state.proofs.HandedSlotLemmas.{held-there, one-slot}
-use Rattle.core_state.proofs.ScannedLifeLemmas.{holds-slot}
-use Rattle.pipeline_manager.proofs.HolderLemmas.{slot_of-holder}
-use Rattle.core_parts.specs.Known.{reaches_in}
-use Rattle.event_core.specs.Seen.{attached_for}
 use Rattle.event_core.proofs.AskedKeptLemmas.{LeavesOthers}
 use Rattle.event_core.proofs.SeenLemmas.{reaches-with_life}
 

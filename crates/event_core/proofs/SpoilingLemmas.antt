@@ -1,33 +1,12 @@
 -- How the holders of the slots are gone through, one after the other.
-use Rattle.std.proofs.Common.{◌≡◌, ℕ, ◌+◌, ◌<◌, ◌++◌, Bool, true, false, cond, eqb, List, [], ◌∷◌, length, get_or, set, Option, Some, None, unwrap_or, refl, sym, ap, ◌∙◌, subst, ⊎_elim, arith}
-use Rattle.std.specs.Prelude.{All, IfSome, IsTrue, position}
-use Rattle.std.specs.Int.{bit_at}
-use Rattle.std.specs.List.{cons_option, filter_map, fold, list_any, range_with_len}
-use Rattle.std.specs.Option.{option_map_or}
-use Rattle.std.proofs.lemmas.Bool.{cases_eq, ne_eqb}
-use Rattle.std.proofs.lemmas.List.{get_or-set_other, get_or-set_same, length-set}
-use Rattle.std.proofs.lemmas.List.Elements.{All-contains, All-head, All-nil, All-tail, filter_map-append}
-use Rattle.std.proofs.lemmas.List.Folds.{list_any_none}
-use Rattle.std.proofs.lemmas.List.FromFn.{get_or-range_with_len, length-range_with_len}
-use Rattle.std.proofs.lemmas.List.Sums.{fold-append}
-use Rattle.pipeline_manager.specs.Changes.{after_spoil}
-use Rattle.pipeline_manager.specs.Conditions.{CanSpoil, is_begun}
-use Rattle.pipeline_manager.specs.Lives.{Lives, is_held_by, life_of, slot_at, slot_of}
+use Rattle.event_core.proofs.Words.{◌++◌, ◌+◌, ◌<◌, ◌∙◌, ◌∷◌, ◌≡◌, [], after_spoil, after_stop, All, All-contains, All-head, All-nil, All-tail, ap, arith, bit_at, Bool, CanSpoil, cases_eq, cond, cons_option, eqb, false, filter_map, filter_map-append, fold-append, Free, get_or, get_or-range_with_len, get_or-set_other, get_or-set_same, Held, holder_of, holders_in, IfSome, is_begun, is_held_by, IsTrue, length, length-range_with_len, length-set, life_of, List, list_any, list_any_none, Lives, ne_eqb, None, one-slot, Option, option_map_or, others-stay, position, range_parts, range_with_len, refl, Scanning, set, slot_at, slot_of, slot_of-holder, Some, some-by, stopped_for, subst, sym, true, ℕ, ⊎_elim}
+use Rattle.std.proofs.Common.{unwrap_or}
+use Rattle.std.specs.List.{fold}
 use Rattle.pipeline_manager.specs.Sound as managed
-use Rattle.pipeline_manager.specs.declared.life.SlotState.TheVariants.{Free, Held}
-use Rattle.pipeline_manager.proofs.HolderLemmas.{slot_of-holder}
-use Rattle.continuous_scan.specs.Range.{after_stop}
-use Rattle.continuous_scan.specs.Scanning.{Scanning}
-use Rattle.continuous_scan.proofs.LapLemmas.{range_parts}
-use Rattle.core_state.specs.Found.{holder_of}
-use Rattle.core_state.specs.Scanned.{stopped_for}
 use Rattle.core_state.proofs.CutFoundLemmas.{found-below}
-use Rattle.core_state.proofs.FoundLemmas.{some-by}
-use Rattle.core_state.proofs.HandedLivesLemmas.{others-stay, slots-stay, spoiled_all}
-use Rattle.core_state.proofs.HandedSlotLemmas.{one-slot}
+use Rattle.core_state.proofs.HandedLivesLemmas.{slots-stay, spoiled_all}
 use Rattle.core_state.proofs.ScannedLifeLemmas.{holder-held}
 use Rattle.core_state.proofs.TakeLemmas.{All-option}
-use Rattle.event_core.specs.Core.{holders_in}
 
 -- a list that has what is asked for up to a place, and then at the place
 pub written-more : (f : ℕ → ℕ) (xs : List ℕ) (place x : ℕ) → place < length xs → x ≡ f place

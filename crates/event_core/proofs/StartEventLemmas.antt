@@ -1,22 +1,9 @@
 -- The parts of a core where a query has begun its lap.
-use Rattle.std.proofs.Common.{◌≡◌, ◌≢◌, ℕ, Bool, true, false, cond, eqb, List, length, set, slice_get, Option, Some, None, refl, ap, sym, ◌∙◌, subst}
-use Rattle.std.specs.Prelude.{IsSome}
-use Rattle.std.specs.Option.{option_and_then}
-use Rattle.std.proofs.lemmas.Bool.{eq-eqb, eqb-true}
-use Rattle.star_plan.specs.declared.star_query.StarQuery.{StarQuery}
-use Rattle.pipeline_manager.specs.Changes.{after_run}
-use Rattle.pipeline_manager.specs.Conditions.{CanRun}
-use Rattle.pipeline_manager.specs.Lives.{Lives, extent_in, slot_of}
+use Rattle.event_core.proofs.Words.{◌∙◌, ◌≡◌, ◌≢◌, after_run, after_start, ap, asked_at, AskedQuery, Becomes, Bool, CanRun, cond, eqb, eqb-true, extent_in, false, Grouped, IsCore, IsSome, length, List, Lives, None, Option, option_and_then, Parts, refl, Scanning, set, slice_get, slot_of, Some, StarQuery, started, state_of, subst, sym, true, with_kept_at, ℕ}
+use Rattle.std.proofs.lemmas.Bool.{eq-eqb}
 use Rattle.continuous_scan.specs.Calls.{CanStart}
 use Rattle.continuous_scan.specs.Range as scanned
-use Rattle.continuous_scan.specs.Scanning.{Scanning}
-use Rattle.aggregations.specs.Grouped.{Grouped}
-use Rattle.core_state.specs.Admitting.{after_start}
-use Rattle.core_parts.specs.Asked.{AskedQuery, asked_at, with_kept_at}
-use Rattle.event_core.specs.Changes.{scan_with, started}
-use Rattle.event_core.specs.Core.{Becomes, IsCore}
-use Rattle.event_core.specs.Parts.{Parts}
-use Rattle.event_core.specs.Seen.{state_of}
+use Rattle.event_core.specs.Changes.{scan_with}
 
 -- a query that begins its lap holds a slot, and is an accepted one
 abbrev pub StartsThere : Type 0

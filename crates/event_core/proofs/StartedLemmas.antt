@@ -1,41 +1,11 @@
 -- The parts of a core where a query begins its lap.
-use Rattle.std.proofs.Common.{◌≡◌, ◌≢◌, ℕ, ◌<◌, Bool, true, false, cond, eqb, List, length, get_or, set, slice_get, Option, Some, None, refl, ap, sym, ◌∙◌, subst, ⊎_elim, arith}
-use Rattle.std.specs.Prelude.{IsSome, is_some, []}
-use Rattle.std.specs.Option.{option_map_or}
-use Rattle.std.proofs.lemmas.Bool.{cases_eq, eq-eqb, eqb-true}
-use Rattle.std.proofs.lemmas.List.{get_or-set_same}
-use Rattle.std.proofs.lemmas.Option.{get_or_from_slice_get}
-use Rattle.star_plan.specs.Test.{query_of}
-use Rattle.star_plan.specs.declared.star_query.StarQuery.{StarQuery}
-use Rattle.star_history.specs.Keyed.{KeyedStore}
-use Rattle.pipeline_manager.specs.Changes.{after_run, started as started_life}
-use Rattle.pipeline_manager.specs.Conditions.{CanRun, is_begun}
-use Rattle.pipeline_manager.specs.Lives.{Lives, extent_in, slot_of}
-use Rattle.pipeline_manager.specs.declared.life.Life.TheVariants.{Building}
-use Rattle.pipeline_manager.proofs.HolderLemmas.{slot_of-begun}
+use Rattle.event_core.proofs.Words.{◌<◌, ◌∙◌, ◌≡◌, ◌≢◌, Accepted, accepted_as, accepted_at, accepted_in, after_run, after_start, ap, AreTablesOf, arith, asked_at, AskedQuery, attached-count, attached_for, attached_or, attached_to, Becomes, Bool, Building, CanRun, cases_eq, cond, Done, eqb, eqb-true, extent_in, false, get_or, get_or-set_same, get_or_from_slice_get, Grouped, grouped_of, held-accepted, holds-slot, is_begun, is_some, IsCore, IsScannedAs, IsSome, IsSound, KeyedStore, known_in, length, List, Lives, None, Option, option_map_or, Parts, query_of, reaches_in, refl, Scanning, set, slice_get, slot_of, slot_of-begun, Some, StarQuery, Start, started, State, state_of, subst, sym, true, versions_in, with_kept_at, ℕ, ⊎_elim}
+use Rattle.std.specs.Prelude.{[]}
+use Rattle.std.proofs.lemmas.Bool.{eq-eqb}
+use Rattle.pipeline_manager.specs.Changes.{started as started_life}
 use Rattle.continuous_scan.specs.Range as scanned
-use Rattle.continuous_scan.specs.Scanning.{Scanning}
-use Rattle.aggregations.specs.Grouped.{Grouped, grouped_of}
-use Rattle.core_state.specs.Admitting.{after_start}
-use Rattle.core_state.specs.Found.{accepted_at}
-use Rattle.core_state.specs.Handed.{attached_to}
-use Rattle.core_state.specs.Scanned.{AreTablesOf, IsScannedAs}
-use Rattle.core_state.specs.Sound.{IsSound}
-use Rattle.core_state.specs.State.{Accepted, State}
-use Rattle.core_state.specs.Steps.{Done}
 use Rattle.core_state.specs.Events.{after_event}
-use Rattle.core_state.specs.Tables.{versions_in}
-use Rattle.core_state.specs.declared.event.Event.TheVariants.{Start}
-use Rattle.core_state.proofs.AcceptedLemmas.{held-accepted}
-use Rattle.core_state.proofs.AttachedFrameLemmas.{attached-count}
-use Rattle.core_state.proofs.ScannedLifeLemmas.{holds-slot}
 use Rattle.core_state.proofs.ScannedRunLemmas.{same-count}
-use Rattle.core_parts.specs.Asked.{AskedQuery, asked_at, known_in, with_kept_at}
-use Rattle.event_core.specs.Changes.{started}
-use Rattle.event_core.specs.Core.{Becomes, IsCore}
-use Rattle.core_parts.specs.Known.{reaches_in}
-use Rattle.event_core.specs.Parts.{Parts}
-use Rattle.event_core.specs.Seen.{accepted_as, accepted_in, attached_for, attached_or, state_of}
 use Rattle.event_core.proofs.AskedKeptLemmas.{StaysGrouped, accepted-kept, accepted-of, asked-number, asked-rise, asked-there, beside-kept, found-alone, kept_by, stays-other}
 use Rattle.event_core.proofs.KeptLifeLemmas.{kept-with}
 use Rattle.event_core.proofs.CoreAtLemmas.{KeepSound, becomes-of}

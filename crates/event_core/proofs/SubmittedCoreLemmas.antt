@@ -1,35 +1,7 @@
 -- The parts after a statement are those of a core.
-use Rattle.std.proofs.Common.{◌≡◌, ℕ, ◌+◌, ◌*◌, ◌<◌, List, [], ◌∷◌, ◌++◌, length, map, None, refl, ap, sym, ◌∙◌, subst, arith}
-use Rattle.std.specs.Prelude.{All, IsSome}
-use Rattle.std.proofs.lemmas.List.{length-map}
-use Rattle.script_reader.specs.declared.statement.Statement.{Statement}
-use Rattle.reply_text.specs.declared.reply.Reply.{Reply}
+use Rattle.event_core.proofs.Words.{◌*◌, ◌++◌, ◌+◌, ◌<◌, ◌∙◌, ◌∷◌, ◌≡◌, [], Accepted, after_outcome, after_step, after_submitting, All, ap, AreTablesOf, arith, attached_for, attached_to, Becomes, changes_of, Done, EndsAscending, Event, frames_of, IsCore, IsEnabled, IsNew, IsScannedAs, IsSome, IsSound, known_in, LeavesAttached, LeavesScan, length, length-map, List, map, MayStep, None, of-numbers, Outcome, outcome_of, Parts, QueryLife, refl, Reply, RunSettings, Scanning, Seat, seat_as, State, state_of, Statement, statements_at, Step, Submit, submitted, subst, sym, tables_of, Waits, ℕ}
 use Rattle.star_statement.specs.Outcome as outcome
-use Rattle.star_statement.specs.Outcome.{Outcome, outcome_of}
-use Rattle.pipeline_manager.specs.Conditions.{IsNew}
-use Rattle.pipeline_manager.specs.declared.life.QueryLife.{QueryLife}
-use Rattle.continuous_scan.specs.Scanning.{Scanning}
-use Rattle.core_state.specs.Events.{IsEnabled, after_event}
-use Rattle.core_state.specs.Handed.{LeavesAttached, attached_to}
-use Rattle.core_state.specs.Logged.{EndsAscending}
-use Rattle.core_state.specs.Scanned.{AreTablesOf, IsScannedAs, LeavesScan}
-use Rattle.core_state.specs.Settings.{frames_of}
-use Rattle.core_state.specs.Sound.{IsSound}
-use Rattle.core_state.specs.State.{Accepted, Seat, State}
-use Rattle.core_state.specs.Steps.{Done, MayStep, Step, after_step}
-use Rattle.core_state.specs.Submitting.{after_outcome, after_submitting}
-use Rattle.core_state.specs.Tables.{changes_of, tables_of}
-use Rattle.core_state.specs.declared.event.Event.{Event}
-use Rattle.core_state.specs.declared.event.Event.TheVariants.{Submit}
-use Rattle.core_state.specs.declared.settings.RunSettings.{RunSettings}
-use Rattle.core_state.proofs.AskLemmas.{of-numbers}
-use Rattle.core_parts.specs.declared.submitted.Standing.TheVariants.{Waits}
-use Rattle.core_parts.specs.Asked.{known_in}
-use Rattle.event_core.specs.Changes.{statements_at, submitted}
-use Rattle.event_core.specs.Core.{Becomes, IsCore}
-use Rattle.event_core.specs.Parts.{Parts}
-use Rattle.core_parts.specs.Seats.{seat_as}
-use Rattle.event_core.specs.Seen.{attached_for, state_of}
+use Rattle.core_state.specs.Events.{after_event}
 use Rattle.event_core.proofs.SubmittedSeatLemmas.{seats-one, statement_of}
 
 -- what the laws of the core say of steps and events

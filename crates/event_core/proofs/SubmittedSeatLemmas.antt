@@ -1,19 +1,9 @@
 -- The seats after one of them submits a statement.
-use Rattle.std.proofs.Common.{◌≡◌, ℕ, ◌<◌, List, [], ◌∷◌, ◌++◌, length, get_or, set, map, Option, Some, None, option_map, refl, ap, sym, ◌∙◌, append-nil}
-use Rattle.std.specs.Prelude.{All}
-use Rattle.std.specs.List.{cons_option, filter_map}
-use Rattle.std.specs.Option.{option_map_or}
-use Rattle.std.proofs.lemmas.List.{get_or-map, map-set, map_push}
-use Rattle.std.proofs.lemmas.List.Elements.{All-head, All-tail, filter_map-append}
+use Rattle.event_core.proofs.Words.{◌++◌, ◌<◌, ◌∙◌, ◌∷◌, ◌≡◌, [], All, All-head, All-tail, ap, append-nil, Asked, Awaited, awaited_as, cons_option, empty_seat, filter_map, filter_map-append, get_or, get_or-map, IsAbandoned, IsAnswered, IsAsked, IsTaken, Known, known_at, length, List, map, map-set, map_push, None, Option, option_map, option_map_or, Pending, pending_as, refl, Replied, Seat, seat_as, set, Some, Standing, Submitted, sym, Told, Waits, ℕ}
 use Rattle.reply_text.specs.declared.reply.Reply.TheVariants as reply
-use Rattle.star_statement.specs.Outcome.{Told}
-use Rattle.core_state.specs.State.{Asked, Awaited, Pending, Replied, Seat, Taken}
-use Rattle.core_state.specs.Submitting.{awaited_by, empty_seat, with_statement}
-use Rattle.core_parts.specs.declared.submitted.Submitted.{Submitted}
-use Rattle.core_parts.specs.declared.submitted.Standing.{Standing}
-use Rattle.core_parts.specs.declared.submitted.Standing.TheVariants.{Waits, IsAsked, IsTaken, IsAnswered, IsAbandoned}
-use Rattle.core_parts.specs.Known.{Known, known_at}
-use Rattle.core_parts.specs.Seats.{awaited_as, pending_as, seat_as, took_as}
+use Rattle.core_state.specs.State.{Taken}
+use Rattle.core_state.specs.Submitting.{awaited_by, with_statement}
+use Rattle.core_parts.specs.Seats.{took_as}
 
 -- a statement of this number that stands so
 abbrev pub statement_of : (number : ℕ) → Standing → Submitted

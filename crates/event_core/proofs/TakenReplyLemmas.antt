@@ -1,35 +1,13 @@
 -- The parts of a core where a seat takes a reply.
-use Rattle.std.proofs.Common.{◌≡◌, ℕ, false, List, [], ◌∷◌, map, set, take, Option, Some, None, slice_get, refl, ap, sym, ◌∙◌, subst, ⊎_elim}
-use Rattle.std.specs.Prelude.{IfSome, IsSome}
-use Rattle.std.specs.Option.{option_and_then, option_map_or}
-use Rattle.std.proofs.lemmas.List.{map-set}
-use Rattle.std.proofs.lemmas.Option.{none-some, same_Some}
-use Rattle.pipeline_manager.specs.Lives.{life_of}
-use Rattle.pipeline_manager.specs.declared.life.Life.{Life}
-use Rattle.continuous_scan.specs.Scanning.{Scanning}
-use Rattle.core_state.specs.Cutting.{gets_rows}
-use Rattle.core_state.specs.Handed.{attached_to}
-use Rattle.core_state.specs.Scanned.{IsScannedAs}
-use Rattle.core_state.specs.Sound.{IsSound}
-use Rattle.core_state.specs.State.{Accepted, Pending, Seat, State}
+use Rattle.event_core.proofs.Words.{◌∙◌, ◌∷◌, ◌≡◌, [], Accepted, after_taking, ap, attached_for, attached_to, Becomes, false, first_of, forgotten, forgotten_at, gets, gets_rows, IfSome, IsCore, IsScannedAs, IsSome, IsSound, Known, known_in, Life, life_of, List, map, map-set, next_ready, None, none-some, Option, option_and_then, option_map_or, Parts, Pending, reaches_in, ready_to, refl, same_Some, Scanning, Seat, seat_as, seat_at, set, slice_get, Some, State, state_of, statements_at, Submitted, subst, sym, take, with_taken, ℕ, ⊎_elim}
 use Rattle.core_state.specs.Steps.{Replying}
-use Rattle.core_state.specs.Submitting.{after_taking, forgotten, next_ready, ready_to, seat_at, with_taken, without_groups}
-use Rattle.core_state.proofs.HandedSlotLemmas.{gets}
+use Rattle.core_state.specs.Submitting.{without_groups}
 use Rattle.core_state.proofs.SeatLemmas.{Told}
 use Rattle.core_state.proofs.TakingLemmas.{ready-told}
-use Rattle.core_parts.specs.declared.submitted.Submitted.{Submitted}
-use Rattle.core_parts.specs.Asked.{known_in}
-use Rattle.event_core.specs.Changes.{forgotten_at, statements_at}
-use Rattle.event_core.specs.Core.{Becomes, IsCore}
-use Rattle.core_parts.specs.Known.{Known, reaches_in}
-use Rattle.event_core.specs.Parts.{Parts}
-use Rattle.core_parts.specs.Seats.{seat_as}
-use Rattle.event_core.specs.Seen.{attached_for, state_of}
 use Rattle.event_core.proofs.AskedKeptLemmas.{LeavesOthers, accepted-forgotten, beside-kept}
 use Rattle.event_core.proofs.CoreAtLemmas.{KeepSound, becomes-of}
 use Rattle.event_core.proofs.FirstReplyLemmas.{IsFirst, first-is, nothing-attached, seat-of}
 use Rattle.event_core.proofs.SeenLemmas.{known-with_kept, state-seen}
-use Rattle.core_parts.proofs.TurnLemmas.{first_of}
 
 -- what is attached stays where a reply is taken
 abbrev pub TakingLeavesAttached : Type 0

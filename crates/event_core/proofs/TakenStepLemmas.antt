@@ -1,12 +1,7 @@
 -- Events that were taken are steps of the core.
 use Rattle.std.specs.Prelude.{◌≡◌, ◌⊎◌, List, [], ◌∷◌, refl}
-use Rattle.std.proofs.Common.{subst, inl, inr}
-use Rattle.core_state.specs.Events.{IsEnabled, after_event}
-use Rattle.core_state.specs.State.{State}
-use Rattle.core_state.specs.Steps.{Step, Done, Wanting, MayStep, after_step}
-use Rattle.core_state.specs.declared.event.Event.{Event}
-use Rattle.core_state.specs.declared.event.Event.TheVariants.{Submit, Reserve, Build, Start, Cut, Take, Give, Distribute, Finish, Clear, Release, Reorder, Abandon}
-use Rattle.event_core.specs.Took.{IsOf, IsSpoilt, StepsFor, TookAll}
+use Rattle.event_core.proofs.Words.{Abandon, after_event, after_step, Build, Clear, Cut, Distribute, Done, Event, Finish, Give, inl, inr, IsEnabled, MayStep, Release, Reorder, Reserve, Start, State, Step, Submit, subst, Take, TookAll, Wanting}
+use Rattle.event_core.specs.Took.{IsOf, IsSpoilt, StepsFor}
 
 -- a step of this event that may come and gives this state
 record StepFor (event : Event) (old new : State) : Type 0 where

@@ -1,13 +1,7 @@
 -- Events that a core took.
-use Rattle.std.proofs.Common.{◌≡◌, ◌⊎◌, ℕ, zero, suc, ◌+◌, List, [], ◌∷◌, ◌++◌, take, drop, ap, sym, ◌∙◌, subst, inl, inr, refl, arith}
-use Rattle.core_state.specs.Admitting.{after_build, after_build_wants}
-use Rattle.core_state.specs.Cutting.{after_distribute}
-use Rattle.core_state.specs.Events.{AreFed, IsEnabled, after_event, after_want}
-use Rattle.core_state.specs.Sound.{IsSound}
-use Rattle.core_state.specs.State.{State}
-use Rattle.core_state.specs.declared.event.Event.{Event}
-use Rattle.core_state.specs.declared.event.Event.TheVariants.{Build, Distribute}
-use Rattle.event_core.specs.Took.{IsAfter, Took, TookAll}
+use Rattle.event_core.proofs.Words.{◌++◌, ◌+◌, ◌∙◌, ◌∷◌, ◌≡◌, ◌⊎◌, [], after_build, after_build_wants, after_distribute, ap, AreFed, arith, Build, Distribute, drop, Event, inl, inr, IsEnabled, IsSound, List, refl, State, subst, suc, sym, take, TookAll, zero, ℕ}
+use Rattle.core_state.specs.Events.{after_event, after_want}
+use Rattle.event_core.specs.Took.{IsAfter, Took}
 
 -- an event that was done
 pub took-done : (event done : Event) (old new : State) → IsEnabled old event → event ≡ done → new ≡ after_event done old → Took event old new

@@ -1,30 +1,7 @@
 -- A query of a core finds no memory as a filter is built for it.
-use Rattle.std.proofs.Common.{◌≡◌, ℕ, Bool, true, false, cond, eqb, List, [], ◌∷◌, map, Option, None, refl, ap, sym, ◌∙◌, subst}
-use Rattle.std.specs.Prelude.{All, IsSome}
-use Rattle.std.specs.Option.{option_map_or}
-use Rattle.std.proofs.lemmas.Bool.{eqb-true}
-use Rattle.std.proofs.lemmas.List.Elements.{All-cons, All-head, All-nil, All-tail}
-use Rattle.pipeline_manager.specs.Conditions.{CanBuild}
-use Rattle.pipeline_manager.specs.Lives.{Lives}
+use Rattle.event_core.proofs.Words.{◌∙◌, ◌∷◌, ◌≡◌, [], Accepted, accepted_as, accepted_in, after_build_wants, All, All-cons, All-head, All-nil, All-tail, ap, AskedQuery, attached_for, attached_or, attached_to, Becomes, Bool, Build, CanBuild, cond, eqb, eqb-true, false, forgotten, gets_rows, Grouped, IsCore, IsScannedAs, IsSome, IsSound, known_in, List, Lives, map, None, Option, option_map_or, Parts, reaches_in, refl, Scanning, State, state_of, subst, sym, true, unbuilt, Wanting, with_kept, with_kept_at, ℕ}
 use Rattle.pipeline_manager.specs.declared.life.Life.TheVariants as life
-use Rattle.continuous_scan.specs.Scanning.{Scanning}
-use Rattle.aggregations.specs.Grouped.{Grouped}
-use Rattle.core_state.specs.Admitting.{after_build_wants}
-use Rattle.core_state.specs.Cutting.{gets_rows}
 use Rattle.core_state.specs.Events.{after_want}
-use Rattle.core_state.specs.Handed.{attached_to}
-use Rattle.core_state.specs.Scanned.{IsScannedAs}
-use Rattle.core_state.specs.Sound.{IsSound}
-use Rattle.core_state.specs.State.{Accepted, State}
-use Rattle.core_state.specs.Steps.{Wanting}
-use Rattle.core_state.specs.Submitting.{forgotten}
-use Rattle.core_state.specs.declared.event.Event.TheVariants.{Build}
-use Rattle.core_parts.specs.Asked.{AskedQuery, known_in, with_kept, with_kept_at}
-use Rattle.event_core.specs.Changes.{unbuilt}
-use Rattle.event_core.specs.Core.{Becomes, IsCore}
-use Rattle.core_parts.specs.Known.{reaches_in}
-use Rattle.event_core.specs.Parts.{Parts}
-use Rattle.event_core.specs.Seen.{accepted_as, accepted_in, attached_for, attached_or, state_of}
 use Rattle.event_core.proofs.HeldSlotLemmas.{attached_for-none}
 use Rattle.event_core.proofs.QuietLemmas.{StepsKeep, core-left}
 use Rattle.event_core.proofs.SeenLemmas.{known-with_kept, reaches-with_life, state-seen}

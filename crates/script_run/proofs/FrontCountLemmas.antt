@@ -1,17 +1,5 @@
 -- What the front counts: a statement more, and none once all queries came to their end.
-use Rattle.std.proofs.Common.{◌≡◌, ⊎_elim, inl, inr, ◌<◌, ◌≤◌, Bool, false, [], None, sym, ap, ◌∙◌, subst, arith}
-use Rattle.std.specs.Prelude.{◌⊎◌, All, IsTrue, count_by}
-use Rattle.script_reader.specs.declared.statement.Statement.{Statement}
-use Rattle.pipeline_manager.specs.Conditions.{is_open}
-use Rattle.pipeline_manager.specs.Lives.{Lives}
-use Rattle.core_state.specs.State.{Pending, Scan, State}
-use Rattle.core_state.specs.Submitting.{seat_at}
-use Rattle.core_state.specs.declared.settings.RunSettings.{RunSettings}
-use Rattle.event_core.specs.Chosen.{AreIdle}
-use Rattle.event_core.specs.Seen.{state_of}
-use Rattle.script_run.specs.Counted.{Beside, GoesRound, IsCounted, IsKnown, IsOverOrWaits, is_query, queries_awaited}
-use Rattle.script_run.specs.Waiting.{is_wait}
-use Rattle.script_run.specs.declared.front.Front.{Front}
+use Rattle.script_run.proofs.Words.{◌<◌, ◌∙◌, ◌≡◌, ◌≤◌, ◌⊎◌, [], All, ap, AreIdle, arith, Beside, Bool, count_by, false, Front, GoesRound, inl, inr, is_open, is_query, is_wait, IsCounted, IsKnown, IsOverOrWaits, IsTrue, Lives, None, Pending, queries_awaited, RunSettings, Scan, seat_at, State, state_of, Statement, subst, sym, ⊎_elim}
 use Rattle.script_run.proofs.LapEventLemmas.{closed-count, closed-over, keeps-versions}
 
 -- all queries came to their end, and all replies were written

@@ -1,19 +1,7 @@
 -- The text of the replies to statements that are played, and what was written of it where the replies halt.
-use Rattle.std.proofs.Common.{◌≡◌, ◌≢◌, ℕ, ◌<◌, Bool, ◌||◌, List, [], ◌∷◌, ◌++◌, length, take, drop, map, Option, Result, Ok, Err, refl, sym, ap, ◌∙◌, subst, append-nil, append_assoc, take-append-drop, length-append, arith}
+use Rattle.script_run.proofs.Words.{◌++◌, ◌<◌, ◌||◌, ◌∙◌, ◌∷◌, ◌≡◌, ◌≢◌, [], ap, append-nil, append_assoc, arith, Bool, BreaksIn, Change, changes_of, ComeTo, drop, Err, Halt, HaltsPlay, is_refusal, Leads, length, length-append, length-drop, List, map, map-append, MayPlay, Ok, Option, Pending, Played, Plays, PlaysOn, refl, refused_of_played, Result, seat_at, State, Statement, Store, subst, sym, tables_of, take, take-append-drop, text_of, text_of_all, text_of_played, ℕ}
 use Rattle.std.proofs.lemmas.Grind.{flat_map-append}
-use Rattle.std.proofs.lemmas.List.{length-drop, map-append}
 use Rattle.std.proofs.lemmas.List.Folds.{list_any-append}
-use Rattle.script_reader.specs.declared.statement.Statement.{Statement}
-use Rattle.star_history.specs.History.{Change}
-use Rattle.star_history.specs.Store.{Store}
-use Rattle.reply_text.specs.Text.{text_of, text_of_all}
-use Rattle.core_state.specs.State.{Pending, State}
-use Rattle.core_state.specs.Submitting.{seat_at}
-use Rattle.core_state.specs.Tables.{changes_of, tables_of}
-use Rattle.script_run.specs.Front.{BreaksIn, HaltsPlay, PlaysOn, refused_of_played, text_of_played}
-use Rattle.script_run.specs.Played.{ComeTo, Leads, MayPlay, Played, Plays}
-use Rattle.script_run.specs.Run.{is_refusal}
-use Rattle.script_run.specs.declared.halt.Halt.{Halt}
 use Rattle.script_run.proofs.PlayedLeadLemmas.{leads-then}
 use Rattle.script_run.proofs.PlayedSomeLemmas.{may-play-some}
 use Rattle.script_run.proofs.WholeLemmas.{or_false, text_some}

@@ -1,14 +1,5 @@
 -- Whether the front waits for a query that may still be answered, and how much it waits for.
-use Rattle.std.proofs.Common.{◌≡◌, ℕ, Bool, true, false, eqb, cond, List, [], ◌∷◌, drop, Option, Some, None, option_map, slice_get, refl, sym, ap, ◌∙◌}
-use Rattle.std.specs.Prelude.{All, IsSome, find}
-use Rattle.std.specs.Option.{option_and_then, option_map_or}
-use Rattle.std.proofs.lemmas.List.Elements.{All-head, All-tail}
-use Rattle.pipeline_manager.specs.Conditions.{is_open}
-use Rattle.pipeline_manager.specs.Lives.{Lives, life_in, life_of}
-use Rattle.pipeline_manager.specs.declared.life.QueryLife.{QueryLife}
-use Rattle.core_state.specs.State.{Pending, Seat, State}
-use Rattle.core_state.specs.Submitting.{after_taking, next_ready, ready_to, seat_at}
-use Rattle.event_core.specs.Replies.{first_open}
+use Rattle.script_run.proofs.Words.{◌∙◌, ◌∷◌, ◌≡◌, [], after_taking, All, All-head, All-tail, ap, Bool, cond, drop, eqb, false, find, first_open, is_open, IsSome, life_in, life_of, List, Lives, next_ready, None, Option, option_and_then, option_map, option_map_or, Pending, QueryLife, ready_to, refl, Seat, seat_at, slice_get, Some, State, sym, true, ℕ}
 use Rattle.script_run.proofs.PlayedTakenLemmas.{seat-waits, split-first, taken-seat}
 
 -- no query that is found by its number may still be answered, where none may

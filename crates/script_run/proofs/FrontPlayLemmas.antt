@@ -1,25 +1,7 @@
 -- A statement that the front gives to a core, or for which no memory was left, and the replies that are written then.
-use Rattle.std.proofs.Common.{◌≡◌, ◌≢◌, ℕ, ◌<◌, ◌≤◌, inl, inr, Bool, true, false, ◌||◌, List, [], ◌∷◌, ◌++◌, take, Option, Result, Ok, Err, refl, sym, ◌∙◌, subst, ⊎_elim}
-use Rattle.std.specs.Prelude.{◌⊎◌, IfOk, IsTrue, OnErr, OnOk}
-use Rattle.std.specs.Io.KnownBytes.{Appends}
-use Rattle.std.proofs.KnownBytes.{Appends-nil, Appends-trans}
-use Rattle.star_io.specs.Transfer.{AppendsFront}
-use Rattle.script_reader.specs.declared.statement.Statement.{Statement}
-use Rattle.reply_text.specs.Text.{text_of}
-use Rattle.reply_text.specs.declared.reply.Reply.TheVariants.{Memory}
+use Rattle.script_run.proofs.Words.{◌++◌, ◌<◌, ◌||◌, ◌∙◌, ◌∷◌, ◌≡◌, ◌≢◌, ◌≤◌, ◌⊎◌, [], after_submitting, Appends, Appends-nil, Appends-trans, AppendsFront, AreIdle, Bool, CountsOne, Err, false, GoesRound, Halt, IfOk, inl, inr, is_refusal, is_wait, IsRun, IsSound, IsTrue, Leads, List, lost, Memory, Ok, OnOk, Option, PlaysIn, PlaysOn, queries_awaited, refl, refused_of_played, Result, seat_at, State, Statement, Submit, subst, sym, take, text_of, text_of_played, Took, true, ℕ, ⊎_elim}
+use Rattle.std.specs.Prelude.{OnErr}
 use Rattle.core_state.specs.Events.{after_event}
-use Rattle.core_state.specs.Sound.{IsSound}
-use Rattle.core_state.specs.State.{State}
-use Rattle.core_state.specs.Submitting.{after_submitting, seat_at}
-use Rattle.core_state.specs.declared.event.Event.TheVariants.{Submit}
-use Rattle.event_core.specs.Chosen.{AreIdle}
-use Rattle.event_core.specs.Took.{Took}
-use Rattle.script_run.specs.Front.{IsRun, PlaysIn, PlaysOn, refused_of_played, text_of_played}
-use Rattle.script_run.specs.Counted.{CountsOne, GoesRound, queries_awaited}
-use Rattle.script_run.specs.Played.{Leads, lost}
-use Rattle.script_run.specs.Run.{is_refusal}
-use Rattle.script_run.specs.Waiting.{is_wait}
-use Rattle.script_run.specs.declared.halt.Halt.{Halt}
 use Rattle.script_run.proofs.FrontHaltLemmas.{breaks-behind, breaks-more, breaks-none, breaks-within, halts-behind, halts-due, halts-first, halts-within, refused-more, text-more}
 use Rattle.script_run.proofs.FrontRunLemmas.{idle-submitted, run-submitted}
 use Rattle.script_run.proofs.LapLemmas.{IsWorth, laps-lost, laps-quiet, laps-round, laps-then, waits-fill}

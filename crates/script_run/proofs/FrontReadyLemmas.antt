@@ -1,22 +1,5 @@
 -- The replies that may be taken, written one after the other.
-use Rattle.std.proofs.Common.{◌≡◌, ◌<◌, ℕ, Bool, false, ◌||◌, List, [], ◌∷◌, ◌++◌, length, take, Option, Some, None, Err, slice_get, refl, sym, ap, ◌∙◌, subst}
-use Rattle.std.specs.Prelude.{IfSome, IsSome}
-use Rattle.std.specs.Io.KnownBytes.{Appends}
-use Rattle.std.proofs.KnownBytes.{Appends-nil, Appends-trans}
-use Rattle.star_io.specs.Transfer.{AppendsFront}
-use Rattle.reply_text.specs.Text.{text_of}
-use Rattle.reply_text.specs.declared.reply.Reply.{Reply}
-use Rattle.core_state.specs.Answers.{IsRight}
-use Rattle.core_state.specs.Sound.{IsSound}
-use Rattle.core_state.specs.State.{State}
-use Rattle.core_state.specs.Submitting.{after_taking, next_ready, seat_at}
-use Rattle.event_core.specs.Replies.{IsReplyOf, first_open, ready_of}
-use Rattle.event_core.specs.declared.replies.Ready.{Ready}
-use Rattle.script_run.specs.Front.{IsRun, PlaysOn, refused_of_played, text_of_played}
-use Rattle.script_run.specs.Counted.{Beside}
-use Rattle.script_run.specs.Played.{Leads, Played}
-use Rattle.script_run.specs.Run.{is_refusal}
-use Rattle.script_run.specs.declared.halt.Halt.{Halt}
+use Rattle.script_run.proofs.Words.{◌++◌, ◌<◌, ◌||◌, ◌∙◌, ◌∷◌, ◌≡◌, [], after_taking, ap, Appends, Appends-nil, Appends-trans, AppendsFront, Beside, Bool, Err, false, first_open, Halt, IfSome, is_refusal, IsReplyOf, IsRight, IsRun, IsSome, IsSound, Leads, length, List, next_ready, None, Option, Played, PlaysOn, Ready, ready_of, refl, refused_of_played, Reply, seat_at, slice_get, Some, State, subst, sym, take, text_of, text_of_played, ℕ}
 use Rattle.script_run.proofs.FrontHaltLemmas.{breaks-behind, breaks-within, halts-behind, halts-within, refused-more, text-more}
 use Rattle.script_run.proofs.FrontOpenLemmas.{taken-closed}
 use Rattle.script_run.proofs.FrontRunLemmas.{run-itself, run-taken, run-then}

@@ -1,25 +1,8 @@
 -- The steps that a run makes: none, some and others behind them, a statement, a reply that is taken, and events of the driver.
-use Rattle.std.proofs.Common.{◌≡◌, ℕ, ◌+◌, ◌<◌, List, [], ◌∷◌, ◌++◌, length, Option, Some, None, refl, sym, ap, ◌∙◌, subst}
-use Rattle.std.specs.Prelude.{All, IsSome}
-use Rattle.std.specs.Option.{option_map_or}
-use Rattle.std.proofs.lemmas.List.Elements.{All-append, All-cons, All-head, All-nil, All-tail}
-use Rattle.std.proofs.lemmas.List.Sums.{fold-append}
-use Rattle.script_reader.specs.declared.statement.Statement.{Statement}
-use Rattle.star_history.specs.History.{Change, DimensionDeclared, FactDeclared, Loaded, Ended}
+use Rattle.script_run.proofs.Words.{◌++◌, ◌+◌, ◌<◌, ◌∙◌, ◌∷◌, ◌≡◌, [], Abandon, after_step, after_steps, after_submitting, after_taking, All, All-append, All-cons, All-head, All-nil, All-tail, ap, AreIdle, Build, Change, Clear, Cut, DimensionDeclared, Distribute, Done, Ended, Event, FactDeclared, Finish, fold-append, Give, IsDriven, IsLed, IsOfRun, IsRun, IsSome, LeavesSeats, length, List, Loaded, MayStep, MayStepAll, next_ready, None, Option, option_map_or, outcome_of, refl, Release, Reorder, Replying, Reserve, Scan, Some, Start, State, Statement, Step, Submit, subst, sym, tables_of, Take, Told, TookAll, Wanting, with_change, with_query, with_seat, with_statement, ℕ}
 use Rattle.star_statement.specs.Outcome as outcome
-use Rattle.star_statement.specs.Outcome.{Told, outcome_of}
 use Rattle.core_state.specs.Events.{after_event}
-use Rattle.core_state.specs.State.{Scan, State}
-use Rattle.core_state.specs.Steps.{Done, MayStep, MayStepAll, Replying, Step, Wanting, after_step, after_steps}
-use Rattle.core_state.specs.Submitting.{after_submitting, after_taking, next_ready, with_change, with_query, with_seat, with_statement}
-use Rattle.core_state.specs.Tables.{tables_of}
-use Rattle.core_state.specs.declared.event.Event.{Event}
-use Rattle.core_state.specs.declared.event.Event.TheVariants.{Submit, Reserve, Build, Start, Cut, Take, Give, Distribute, Finish, Clear, Release, Reorder, Abandon}
-use Rattle.event_core.specs.Chosen.{AreIdle}
-use Rattle.event_core.specs.Took.{AreOf, IsLed, IsOf, StepsFor, TookAll}
-use Rattle.core_driver.specs.Driven.{IsDriven}
-use Rattle.script_run.specs.Front.{IsOfRun, IsRun}
-use Rattle.script_run.specs.Played.{LeavesSeats}
+use Rattle.event_core.specs.Took.{AreOf, IsOf, StepsFor}
 use Rattle.script_run.proofs.PlayedEventLemmas.{driven-leaves}
 
 -- events that a core took are steps

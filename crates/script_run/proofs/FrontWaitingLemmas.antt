@@ -1,11 +1,9 @@
 -- Which statements are a `wait`: one whose line is UTF-8 and is parsed as such, and no other.
-use Rattle.std.proofs.Common.{◌≡◌, Bool, true, false, List, ℕ, length, refl}
+use Rattle.script_run.proofs.Words.{◌≡◌, Bool, false, is_wait, length, List, means_wait, refl, Statement, true, ℕ}
 use Rattle.std.specs.Str.{IsUtf8, is_utf8}
 use Rattle.std.proofs.lemmas.Str.{IsUtf8-from_is_utf8, is_utf8-from_IsUtf8}
-use Rattle.script_reader.specs.declared.statement.Statement.{Statement}
 use Rattle.star_parser.specs.Parsed.{parsed_of}
 use Rattle.star_statement.specs.Text.{meaning_of, parsed_meaning}
-use Rattle.script_run.specs.Waiting.{is_wait, means_wait}
 
 -- a line that is UTF-8 is what it is parsed as
 pub wait-utf8 : (statement : Statement) → IsUtf8 statement.line

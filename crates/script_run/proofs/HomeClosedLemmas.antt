@@ -1,23 +1,11 @@
 -- Where a core loses no statement and seat 0 waits for nothing, no query is open.
-use Rattle.std.proofs.Common.{◌≡◌, ◌≢◌, ◌⊎◌, ℕ, false, List, [], ◌∷◌, get_or, map, Option, Some, None, option_map, refl, sym, ap, ◌∙◌, subst, ⊎_elim, arith}
-use Rattle.std.specs.Prelude.{All, Contains, IfSome}
-use Rattle.std.specs.Option.{option_map_or}
-use Rattle.std.proofs.lemmas.List.Elements.{All-contains, All-head, All-map, All-nil, All-cons, All-tail}
-use Rattle.star_plan.specs.Test.{Query}
-use Rattle.pipeline_manager.specs.Conditions.{is_open}
-use Rattle.pipeline_manager.specs.Lives.{life_of, query_in}
-use Rattle.pipeline_manager.specs.declared.life.Life.{Life}
-use Rattle.pipeline_manager.specs.declared.life.Life.TheVariants.{Answered, Spoiled}
-use Rattle.pipeline_manager.specs.declared.life.QueryLife.{QueryLife}
+use Rattle.script_run.proofs.Words.{◌∙◌, ◌∷◌, ◌≡◌, ◌≢◌, [], Accepted, accepted_by, All, All-cons, All-contains, All-head, All-map, All-nil, All-tail, Answered, ap, arith, Contains, empty_seat, false, get_or, IfSome, is_open, IsSound, IsSoundSeat, Life, life_of, List, map, None, of-numbers, Option, option_map, option_map_or, Pending, Query, query_in, QueryLife, refl, Seat, seat_at, Some, Spoiled, State, subst, sym, Taken, ℕ, ⊎_elim}
+use Rattle.std.proofs.Common.{◌⊎◌}
 use Rattle.pipeline_manager.proofs.QueryLemmas.{query_in-found}
-use Rattle.core_state.specs.Sound.{IsSound, IsSoundSeat, IsTaken}
-use Rattle.core_state.specs.State.{Accepted, Pending, Seat, State, Taken}
-use Rattle.core_state.specs.Submitting.{empty_seat, seat_at}
+use Rattle.core_state.specs.Sound.{IsTaken}
 use Rattle.core_state.specs.Whole.{IsAccountedFor}
-use Rattle.core_state.proofs.AskLemmas.{of-numbers}
 use Rattle.core_state.proofs.WholeSeatsLemmas.{seat-found}
 use Rattle.script_run.specs.Home.{IsWaitedFor}
-use Rattle.script_run.specs.Played.{accepted_by}
 use Rattle.script_run.proofs.HomeStepLemmas.{Owns}
 
 -- a query of this number, if there is one, is not open

@@ -1,39 +1,19 @@
 -- What is left of a core where queries are abandoned and replies are taken.
-use Rattle.std.proofs.Common.{◌≡◌, ℕ, ◌<◌, ◌≤◌, Bool, true, false, cond, not, eqb, eq-eqb, List, [], ◌∷◌, ◌++◌, length, get_or, map, set, take, Option, Some, None, option_map, Result, Ok, Err, refl, sym, ap, ◌∙◌, subst, ⊎_elim, append-nil, append_assoc, arith}
-use Rattle.std.specs.Prelude.{◌↔◌, All, IsErrOf, IsSome, IsTrue, OnOk, count_by, find}
+use Rattle.script_run.proofs.Words.{◌++◌, ◌<◌, ◌∙◌, ◌∷◌, ◌≡◌, ◌≤◌, [], Abandon, Abandoned, Accepted, accepted_at, accepted_by, after_abandoning, after_taking, All, Answered, ap, append-nil, append_assoc, arith, Bool, by-option, cond, count_by, Done, empty_seat, eq-eqb, eqb, Err, false, find, find-holds, first_open, forgets, forgotten, Front, get_or, get_or-set_same, is_open, is_query, IsCounted, IsEnabled, IsHeld, IsKnown, IsSome, IsSound, IsTrue, length, life_in, life_of, List, Lives, map, next_ready, None, Ok, OnOk, Option, option_map, option_map_or, part-stays, Pending, query_in, QueryLife, refl, Replying, Result, Seat, seat_at, Some, State, state_of, StepsKeep, StepsLoseNone, subst, sym, take, taken_by, Took, true, with_seat, without_pending, ℕ, ⊎_elim}
+use Rattle.std.proofs.Common.{not, set}
+use Rattle.std.specs.Prelude.{◌↔◌, IsErrOf}
 use Rattle.std.specs.List.{filter}
-use Rattle.std.specs.Option.{option_map_or}
-use Rattle.std.proofs.lemmas.List.{get_or-set_same}
 use Rattle.pipeline_manager.specs.Changes.{after_abandon}
-use Rattle.pipeline_manager.specs.Conditions.{CanAbandon, is_open}
-use Rattle.pipeline_manager.specs.Lives.{Lives, life_in, life_of, query_in}
-use Rattle.pipeline_manager.specs.declared.life.Life.TheVariants.{Abandoned, Answered}
-use Rattle.pipeline_manager.specs.declared.life.QueryLife.{QueryLife}
-use Rattle.core_state.specs.Events.{IsEnabled, after_event}
-use Rattle.core_state.specs.Found.{accepted_at}
-use Rattle.core_state.specs.Sound.{IsSound}
-use Rattle.core_state.specs.State.{Accepted, Pending, Seat, State}
-use Rattle.core_state.specs.Steps.{Done, Replying}
-use Rattle.core_state.specs.Submitting.{Ready, after_abandoning, after_taking, empty_seat, forgotten, next_ready, seat_at, taken_by, with_seat, without_pending}
-use Rattle.core_state.specs.declared.event.Event.TheVariants.{Abandon}
-use Rattle.core_state.proofs.AcceptedLemmas.{find-holds}
-use Rattle.core_state.proofs.AnewLemmas.{forgets}
+use Rattle.pipeline_manager.specs.Conditions.{CanAbandon}
+use Rattle.core_state.specs.Events.{after_event}
+use Rattle.core_state.specs.Submitting.{Ready}
 use Rattle.core_state.proofs.FoundLemmas.{find-passes}
 use Rattle.core_state.proofs.ScannedOverLemmas.{life-accepted}
-use Rattle.core_state.proofs.SeatLemmas.{part-stays}
-use Rattle.core_state.proofs.StepLemmas.{StepsKeep}
-use Rattle.core_state.proofs.WholeFrameLemmas.{by-option}
-use Rattle.core_state.proofs.WholeRunLemmas.{StepsLoseNone}
-use Rattle.event_core.specs.Replies.{first_open}
-use Rattle.event_core.specs.Seen.{state_of}
-use Rattle.event_core.specs.Took.{MayWantMemory, Took}
+use Rattle.event_core.specs.Took.{MayWantMemory}
 use Rattle.event_core.specs.declared.stepping.StepFault.{StepFault}
 use Rattle.event_core.specs.declared.stepping.StepFault.TheVariants.{NotEnabled, Memory}
-use Rattle.script_run.specs.Counted.{IsCounted, IsKnown, is_query}
-use Rattle.script_run.specs.Home.{IsAtHome, IsHeld, LetsGo}
+use Rattle.script_run.specs.Home.{IsAtHome, LetsGo}
 use Rattle.script_run.specs.Leaving.{IsLeaving}
-use Rattle.script_run.specs.Played.{accepted_by}
-use Rattle.script_run.specs.declared.front.Front.{Front}
 use Rattle.script_run.proofs.FrontOpenLemmas.{first-waits, taken-behind, taken-closed}
 use Rattle.script_run.proofs.FrontRunLemmas.{idle-scan}
 use Rattle.script_run.proofs.HomeClosedLemmas.{closed-all}

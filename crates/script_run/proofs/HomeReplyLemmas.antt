@@ -1,13 +1,5 @@
 -- The replies behind the last statement that is whole: all of them, or those before they halt.
-use Rattle.std.proofs.Common.{ℕ, Bool, List, [], ◌++◌, Option, Ok, Err, sym, subst}
-use Rattle.std.specs.Io.KnownBytes.{Appends}
-use Rattle.std.proofs.KnownBytes.{Appends-trans}
-use Rattle.script_reader.specs.Reading.{Reading, StaysFed}
-use Rattle.core_state.specs.State.{State}
-use Rattle.script_run.specs.Answer.{HasNoStatement}
-use Rattle.script_run.specs.Front.{PlaysOn, PlaysWhole, ReadsOn, text_of_played}
-use Rattle.script_run.specs.Played.{Played}
-use Rattle.script_run.specs.declared.halt.Halt.{Halt}
+use Rattle.script_run.proofs.Words.{◌++◌, [], Appends, Appends-trans, Bool, Err, Halt, HasNoStatement, List, Ok, Option, Played, PlaysOn, PlaysWhole, Reading, ReadsOn, State, StaysFed, subst, sym, text_of_played, ℕ}
 use Rattle.script_run.proofs.FrontHaltLemmas.{text-append}
 use Rattle.script_run.proofs.SharedReadLemmas.{off-behind, off-none, part-behind, part-none, reads-none, reads-then}
 use Rattle.script_run.proofs.SharedWholeLemmas.{stops-part}

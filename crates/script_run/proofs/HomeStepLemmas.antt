@@ -1,32 +1,10 @@
 -- What a step of a session leaves: all that it adds is of seat 0.
-use Rattle.std.proofs.Common.{◌≡◌, ◌≢◌, ℕ, ◌+◌, ◌<◌, ◌≤◌, Bool, true, false, cond, eqb, eq-eqb, List, [], ◌∷◌, ◌++◌, length, get_or, map, take, Option, Some, None, refl, sym, ap, ◌∙◌, subst, ⊎_elim, append-nil, arith}
-use Rattle.std.specs.Prelude.{All, Contains, IsSome}
-use Rattle.std.specs.Option.{option_map_or}
-use Rattle.std.proofs.lemmas.Bool.{cases_lt}
-use Rattle.std.proofs.lemmas.List.{get_or-set_other, get_or_past}
-use Rattle.std.proofs.lemmas.List.Elements.{All-cons, All-contains, All-head, All-nil, All-push, All-tail, All-weaker}
-use Rattle.script_reader.specs.declared.statement.Statement.{Statement}
-use Rattle.star_plan.specs.Test.{Query}
-use Rattle.star_history.specs.History.{Change}
+use Rattle.script_run.proofs.Words.{◌++◌, ◌+◌, ◌<◌, ◌∙◌, ◌∷◌, ◌≡◌, ◌≢◌, ◌≤◌, [], Abandon, Accepted, accepted_at, accepted_by, after_abandoning, after_outcome, after_step, after_submitting, after_taking, All, All-cons, All-contains, All-head, All-nil, All-tail, All-weaker, ap, append-nil, arith, aside-outcome, Asked, Awaited, Bool, Build, by-option, cases_lt, Change, Clear, cond, Contains, Cut, Distribute, Done, empty_seat, entries-by, Entry, eq-eqb, eqb, Event, false, find-holds, Finish, forgets, forgotten, get_or, get_or_past, Give, IsAwaited, IsEnabled, IsOfSession, IsSome, IsSound, IsSoundSeat, length, List, map, MayStep, next_ready, None, Option, option_map_or, outcome_of, part-stays, Pending, queries_among, Query, refl, Release, Reorder, Replied, Replying, Reserve, Seat, seat_at, Some, Start, State, Statement, Step, Submit, subst, sym, tables_of, Take, take, Taken, taken_by, Told, true, Wanting, with_query, with_statement, with_taken, without_pending, ℕ, ⊎_elim}
+use Rattle.std.proofs.lemmas.List.{get_or-set_other}
+use Rattle.std.proofs.lemmas.List.Elements.{All-push}
 use Rattle.star_statement.specs.Outcome as outcome
-use Rattle.star_statement.specs.Outcome.{Told, outcome_of}
-use Rattle.core_state.specs.Events.{IsEnabled, after_event}
-use Rattle.core_state.specs.Found.{accepted_at}
-use Rattle.core_state.specs.Sound.{IsAwaited, IsSound, IsSoundSeat}
-use Rattle.core_state.specs.State.{Accepted, Asked, Awaited, Entry, Pending, Replied, Seat, State, Taken}
-use Rattle.core_state.specs.Steps.{Done, MayStep, Replying, Step, Wanting, after_step}
-use Rattle.core_state.specs.Submitting.{after_abandoning, after_outcome, after_submitting, after_taking, empty_seat, forgotten, next_ready, seat_at, taken_by, with_query, with_statement, with_taken, without_pending}
-use Rattle.core_state.specs.Tables.{tables_of}
-use Rattle.core_state.specs.declared.event.Event.{Event}
-use Rattle.core_state.specs.declared.event.Event.TheVariants.{Submit, Reserve, Build, Start, Cut, Take, Give, Distribute, Finish, Clear, Release, Reorder, Abandon}
-use Rattle.core_state.proofs.AcceptedLemmas.{find-holds}
-use Rattle.core_state.proofs.AnewLemmas.{forgets}
-use Rattle.core_state.proofs.LaterLemmas.{entries-by}
-use Rattle.core_state.proofs.SeatLemmas.{part-stays}
-use Rattle.core_state.proofs.StepSeatLemmas.{aside-outcome}
-use Rattle.core_state.proofs.WholeFrameLemmas.{by-option}
-use Rattle.script_run.specs.Home.{AreApart, IsOfSession}
-use Rattle.script_run.specs.Played.{accepted_by, queries_among}
+use Rattle.core_state.specs.Events.{after_event}
+use Rattle.script_run.specs.Home.{AreApart}
 use Rattle.script_run.proofs.FrontOpenLemmas.{first-waits}
 use Rattle.script_run.proofs.PlayedEventLemmas.{Same, same-done, same-want}
 use Rattle.script_run.proofs.PlayedSubmitLemmas.{submitted-seat}

@@ -1,21 +1,8 @@
 -- What the steps of a session leave, one after the other, and that the front knows its core behind them.
-use Rattle.std.proofs.Common.{◌≡◌, List, [], ◌∷◌, ◌++◌, refl, sym, ap, ◌∙◌, subst, append-nil, append_assoc}
-use Rattle.std.specs.Prelude.{All}
-use Rattle.std.proofs.lemmas.List.Elements.{All-append, All-cons, All-head, All-nil, All-tail, All-weaker}
-use Rattle.std.proofs.lemmas.List.Sums.{fold-append}
-use Rattle.core_state.specs.Sound.{IsSound}
-use Rattle.core_state.specs.State.{Entry, State}
-use Rattle.core_state.specs.Steps.{Done, MayStep, MayStepAll, Replying, Step, Wanting, after_step, after_steps}
-use Rattle.core_state.specs.Submitting.{seat_at}
+use Rattle.script_run.proofs.Words.{◌++◌, ◌∙◌, ◌∷◌, ◌≡◌, [], Abandon, after_step, after_steps, All, All-append, All-cons, All-head, All-nil, All-tail, All-weaker, ap, append-nil, append_assoc, Build, Clear, Cut, Distribute, Done, Entry, Finish, fold-append, Front, Give, IsHeld, IsKnown, IsOfRun, IsOfSession, IsRun, IsSound, List, MayStep, MayStepAll, refl, Release, Reorder, Replying, Reserve, seat_at, Start, State, state_of, Step, StepsKeep, StepsLoseNone, Submit, subst, sym, Take, Wanting}
 use Rattle.core_state.specs.Whole.{LosesNone}
-use Rattle.core_state.specs.declared.event.Event.TheVariants.{Submit, Reserve, Build, Start, Cut, Take, Give, Distribute, Finish, Clear, Release, Reorder, Abandon}
-use Rattle.core_state.proofs.StepLemmas.{StepsKeep}
-use Rattle.core_state.proofs.WholeRunLemmas.{StepsLoseNone, steps-lose}
-use Rattle.event_core.specs.Seen.{state_of}
-use Rattle.script_run.specs.Counted.{IsKnown}
-use Rattle.script_run.specs.Front.{IsOfRun, IsRun}
-use Rattle.script_run.specs.Home.{IsHeld, IsOfSession, IsServed}
-use Rattle.script_run.specs.declared.front.Front.{Front}
+use Rattle.core_state.proofs.WholeRunLemmas.{steps-lose}
+use Rattle.script_run.specs.Home.{IsServed}
 use Rattle.script_run.proofs.FrontRunLemmas.{may-append}
 use Rattle.script_run.proofs.HomeStepLemmas.{IsApart, Owns, Serves, serves-step}
 

@@ -1,29 +1,12 @@
 -- Events of the driver leave the settings, the history and the number of the last statement; what the scan goes on by them.
-use Rattle.std.proofs.Common.{◌≡◌, ℕ, ◌≤◌, Bool, true, false, List, [], ◌∷◌, length, refl, sym, ap, ◌∙◌, subst, ⊎_elim, arith}
-use Rattle.std.specs.Prelude.{All, count_by, find}
-use Rattle.std.proofs.lemmas.List.Elements.{All-cons, All-head, All-nil, All-tail, All-weaker}
-use Rattle.pipeline_manager.specs.Conditions.{IsRunning, is_open}
-use Rattle.pipeline_manager.specs.Lives.{slot_of}
-use Rattle.pipeline_manager.specs.declared.life.Life.{Life}
-use Rattle.pipeline_manager.specs.declared.life.Life.TheVariants.{Waiting, Building, Running, Ending, Answered, Spoiled, Abandoned}
-use Rattle.pipeline_manager.specs.declared.life.QueryLife.{QueryLife}
-use Rattle.core_state.specs.Admitting.{after_build, with_built}
-use Rattle.core_state.specs.Cutting.{after_distribute, after_give}
+use Rattle.script_run.proofs.Words.{◌∙◌, ◌∷◌, ◌≡◌, ◌≤◌, [], Abandon, Abandoned, accepted_at, after_build, after_distribute, after_give, All, All-cons, All-head, All-nil, All-tail, All-weaker, Answered, ap, arith, Bool, Build, Building, by-option, Clear, count-cons, count_by, Cut, Distribute, Entry, Event, false, find, Finish, flight_at, Give, GoesRound, is_held_by, is_open, IsDriven, IsLed, IsOverOrWaits, IsSound, IsSpoilt, LeavesSeats, length, Life, List, one_if, QueryLife, refl, Release, Reorder, Reserve, slot_of, Spoiled, Start, State, Submit, subst, sym, tables_by, Take, Took, TookAll, true, versions_in, Waiting, with_built, ℕ, ⊎_elim}
+use Rattle.pipeline_manager.specs.Conditions.{IsRunning}
+use Rattle.pipeline_manager.specs.declared.life.Life.TheVariants.{Running, Ending}
 use Rattle.core_state.specs.Events.{after_event, after_want}
-use Rattle.core_state.specs.Found.{accepted_at, flight_at, is_held_by}
-use Rattle.core_state.specs.Sound.{IsSound}
-use Rattle.core_state.specs.State.{Entry, State}
-use Rattle.core_state.specs.Tables.{tables_by, versions_in}
-use Rattle.core_state.specs.declared.event.Event.{Event}
-use Rattle.core_state.specs.declared.event.Event.TheVariants.{Submit, Reserve, Build, Start, Cut, Take, Give, Distribute, Finish, Clear, Release, Reorder, Abandon}
-use Rattle.core_state.proofs.WholeFrameLemmas.{by-option}
-use Rattle.event_core.specs.Took.{IsLed, IsSpoilt, Took, TookAll}
-use Rattle.core_driver.specs.Driven.{IsDriven}
 use Rattle.core_driver.specs.Lap.{SharesLap, SomeRuns, is_unfinished, unfinished_in}
-use Rattle.core_driver.proofs.LapCountLemmas.{count-cons, count-le}
+use Rattle.core_driver.proofs.LapCountLemmas.{count-le}
 use Rattle.core_driver.proofs.LapQueryLemmas.{none-any}
-use Rattle.script_run.specs.Counted.{GoesRound, IsCalm, IsOverOrWaits, one_if, open_in}
-use Rattle.script_run.specs.Played.{LeavesSeats}
+use Rattle.script_run.specs.Counted.{IsCalm, open_in}
 use Rattle.script_run.proofs.PlayedEventLemmas.{driven-leaves}
 
 -- the settings, the history and the number of the last statement are as they were

@@ -1,25 +1,10 @@
 -- How far the scan goes by statements that are given to a core, and by letting queries come to their end.
-use Rattle.std.proofs.Common.{◌≡◌, ⊎_elim, ℕ, zero, suc, ◌+◌, ◌*◌, ◌/◌, ◌<◌, ◌≤◌, List, [], ◌∷◌, ◌++◌, map, Result, Ok, refl, sym, ap, ◌∙◌, subst, append-nil, arith}
-use Rattle.std.specs.Prelude.{◌⊎◌, IsTrue, fold}
-use Rattle.std.proofs.lemmas.List.{map-append}
-use Rattle.std.proofs.lemmas.List.Sums.{fold-append}
+use Rattle.script_run.proofs.Words.{◌*◌, ◌++◌, ◌+◌, ◌/◌, ◌<◌, ◌∙◌, ◌∷◌, ◌≡◌, ◌≤◌, ◌⊎◌, [], ap, append-nil, arith, awaited_by, Change, changes_of, ComesTo, ComeTo, CountsOne, fold-append, GoesRound, is_wait, IsTrue, laps_of, LapsOn, Leads, List, lost, map, map-append, meaning_of, means_wait, Ok, outcome_by, Pending, placed, places_played, Played, Plays, queries_awaited, refl, Refusal, Replied, Result, rows_of, seat_at, State, Statement, Store, subst, suc, sym, tables_of, told_of, versions_in, Waited, zero, ℕ, ⊎_elim}
+use Rattle.std.specs.Prelude.{fold}
 use Rattle.std.proofs.Math.Nat.{mul-le-mul}
-use Rattle.script_reader.specs.declared.statement.Statement.{Statement}
-use Rattle.star_values.specs.declared.refusal.Refusal.{Refusal}
 use Rattle.star_parser.specs.Statement as written
-use Rattle.star_history.specs.History.{Change}
-use Rattle.star_history.specs.Store.{Store}
 use Rattle.star_statement.specs.Outcome as outcome
-use Rattle.star_statement.specs.Outcome.{outcome_by, outcome_of}
-use Rattle.star_statement.specs.Text.{meaning_of}
-use Rattle.reply_text.specs.declared.reply.Reply.TheVariants.{Waited}
-use Rattle.core_state.specs.State.{Pending, Replied, State}
-use Rattle.core_state.specs.Submitting.{awaited_by, seat_at}
-use Rattle.core_state.specs.Tables.{changes_of, tables_of, versions_in}
-use Rattle.script_run.specs.Counted.{CountsOne, GoesRound, LapsOn, places_played, queries_awaited, told_of}
-use Rattle.script_run.specs.Laps.{laps_of, placed, rows_of}
-use Rattle.script_run.specs.Played.{ComeTo, ComesTo, Leads, Played, Plays, lost}
-use Rattle.script_run.specs.Waiting.{is_wait, means_wait}
+use Rattle.star_statement.specs.Outcome.{outcome_of}
 use Rattle.script_run.proofs.LapRowLemmas.{places-come, places-grow, rows-all, rows-fill, rows-full, rows-grow, rows-next}
 use Rattle.script_run.proofs.PlayedLeadLemmas.{may-play-idle}
 use Rattle.script_run.proofs.PlayedSomeLemmas.{CameLast, come-last}

@@ -1,18 +1,8 @@
 -- Replies in rows of places: how many places they take at least, and how many rows these fill.
-use Rattle.std.proofs.Common.{◌≡◌, ⊎_elim, ℕ, ◌+◌, ◌-◌, ◌*◌, ◌/◌, ◌<◌, ◌≤◌, List, [], ◌∷◌, sym, subst, ◌∙◌, arith}
-use Rattle.std.specs.Prelude.{count_by}
+use Rattle.script_run.proofs.Words.{◌*◌, ◌+◌, ◌-◌, ◌/◌, ◌<◌, ◌∙◌, ◌∷◌, ◌≡◌, ◌≤◌, [], Answer, answer_reply, arith, Asked, Awaited, ComesTo, ComeTo, Commit, count-cons, count_by, is_query, List, Memory, one_if, Overflow, Pending, placed, places_played, Played, Refused, Replied, Reply, rows_of, Store, subst, sym, Table, Waited, ℕ, ⊎_elim}
 use Rattle.std.proofs.Math.Nat.{lt-mul-div-succ, le-div_iff_mul-le, mul-div_left, mul_comm, div-mul-le_self}
 use Rattle.star_plan.specs.declared.answer.Answer as answers
 use Rattle.star_plan.specs.declared.answer.Answer.TheVariants as answer
-use Rattle.star_history.specs.Store.{Store}
-use Rattle.star_statement.specs.Effect.{answer_reply}
-use Rattle.reply_text.specs.declared.reply.Reply.{Reply}
-use Rattle.reply_text.specs.declared.reply.Reply.TheVariants.{Table, Commit, Answer, Overflow, Memory, Refused, Waited}
-use Rattle.core_state.specs.State.{Asked, Awaited, Pending, Replied}
-use Rattle.core_driver.proofs.LapCountLemmas.{count-cons}
-use Rattle.script_run.specs.Counted.{is_query, one_if, places_played}
-use Rattle.script_run.specs.Laps.{placed, rows_of}
-use Rattle.script_run.specs.Played.{ComeTo, ComesTo, Played}
 
 one-more : (q s : ℕ) → (q + 1) * s ≡ q * s + s
 one-more q s = omega arith

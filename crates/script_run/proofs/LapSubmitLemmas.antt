@@ -1,29 +1,15 @@
 -- A statement that is given to a core: what it leaves, and what it counts.
-use Rattle.std.proofs.Common.{◌≡◌, ℕ, ◌+◌, ◌<◌, ◌≤◌, Bool, false, cond, eqb, eq-eqb, List, [], ◌∷◌, length, map, find, Option, Some, None, option_map, refl, sym, ap, ◌∙◌, subst, length-append, arith}
-use Rattle.std.specs.Prelude.{All, count_by, if◌then◌else◌}
-use Rattle.std.specs.Option.{option_map_or, option_or}
-use Rattle.std.proofs.lemmas.Bool.{ne_eqb}
-use Rattle.std.proofs.lemmas.List.Elements.{All-append, All-cons, All-head, All-map, All-nil, All-tail, All-weaker}
+use Rattle.script_run.proofs.Words.{◌+◌, ◌<◌, ◌∙◌, ◌∷◌, ◌≡◌, ◌≤◌, [], Accepted, after_change, after_submitting, All, All-append, All-cons, All-head, All-map, All-nil, All-tail, All-weaker, ap, arith, awaited_by, Bool, Change, cond, count_by, CountsOne, DimensionDeclared, Ended, eq-eqb, eqb, FactDeclared, false, if◌then◌else◌, is_open, is_query, IsOverOrWaits, IsSound, IsSoundQuery, length, length-append, life_in, List, Loaded, map, ne_eqb, None, one_if, Option, option_map, option_map_or, Outcome, outcome_of, Pending, queries_awaited, QueryLife, refl, Seat, seat_at, Some, State, Statement, Store, subst, sym, tables_of, Told, told_of, versions_in, Waiting, with_change, with_query, with_seat, with_statement, ℕ}
+use Rattle.std.proofs.Common.{find}
+use Rattle.std.specs.Option.{option_or}
 use Rattle.std.proofs.lemmas.List.Folds.{find-append}
 use Rattle.std.proofs.lemmas.List.Sums.{sum_by-append}
-use Rattle.script_reader.specs.declared.statement.Statement.{Statement}
 use Rattle.star_plan.specs.declared.table.Table.TheVariants as table
-use Rattle.star_history.specs.History.{Change, DimensionDeclared, FactDeclared, Loaded, Ended, after_change, versions_by}
-use Rattle.star_history.specs.Store.{Store}
+use Rattle.star_history.specs.History.{versions_by}
 use Rattle.star_statement.specs.Effect.{store_by}
 use Rattle.star_statement.specs.Outcome as outcome
-use Rattle.star_statement.specs.Outcome.{Outcome, Told, outcome_of}
-use Rattle.pipeline_manager.specs.Conditions.{is_open}
-use Rattle.pipeline_manager.specs.Lives.{life_in}
-use Rattle.pipeline_manager.specs.declared.life.Life.TheVariants.{Waiting}
-use Rattle.pipeline_manager.specs.declared.life.QueryLife.{QueryLife}
-use Rattle.core_state.specs.Sound.{IsSound, IsSoundQuery}
-use Rattle.core_state.specs.State.{Accepted, Pending, Seat, State}
-use Rattle.core_state.specs.Submitting.{after_submitting, awaited_by, seat_at, with_change, with_query, with_seat, with_statement}
-use Rattle.core_state.specs.Tables.{tables_of, versions_in}
 use Rattle.core_state.proofs.CutFoundLemmas.{none-found}
 use Rattle.core_state.proofs.LoggedPlaceLemmas.{length-all-ended}
-use Rattle.script_run.specs.Counted.{CountsOne, IsOverOrWaits, is_query, one_if, queries_awaited, told_of}
 use Rattle.script_run.proofs.FrontRunLemmas.{scan-submitted}
 use Rattle.script_run.proofs.PlayedSubmitLemmas.{submitted-seat, submitted-tables}
 

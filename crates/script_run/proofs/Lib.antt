@@ -1,3 +1,4 @@
+pub mod Words
 -- Lemmas on runs of scripts.
 mod NextLemmas
 mod WholeLemmas

@@ -1,12 +1,5 @@
 -- One statement more: its reply comes first.
-use Rattle.std.proofs.Common.{◌≡◌, ◌≢◌, ℕ, suc, Bool, true, List, [], ◌∷◌, ◌++◌, refl, ap, ◌∙◌, append-nil}
-use Rattle.script_reader.specs.Reading.{MayCome, Reading, TakesFirst, Wants}
-use Rattle.script_reader.specs.Script.{statements_of}
-use Rattle.script_reader.specs.declared.statement.Statement.{Statement}
-use Rattle.star_history.specs.Store.{Store}
-use Rattle.star_statement.specs.Effect.{effect_of, store_after}
-use Rattle.star_statement.specs.Script.{replies_at}
-use Rattle.script_run.specs.Answer.{replies_left}
+use Rattle.script_run.proofs.Words.{◌++◌, ◌∙◌, ◌∷◌, ◌≡◌, ◌≢◌, [], ap, append-nil, Bool, effect_of, List, MayCome, Reading, refl, replies_at, replies_left, Statement, statements_of, Store, store_after, suc, TakesFirst, true, Wants, ℕ}
 
 -- where memory is wanted at no place, places make no difference
 places : (place other : ℕ) (store : Store) (statements : List Statement) → replies_at [] place store statements ≡ replies_at [] other store statements

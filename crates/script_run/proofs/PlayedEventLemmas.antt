@@ -1,33 +1,15 @@
 -- Events by which no statement is submitted and no query abandoned leave the history, the seats and what is asked, and so what may be played.
-use Rattle.std.proofs.Common.{◌≡◌, ℕ, ◌-◌, true, false, List, [], ◌∷◌, get_or, map, Some, refl, sym, ap, ◌∙◌, subst, ⊎_elim, append-nil}
-use Rattle.std.specs.Prelude.{All, find}
-use Rattle.std.specs.Option.{option_map_or}
-use Rattle.std.proofs.lemmas.List.Elements.{All-head, All-nil, All-tail, All-weaker}
-use Rattle.reply_text.specs.declared.reply.Reply.{Reply}
+use Rattle.script_run.proofs.Words.{◌-◌, ◌∙◌, ◌∷◌, ◌≡◌, [], Abandon, accepted_at, accepted_by, after_build, after_distribute, after_give, All, All-head, All-nil, All-tail, All-weaker, Answered, ap, append-nil, AreRising, Build, Building, by-option, changes_of, Clear, ComeTo, Cut, Distribute, empty_seat, Entry, Event, false, find, Finish, flight_at, forgets, forgotten, get_or, Give, given_in, is_held_by, IsDriven, IsEnabled, IsLed, IsReplyOf, IsSpoilt, IsTakenAs, Leads, LeavesSeats, life_in, List, map, option_map_or, Plays, Ready, ready_of, refl, Release, Reorder, Reply, Reserve, Seat, slot_of, Some, Spoiled, Start, State, Submit, subst, sym, tables_by, tables_of, Take, Took, TookAll, true, versions_in, with_built, ℕ, ⊎_elim}
 use Rattle.continuous_scan.specs.Range.{first_of}
 use Rattle.pipeline_manager.specs.Changes.{started}
-use Rattle.pipeline_manager.specs.Lives.{extent_in, life_in, slot_of}
-use Rattle.pipeline_manager.specs.Sound.{AreRising}
-use Rattle.pipeline_manager.specs.declared.life.Life.TheVariants.{Answered, Building, Spoiled}
-use Rattle.core_state.specs.Admitting.{after_build, after_build_wants, with_built}
-use Rattle.core_state.specs.Cutting.{after_distribute, after_give, end_in, fed, first_in, gets_rows, unkept}
-use Rattle.core_state.specs.Events.{IsEnabled, IsFed, after_event, after_want}
-use Rattle.core_state.specs.Found.{accepted_at, flight_at, is_held_by}
-use Rattle.core_state.specs.State.{Entry, Seat, State}
+use Rattle.pipeline_manager.specs.Lives.{extent_in}
+use Rattle.core_state.specs.Admitting.{after_build_wants}
+use Rattle.core_state.specs.Cutting.{end_in, fed, first_in, gets_rows, unkept}
+use Rattle.core_state.specs.Events.{IsFed, after_event, after_want}
 use Rattle.core_state.specs.Steps.{MaySpoil}
-use Rattle.core_state.specs.Submitting.{empty_seat, forgotten}
-use Rattle.core_state.specs.Tables.{changes_of, tables_by, tables_of, versions_in}
-use Rattle.core_state.specs.declared.event.Event.{Event}
-use Rattle.core_state.specs.declared.event.Event.TheVariants.{Submit, Reserve, Build, Start, Cut, Take, Give, Distribute, Finish, Clear, Release, Reorder, Abandon}
-use Rattle.core_state.proofs.AnewLemmas.{forgets}
 use Rattle.core_state.proofs.LandedLemmas.{feeds}
-use Rattle.core_state.proofs.WholeFrameLemmas.{by-option, unkeeps}
-use Rattle.event_core.specs.Replies.{IsReplyOf, ready_of}
-use Rattle.event_core.specs.Took.{IsLed, IsSpoilt, Took, TookAll}
-use Rattle.event_core.specs.declared.replies.Ready.{Ready}
+use Rattle.core_state.proofs.WholeFrameLemmas.{unkeeps}
 use Rattle.event_core.specs.declared.replies.Ready.TheVariants.{Whole, Grouped}
-use Rattle.core_driver.specs.Driven.{IsDriven}
-use Rattle.script_run.specs.Played.{ComeTo, IsTakenAs, Leads, LeavesSeats, Plays, accepted_by, given_in}
 use Rattle.script_run.proofs.ToldFollowLemmas.{asked-anew, owners-anew}
 use Rattle.script_run.proofs.ToldLivesLemmas.{LivesOn, lives-built, lives-cut, lives-ended, lives-reserved, lives-same, lives-spoiled}
 use Rattle.script_run.proofs.ToldLivesLemmas.{lives-then, lives-written, not-answered}

@@ -1,12 +1,5 @@
 -- What leads from one core to another: nothing, one lead behind the other, and a statement for which no memory was left.
-use Rattle.std.proofs.Common.{◌≡◌, List, [], ◌∷◌, ◌++◌, refl, sym, ap, ◌∙◌, subst, inr, append_assoc}
-use Rattle.script_reader.specs.declared.statement.Statement.{Statement}
-use Rattle.star_history.specs.History.{Change}
-use Rattle.star_history.specs.Store.{Store}
-use Rattle.core_state.specs.State.{State}
-use Rattle.core_state.specs.Submitting.{seat_at}
-use Rattle.core_state.specs.Tables.{changes_of, tables_of}
-use Rattle.script_run.specs.Played.{ComeTo, Leads, MayPlay, Played, Plays, lost}
+use Rattle.script_run.proofs.Words.{◌++◌, ◌∙◌, ◌∷◌, ◌≡◌, [], ap, append_assoc, Change, changes_of, ComeTo, inr, Leads, List, lost, MayPlay, Played, Plays, refl, seat_at, State, Statement, Store, subst, sym, tables_of}
 use Rattle.script_run.proofs.ToldFollowLemmas.{follows-none, follows-then}
 
 -- a core leads to itself

@@ -1,19 +1,13 @@
 -- A statement that asks a query makes no change.
-use Rattle.std.proofs.Common.{◌≡◌, ℕ, Bool, true, false, List, ◌++◌, Option, None, Result, Ok, Err, refl, ap, ◌∙◌, subst, append-nil}
-use Rattle.std.specs.Prelude.{is_none, option_to_list, if◌then◌else◌}
-use Rattle.star_values.specs.declared.refusal.Refusal.{Refusal}
+use Rattle.script_run.proofs.Words.{◌++◌, ◌∙◌, ◌≡◌, ap, append-nil, Bool, Change, DimensionDeclared, Err, FactDeclared, false, history_after, if◌then◌else◌, List, meaning_of, None, Ok, Option, option_to_list, Outcome, outcome_by, Query, refl, Refusal, Result, Statement, Store, store_of, subst, Told, true, ℕ}
+use Rattle.std.specs.Prelude.{is_none}
 use Rattle.star_values.specs.declared.refusal.Refusal.TheVariants.{OutOfOrder}
-use Rattle.script_reader.specs.declared.statement.Statement.{Statement}
 use Rattle.script_reader.specs.declared.statement.Block.{Block}
 use Rattle.star_parser.specs.Statement as written
-use Rattle.star_plan.specs.Test.{Query, Test}
+use Rattle.star_plan.specs.Test.{Test}
 use Rattle.star_plan.specs.declared.table_def.TableDef.{TableDef}
-use Rattle.star_history.specs.History.{Change, DimensionDeclared, FactDeclared, store_of}
-use Rattle.star_history.specs.Store.{Store}
-use Rattle.star_statement.specs.Outcome.{Accepted, Outcome, Replied, Told}
-use Rattle.star_statement.specs.Outcome.{committed, declared, deleted, meaning_outcome, outcome_by, outcome_of, refused, selected}
-use Rattle.star_statement.specs.Script.{history_after}
-use Rattle.star_statement.specs.Text.{meaning_of}
+use Rattle.star_statement.specs.Outcome.{Accepted, Replied}
+use Rattle.star_statement.specs.Outcome.{committed, declared, deleted, meaning_outcome, outcome_of, refused, selected}
 
 -- where a query is asked there is no change
 abbrev pub QuietBy : Told → Option Change → Type 0

@@ -1,21 +1,10 @@
 -- The replies to statements that were played are those of their effects, where memory was wanted at some places.
-use Rattle.std.proofs.Common.{◌≡◌, ◌⊎◌, ℕ, suc, ◌<◌, ◌≤◌, Bool, true, false, eq-eqb, List, [], ◌∷◌, map, refl, sym, ap, subst, ◌∙◌, ⊎_elim, inl, inr, arith}
-use Rattle.std.specs.Prelude.{All, ◌||◌, if◌then◌else◌}
-use Rattle.std.proofs.lemmas.Bool.{ne_eqb}
-use Rattle.std.proofs.lemmas.List.Elements.{All-cons, All-head, All-nil, All-tail, All-weaker}
-use Rattle.script_reader.specs.declared.statement.Statement.{Statement}
+use Rattle.script_run.proofs.Words.{◌<◌, ◌∙◌, ◌∷◌, ◌≡◌, ◌≤◌, [], AgreesWith, All, All-cons, All-head, All-nil, All-tail, All-weaker, answer_reply, ap, arith, awaited_by, Bool, Change, ComesTo, effect_of, eq-eqb, false, history_after, if◌then◌else◌, inl, inr, is_wanted_at, List, map, Memory, ne_eqb, outcome_of, Played, Plays, refl, replies_after, replies_of, Reply, reply_to, Statement, Store, store_after, store_of, subst, suc, sym, Told, true, ℕ, ⊎_elim}
+use Rattle.std.proofs.Common.{◌⊎◌}
+use Rattle.std.specs.Prelude.{◌||◌}
 use Rattle.star_plan.specs.declared.answer.Answer.{Answer}
 use Rattle.star_plan.specs.declared.answer.Answer.TheVariants.{Rows, Overflow}
-use Rattle.star_history.specs.History.{Change, store_of}
-use Rattle.star_history.specs.Store.{Store}
-use Rattle.reply_text.specs.declared.reply.Reply.{Reply}
-use Rattle.reply_text.specs.declared.reply.Reply.TheVariants.{Memory}
-use Rattle.star_statement.specs.Effect.{answer_reply, effect_of, reply_to, store_after}
-use Rattle.star_statement.specs.Laws.{AgreesWith}
-use Rattle.star_statement.specs.Outcome.{Accepted, Replied, Told, outcome_of}
-use Rattle.star_statement.specs.Script.{history_after, is_wanted_at, replies_after, replies_of}
-use Rattle.core_state.specs.Submitting.{awaited_by}
-use Rattle.script_run.specs.Played.{ComesTo, Played, Plays}
+use Rattle.star_statement.specs.Outcome.{Accepted, Replied}
 use Rattle.script_run.proofs.PlayedQuietLemmas.{history-asked}
 
 -- every effect agrees with the tables that it leaves

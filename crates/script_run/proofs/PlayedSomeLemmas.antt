@@ -1,17 +1,5 @@
 -- Statements may always be played, those of two lists one after the other, and what a seat waits for comes to something.
-use Rattle.std.proofs.Common.{◌≡◌, List, [], ◌∷◌, ◌++◌, refl, ap, subst, inl, inr}
-use Rattle.script_reader.specs.declared.statement.Statement.{Statement}
-use Rattle.star_history.specs.Alone.{alone}
-use Rattle.star_history.specs.History.{Change, store_of}
-use Rattle.star_history.specs.Store.{Store}
-use Rattle.reply_text.specs.declared.reply.Reply.{Reply}
-use Rattle.star_statement.specs.Effect.{answer_reply}
-use Rattle.star_statement.specs.Outcome.{outcome_of}
-use Rattle.star_statement.specs.Script.{history_after}
-use Rattle.core_state.specs.State.{Asked, Awaited, Pending, Replied, State}
-use Rattle.core_state.specs.Submitting.{awaited_by, seat_at}
-use Rattle.core_state.specs.Tables.{changes_of, tables_of}
-use Rattle.script_run.specs.Played.{ComeTo, ComesTo, MayPlay, Played, Plays, played_as}
+use Rattle.script_run.proofs.Words.{◌++◌, ◌∷◌, ◌≡◌, [], alone, answer_reply, ap, Asked, Awaited, awaited_by, Change, changes_of, ComesTo, ComeTo, history_after, inl, inr, List, MayPlay, outcome_of, Pending, Played, played_as, Plays, refl, Replied, Reply, seat_at, State, Statement, Store, store_of, subst, tables_of}
 
 -- the reply itself, or a query's answer alone
 abbrev reply_by : Store → Awaited → Reply

@@ -1,32 +1,9 @@
 -- A statement that the front gives to a core: what it comes to then it could come to before, and so could what was waited for.
-use Rattle.std.proofs.Common.{◌≡◌, ℕ, ◌+◌, ◌<◌, ◌≤◌, eqb, List, [], ◌∷◌, ◌++◌, length, get_or, Option, Some, None, refl, sym, ap, ◌∙◌, subst, ⊎_elim, inl, inr, append-nil, append_assoc}
-use Rattle.std.specs.Prelude.{All, IsSomeAnd, option_to_list}
-use Rattle.std.specs.Option.{option_map_or}
-use Rattle.std.proofs.lemmas.List.{get_or-set_same}
-use Rattle.std.proofs.lemmas.List.Elements.{All-head, All-tail}
-use Rattle.script_reader.specs.declared.statement.Statement.{Statement}
-use Rattle.star_plan.specs.Test.{Query}
-use Rattle.star_history.specs.Alone.{alone}
-use Rattle.star_history.specs.History.{Change, after_change}
-use Rattle.star_history.specs.Store.{Store}
-use Rattle.star_statement.specs.Effect.{answer_reply, reply_to, store_after}
-use Rattle.star_statement.specs.Laws.{AgreesWith}
+use Rattle.script_run.proofs.Words.{◌++◌, ◌+◌, ◌<◌, ◌∙◌, ◌∷◌, ◌≡◌, ◌≤◌, [], Accepted, accepted_at, after_change, after_outcome, after_steps, after_submitting, AgreesWith, All, All-head, All-tail, alone, answer_reply, ap, append-nil, append_assoc, aside-outcome, Asked, Awaited, awaited_by, Change, changes_of, ComesTo, ComeTo, Done, empty_seat, entries-by, eqb, find-holds, get_or, get_or-set_same, history_after, inl, inr, IsAwaited, IsSomeAnd, IsSound, IsSoundQuery, Leads, length, List, MayPlay, MayStepAll, None, Option, option_map_or, option_to_list, outcome_of, Pending, Played, Plays, Query, refl, Replied, reply_to, Seat, seat_at, Some, State, Statement, Step, Store, store_after, Submit, subst, sym, tables_by, tables_of, Told, with_statement, ℕ, ⊎_elim}
 use Rattle.star_statement.specs.Outcome as outcome
-use Rattle.star_statement.specs.Outcome.{Told, outcome_of}
-use Rattle.star_statement.specs.Script.{history_after}
 use Rattle.core_state.specs.Events.{after_event}
-use Rattle.core_state.specs.Found.{accepted_at}
-use Rattle.core_state.specs.Sound.{HasAccepted, IsAwaited, IsSound, IsSoundQuery}
-use Rattle.core_state.specs.State.{Accepted, Asked, Awaited, Pending, Replied, Seat, State}
-use Rattle.core_state.specs.Steps.{Done, MayStepAll, Step, after_steps}
-use Rattle.core_state.specs.Submitting.{after_outcome, after_submitting, awaited_by, empty_seat, seat_at, with_statement}
-use Rattle.core_state.specs.Tables.{changes_of, tables_by, tables_of}
-use Rattle.core_state.specs.declared.event.Event.TheVariants.{Submit}
-use Rattle.core_state.proofs.AcceptedLemmas.{find-holds}
+use Rattle.core_state.specs.Sound.{HasAccepted}
 use Rattle.core_state.proofs.GrownLemmas.{changes-with, tables-with}
-use Rattle.core_state.proofs.LaterLemmas.{entries-by}
-use Rattle.core_state.proofs.StepSeatLemmas.{aside-outcome}
-use Rattle.script_run.specs.Played.{ComeTo, ComesTo, Leads, MayPlay, Played, Plays}
 use Rattle.script_run.proofs.PlayedReplyLemmas.{EffectsAgree, asked-unchanged}
 use Rattle.script_run.proofs.PlayedSomeLemmas.{CameLast, come-last}
 use Rattle.script_run.proofs.ToldSubmitLemmas.{follows-submitted}

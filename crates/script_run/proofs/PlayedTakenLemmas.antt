@@ -1,23 +1,7 @@
 -- A reply that the front takes is what its first statement comes to, and a reply may be taken where no query may still be answered.
-use Rattle.std.proofs.Common.{◌≡◌, ℕ, ◌<◌, true, false, cond, List, [], ◌∷◌, ◌++◌, length, get_or, map, drop, take, Option, Some, None, option_map, slice_get, refl, sym, ap, ◌∙◌, subst, ⊎_elim, inl, inr}
-use Rattle.std.specs.Prelude.{IsSome, IsSomeAnd, IsTrue, find}
-use Rattle.std.specs.Option.{option_map_or}
-use Rattle.std.proofs.lemmas.Bool.{cases_lt}
-use Rattle.std.proofs.lemmas.List.{get_or-set_same, get_or_past}
+use Rattle.script_run.proofs.Words.{◌++◌, ◌<◌, ◌∙◌, ◌∷◌, ◌≡◌, [], after_taking, answer_reply, ap, Asked, Awaited, cases_lt, ComesTo, ComeTo, cond, drop, empty_seat, false, find, first_open, get_or, get_or-set_same, get_or_past, given_in, inl, inr, is_open, IsRight, IsSome, IsSomeAnd, IsSound, IsTakenAs, IsToldAs, IsTrue, Leads, length, Life, life_of, List, Lives, map, next_ready, None, Option, option_map, option_map_or, Pending, Played, played_as, Query, refl, Replied, Reply, Seat, seat_at, slice_get, Some, State, subst, sym, tables_of, take, taken_by, true, with_taken, ℕ, ⊎_elim}
 use Rattle.star_plan.specs.Answer.{answer_of}
-use Rattle.star_plan.specs.Test.{Query}
-use Rattle.reply_text.specs.declared.reply.Reply.{Reply}
-use Rattle.star_statement.specs.Effect.{answer_reply}
-use Rattle.pipeline_manager.specs.Conditions.{is_open}
-use Rattle.pipeline_manager.specs.Lives.{Lives, life_of}
-use Rattle.pipeline_manager.specs.declared.life.Life.{Life}
-use Rattle.core_state.specs.Answers.{IsRight}
-use Rattle.core_state.specs.Sound.{IsSound}
-use Rattle.core_state.specs.State.{Asked, Awaited, Pending, Replied, Seat, State}
-use Rattle.core_state.specs.Submitting.{Grouping, Ready, Whole, after_taking, asked_by, empty_seat, next_ready, seat_at, taken_by, with_taken}
-use Rattle.core_state.specs.Tables.{tables_of}
-use Rattle.event_core.specs.Replies.{first_open}
-use Rattle.script_run.specs.Played.{ComeTo, ComesTo, IsTakenAs, IsToldAs, Leads, Played, given_in, played_as}
+use Rattle.core_state.specs.Submitting.{Grouping, Ready, Whole, asked_by}
 use Rattle.script_run.proofs.ToldFollowLemmas.{asked-without, given-taken}
 
 -- what a seat waits for comes to a reply that was taken, where what was taken is right

@@ -1,19 +1,6 @@
 -- What a core that is new has come to where it was given statements: the replies are those to a script, or the first of them.
-use Rattle.std.proofs.Common.{◌≡◌, ℕ, zero, suc, true, List, [], ◌∷◌, ◌++◌, get_or, replicate, Option, Some, None, slice_get, refl, sym, ap, subst, append-nil}
-use Rattle.std.specs.Prelude.{IfSome}
-use Rattle.std.specs.Option.{option_and_then}
-use Rattle.script_reader.specs.declared.statement.Statement.{Statement}
-use Rattle.star_history.specs.History.{Change}
-use Rattle.reply_text.specs.declared.reply.Reply.{Reply}
-use Rattle.core_state.specs.Answers.{IsRight}
-use Rattle.core_state.specs.Sound.{empty_core}
-use Rattle.core_state.specs.State.{Pending, Seat, State}
-use Rattle.core_state.specs.Submitting.{after_taking, empty_seat, next_ready, ready_to, seat_at}
-use Rattle.core_state.specs.Tables.{changes_of}
-use Rattle.core_state.specs.declared.settings.RunSettings.{RunSettings}
-use Rattle.event_core.specs.Replies.{IsReplyOf, ready_of}
-use Rattle.event_core.specs.declared.replies.Ready.{Ready}
-use Rattle.script_run.specs.Played.{Leads, MayPlay, Played, Plays, played_as}
+use Rattle.script_run.proofs.Words.{◌++◌, ◌∷◌, ◌≡◌, [], after_taking, ap, append-nil, Change, changes_of, empty_core, empty_seat, get_or, IfSome, IsReplyOf, IsRight, Leads, List, MayPlay, next_ready, None, Option, option_and_then, Pending, Played, played_as, Plays, Ready, ready_of, ready_to, refl, Reply, RunSettings, Seat, seat_at, slice_get, Some, State, Statement, subst, suc, sym, true, zero, ℕ}
+use Rattle.std.proofs.Common.{replicate}
 use Rattle.script_run.proofs.PlayedEventLemmas.{taken-as}
 use Rattle.script_run.proofs.PlayedLeadLemmas.{may-play-idle, plays-idle}
 use Rattle.script_run.proofs.PlayedTakenLemmas.{leads-taken}

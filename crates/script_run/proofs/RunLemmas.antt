@@ -1,24 +1,11 @@
 -- A run, from what was read and written so far.
-use Rattle.std.proofs.Common.{◌≡◌, ℕ, ◌+◌, ◌≤◌, Bool, true, false, ◌||◌, List, [], ◌++◌, length, Option, Ok, Err, inl, inr, refl, sym, ap, subst, ◌∙◌, append_assoc, append-nil, length-append, arith}
-use Rattle.std.specs.List.{list_any}
-use Rattle.std.specs.Io.KnownBytes.{Appends, Consumes}
+use Rattle.script_run.proofs.Words.{◌++◌, ◌+◌, ◌||◌, ◌∙◌, ◌≡◌, ◌≤◌, [], ap, append-nil, append_assoc, Appends, Appends-nil, Appends-trans, arith, Bool, Consumes, Consumes-nil, Consumes-trans, end_of_all, end_of_halt, Err, false, fed_with, Halt, HaltsBehind, HasEnded, HasNoStatement, inl, inr, is_refusal, IsFront, IsProperFront, length, length-append, List, list_any, MayCome, NoMemory, Ok, Option, Reading, refl, refused_left, Replies, replies_at, replies_of, RepliesInPart, SCRIPT_LIMIT, script_text, some_refused, Statement, statements_of, StaysFed, Store, subst, sym, text_left, text_of_all, true, within_limit, WriteFault, ℕ}
 use Rattle.std.proofs.lemmas.List.{take_all, take-append-le}
-use Rattle.std.proofs.KnownBytes.{Appends-nil, Appends-trans, Consumes-nil, Consumes-trans}
 use Rattle.star_io.specs.declared.run_end.RunEnd.TheVariants as end
-use Rattle.script_reader.specs.Reading.{MayCome, Reading, StaysFed}
-use Rattle.script_reader.specs.Script.{statements_of}
-use Rattle.script_reader.specs.declared.reader.TheConstants.{SCRIPT_LIMIT}
-use Rattle.script_reader.specs.declared.statement.Statement.{Statement}
-use Rattle.star_history.specs.Store.{Store, empty_store}
-use Rattle.reply_text.specs.Text.{text_of_all}
-use Rattle.star_statement.specs.Script.{replies_at, replies_of}
+use Rattle.star_history.specs.Store.{empty_store}
 use Rattle.star_io.specs.Faults.{FailedOnce}
-use Rattle.script_run.specs.Answer.{AnswersWhole, CountsHalt, HaltsBehind, HasNoStatement, Replies, RepliesInPart, refused_left, text_left}
-use Rattle.script_run.specs.End.{end_of_all, end_of_halt}
-use Rattle.script_run.specs.Pieces.{fed_with}
-use Rattle.script_run.specs.Run.{AnswersAlone, CountsFaults, HasEnded, IsFront, IsProperFront, is_refusal, script_text, some_refused, within_limit}
-use Rattle.script_run.specs.declared.halt.Halt.{Halt}
-use Rattle.script_run.specs.declared.halt.Halt.TheVariants.{WriteFault, NoMemory}
+use Rattle.script_run.specs.Answer.{AnswersWhole, CountsHalt}
+use Rattle.script_run.specs.Run.{AnswersAlone, CountsFaults}
 use Rattle.script_run.proofs.WholeLemmas.{follows}
 
 -- a script of which these bytes came, and whose input has not ended

@@ -1,27 +1,8 @@
 -- How a run over a core ends whose replies were all written, and one whose reading ended before.
-use Rattle.std.proofs.Common.{◌≡◌, ℕ, ◌*◌, ◌<◌, ◌≤◌, Bool, true, false, ◌||◌, List, [], ◌++◌, length, Option, Result, Ok, Err, refl, sym, ap, subst, ◌∙◌, append-nil, length-append, arith}
-use Rattle.std.specs.Prelude.{OnOk}
-use Rattle.std.specs.Io.KnownBytes.{Appends, Consumes}
-use Rattle.std.proofs.KnownBytes.{Appends-trans, Consumes-trans}
+use Rattle.script_run.proofs.Words.{◌*◌, ◌++◌, ◌<◌, ◌||◌, ◌∙◌, ◌≡◌, ◌≤◌, [], AnswersBy, ap, append-nil, Appends, Appends-trans, arith, Bool, Consumes, Consumes-trans, empty_core, end_of_all, Err, false, GoesRound, Halt, HasEnded, HasNoStatement, laps_of, length, length-append, List, MayCome, Ok, OnOk, Option, Played, PlaysOn, PlaysWhole, Reading, refl, refused_of_played, Result, RunSettings, SCRIPT_LIMIT, seat_at, State, statements_of, StaysFed, subst, sym, Tells, text_of_played, true, versions_in, ℕ}
 use Rattle.star_io.specs.declared.run_end.RunEnd.TheVariants as end
-use Rattle.script_reader.specs.Reading.{MayCome, Reading, StaysFed}
-use Rattle.script_reader.specs.Script.{statements_of}
-use Rattle.script_reader.specs.declared.reader.TheConstants.{SCRIPT_LIMIT}
-use Rattle.core_state.specs.Sound.{empty_core}
-use Rattle.core_state.specs.State.{State}
-use Rattle.core_state.specs.Submitting.{seat_at}
-use Rattle.core_state.specs.Tables.{versions_in}
-use Rattle.core_state.specs.declared.settings.RunSettings.{RunSettings}
-use Rattle.script_run.specs.Answer.{HasNoStatement}
-use Rattle.script_run.specs.End.{end_behind, end_of_all, end_of_rest}
-use Rattle.script_run.specs.Front.{PlaysOn, PlaysWhole, refused_of_played, text_of_played}
-use Rattle.script_run.specs.Counted.{GoesRound}
-use Rattle.script_run.specs.Laps.{laps_of}
-use Rattle.script_run.specs.Played.{Played}
-use Rattle.script_run.specs.Run.{HasEnded}
-use Rattle.script_run.specs.Shared.{AnswersBy, TellsScript}
-use Rattle.script_run.specs.Told.{Tells}
-use Rattle.script_run.specs.declared.halt.Halt.{Halt}
+use Rattle.script_run.specs.End.{end_behind, end_of_rest}
+use Rattle.script_run.specs.Shared.{TellsScript}
 use Rattle.script_run.proofs.FrontHaltLemmas.{refused-append, text-append}
 use Rattle.script_run.proofs.LapLemmas.{laps-end}
 use Rattle.script_run.proofs.RunLemmas.{at_end, came, finished, within_all, within_more}

@@ -1,24 +1,10 @@
 -- How a run over a core ends.
-use Rattle.std.proofs.Common.{◌≡◌, ℕ, ◌+◌, ◌≤◌, Bool, true, List, [], ◌++◌, length, Option, Some, None, Ok, Err, inl, inr, refl, sym, subst, append-nil, arith}
-use Rattle.std.specs.Io.KnownBytes.{Appends, Consumes}
-use Rattle.std.proofs.KnownBytes.{Appends-nil, Appends-trans, Consumes-nil, Consumes-trans}
+use Rattle.script_run.proofs.Words.{◌++◌, ◌+◌, ◌≡◌, ◌≤◌, [], AnswersBy, append-nil, Appends, Appends-nil, Appends-trans, arith, Bool, Consumes, Consumes-nil, Consumes-trans, empty_core, end_of_halt, Err, fed_with, Halt, HaltsReading, HasEnded, IfSome, inl, inr, IsProperFront, length, List, NoMemory, None, Ok, Option, PlaysOn, PlaysWhole, Reading, ReadsFront, ReadsInPart, refl, RunSettings, SCRIPT_LIMIT, script_text, Some, State, state_of, StaysFed, subst, sym, text_of_played, true, within_limit, WriteFault, ℕ}
 use Rattle.star_io.specs.declared.run_end.RunEnd.TheVariants as end
-use Rattle.script_reader.specs.Reading.{Reading, StaysFed}
-use Rattle.script_reader.specs.declared.reader.TheConstants.{SCRIPT_LIMIT}
-use Rattle.core_state.specs.Sound.{empty_core}
-use Rattle.core_state.specs.State.{State}
-use Rattle.core_state.specs.declared.settings.RunSettings.{RunSettings}
-use Rattle.script_run.specs.End.{end_of_halt}
-use Rattle.script_run.specs.Front.{HaltsReading, PlaysOn, PlaysWhole, ReadsFront, ReadsInPart, text_of_played}
-use Rattle.script_run.specs.Pieces.{fed_with}
-use Rattle.script_run.specs.Shared.{AnswersBy, AnswersShared, TellsRun}
+use Rattle.script_run.specs.Shared.{AnswersShared, TellsRun}
 use Rattle.event_core.specs.Parts.{Parts}
-use Rattle.event_core.specs.Seen.{state_of}
 use Rattle.star_io.specs.declared.run_end.RunEnd.{RunEnd}
-use Rattle.std.specs.Prelude.{IfSome}
-use Rattle.script_run.specs.Run.{AnswersScript, HasEnded, IsProperFront, script_text, within_limit}
-use Rattle.script_run.specs.declared.halt.Halt.{Halt}
-use Rattle.script_run.specs.declared.halt.Halt.TheVariants.{WriteFault, NoMemory}
+use Rattle.script_run.specs.Run.{AnswersScript}
 use Rattle.script_run.proofs.RunLemmas.{at_end, came, finished, within_all}
 use Rattle.script_run.proofs.SharedReadLemmas.{front-behind, front-wanting, part-behind, part-none}
 use Rattle.script_run.proofs.SharedRunLemmas.{IsShared, ended-way, fed-shared, few-given, finished-way}

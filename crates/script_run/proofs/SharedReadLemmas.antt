@@ -1,13 +1,5 @@
 -- What a reader gave to a core: nothing, one statement, one part behind another, and what was written where the replies halt.
-use Rattle.std.proofs.Common.{◌≡◌, ◌≢◌, ℕ, Bool, true, List, [], ◌∷◌, ◌++◌, refl, sym, ap, ◌∙◌, subst, append_assoc, append-nil}
-use Rattle.script_reader.specs.Reading.{MayCome, Reading, StaysFed, TakesFirst, Wants}
-use Rattle.script_reader.specs.Script.{statements_of}
-use Rattle.script_reader.specs.declared.statement.Statement.{Statement}
-use Rattle.star_history.specs.History.{Change}
-use Rattle.core_state.specs.State.{State}
-use Rattle.script_run.specs.Front.{BreaksIn, BreaksOff, HaltsPlay, ReadsFront, ReadsInPart, ReadsOn, text_of_played}
-use Rattle.script_run.specs.Played.{Leads, MayPlay, Played}
-use Rattle.script_run.specs.Run.{IsProperFront}
+use Rattle.script_run.proofs.Words.{◌++◌, ◌∙◌, ◌∷◌, ◌≡◌, ◌≢◌, [], ap, append-nil, append_assoc, Bool, BreaksIn, BreaksOff, Change, HaltsPlay, IsProperFront, Leads, List, MayCome, MayPlay, Played, Reading, ReadsFront, ReadsInPart, ReadsOn, refl, State, Statement, statements_of, StaysFed, subst, sym, TakesFirst, text_of_played, true, Wants, ℕ}
 use Rattle.script_run.proofs.FrontHaltLemmas.{halts-first, text-append}
 use Rattle.script_run.proofs.PlayedLeadLemmas.{leads-itself, leads-then}
 use Rattle.script_run.proofs.PlayedSomeLemmas.{may-play-some}

@@ -1,16 +1,5 @@
 -- A run over a core, from what was read and written so far.
-use Rattle.std.proofs.Common.{◌≡◌, ℕ, ◌+◌, ◌≤◌, Bool, false, ◌||◌, List, [], ◌++◌, length, Option, Ok, refl, sym, ap, subst, ◌∙◌, append_assoc, length-append, arith}
-use Rattle.std.specs.Io.KnownBytes.{Consumes}
-use Rattle.std.proofs.KnownBytes.{Consumes-nil, Consumes-trans}
-use Rattle.script_reader.specs.Reading.{Reading, StaysFed}
-use Rattle.script_reader.specs.Script.{statements_of}
-use Rattle.script_reader.specs.declared.reader.TheConstants.{SCRIPT_LIMIT}
-use Rattle.core_state.specs.Sound.{empty_core}
-use Rattle.core_state.specs.State.{State}
-use Rattle.core_state.specs.declared.settings.RunSettings.{RunSettings}
-use Rattle.script_run.specs.Front.{PlaysWhole, ReadsOn}
-use Rattle.script_run.specs.Pieces.{fed_with}
-use Rattle.script_run.specs.Played.{Played}
+use Rattle.script_run.proofs.Words.{◌++◌, ◌+◌, ◌||◌, ◌∙◌, ◌≡◌, ◌≤◌, [], ap, append_assoc, arith, Bool, Consumes, Consumes-nil, Consumes-trans, empty_core, false, fed_with, length, length-append, List, Ok, Option, Played, PlaysWhole, Reading, ReadsOn, refl, RunSettings, SCRIPT_LIMIT, State, statements_of, StaysFed, subst, sym, ℕ}
 use Rattle.script_run.proofs.RunLemmas.{came, finished}
 use Rattle.script_run.proofs.SharedWholeLemmas.{IsPlaying, playing-then, starts-playing}
 

@@ -1,18 +1,5 @@
 -- What was played of a script, from an empty core on: the replies to all of it, or a front of them.
-use Rattle.std.proofs.Common.{◌≡◌, ℕ, Bool, ◌||◌, List, [], ◌∷◌, ◌++◌, map, refl, sym, ap, ◌∙◌, append-nil}
-use Rattle.std.specs.List.{list_any}
-use Rattle.script_reader.specs.Reading.{MayCome, Reading}
-use Rattle.script_reader.specs.Script.{statements_of}
-use Rattle.star_history.specs.History.{Change}
-use Rattle.reply_text.specs.Text.{text_of_all}
-use Rattle.core_state.specs.Sound.{empty_core}
-use Rattle.core_state.specs.State.{Seat, State}
-use Rattle.core_state.specs.Submitting.{seat_at}
-use Rattle.core_state.specs.declared.settings.RunSettings.{RunSettings}
-use Rattle.script_run.specs.Front.{ReadsFront, ReadsInPart, ReadsOn, refused_of_played, text_of_played}
-use Rattle.script_run.specs.Played.{MayPlay, Played}
-use Rattle.script_run.specs.Told.{Tells}
-use Rattle.script_run.specs.Run.{IsFront, IsProperFront, is_refusal, script_replies, script_text, some_refused}
+use Rattle.script_run.proofs.Words.{◌++◌, ◌||◌, ◌∙◌, ◌∷◌, ◌≡◌, [], ap, append-nil, Bool, Change, empty_core, is_refusal, IsFront, IsProperFront, List, list_any, map, MayCome, MayPlay, Played, Reading, ReadsFront, ReadsInPart, ReadsOn, refl, refused_of_played, RunSettings, script_replies, script_text, Seat, seat_at, some_refused, State, statements_of, sym, Tells, text_of_all, text_of_played, ℕ}
 use Rattle.script_run.proofs.PlayedLeadLemmas.{plays-idle}
 use Rattle.script_run.proofs.PlayedReplyLemmas.{script-replies}
 use Rattle.script_run.proofs.PlayedWholeLemmas.{new-seat}

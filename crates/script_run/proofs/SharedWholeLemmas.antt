@@ -1,16 +1,5 @@
 -- All statements that are whole: what was given to a core and written so far, and how that goes on and ends.
-use Rattle.std.proofs.Common.{◌≡◌, ℕ, Bool, false, ◌||◌, List, [], ◌∷◌, ◌++◌, length, Option, Ok, Err, refl, sym, ap, ◌∙◌, subst, append-nil}
-use Rattle.std.specs.Io.KnownBytes.{Appends}
-use Rattle.std.proofs.KnownBytes.{Appends-nil, Appends-trans}
-use Rattle.script_reader.specs.Reading.{Reading, StaysFed, TakesFirst, Wants}
-use Rattle.script_reader.specs.Script.{statements_of}
-use Rattle.script_reader.specs.declared.statement.Statement.{Statement}
-use Rattle.core_state.specs.State.{State}
-use Rattle.script_run.specs.Front.{BreaksOff, HaltsReading, PlaysIn, PlaysWhole, ReadsInPart, ReadsOn, refused_of_played, text_of_played}
-use Rattle.script_run.specs.Counted.{LapsOn}
-use Rattle.script_run.specs.Played.{Played}
-use Rattle.script_run.specs.declared.halt.Halt.{Halt}
-use Rattle.script_run.specs.declared.halt.Halt.TheVariants.{WriteFault, NoMemory}
+use Rattle.script_run.proofs.Words.{◌++◌, ◌||◌, ◌∙◌, ◌∷◌, ◌≡◌, [], ap, append-nil, Appends, Appends-nil, Appends-trans, Bool, BreaksOff, Err, false, Halt, HaltsReading, LapsOn, length, List, NoMemory, Ok, Option, Played, PlaysIn, PlaysWhole, Reading, ReadsInPart, ReadsOn, refl, refused_of_played, State, Statement, statements_of, StaysFed, subst, sym, TakesFirst, text_of_played, Wants, WriteFault, ℕ}
 use Rattle.script_run.proofs.FrontHaltLemmas.{refused-append, text-append}
 use Rattle.script_run.proofs.LapLemmas.{laps-itself, laps-then}
 use Rattle.script_run.proofs.SharedReadLemmas.{front-behind, front-wanting, off-behind, off-first, off-itself, part-behind, part-first, part-front, part-wanting, reads-first, reads-itself, reads-then}

@@ -1,14 +1,9 @@
 -- What follows where nothing changes, where one change comes behind another, and what stays asked whatever is kept of queries.
-use Rattle.std.proofs.Common.{◌≡◌, ℕ, List, [], ◌∷◌, ◌++◌, drop, map, take, Some, refl, sym, ap, ◌∙◌, subst, ⊎_elim, inl, inr, append-nil, append_assoc}
+use Rattle.script_run.proofs.Words.{◌++◌, ◌∙◌, ◌∷◌, ◌≡◌, [], Accepted, accepted_by, Answered, ap, append-nil, append_assoc, AreToldAs, drop, Follows, forgets, forgotten, had_of, inl, inr, IsListedBehind, life_of, List, Lives, map, Pending, Played, Query, refl, seat_at, Some, State, subst, sym, take, Taken, taken_by, ℕ, ⊎_elim}
 use Rattle.std.proofs.lemmas.List.Elements.{filter-append}
 use Rattle.std.proofs.lemmas.Option.{IfSome_then}
-use Rattle.star_plan.specs.Test.{Query}
-use Rattle.pipeline_manager.specs.Lives.{Lives, life_of}
-use Rattle.pipeline_manager.specs.declared.life.Life.TheVariants.{Answered}
-use Rattle.core_state.specs.State.{Accepted, Pending, State, Taken}
-use Rattle.core_state.specs.Submitting.{forgotten, seat_at, taken_by, without_groups}
-use Rattle.core_state.proofs.AnewLemmas.{KeepsAsked, by-change, forgets}
-use Rattle.script_run.specs.Played.{AreToldAs, Follows, IsListedBehind, Played, accepted_by, had_of}
+use Rattle.core_state.specs.Submitting.{without_groups}
+use Rattle.core_state.proofs.AnewLemmas.{KeepsAsked, by-change}
 
 -- nothing changes, and the core has none of what was played
 pub follows-none : (others : List (ℕ × (Query × ℕ))) (before : List Taken) (state : State) (played : List Played) → had_of played ≡ []

@@ -1,14 +1,5 @@
 -- What a core that was new tells of the statements that it was given, where nothing is waited for.
-use Rattle.std.proofs.Common.{◌≡◌, ℕ, List, [], ◌++◌, map, refl, sym, ap, ◌∙◌, append-nil, arith}
-use Rattle.script_reader.specs.declared.statement.Statement.{Statement}
-use Rattle.star_statement.specs.Script.{replies_of}
-use Rattle.core_state.specs.Sound.{empty_core}
-use Rattle.core_state.specs.State.{Seat, State}
-use Rattle.core_state.specs.Submitting.{seat_at, taken_by}
-use Rattle.core_state.specs.Tables.{changes_of}
-use Rattle.core_state.specs.declared.settings.RunSettings.{RunSettings}
-use Rattle.script_run.specs.Played.{Follows, IsListedBehind, Leads, Played, given_in, queries_among}
-use Rattle.script_run.specs.Told.{Tells}
+use Rattle.script_run.proofs.Words.{◌++◌, ◌∙◌, ◌≡◌, [], ap, append-nil, arith, changes_of, empty_core, Follows, given_in, IsListedBehind, Leads, List, map, Played, queries_among, refl, replies_of, RunSettings, Seat, seat_at, State, Statement, sym, taken_by, Tells, ℕ}
 use Rattle.script_run.proofs.PlayedWholeLemmas.{new-seat, whole-plays}
 use Rattle.script_run.proofs.ToldPlayLemmas.{told-played}
 

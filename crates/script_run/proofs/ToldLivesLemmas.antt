@@ -1,17 +1,10 @@
 -- A query that was answered stays so, and the numbers of queries rise, whatever becomes of the others.
-use Rattle.std.proofs.Common.{◌≡◌, ℕ, Bool, true, false, cond, eqb, List, [], ◌∷◌, ◌++◌, map, Option, Some, None, option_map, refl, sym, ap, ◌∙◌, subst, ⊎_elim}
-use Rattle.std.specs.Prelude.{All}
+use Rattle.script_run.proofs.Words.{◌++◌, ◌∙◌, ◌∷◌, ◌≡◌, [], All, All-head, All-tail, All-weaker, Answered, ap, AreRising, Bool, Building, cond, eqb, false, Life, life_in, List, Lives, map, None, Option, option_map, option_map_or, query_in, QueryLife, refl, slot_of, Some, Spoiled, subst, sym, true, Waiting, ℕ, ⊎_elim}
 use Rattle.std.specs.List.{fold}
-use Rattle.std.specs.Option.{option_map_or}
 use Rattle.std.proofs.lemmas.Bool.{cases_eq}
-use Rattle.std.proofs.lemmas.List.Elements.{All-head, All-tail, All-weaker}
 use Rattle.pipeline_manager.specs.Changes.{after_built, after_end, after_reserve, after_spoil, given_up, is_ending, with_dimension, with_life, with_slot}
 use Rattle.pipeline_manager.specs.Changes.{covered, cut_life, cut_query}
-use Rattle.pipeline_manager.specs.Lives.{Lives, life_in, oldest_waiting, query_in, slot_at, slot_of}
-use Rattle.pipeline_manager.specs.Sound.{AreRising}
-use Rattle.pipeline_manager.specs.declared.life.Life.{Life}
-use Rattle.pipeline_manager.specs.declared.life.Life.TheVariants.{Answered, Building, Spoiled, Waiting}
-use Rattle.pipeline_manager.specs.declared.life.QueryLife.{QueryLife}
+use Rattle.pipeline_manager.specs.Lives.{oldest_waiting, slot_at}
 use Rattle.pipeline_manager.specs.declared.life.SlotState.{SlotState}
 use Rattle.pipeline_manager.specs.declared.life.SlotState.TheVariants.{Free, Held, Clearing}
 use Rattle.pipeline_manager.proofs.LifeLemmas.{life_in-cut, life_in-other, life_in-same, oldest-waits}

@@ -1,24 +1,7 @@
 -- What a core tells of statements that were played, where its queries are those whose replies were taken.
-use Rattle.std.proofs.Common.{◌≡◌, ◌⊎◌, ℕ, suc, true, cond, List, [], ◌∷◌, map, Option, Some, refl, sym, ap, ◌∙◌, subst, ⊎_elim, inl, inr}
-use Rattle.std.specs.Prelude.{IfSome}
-use Rattle.std.proofs.lemmas.List.Elements.{All-nil}
-use Rattle.script_reader.specs.declared.statement.Statement.{Statement}
-use Rattle.star_plan.specs.Test.{Query}
-use Rattle.star_history.specs.Alone.{alone}
-use Rattle.star_history.specs.History.{Change, store_of}
-use Rattle.star_history.specs.Store.{Store}
-use Rattle.reply_text.specs.declared.reply.Reply.{Reply}
-use Rattle.reply_text.specs.declared.reply.Reply.TheVariants.{Memory}
-use Rattle.star_statement.specs.Effect.{answer_reply, reply_to}
+use Rattle.script_run.proofs.Words.{◌∙◌, ◌∷◌, ◌≡◌, [], Accepted, accepted_by, All-nil, alone, answer_reply, Answered, ap, AreToldAs, Asked, Awaited, awaited_by, BeginAnswered, Change, ComesTo, cond, had_of, history_after, IfSome, inl, inr, IsToldAs, life_of, List, Lives, map, MayBegin, Memory, Option, outcome_of, Played, Plays, queries_among, Query, refl, Replied, Reply, reply_to, Some, Statement, Store, store_of, subst, suc, sym, Taken, Told, true, ℕ, ⊎_elim}
+use Rattle.std.proofs.Common.{◌⊎◌}
 use Rattle.star_statement.specs.Outcome as outcome
-use Rattle.star_statement.specs.Outcome.{Told, outcome_of}
-use Rattle.star_statement.specs.Script.{history_after}
-use Rattle.pipeline_manager.specs.Lives.{Lives, life_of}
-use Rattle.pipeline_manager.specs.declared.life.Life.TheVariants.{Answered}
-use Rattle.core_state.specs.State.{Accepted, Asked, Awaited, Replied, Taken}
-use Rattle.core_state.specs.Submitting.{awaited_by}
-use Rattle.script_run.specs.Played.{AreToldAs, ComesTo, IsToldAs, Played, Plays, accepted_by, had_of, queries_among}
-use Rattle.script_run.specs.Told.{BeginAnswered, MayBegin}
 use Rattle.script_run.proofs.PlayedQuietLemmas.{history-asked}
 use Rattle.script_run.proofs.ToldWantedLemmas.{AreTold, told-effect, told-wanted}
 

@@ -1,16 +1,5 @@
 -- What a core tells of a script whose statements a reader gave to it, where nothing is waited for.
-use Rattle.std.proofs.Common.{◌≡◌, ℕ, Bool, List, [], ◌++◌, map, sym, ap, ◌∙◌, subst, append-nil}
-use Rattle.script_reader.specs.Reading.{MayCome, Reading}
-use Rattle.script_reader.specs.Script.{statements_of}
-use Rattle.star_statement.specs.Script.{replies_of}
-use Rattle.core_state.specs.Sound.{empty_core}
-use Rattle.core_state.specs.State.{State}
-use Rattle.core_state.specs.Submitting.{seat_at}
-use Rattle.core_state.specs.declared.settings.RunSettings.{RunSettings}
-use Rattle.script_run.specs.Front.{ReadsOn}
-use Rattle.script_run.specs.Played.{Played}
-use Rattle.script_run.specs.Run.{script_replies}
-use Rattle.script_run.specs.Told.{Tells}
+use Rattle.script_run.proofs.Words.{◌++◌, ◌∙◌, ◌≡◌, [], ap, append-nil, Bool, empty_core, List, map, MayCome, Played, Reading, ReadsOn, replies_of, RunSettings, script_replies, seat_at, State, statements_of, subst, sym, Tells, ℕ}
 use Rattle.script_run.proofs.ToldLemmas.{whole-tells}
 
 -- where no whole statement is left and nothing is waited for the replies are those of the script, and the core tells of it

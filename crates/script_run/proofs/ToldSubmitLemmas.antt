@@ -1,26 +1,11 @@
 -- What a core tells where the front gives it a statement.
-use Rattle.std.proofs.Common.{◌≡◌, ℕ, ◌+◌, ◌<◌, List, [], ◌∷◌, ◌++◌, map, Option, Some, None, refl, sym, ap, ◌∙◌, subst, append-nil, append_assoc, arith}
-use Rattle.std.specs.Prelude.{All}
-use Rattle.std.specs.Option.{option_map_or}
-use Rattle.std.proofs.lemmas.List.{map-append}
-use Rattle.std.proofs.lemmas.List.Elements.{All-weaker, filter_map-append}
+use Rattle.script_run.proofs.Words.{◌++◌, ◌+◌, ◌<◌, ◌∙◌, ◌∷◌, ◌≡◌, [], accepted_by, after_submitting, All, All-weaker, ap, append-nil, append_assoc, AreRising, arith, awaited_by, Change, DimensionDeclared, Ended, FactDeclared, Follows, given_in, IsListedBehind, IsSound, IsSoundQuery, List, Loaded, map, map-append, None, of-numbers, Option, option_map_or, outcome_of, Pending, queries_among, Query, QueryLife, refl, Seat, seat_at, Some, State, Statement, subst, sym, tables_of, Taken, taken_by, Told, versions_in, Waiting, with_change, with_query, with_seat, with_statement, ℕ}
+use Rattle.std.proofs.lemmas.List.Elements.{filter_map-append}
 use Rattle.std.proofs.lemmas.List.Quantifiers.{all_pairs_push}
-use Rattle.script_reader.specs.declared.statement.Statement.{Statement}
-use Rattle.star_plan.specs.Test.{Query}
-use Rattle.star_history.specs.History.{Change, DimensionDeclared, FactDeclared, Loaded, Ended}
 use Rattle.star_statement.specs.Outcome as outcome
-use Rattle.star_statement.specs.Outcome.{Told, outcome_of}
 use Rattle.aggregations.specs.Grouped.{grouped_of}
 use Rattle.pipeline_manager.specs.Conditions.{IsNew}
-use Rattle.pipeline_manager.specs.Sound.{AreRising}
-use Rattle.pipeline_manager.specs.declared.life.Life.TheVariants.{Waiting}
-use Rattle.pipeline_manager.specs.declared.life.QueryLife.{QueryLife}
-use Rattle.core_state.specs.Sound.{IsSound, IsSoundQuery}
-use Rattle.core_state.specs.State.{Pending, Seat, State, Taken}
-use Rattle.core_state.specs.Submitting.{after_submitting, awaited_by, seat_at, taken_by, with_change, with_query, with_seat, with_statement}
-use Rattle.core_state.specs.Tables.{tables_of, versions_in}
-use Rattle.core_state.proofs.AskLemmas.{of-numbers}
-use Rattle.script_run.specs.Played.{Follows, IsListedBehind, accepted_by, given_in, queries_among, query_by}
+use Rattle.script_run.specs.Played.{query_by}
 use Rattle.script_run.proofs.ToldLivesLemmas.{LivesOn, lives-behind, lives-same}
 
 -- a statement of this number, of which this is told

@@ -1,18 +1,7 @@
 -- The history and the queries of statements, where memory was wanted for the first of them, and where it has its effect.
-use Rattle.std.proofs.Common.{◌≡◌, ℕ, suc, ◌<◌, ◌≤◌, Bool, true, false, List, [], ◌∷◌, refl, sym, ap, ◌∙◌, subst, ⊎_elim, inl, inr, arith}
-use Rattle.std.specs.Prelude.{All, if◌then◌else◌}
-use Rattle.script_reader.specs.declared.statement.Statement.{Statement}
-use Rattle.star_plan.specs.Test.{Query}
-use Rattle.star_history.specs.History.{Change, store_of}
-use Rattle.reply_text.specs.declared.reply.Reply.{Reply}
-use Rattle.reply_text.specs.declared.reply.Reply.TheVariants.{Memory}
-use Rattle.star_statement.specs.Effect.{effect_of}
+use Rattle.script_run.proofs.Words.{◌<◌, ◌∙◌, ◌∷◌, ◌≡◌, ◌≤◌, [], Accepted, All, ap, arith, BeginAnswered, Bool, Change, effect_of, false, history_after, if◌then◌else◌, inl, inr, is_wanted_at, List, Lives, MayBegin, Memory, outcome_of, Query, refl, replies_after, Reply, Statement, store_of, subst, suc, sym, Told, true, ℕ, ⊎_elim}
 use Rattle.star_statement.specs.Outcome as outcome
-use Rattle.star_statement.specs.Outcome.{Told, outcome_of}
-use Rattle.star_statement.specs.Script.{history_after, is_wanted_at, replies_after}
-use Rattle.pipeline_manager.specs.Lives.{Lives}
-use Rattle.core_state.specs.State.{Accepted}
-use Rattle.script_run.specs.Told.{AreQueriesOf, BeginAnswered, BeginWith, ByWanted, MayBegin, history_from}
+use Rattle.script_run.specs.Told.{AreQueriesOf, BeginWith, ByWanted, history_from}
 use Rattle.script_run.proofs.PlayedReplyLemmas.{earlier, first-wanted, not-wanted, past-wanted, replies-effect, replies-wanted, with-place}
 
 -- The history.

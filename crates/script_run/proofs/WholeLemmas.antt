@@ -1,19 +1,7 @@
 -- All statements that are whole: what was written, and what is still to come.
-use Rattle.std.proofs.Common.{◌≡◌, ◌≢◌, ℕ, ◌<◌, Bool, true, false, ◌||◌, List, [], ◌∷◌, ◌++◌, length, take, drop, Option, refl, sym, ap, ◌∙◌, append_assoc, append-nil, take-append-drop, length-append, arith}
-use Rattle.std.specs.List.{list_any}
-use Rattle.std.specs.Io.KnownBytes.{Appends}
-use Rattle.std.proofs.lemmas.List.{length-drop}
-use Rattle.std.proofs.KnownBytes.{Appends-trans}
-use Rattle.star_io.specs.Transfer.{AppendsFront}
-use Rattle.script_reader.specs.Reading.{MayCome, Reading, StaysFed}
-use Rattle.star_history.specs.Store.{Store}
-use Rattle.reply_text.specs.Text.{text_of, text_of_all}
-use Rattle.reply_text.specs.declared.reply.Reply.{Reply}
-use Rattle.reply_text.specs.declared.reply.Reply.TheVariants.{Table, Commit, Answer, Overflow, Memory, Refused, Waited}
-use Rattle.script_run.specs.Answer.{HaltsBehind, Replies, RepliesFirst, RepliesFront, RepliesInPart, refused_left, replies_left, text_left}
-use Rattle.script_run.specs.Run.{is_refusal}
+use Rattle.script_run.proofs.Words.{◌++◌, ◌<◌, ◌||◌, ◌∙◌, ◌∷◌, ◌≡◌, ◌≢◌, [], Answer, ap, append-nil, append_assoc, Appends, Appends-trans, AppendsFront, arith, Bool, Commit, drop, false, HaltsBehind, is_refusal, length, length-append, length-drop, List, list_any, MayCome, Memory, NoMemory, Option, Overflow, Reading, refl, Refused, refused_left, Replies, replies_left, RepliesInPart, Reply, StaysFed, Store, sym, Table, take, take-append-drop, text_left, text_of, text_of_all, true, Waited, WriteFault, ℕ}
+use Rattle.script_run.specs.Answer.{RepliesFirst, RepliesFront}
 use Rattle.script_run.specs.declared.answer.Answered.{Answered}
-use Rattle.script_run.specs.declared.halt.Halt.TheVariants.{WriteFault, NoMemory}
 
 or_assoc : (a b c : Bool) → (a || (b || c)) ≡ ((a || b) || c)
 or_assoc true b c = refl

@@ -1,7 +1,5 @@
 -- Where no event of these kinds may come, all that can be are admitted.
-use Rattle.std.proofs.Common.{[], ◌∷◌}
-use Rattle.std.proofs.lemmas.Result.{on_ok_weaker}
-use Rattle.event_core.specs.Seen.{state_of}
+use Rattle.core_driver.proofs.Words.{◌∷◌, [], on_ok_weaker, state_of}
 use Rattle.event_core.specs.declared.choosing.EventKind.TheVariants as kind
 use Rattle.core_driver.proofs.KindLemmas.{admission-kinds, admission-led}
 use Rattle.core_driver.proofs.RoundLemmas.{none-first, none-others}

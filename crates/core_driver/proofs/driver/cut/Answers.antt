@@ -1,7 +1,5 @@
 -- Where a batch might be cut, one was, and none may be any more.
-use Rattle.std.proofs.Common.{[], ◌∷◌}
-use Rattle.std.proofs.lemmas.Result.{on_ok_weaker}
-use Rattle.event_core.specs.Seen.{state_of}
+use Rattle.core_driver.proofs.Words.{◌∷◌, [], on_ok_weaker, state_of}
 use Rattle.event_core.specs.declared.choosing.EventKind.TheVariants as kind
 use Rattle.core_driver.proofs.KindLemmas.{cut-kinds, round-led}
 use Rattle.core_driver.proofs.PhaseLemmas.{cuts-fall, cuts-rise}

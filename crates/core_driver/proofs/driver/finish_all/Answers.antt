@@ -1,9 +1,5 @@
 -- What turn after turn leaves, where it breaks off and in the end.
-use Rattle.std.proofs.Common.{◌≡◌, Bool, false, true, sym, ◌∙◌}
-use Rattle.std.specs.Prelude.{◌↔◌, IsTrue}
-use Rattle.core_state.specs.State.{State}
-use Rattle.event_core.specs.Seen.{state_of}
-use Rattle.core_driver.specs.Driven.{IsDriven, MayGoOn}
+use Rattle.core_driver.proofs.Words.{◌↔◌, ◌∙◌, ◌≡◌, Bool, false, IsDriven, IsTrue, MayGoOn, State, state_of, sym, true}
 use Rattle.core_driver.proofs.FinishLemmas.{first-lap, gone-answers, gone-finishes, gone-first, gone-lap, gone-on}
 use Rattle.core_driver.proofs.LedLemmas.{led-joined}
 use Rattle.core_driver.proofs.driver.finish_all.Goals as goal

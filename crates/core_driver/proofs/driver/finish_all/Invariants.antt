@@ -1,6 +1,5 @@
 -- What was in flight landed, and turns followed so far.
-use Rattle.event_core.specs.Seen.{state_of}
-use Rattle.core_driver.specs.Work.{work_in}
+use Rattle.core_driver.proofs.Words.{state_of, work_in}
 use Rattle.core_driver.proofs.FinishLemmas.{HasGone}
 use Rattle.core_driver.proofs.driver.finish_all.Given as goal
 

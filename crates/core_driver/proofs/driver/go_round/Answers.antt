@@ -1,7 +1,5 @@
 -- A round is cuts, a landing and a new order, and what the cuts leave of the count and of the work stays so.
-use Rattle.event_core.specs.Seen.{state_of}
-use Rattle.core_driver.specs.Driven.{IsOfRound}
-use Rattle.core_driver.specs.Lap.{IsOfLanding}
+use Rattle.core_driver.proofs.Words.{IsOfLanding, IsOfRound, state_of}
 use Rattle.core_driver.proofs.IdleLemmas.{idle-reordered}
 use Rattle.core_driver.proofs.LedLemmas.{led-joined, led-wider}
 use Rattle.core_driver.proofs.PhaseLemmas.{landed-ordered, rest-led, round-landing, stays-fallen, stays-risen}

@@ -1,9 +1,6 @@
 -- The batches pass the filters, are distributed, and slots become free.
-use Rattle.std.proofs.Common.{[], ◌∷◌}
-use Rattle.std.proofs.lemmas.Result.{on_ok_weaker}
-use Rattle.event_core.specs.Seen.{state_of}
+use Rattle.core_driver.proofs.Words.{◌∷◌, [], IsOfLanding, on_ok_weaker, state_of}
 use Rattle.event_core.specs.declared.choosing.EventKind.TheVariants as kind
-use Rattle.core_driver.specs.Lap.{IsOfLanding}
 use Rattle.core_driver.proofs.IdleLemmas.{idle-through}
 use Rattle.core_driver.proofs.LapKindLemmas.{landing-distributes, landing-frees, landing-led, landing-passes}
 use Rattle.core_driver.proofs.LedLemmas.{led-joined, led-sound}

@@ -1,6 +1,5 @@
 -- An event of these kinds that may come was found, or none may.
-use Rattle.std.proofs.Common.{[], ◌∷◌}
-use Rattle.event_core.specs.Seen.{state_of}
+use Rattle.core_driver.proofs.Words.{◌∷◌, [], state_of}
 use Rattle.event_core.specs.declared.choosing.EventKind.TheVariants as kind
 use Rattle.core_driver.proofs.KindLemmas.{next-told}
 use Rattle.core_driver.proofs.driver.may_go_on.Goals as goal

@@ -1,11 +1,7 @@
 -- The one event was taken, or nothing has changed.
-use Rattle.std.proofs.Common.{◌≡◌, Ok, Err, OnErr, OnOk, Result, [], ◌∷◌, refl, ap}
-use Rattle.std.proofs.lemmas.List.Elements.{All-cons, All-nil}
-use Rattle.core_state.specs.declared.event.Event.TheVariants.{Reorder}
+use Rattle.core_driver.proofs.Words.{◌∷◌, ◌≡◌, [], All-cons, All-nil, ap, IsLed, IsReorder, Ok, refl, Reorder, state_of, Took}
+use Rattle.std.proofs.Common.{Err, OnErr, OnOk, Result}
 use Rattle.event_core.specs.Parts.{Parts}
-use Rattle.event_core.specs.Seen.{state_of}
-use Rattle.event_core.specs.Took.{IsLed, Took}
-use Rattle.core_driver.specs.Driven.{IsReorder}
 use Rattle.core_driver.proofs.LedLemmas.{led-none}
 use Rattle.core_driver.proofs.driver.reorder.Goals as goal
 

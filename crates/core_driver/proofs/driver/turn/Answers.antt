@@ -1,7 +1,5 @@
 -- A turn is an admission and a round.
-use Rattle.std.proofs.lemmas.Result.{on_ok_weaker}
-use Rattle.event_core.specs.Seen.{state_of}
-use Rattle.core_driver.specs.Driven.{IsOfAdmission}
+use Rattle.core_driver.proofs.Words.{IsOfAdmission, on_ok_weaker, state_of}
 use Rattle.core_driver.proofs.LedLemmas.{led-sound}
 use Rattle.core_driver.proofs.WholeLemmas.{halves-driven, turn-admits, turn-falls, turn-rises, turn-settles}
 use Rattle.core_driver.proofs.driver.turn.Goals as goal

@@ -1,7 +1,6 @@
 -- No event of the kinds so far may come.
 use Rattle.std.specs.List.{AllWithin}
-use Rattle.event_core.specs.Chosen.{NoneMayCome}
-use Rattle.event_core.specs.Seen.{state_of}
+use Rattle.core_driver.proofs.Words.{NoneMayCome, state_of}
 use Rattle.core_driver.proofs.taking.next_of.Given as goal
 
 abbrev pub invariant-loop-kind : goal.invariant-loop-kind

@@ -1,7 +1,5 @@
 -- An event more of the kinds is taken, which leaves less work.
-use Rattle.std.proofs.Common.{ap, Ok}
-use Rattle.event_core.specs.Seen.{state_of}
-use Rattle.core_driver.specs.Driven.{IsOfSome}
+use Rattle.core_driver.proofs.Words.{ap, IsOfSome, Ok, state_of}
 use Rattle.core_driver.proofs.IdleLemmas.{idle-taken}
 use Rattle.core_driver.proofs.LedLemmas.{led-more}
 use Rattle.core_driver.proofs.LoopLemmas.{some-more}

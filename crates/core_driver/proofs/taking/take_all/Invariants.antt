@@ -1,9 +1,5 @@
 -- Events of the kinds were taken so far, and each left less work.
-use Rattle.event_core.specs.Chosen.{AreIdle}
-use Rattle.event_core.specs.Seen.{state_of}
-use Rattle.event_core.specs.Took.{IsLed}
-use Rattle.core_driver.specs.Driven.{IsOfSome}
-use Rattle.core_driver.specs.Work.{TookSome, work_in}
+use Rattle.core_driver.proofs.Words.{AreIdle, IsLed, IsOfSome, state_of, TookSome, work_in}
 use Rattle.core_driver.proofs.taking.take_all.Given as goal
 
 abbrev pub invariant-events : goal.invariant-events

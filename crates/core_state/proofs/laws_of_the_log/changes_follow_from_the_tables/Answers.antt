@@ -1,5 +1,4 @@
-use Rattle.std.proofs.Common.{[], refl}
-use Rattle.star_history.specs.Store.{empty_store}
+use Rattle.core_state.proofs.Words.{[], empty_store, refl}
 use Rattle.core_state.proofs.LoggedLemmas.{changes-told}
 use Rattle.core_state.proofs.laws_of_the_log.changes_follow_from_the_tables.Goals as goal
 

@@ -1,8 +1,4 @@
-use Rattle.std.proofs.lemmas.List.Elements.{All-nil}
-use Rattle.core_state.specs.Logged.{EndsAscending}
-use Rattle.core_state.specs.Sound.{empty_core}
-use Rattle.core_state.specs.Steps.{after_steps}
-use Rattle.core_state.specs.Tables.{changes_of}
+use Rattle.core_state.proofs.Words.{after_steps, All-nil, changes_of, empty_core, EndsAscending}
 use Rattle.core_state.proofs.LoggedStepLemmas.{ascending-steps}
 use Rattle.core_state.proofs.laws_of_the_log.every_history_follows_from_its_tables.Goals as goal
 

@@ -1,8 +1,4 @@
-use Rattle.std.proofs.Common.{ap, ◌∙◌, arith}
-use Rattle.std.specs.Option.{option_map_or}
-use Rattle.std.proofs.lemmas.List.{length-set}
-use Rattle.pipeline_manager.specs.Lives.{slot_at}
-use Rattle.core_state.specs.Found.{holder_of}
+use Rattle.event_core.proofs.Words.{◌∙◌, ap, arith, holder_of, length-set, option_map_or, slot_at}
 use Rattle.event_core.proofs.SpoilingLemmas.{number-or, written-more}
 use Rattle.event_core.proofs.spoiling.holders_of.Goals as goal
 

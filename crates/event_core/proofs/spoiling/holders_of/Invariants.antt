@@ -1,7 +1,5 @@
-use Rattle.std.proofs.Common.{◌≡◌, ◌<◌, ℕ, length, slice_index_or}
-use Rattle.std.specs.Option.{option_map_or}
-use Rattle.pipeline_manager.specs.Lives.{slot_at}
-use Rattle.core_state.specs.Found.{holder_of}
+use Rattle.event_core.proofs.Words.{◌<◌, ◌≡◌, holder_of, length, option_map_or, slot_at, ℕ}
+use Rattle.std.proofs.Common.{slice_index_or}
 use Rattle.event_core.proofs.spoiling.holders_of.Given as goal
 
 -- the slots so far have the numbers of their holders

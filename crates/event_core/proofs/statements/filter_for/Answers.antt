@@ -1,5 +1,4 @@
-use Rattle.std.proofs.Common.{◌∙◌, ap}
-use Rattle.event_core.specs.Changes.{with_filters_for}
+use Rattle.event_core.proofs.Words.{◌∙◌, ap, with_filters_for}
 use Rattle.event_core.proofs.EventsSubmitLemmas.{filters-first}
 use Rattle.event_core.proofs.statements.filter_for.Goals as goal
 

@@ -1,8 +1,4 @@
-use Rattle.std.proofs.Common.{◌∷◌, ◌++◌, ap, sym, ◌∙◌}
-use Rattle.std.proofs.lemmas.Result.{err_from_is_err_and}
-use Rattle.star_history.specs.Keyed.{plain}
-use Rattle.star_statement.specs.Effect.{store_after}
-use Rattle.script_run.specs.Answer.{replies_left}
+use Rattle.script_run.proofs.Words.{◌++◌, ◌∙◌, ◌∷◌, ap, err_from_is_err_and, plain, replies_left, store_after, sym}
 use Rattle.script_run.proofs.NextLemmas.{reply_first, wants_reply}
 use Rattle.script_run.proofs.answer.answer_next.Goals as goal
 

@@ -1,5 +1,4 @@
-use Rattle.std.proofs.Common.{◌∙◌}
-use Rattle.std.proofs.lemmas.Result.{err_from_is_err_and}
+use Rattle.script_run.proofs.Words.{◌∙◌, err_from_is_err_and}
 use Rattle.script_run.proofs.WholeLemmas.{ends_whole, goes_on, halts_wanting, halts_writing}
 use Rattle.script_run.proofs.answer.answer_whole.Goals as goal
 

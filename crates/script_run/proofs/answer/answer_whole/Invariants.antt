@@ -1,5 +1,4 @@
-use Rattle.std.proofs.Common.{◌≡◌}
-use Rattle.star_history.specs.Keyed.{plain}
+use Rattle.script_run.proofs.Words.{◌≡◌, plain}
 use Rattle.script_run.proofs.WholeLemmas.{IsOnItsWay, left_count}
 use Rattle.script_run.proofs.answer.answer_whole.Given as goal
 

@@ -1,6 +1,4 @@
-use Rattle.std.proofs.Common.{arith}
-use Rattle.std.proofs.lemmas.Result.{on_ok_weaker}
-use Rattle.event_core.specs.Seen.{state_of}
+use Rattle.script_run.proofs.Words.{arith, on_ok_weaker, state_of}
 use Rattle.script_run.proofs.FrontCountLemmas.{awaited-some}
 use Rattle.script_run.proofs.FrontPlayLemmas.{on-err}
 use Rattle.script_run.proofs.FrontRunLemmas.{run-driven}

@@ -1,9 +1,4 @@
-use Rattle.std.proofs.Common.{sym, subst}
-use Rattle.std.proofs.lemmas.Result.{on_ok_weaker}
-use Rattle.core_state.specs.declared.event.Event.TheVariants.{Submit}
-use Rattle.event_core.specs.Chosen.{AreIdle}
-use Rattle.event_core.specs.Seen.{state_of}
-use Rattle.event_core.specs.Took.{Took}
+use Rattle.script_run.proofs.Words.{AreIdle, on_ok_weaker, state_of, Submit, subst, sym, Took}
 use Rattle.script_run.proofs.FrontPlayLemmas.{by-result, took-given}
 use Rattle.script_run.proofs.front.submit.Goals as goal
 

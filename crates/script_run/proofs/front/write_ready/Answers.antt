@@ -1,6 +1,4 @@
-use Rattle.std.proofs.Common.{refl, ap, ◌∙◌}
-use Rattle.std.proofs.lemmas.Result.{err_from_is_err_and}
-use Rattle.event_core.specs.Seen.{state_of}
+use Rattle.script_run.proofs.Words.{◌∙◌, ap, err_from_is_err_and, refl, state_of}
 use Rattle.script_run.proofs.FrontReadyLemmas.{halts-writing, ready-some, starts-writing, takes-reply, writes-more, wrote-idle}
 use Rattle.script_run.proofs.FrontRunLemmas.{run-taken, run-then}
 use Rattle.script_run.proofs.front.write_ready.Goals as goal

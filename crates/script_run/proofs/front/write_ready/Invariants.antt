@@ -1,6 +1,4 @@
-use Rattle.std.proofs.Common.{◌≡◌, length}
-use Rattle.core_state.specs.Submitting.{seat_at}
-use Rattle.event_core.specs.Seen.{state_of}
+use Rattle.script_run.proofs.Words.{◌≡◌, length, seat_at, state_of}
 use Rattle.script_run.proofs.FrontReadyLemmas.{IsWriting}
 use Rattle.script_run.proofs.front.write_ready.Given as goal
 

@@ -1,5 +1,4 @@
-use Rattle.std.proofs.Common.{refl, ap}
-use Rattle.event_core.specs.Seen.{state_of}
+use Rattle.script_run.proofs.Words.{ap, refl, state_of}
 use Rattle.script_run.proofs.HomeLetLemmas.{dropped-idle, drops, starts-dropping}
 use Rattle.script_run.proofs.home.drop_ready.Goals as goal
 

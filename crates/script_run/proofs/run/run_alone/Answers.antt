@@ -1,5 +1,4 @@
-use Rattle.std.proofs.Common.{[], refl, ◌∙◌}
-use Rattle.star_history.specs.Keyed.{plain}
+use Rattle.script_run.proofs.Words.{◌∙◌, [], plain, refl}
 use Rattle.script_run.proofs.RunLemmas.{IsLaw, answered_run, counts_all, counts_halted, ended_halted, ended_run, fault_run, fed_run, halted_run, limit_run, starts_run, unfed_run}
 use Rattle.script_run.proofs.run.run_alone.Goals as goal
 

@@ -1,6 +1,4 @@
-use Rattle.std.proofs.Common.{◌≡◌, ◌-◌}
-use Rattle.star_history.specs.Keyed.{plain}
-use Rattle.script_reader.specs.declared.reader.TheConstants.{SCRIPT_LIMIT}
+use Rattle.script_run.proofs.Words.{◌-◌, ◌≡◌, plain, SCRIPT_LIMIT}
 use Rattle.script_run.proofs.RunLemmas.{IsRunning}
 use Rattle.script_run.proofs.run.run_alone.Given as goal
 

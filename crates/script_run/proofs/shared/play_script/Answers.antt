@@ -1,6 +1,5 @@
-use Rattle.std.proofs.Common.{refl, sym, subst, ◌∙◌}
+use Rattle.script_run.proofs.Words.{◌∙◌, refl, state_of, subst, sym}
 use Rattle.std.specs.Prelude.{◌<◌}
-use Rattle.event_core.specs.Seen.{state_of}
 use Rattle.script_run.proofs.SharedDoneLemmas.{ended-shared, fault-shared, limit-shared}
 use Rattle.script_run.proofs.SharedEndLemmas.{ended-halted, halted-shared, halts-by, unfed-shared}
 use Rattle.script_run.proofs.SharedRunLemmas.{fed-shared, starts-shared, whole-shared}

@@ -1,8 +1,4 @@
-use Rattle.std.proofs.Common.{◌≡◌, ◌-◌, ◌<◌}
-use Rattle.script_reader.specs.declared.reader.TheConstants.{SCRIPT_LIMIT}
-use Rattle.event_core.specs.Seen.{state_of}
-use Rattle.script_run.specs.Front.{IsRun}
-use Rattle.script_run.specs.Counted.{IsCounted}
+use Rattle.script_run.proofs.Words.{◌-◌, ◌<◌, ◌≡◌, IsCounted, IsRun, SCRIPT_LIMIT, state_of}
 use Rattle.script_run.proofs.SharedRunLemmas.{IsShared}
 use Rattle.script_run.proofs.shared.play_script.Given as goal
 

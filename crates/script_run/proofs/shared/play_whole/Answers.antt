@@ -1,6 +1,4 @@
-use Rattle.std.proofs.Common.{◌∙◌, refl}
-use Rattle.std.proofs.lemmas.Result.{err_from_is_err_and}
-use Rattle.event_core.specs.Seen.{state_of}
+use Rattle.script_run.proofs.Words.{◌∙◌, err_from_is_err_and, refl, state_of}
 use Rattle.script_run.proofs.FrontCountLemmas.{known-counted}
 use Rattle.script_run.proofs.FrontRunLemmas.{run-itself, run-then}
 use Rattle.script_run.proofs.SharedWholeLemmas.{stops-first, stops-wanting, playing-first, starts-playing}

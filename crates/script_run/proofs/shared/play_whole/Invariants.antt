@@ -1,7 +1,4 @@
-use Rattle.std.proofs.Common.{◌≡◌, ◌<◌}
-use Rattle.event_core.specs.Seen.{state_of}
-use Rattle.script_run.specs.Front.{IsRun}
-use Rattle.script_run.specs.Counted.{IsCounted}
+use Rattle.script_run.proofs.Words.{◌<◌, ◌≡◌, IsCounted, IsRun, state_of}
 use Rattle.script_run.proofs.SharedWholeLemmas.{IsPlaying, statements_left}
 use Rattle.script_run.proofs.shared.play_whole.Given as goal
 

@@ -1,5 +1,4 @@
-use Rattle.std.proofs.Common.{◌≡◌, Bool, subst, ◌∙◌}
-use Rattle.std.specs.Prelude.{IfOk}
+use Rattle.script_run.proofs.Words.{◌∙◌, ◌≡◌, Bool, IfOk, subst}
 use Rattle.script_run.proofs.FrontWaitingLemmas.{wait-not_utf8, wait-utf8}
 use Rattle.script_run.proofs.waiting.is_wait.Goals as goal
 

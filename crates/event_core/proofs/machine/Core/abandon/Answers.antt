@@ -1,6 +1,4 @@
-use Rattle.std.proofs.Common.{ap}
-use Rattle.star_lists.specs.Roomy.{Roomy}
-use Rattle.core_parts.specs.Asked.{AskedQuery}
+use Rattle.event_core.proofs.Words.{ap, AskedQuery, Roomy}
 use Rattle.event_core.proofs.AbandonEventLemmas.{abandon-becomes, abandon-seat, seat-rises, slot-attached, statements_in}
 use Rattle.event_core.proofs.AskedKeptLemmas.{asked-rise}
 use Rattle.event_core.proofs.SlotEventLemmas.{asked-rising}

@@ -1,6 +1,4 @@
-use Rattle.std.proofs.Common.{get_or, ap, ◌∙◌}
-use Rattle.core_parts.specs.Asked.{known_in}
-use Rattle.event_core.specs.Parts.{Parts}
+use Rattle.event_core.proofs.Words.{◌∙◌, ap, get_or, known_in, Parts}
 use Rattle.event_core.proofs.MachineLemmas.{found-pending}
 use Rattle.event_core.proofs.machine.Core.first_open_of.Goals as goal
 

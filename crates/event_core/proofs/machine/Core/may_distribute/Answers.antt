@@ -1,5 +1,4 @@
-use Rattle.std.proofs.Common.{ap, sym, ◌∙◌}
-use Rattle.event_core.specs.Parts.{Parts}
+use Rattle.event_core.proofs.Words.{◌∙◌, ap, Parts, sym}
 use Rattle.event_core.proofs.EnablingLemmas.{distributed-through, undistributed}
 use Rattle.event_core.proofs.machine.Core.may_distribute.Goals as goal
 

@@ -1,7 +1,5 @@
-use Rattle.std.proofs.Common.{◌↔◌, IsTrue, not, refl, subst}
-use Rattle.core_state.specs.Events.{MayFinish}
-use Rattle.event_core.specs.Parts.{Parts}
-use Rattle.event_core.specs.Seen.{state_of}
+use Rattle.event_core.proofs.Words.{MayFinish, not, Parts, refl, state_of, subst}
+use Rattle.std.proofs.Common.{◌↔◌, IsTrue}
 use Rattle.event_core.proofs.EnablingLemmas.{finished-landed}
 use Rattle.event_core.proofs.machine.Core.may_finish.Goals as goal
 

@@ -1,5 +1,5 @@
-use Rattle.std.proofs.Common.{ap, ◌∙◌, is_some}
-use Rattle.event_core.specs.Parts.{Parts}
+use Rattle.event_core.proofs.Words.{◌∙◌, ap, Parts}
+use Rattle.std.proofs.Common.{is_some}
 use Rattle.event_core.proofs.EnablingLemmas.{given-held}
 use Rattle.event_core.proofs.machine.Core.may_give.Goals as goal
 

@@ -1,5 +1,5 @@
-use Rattle.std.proofs.Common.{ap, sym, ◌∙◌, is_some}
-use Rattle.event_core.specs.Parts.{Parts}
+use Rattle.event_core.proofs.Words.{◌∙◌, ap, Parts, sym}
+use Rattle.std.proofs.Common.{is_some}
 use Rattle.event_core.proofs.EnablingLemmas.{seats-seen, taken-wanting, untaken-batch, untaken-hand, untaken-seat}
 use Rattle.event_core.proofs.machine.Core.may_take.Goals.{then-worker-len-via-then-worker-len, then-worker-len-via-else-worker-len+then-is_some}
 use Rattle.event_core.proofs.machine.Core.may_take.Goals as goal

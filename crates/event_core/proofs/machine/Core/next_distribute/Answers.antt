@@ -1,5 +1,4 @@
-use Rattle.std.proofs.Common.{ap, refl, ◌∙◌}
-use Rattle.event_core.specs.Parts.{Parts}
+use Rattle.event_core.proofs.Words.{◌∙◌, ap, Parts, refl}
 use Rattle.event_core.proofs.ChoosingLemmas.{distribute-offered, none-distributed, numbers-apart}
 use Rattle.event_core.proofs.machine.Core.next_distribute.Goals as goal
 

@@ -1,8 +1,4 @@
-use Rattle.std.proofs.Common.{refl, subst}
-use Rattle.core_state.specs.Events.{MayFinish}
-use Rattle.event_core.specs.Chosen.{NoneMayCome}
-use Rattle.event_core.specs.Parts.{Parts}
-use Rattle.event_core.specs.Seen.{state_of}
+use Rattle.event_core.proofs.Words.{MayFinish, NoneMayCome, Parts, refl, state_of, subst}
 use Rattle.event_core.specs.declared.choosing.EventKind.TheVariants as kind
 use Rattle.event_core.proofs.ChoosingLemmas.{finish-offered, none-finished}
 use Rattle.event_core.proofs.machine.Core.next_finish.Goals as goal

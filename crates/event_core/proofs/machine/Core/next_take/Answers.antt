@@ -1,5 +1,4 @@
-use Rattle.std.proofs.Common.{ap, ◌∙◌}
-use Rattle.event_core.specs.Parts.{Parts}
+use Rattle.event_core.proofs.Words.{◌∙◌, ap, Parts}
 use Rattle.event_core.proofs.ChoosingLemmas.{none-wanting, numbers-apart, take-offered}
 use Rattle.event_core.proofs.machine.Core.next_take.Goals as goal
 

@@ -1,7 +1,5 @@
-use Rattle.std.proofs.Common.{length, ap, ◌∙◌}
+use Rattle.event_core.proofs.Words.{◌∙◌, ap, AskedQuery, length, Roomy}
 use Rattle.std.specs.Arc.{arc_value}
-use Rattle.star_lists.specs.Roomy.{Roomy}
-use Rattle.core_parts.specs.Asked.{AskedQuery}
 use Rattle.event_core.proofs.AskedKeptLemmas.{asked-rise}
 use Rattle.event_core.proofs.SlotEventLemmas.{asked-rising}
 use Rattle.event_core.proofs.StartEventLemmas.{start-becomes, start-free, start-kept, start-scans, start-some, starting}

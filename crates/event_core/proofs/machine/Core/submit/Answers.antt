@@ -1,15 +1,6 @@
-use Rattle.std.proofs.Common.{◌≡◌, ◌+◌, ◌<◌, length, get_or, Ok, sym, ap, ◌∙◌, subst, arith}
-use Rattle.star_history.specs.Keyed.{plain}
-use Rattle.star_statement.specs.Applied.{Follows}
-use Rattle.star_statement.specs.Outcome.{outcome_of}
+use Rattle.event_core.proofs.Words.{◌+◌, ◌<◌, ◌∙◌, ◌≡◌, after_submitting, ap, arith, AskedQuery, Becomes, Changed, Follows, get_or, length, Ok, outcome_of, Parts, plain, state_of, subst, sym, the_view}
 use Rattle.star_statement.specs.declared.applied.Applied.{Applied}
-use Rattle.star_statement.specs.declared.applied.Applied.TheVariants.{Replied, Changed, Accepted}
-use Rattle.core_state.specs.Submitting.{after_submitting}
-use Rattle.event_core.specs.contracts.machine.Core.{the_view}
-use Rattle.core_parts.specs.Asked.{AskedQuery}
-use Rattle.event_core.specs.Core.{Becomes}
-use Rattle.event_core.specs.Parts.{Parts}
-use Rattle.event_core.specs.Seen.{state_of}
+use Rattle.star_statement.specs.declared.applied.Applied.TheVariants.{Replied, Accepted}
 use Rattle.event_core.proofs.EventsSubmitLemmas.{IsChange, accepts, changes, replies, seat-there, some-change, statements_in}
 use Rattle.event_core.proofs.machine.Core.submit.Goals as goal
 

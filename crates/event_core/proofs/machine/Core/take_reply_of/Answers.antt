@@ -1,14 +1,6 @@
-use Rattle.std.proofs.Common.{◌≡◌, Some, None, option_map, slice_get, refl, ap, sym, ◌∙◌, subst}
-use Rattle.std.specs.Prelude.{IfSome}
-use Rattle.core_state.specs.Answers.{IsRight}
-use Rattle.core_state.specs.Submitting.{after_taking, next_ready, seat_at}
-use Rattle.core_parts.specs.Asked.{AreRising}
-use Rattle.event_core.specs.Changes.{statements_at}
-use Rattle.event_core.specs.Core.{Becomes}
-use Rattle.event_core.specs.Parts.{Parts, parts_by}
+use Rattle.event_core.proofs.Words.{◌∙◌, ◌≡◌, after_taking, ap, AreRising, Becomes, IfSome, IsRight, next_ready, None, option_map, Parts, parts_by, refl, seat_at, slice_get, snapshot_for, Some, state_of, statements_at, subst, sym}
 use Rattle.event_core.specs.Replies.{ready_of}
-use Rattle.event_core.specs.Seen.{state_of}
-use Rattle.event_core.specs.Taking.{next_number, snapshot_for}
+use Rattle.event_core.specs.Taking.{next_number}
 use Rattle.event_core.proofs.AskedKeptLemmas.{asked-rise}
 use Rattle.event_core.proofs.ReplyEventLemmas.{reply-becomes, reply-nothing, reply-ready, reply-right}
 use Rattle.event_core.proofs.SeatPlaceLemmas.{seat-read, seat-there, statements_in}

@@ -1,6 +1,4 @@
-use Rattle.std.proofs.Common.{subst, sym}
-use Rattle.bit_words.specs.Sets.{Has}
-use Rattle.event_core.specs.Parts.{Parts}
+use Rattle.event_core.proofs.Words.{Has, Parts, subst, sym}
 use Rattle.event_core.proofs.MachineLemmas.{has-version}
 use Rattle.event_core.proofs.machine.Core.tally.Goals as goal
 

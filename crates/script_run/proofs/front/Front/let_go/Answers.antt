@@ -1,5 +1,4 @@
-use Rattle.std.proofs.Common.{refl}
-use Rattle.event_core.specs.Seen.{state_of}
+use Rattle.script_run.proofs.Words.{refl, state_of}
 use Rattle.script_run.proofs.HomeLetLemmas.{leaving-then, left-home}
 use Rattle.script_run.proofs.front.Front.let_go.Goals as goal
 

@@ -1,7 +1,5 @@
-use Rattle.std.proofs.Common.{sym, subst, ap}
-use Rattle.std.proofs.lemmas.Result.{err_from_is_err_and}
+use Rattle.script_run.proofs.Words.{ap, err_from_is_err_and, state_of, subst, sym}
 use Rattle.std.specs.Prelude.{◌<◌}
-use Rattle.event_core.specs.Seen.{state_of}
 use Rattle.script_run.proofs.FrontPlayLemmas.{plays-before, plays-lost}
 use Rattle.script_run.proofs.front.Front.lose.Goals as goal
 

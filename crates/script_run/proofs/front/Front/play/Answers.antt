@@ -1,6 +1,4 @@
-use Rattle.std.proofs.Common.{refl}
-use Rattle.std.proofs.lemmas.Result.{err_from_is_err_and}
-use Rattle.event_core.specs.Seen.{state_of}
+use Rattle.script_run.proofs.Words.{err_from_is_err_and, refl, state_of}
 use Rattle.script_run.proofs.FrontCountLemmas.{due-by, known-counted, slots-some}
 use Rattle.script_run.proofs.FrontPlayLemmas.{plays-given, plays-none, plays-quiet}
 use Rattle.script_run.proofs.FrontRunLemmas.{run-then}

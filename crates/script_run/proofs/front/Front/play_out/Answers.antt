@@ -1,7 +1,4 @@
-use Rattle.std.proofs.Common.{[], refl}
-use Rattle.std.proofs.lemmas.Result.{err_from_is_err_and, on_ok_weaker}
-use Rattle.core_state.specs.Submitting.{seat_at}
-use Rattle.event_core.specs.Seen.{state_of}
+use Rattle.script_run.proofs.Words.{[], err_from_is_err_and, on_ok_weaker, refl, seat_at, state_of}
 use Rattle.script_run.proofs.FrontCountLemmas.{counted-out, known-beside, round-beside}
 use Rattle.script_run.proofs.FrontHaltLemmas.{plays-behind}
 use Rattle.script_run.proofs.FrontOpenLemmas.{none-open}

@@ -1,5 +1,4 @@
-use Rattle.std.proofs.lemmas.Result.{err_from_is_err_and}
-use Rattle.event_core.specs.Seen.{state_of}
+use Rattle.script_run.proofs.Words.{err_from_is_err_and, state_of}
 use Rattle.script_run.proofs.FrontRunLemmas.{run-then}
 use Rattle.script_run.proofs.HomeReplyLemmas.{replies-stopped, replies-whole}
 use Rattle.script_run.proofs.HomeStepsLemmas.{held-after, served-run}

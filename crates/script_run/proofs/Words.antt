@@ -1,0 +1,81 @@
+-- The words that many files of proofs here take from elsewhere, passed on by one module.
+pub use Rattle.std.proofs.Common.{◌*◌, ◌++◌, ◌+◌, ◌-◌, ◌/◌, ◌<◌, ◌||◌, ◌∙◌, ◌∷◌, ◌≡◌, ◌≢◌, ◌≤◌, [], ap, append-nil, append_assoc, arith, Bool, cond, drop, eq-eqb, eqb, Err, false, get_or, inl, inr, length, length-append, List, map, None, Ok, Option, option_map, refl, Result, slice_get, Some, subst, suc, sym, take, take-append-drop, true, zero, ℕ, ⊎_elim}
+pub use Rattle.std.proofs.KnownBytes.{Appends-nil, Appends-trans, Consumes-nil, Consumes-trans}
+pub use Rattle.std.proofs.lemmas.Bool.{cases_lt, ne_eqb}
+pub use Rattle.std.proofs.lemmas.List.{get_or-set_same, get_or_past, length-drop, map-append}
+pub use Rattle.std.proofs.lemmas.List.Elements.{All-append, All-cons, All-contains, All-head, All-map, All-nil, All-tail, All-weaker}
+pub use Rattle.std.proofs.lemmas.List.Sums.{fold-append}
+pub use Rattle.std.proofs.lemmas.Result.{err_from_is_err_and, on_ok_weaker}
+pub use Rattle.std.specs.Io.KnownBytes.{Appends, Consumes}
+pub use Rattle.std.specs.List.{list_any}
+pub use Rattle.std.specs.Option.{option_and_then, option_map_or}
+pub use Rattle.std.specs.Prelude.{◌⊎◌, All, Contains, count_by, find, IfOk, IfSome, if◌then◌else◌, IsSome, IsSomeAnd, IsTrue, OnOk, option_to_list}
+pub use Rattle.star_values.specs.declared.refusal.Refusal.{Refusal}
+pub use Rattle.star_io.specs.Transfer.{AppendsFront}
+pub use Rattle.script_reader.specs.Reading.{MayCome, Reading, StaysFed, TakesFirst, Wants}
+pub use Rattle.script_reader.specs.Script.{statements_of}
+pub use Rattle.script_reader.specs.declared.reader.TheConstants.{SCRIPT_LIMIT}
+pub use Rattle.script_reader.specs.declared.statement.Statement.{Statement}
+pub use Rattle.star_plan.specs.Test.{Query}
+pub use Rattle.pipeline_manager.specs.Conditions.{is_open}
+pub use Rattle.pipeline_manager.specs.Lives.{life_in, life_of, Lives, query_in, slot_of}
+pub use Rattle.pipeline_manager.specs.Sound.{AreRising}
+pub use Rattle.pipeline_manager.specs.declared.life.Life.{Life}
+pub use Rattle.pipeline_manager.specs.declared.life.Life.TheVariants.{Abandoned, Answered, Building, Spoiled, Waiting}
+pub use Rattle.pipeline_manager.specs.declared.life.QueryLife.{QueryLife}
+pub use Rattle.star_history.specs.Alone.{alone}
+pub use Rattle.star_history.specs.History.{after_change, Change, DimensionDeclared, Ended, FactDeclared, Loaded, store_of}
+pub use Rattle.star_history.specs.Keyed.{plain}
+pub use Rattle.star_history.specs.Store.{Store}
+pub use Rattle.reply_text.specs.Text.{text_of, text_of_all}
+pub use Rattle.reply_text.specs.declared.reply.Reply.{Reply}
+pub use Rattle.reply_text.specs.declared.reply.Reply.TheVariants.{Answer, Commit, Memory, Overflow, Refused, Table, Waited}
+pub use Rattle.star_statement.specs.Effect.{answer_reply, effect_of, reply_to, store_after}
+pub use Rattle.star_statement.specs.Laws.{AgreesWith}
+pub use Rattle.star_statement.specs.Outcome.{Outcome, outcome_by, outcome_of, Told}
+pub use Rattle.star_statement.specs.Script.{history_after, is_wanted_at, replies_after, replies_at, replies_of}
+pub use Rattle.star_statement.specs.Text.{meaning_of}
+pub use Rattle.core_state.proofs.AcceptedLemmas.{find-holds}
+pub use Rattle.core_state.proofs.AnewLemmas.{forgets}
+pub use Rattle.core_state.proofs.AskLemmas.{of-numbers}
+pub use Rattle.core_state.proofs.LaterLemmas.{entries-by}
+pub use Rattle.core_state.proofs.SeatLemmas.{part-stays}
+pub use Rattle.core_state.proofs.StepLemmas.{StepsKeep}
+pub use Rattle.core_state.proofs.StepSeatLemmas.{aside-outcome}
+pub use Rattle.core_state.proofs.WholeFrameLemmas.{by-option}
+pub use Rattle.core_state.proofs.WholeRunLemmas.{StepsLoseNone}
+pub use Rattle.core_state.specs.Admitting.{after_build, with_built}
+pub use Rattle.core_state.specs.Answers.{IsRight}
+pub use Rattle.core_state.specs.Cutting.{after_distribute, after_give}
+pub use Rattle.core_state.specs.Events.{IsEnabled}
+pub use Rattle.core_state.specs.Found.{accepted_at, flight_at, is_held_by}
+pub use Rattle.core_state.specs.Sound.{empty_core, IsAwaited, IsSound, IsSoundQuery, IsSoundSeat}
+pub use Rattle.core_state.specs.State.{Accepted, Asked, Awaited, Entry, Pending, Replied, Scan, Seat, State, Taken}
+pub use Rattle.core_state.specs.Steps.{after_step, after_steps, Done, MayStep, MayStepAll, Replying, Step, Wanting}
+pub use Rattle.core_state.specs.Submitting.{after_abandoning, after_outcome, after_submitting, after_taking, awaited_by, empty_seat, forgotten, next_ready, ready_to, seat_at, taken_by, with_change, with_query, with_seat, with_statement, with_taken, without_pending}
+pub use Rattle.core_state.specs.Tables.{changes_of, tables_by, tables_of, versions_in}
+pub use Rattle.core_state.specs.declared.event.Event.{Event}
+pub use Rattle.core_state.specs.declared.event.Event.TheVariants.{Abandon, Build, Clear, Cut, Distribute, Finish, Give, Release, Reorder, Reserve, Start, Submit, Take}
+pub use Rattle.core_state.specs.declared.settings.RunSettings.{RunSettings}
+pub use Rattle.event_core.specs.Chosen.{AreIdle}
+pub use Rattle.event_core.specs.Replies.{first_open, IsReplyOf, ready_of}
+pub use Rattle.event_core.specs.Seen.{state_of}
+pub use Rattle.event_core.specs.Took.{IsLed, IsSpoilt, Took, TookAll}
+pub use Rattle.event_core.specs.declared.replies.Ready.{Ready}
+pub use Rattle.core_driver.proofs.LapCountLemmas.{count-cons}
+pub use Rattle.core_driver.specs.Driven.{IsDriven}
+pub use Rattle.script_run.specs.Answer.{HaltsBehind, HasNoStatement, refused_left, Replies, replies_left, RepliesInPart, text_left}
+pub use Rattle.script_run.specs.Counted.{Beside, CountsOne, GoesRound, is_query, IsCounted, IsKnown, IsOverOrWaits, LapsOn, one_if, places_played, queries_awaited, told_of}
+pub use Rattle.script_run.specs.End.{end_of_all, end_of_halt}
+pub use Rattle.script_run.specs.Front.{BreaksIn, BreaksOff, HaltsPlay, HaltsReading, IsOfRun, IsRun, PlaysIn, PlaysOn, PlaysWhole, ReadsFront, ReadsInPart, ReadsOn, refused_of_played, text_of_played}
+pub use Rattle.script_run.specs.Home.{IsHeld, IsOfSession}
+pub use Rattle.script_run.specs.Laps.{laps_of, placed, rows_of}
+pub use Rattle.script_run.specs.Pieces.{fed_with}
+pub use Rattle.script_run.specs.Played.{accepted_by, AreToldAs, ComesTo, ComeTo, Follows, given_in, had_of, IsListedBehind, IsTakenAs, IsToldAs, Leads, LeavesSeats, lost, MayPlay, Played, played_as, Plays, queries_among}
+pub use Rattle.script_run.specs.Run.{HasEnded, is_refusal, IsFront, IsProperFront, script_replies, script_text, some_refused, within_limit}
+pub use Rattle.script_run.specs.Shared.{AnswersBy}
+pub use Rattle.script_run.specs.Told.{BeginAnswered, MayBegin, Tells}
+pub use Rattle.script_run.specs.Waiting.{is_wait, means_wait}
+pub use Rattle.script_run.specs.declared.front.Front.{Front}
+pub use Rattle.script_run.specs.declared.halt.Halt.{Halt}
+pub use Rattle.script_run.specs.declared.halt.Halt.TheVariants.{NoMemory, WriteFault}
