@@ -1,0 +1,85 @@
+//! Runs and sessions of which a read or a write fails in mid-stream.
+ghost use Rattle.script_run.specs.Home.{IsAtHome};
+
+use crate::served::{NEVER, SETTINGS, link_of};
+use script_run::{Front, run_script};
+use session_server::{SessionEnd, serve_session};
+use star_io::{ListSink, PieceSource, RunEnd};
+use star_values::NoMemory;
+use std::alloc::{AllocError, Global};
+use std::test::Fail;
+use std::thread::Threads;
+
+/// Byte 150 stands in the second block.
+const SCRIPT: &str = "dimension store (id int key, city text)
+fact sales (store_id int references store, units int)
+load store
+1,Oslo
+2,Rome
+.
+load sales
+1,5
+2,1
+1,10
+2,3
+.
+";
+
+/// Whether a run ends so, with these replies: its source gives 150 bytes at once, and its sink takes 8.
+fn ends<R: Threads + Sync>(
+    rt: &R,
+    alloc: Global,
+    read_fault: u64,
+    write_fault: u64,
+    end: RunEnd,
+    replies: &str,
+) -> Result<bool, AllocError> {
+    let script = SCRIPT.as_bytes().to_vec(alloc)?;
+    let mut source = PieceSource::new(script, 150, [read_fault].to_vec(alloc)?);
+    let mut sink = ListSink::new(alloc, 8, [write_fault].to_vec(alloc)?);
+    let ended = run_script(rt, alloc, SETTINGS, &mut source, &mut sink).end;
+    Ok(ended == end && sink.bytes() == replies.as_bytes())
+}
+
+#[test]
+fn a_run_ends_at_a_fault_in_mid_stream(rt: HostRuntime) -> Result<(), Fail> {
+    let replies = "table store\ntable sales\ncommit 1 rows 2\n";
+    assert!(rt; ends(&rt, rt.alloc(), 1, NEVER, RunEnd::ReadFault, replies)?);
+    assert!(rt; ends(&rt, rt.alloc(), NEVER, 1, RunEnd::WriteFault, "table st")?);
+    Ok(())
+}
+
+/// Whether a session ends so, with these replies.
+fn is_served<R: Threads + Sync>(
+    rt: &R,
+    alloc: Global,
+    front: &mut Front,
+    write_fault: u64,
+    end: SessionEnd,
+    replies: &str,
+) -> Result<bool, AllocError>
+    requires { IsAtHome front.old }
+    ensures { IsAtHome front.new }
+{
+    let script = "fact f (v int)\nload f\n1\n2\n.\nselect sum(v) from f\n";
+    let mut link = link_of(alloc, script, write_fault)?;
+    let ended = serve_session(rt, alloc, front, &mut link);
+    Ok(ended == end && link.bytes() == replies.as_bytes())
+}
+
+/// Whether both sessions over a new core are served so: the fourth write of the first fails, in its answer.
+fn are_served<R: Threads + Sync>(rt: &R, alloc: Global) -> Result<bool, NoMemory> {
+    let mut front = Front::new(alloc, SETTINGS)?;
+    let first = "table f\ncommit 1 rows 2\nanswer 1";
+    let second = "refused 13 out of order\ncommit 2 rows 2\nanswer 2 rows 1\n6\n";
+    Ok(
+        is_served(rt, alloc, &mut front, 4, SessionEnd::WriteFault, first)?
+            && is_served(rt, alloc, &mut front, NEVER, SessionEnd::Done, second)?,
+    )
+}
+
+#[test]
+fn a_session_goes_on_behind_one_that_was_cut_off(rt: HostRuntime) -> Result<(), Fail> {
+    assert!(rt; are_served(&rt, rt.alloc())?);
+    Ok(())
+}

@@ -1,0 +1,15 @@
+//! Tests of all crates: what neither a clause, a script nor a story of events shows.
+#![tactic(auto)]
+
+#[cfg(test)]
+mod calls;
+#[cfg(test)]
+mod faults;
+#[cfg(test)]
+mod outside;
+#[cfg(test)]
+mod served;
+#[cfg(test)]
+mod sets;
+#[cfg(test)]
+mod words;

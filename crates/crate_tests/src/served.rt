@@ -1,0 +1,72 @@
+//! Connections and the made workload, to which no stored run of a program comes.
+use core_state::RunSettings;
+use made_run::{MadeEnd, run_made};
+use session_server::serve;
+use star_io::{
+    ListDoor, ListSink, PairLink, PieceSource, ServeEnd, a_read_leaves_the_writes,
+    a_write_leaves_the_reads,
+};
+use std::alloc::{AllocError, Global};
+use std::test::Fail;
+use std::thread::Threads;
+
+/// The settings of the program, where no word says more.
+pub(crate) const SETTINGS: RunSettings = RunSettings {
+    workers: 0,
+    slots: 64,
+    batch: 256,
+    seats: 1,
+};
+
+/// The number of a call that is never made.
+pub(crate) const NEVER: u64 = u64::MAX;
+
+/// What is written of the made workload without sales, as another program reckoned it.
+const MADE_LINE: &str =
+    "summary statements 85 commits 18 answers 60 rows 12 overflows 0 refused 0 memory 0 bytes 1531 sum 125847\n";
+
+/// A link in memory that gives a script, and takes 8 bytes at once. The write of this number fails.
+pub(crate) fn link_of(
+    alloc: Global,
+    script: &str,
+    write_fault: u64,
+) -> Result<PairLink, AllocError> {
+    let source = PieceSource::new(script.as_bytes().to_vec(alloc)?, 4096, Vec::new(alloc));
+    let sink = ListSink::new(alloc, 8, [write_fault].to_vec(alloc)?);
+    Ok(PairLink::new(source, sink))
+}
+
+#[test]
+fn a_link_keeps_its_sides_apart(rt: HostRuntime) -> Result<(), Fail> {
+    let mut link = link_of(rt.alloc(), "wait", NEVER)?;
+    let mut into = [0; 4];
+    assert_eq!(rt; a_write_leaves_the_reads(&mut link, b"join"), Ok(4));
+    assert_eq!(rt; a_read_leaves_the_writes(&mut link, &mut into), Ok(4));
+    assert_eq!(rt; into, *b"wait");
+    Ok(())
+}
+
+#[test]
+fn connections_are_served_until_the_door_ends(rt: HostRuntime) -> Result<(), Fail> {
+    let alloc = rt.alloc();
+    let mut links = Vec::new(alloc);
+    links.push(link_of(alloc, "wait\n", NEVER)?)?;
+    let mut door = ListDoor::new(links, Vec::new(alloc));
+    assert_eq!(rt;
+        serve(&rt, alloc, SETTINGS, 5432, 0, &mut door),
+        ServeEnd::Ended
+    );
+    Ok(())
+}
+
+/// How the made workload without sales ends.
+fn made<R: Threads + Sync>(rt: &R, alloc: Global, sink: &mut ListSink) -> MadeEnd {
+    run_made(rt, alloc, SETTINGS, 7, 0, sink).end
+}
+
+#[test]
+fn the_made_workload_is_told_in_a_line(rt: HostRuntime) {
+    let mut sink = ListSink::new(rt.alloc(), 1 << 16, Vec::new(rt.alloc()));
+    assert_eq!(rt; made(&rt, rt.alloc(), &mut sink), MadeEnd::Clean);
+    assert!(rt; sink.bytes() == MADE_LINE.as_bytes());
+}
