@@ -4,8 +4,6 @@
 mod bits;
 mod laws;
 mod rows;
-#[cfg(test)]
-mod tests;
 
 pub use bits::Bits;
 pub use laws::{least_numbers_are_the_members, numbers_go_in_and_out, sets_are_their_members};

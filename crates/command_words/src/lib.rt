@@ -7,8 +7,6 @@ mod options;
 mod reading;
 mod settings;
 mod table;
-#[cfg(test)]
-mod tests;
 mod values;
 
 pub use laws::{settings_are_in_range, two_hyphens_name_no_settings};

@@ -6,8 +6,6 @@ mod crossing;
 mod fact_versions;
 mod laws;
 mod stretch;
-#[cfg(test)]
-mod tests;
 mod version;
 mod visible;
 

@@ -5,8 +5,6 @@ mod laws;
 mod order;
 mod rates;
 mod tally;
-#[cfg(test)]
-mod tests;
 
 pub use laws::orders_by_drop_rate_are_equal;
 pub use order::{Order, best_order};

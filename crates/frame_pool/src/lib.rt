@@ -3,8 +3,6 @@
 
 mod frame;
 mod pool;
-#[cfg(test)]
-mod tests;
 
 pub use frame::Frame;
 pub use pool::Pool;

@@ -8,8 +8,6 @@ mod lines;
 mod printing;
 mod reading;
 mod script;
-#[cfg(test)]
-mod tests;
 mod totals;
 
 pub use laws::made_scripts_are_within_the_limit;

@@ -40,10 +40,3 @@ pub use sure_source::SureSource;
 pub use tcp_door::TcpDoor;
 pub use tcp_link::TcpLink;
 pub use transfer::write_all;
-
-#[cfg(test)]
-mod door_tests;
-#[cfg(test)]
-mod fault_tests;
-#[cfg(test)]
-mod tests;

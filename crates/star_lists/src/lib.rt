@@ -4,8 +4,6 @@
 mod crossing;
 mod list_of;
 mod list_with_room;
-#[cfg(test)]
-mod tests;
 
 pub use crossing::{lists_may_be_sent, lists_may_be_shared};
 pub use list_of::ListOf;

@@ -5,10 +5,6 @@ ghost use Rattle.std.specs.Prelude.{◌≡◌, ◌≢◌};
 ghost use Rattle.std.specs.IoError.{error_kind};
 
 mod fault;
-#[cfg(test)]
-mod session_tests;
-#[cfg(test)]
-mod tests;
 mod top;
 
 use crate::fault::Fault;

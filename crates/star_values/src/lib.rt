@@ -11,8 +11,6 @@ mod no_memory;
 mod refusal;
 mod row;
 mod small_text;
-#[cfg(test)]
-mod tests;
 mod value;
 
 pub use byte_text::ByteText;
