@@ -1,5 +1,5 @@
 -- What holds of each query in a sound core, by its place among the lives.
-use Rattle.core_driver.proofs.Words.{◌∙◌, ◌≡◌, ◌≤◌, Accepted, accepted_at, All, Any, ap, eqb, eqb-true, false, find-holds, find-passes, get_or, get_or_default, is_some, IsLeft, IsNext, IsSome, IsSound, Life, List, None, Option, query_in, query_in-found, QueryLife, refl, Some, State, subst, sym, true, versions_in, ℕ}
+use Rattle.core_driver.proofs.Words.{◌∙◌, ◌≡◌, ◌≤◌, Accepted, accepted_at, All, Any, ap, eqb, eqb-true, false, find-holds, find-passes, get_or, get_or_default, is_some, IsLeft, IsNext, IsSome, IsSound, Life, List, None, Option, query_in, query_in-found, QueryLife, refl, Some, State, subst, sym, tables_of, true, versions_in, ℕ}
 use Rattle.pipeline_manager.specs.declared.life.Life.TheVariants as life
 use Rattle.core_state.specs.Sound.{IsKept, IsSoundQuery}
 use Rattle.core_state.proofs.FoundLemmas.{some-at}
@@ -20,7 +20,7 @@ pub record OfQuery (state : State) (entry : QueryLife) : Type 0 where
   pub left : IsLeft entry.extent entry.life
 
 -- what is kept of a query says what comes next of it
-kept-next : (state : State) (accepted : Accepted) (extent : ℕ) (now : Life) → IsKept state accepted extent now
+kept-next : (state : State) (accepted : Accepted) (extent : ℕ) (now : Life) → IsKept (tables_of state) state.seats state.scan accepted extent now
     → IsNext state.scan.position extent now
 kept-next state accepted extent (life.Running start left) kept = kept.next
 kept-next state accepted extent other kept = tt
@@ -42,7 +42,7 @@ of-entry state sound entry found left =
         record {
           extent = some-at (λ e. e.extent ≤ versions_in state) (query_in state.lives.queries accepted.number) entry here of_query.within;
           next = kept-next state accepted entry.extent entry.life
-              (some-at (λ e. IsKept state accepted e.extent e.life) (query_in state.lives.queries accepted.number) entry here of_query.kept);
+              (some-at (λ e. IsKept (tables_of state) state.seats state.scan accepted e.extent e.life) (query_in state.lives.queries accepted.number) entry here of_query.kept);
           left = left;
         }
 

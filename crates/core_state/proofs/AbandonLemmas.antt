@@ -10,7 +10,7 @@ use Rattle.core_state.proofs.SeatLemmas.{Told, Wanted, awaited-there, part-stays
 
 -- the life of a query that has no answer
 record IsLost (lost : Life) : Type 0 where
-  kept : (state : State) (accepted : Accepted) (extent : ℕ) → accepted.groups ≡ None → IsKept state accepted extent lost
+  kept : (state : State) (accepted : Accepted) (extent : ℕ) → accepted.groups ≡ None → IsKept (tables_of state) state.seats state.scan accepted extent lost
   rostered : MayBeOnRoster lost
   gets : gets_rows lost ≡ false
   closed : is_open lost ≡ false
@@ -46,7 +46,7 @@ sound-lost query old lost state seats is_lost was lives count stay sound_seats s
       subst (λ given. LivesAs (kept_anew state (forgotten query) queries seats state.scan) accepted given entry)
       (sym (ap (λ t. cond {A = Accepted} t (record accepted { groups = None }) accepted) (ne_eqb accepted.number query apart))) (
         kept-anew state (forgotten query) queries seats stay accepted entry.extent entry.life
-            (some-at (λ e. IsKept state accepted e.extent e.life) (query_in state.lives.queries accepted.number) entry found of_query.kept),
+            (some-at (λ e. IsKept (tables_of state) state.seats state.scan accepted e.extent e.life) (query_in state.lives.queries accepted.number) entry found of_query.kept),
         some-at (λ e. IsTrue (is_open e.life) → (position : ℕ) → IfSome (slice_get (tables_of state).versions position)
             (λ version. (version.begin ≤ accepted.snapshot) ↔ (position < e.extent)))
             (query_in state.lives.queries accepted.number) entry found of_query.extent,
@@ -146,10 +146,10 @@ sound-unpending query seat old state was opens submits sound =
         (λ after. sound.seats.apart seat k d (omega arith) low query submits_so has) (cases_lt k seat)
 
     each : (k : ℕ) (d : Seat) → k < length state.seats → (k ≡ seat) ⊎ (k ≢ seat)
-        → IsSoundSeat (kept_anew state (forgotten query) queries seats state.scan) (get_or seats k d)
+        → IsSoundSeat state.numbers.statement (map (forgotten query) state.accepted) queries (get_or seats k d)
     each k d low (inl same) =
-        subst (λ n. IsSoundSeat (kept_anew state (forgotten query) queries seats state.scan) (get_or seats n d)) (sym same)
-        (subst (IsSoundSeat (kept_anew state (forgotten query) queries seats state.scan)) (sym (get_or-set_same state.seats seat without d there))
+        subst (λ n. IsSoundSeat state.numbers.statement (map (forgotten query) state.accepted) queries (get_or seats n d)) (sym same)
+        (subst (IsSoundSeat state.numbers.statement (map (forgotten query) state.accepted) queries) (sym (get_or-set_same state.seats seat without d there))
         (seat-anew state (forgotten query) (forgets query) queries seats state.scan without
         (All-weaker (λ pending. not (eqb pending.statement query) ≡ true)
         (λ pending. IfSome (life_in state.lives.queries pending.statement) Wanted → IfSome (life_in queries pending.statement) Wanted)
@@ -160,8 +160,8 @@ sound-unpending query seat old state was opens submits sound =
         (seat-fewer state (λ pending. not (eqb pending.statement query)) (get_or state.seats seat empty_seat) (sound.seats.each seat empty_seat there))))
     each k d low (inr apart) =
         let here = get_or state.seats k d in
-        let of_seat : IsSoundSeat state here = sound.seats.each k d low in
-        subst (IsSoundSeat (kept_anew state (forgotten query) queries seats state.scan)) (sym (get_or-set_other state.seats seat k without d apart))
+        let of_seat : IsSoundSeat state.numbers.statement state.accepted state.lives.queries here = sound.seats.each k d low in
+        subst (IsSoundSeat state.numbers.statement (map (forgotten query) state.accepted) queries) (sym (get_or-set_other state.seats seat k without d apart))
         (seat-anew state (forgotten query) (forgets query) queries seats state.scan here
         (All-weaker (λ pending. Contains here.submitted pending.statement)
         (λ pending. IfSome (life_in state.lives.queries pending.statement) Wanted → IfSome (life_in queries pending.statement) Wanted)

@@ -1,5 +1,5 @@
 -- What stays sound where other groups are kept of accepted queries, and lives and seats are others.
-use Rattle.core_state.proofs.Words.{◌+◌, ◌<◌, ◌↔◌, ◌∙◌, ◌∷◌, ◌≡◌, ◌≤◌, [], Accepted, accepted_at, All, All-map, ap, AreSoundBatches, AreSoundFilters, AreSoundHands, AreSoundQueries, Bool, Clearing, cond, Contains, Contains-get_or, empty_seat, Encodes, eqb, false, Filter, FitsSlot, forgotten, Free, get_or, Grouped, HasAccepted, Held, IfSome, IfSome_then, inl, inr, is_open, IsKept, IsOnRoster, IsSomeAnd, IsSoundBatch, IsSoundQuery, IsTrue, length, Life, life_in, List, map, MayBeOnRoster, None, OnRoster, Option, option_map, Query, query_in, QueryLife, refl, rows_in, Scan, Seat, slice_get, slot_at, SlotState, Some, State, subst, sym, tables_of, true, versions_in, ℕ, ⊎_elim}
+use Rattle.core_state.proofs.Words.{◌+◌, ◌<◌, ◌↔◌, ◌∙◌, ◌∷◌, ◌≡◌, ◌≤◌, [], Accepted, accepted_at, All, All-map, ap, AreSoundBatches, AreSoundFilters, AreSoundHands, AreSoundQueries, Bool, Clearing, cond, Contains, Contains-get_or, empty_seat, Encodes, eqb, false, Filter, FitsSlot, forgotten, frame_words, Free, get_or, Grouped, HasAccepted, Held, IfSome, IfSome_then, inl, inr, is_open, IsKept, IsOnRoster, IsSomeAnd, IsSoundBatch, IsSoundQuery, IsTrue, length, Life, life_in, List, map, MayBeOnRoster, None, OnRoster, Option, option_map, Query, query_in, QueryLife, refl, rows_in, Scan, Seat, slice_get, slot_at, SlotState, Some, State, subst, sym, tables_of, true, versions_in, ℕ, ⊎_elim}
 use Rattle.pipeline_manager.specs.declared.life.Life.TheVariants as life
 
 -- a change of what is kept of accepted queries, and of nothing else of them
@@ -55,7 +55,7 @@ some-anew P change keeps number accepted holds =
     by_found (Some a) h = by-change (λ b. P b.query b.snapshot) change keeps a (λ groups. h)
 
 pub has-anew : (state : State) (change : Accepted → Accepted) → KeepsAsked change → (queries : List QueryLife) (seats : List Seat) (scan : Scan) (number : ℕ) (asked : Query) (snapshot : ℕ)
-    → HasAccepted state number asked snapshot → HasAccepted (kept_anew state change queries seats scan) number asked snapshot
+    → HasAccepted state.accepted number asked snapshot → HasAccepted (map change state.accepted) number asked snapshot
 has-anew state change keeps queries seats scan number asked snapshot holds =
     subst (λ o. IsSomeAnd o (λ a. (a.query ≡ asked) × (a.snapshot ≡ snapshot))) (sym (found-anew change keeps number state.accepted))
     (by_found (accepted_at state.accepted number) holds)
@@ -66,7 +66,7 @@ has-anew state change keeps queries seats scan number asked snapshot holds =
     by_found (Some a) h = by-change (λ b. (b.query ≡ asked) × (b.snapshot ≡ snapshot)) change keeps a (λ groups. h)
 
 fits-anew : (state : State) (change : Accepted → Accepted) → KeepsAsked change → (queries : List QueryLife) (seats : List Seat) (scan : Scan) (filter : Filter) (slot : ℕ) (holder : SlotState)
-    → FitsSlot state filter slot holder → FitsSlot (kept_anew state change queries seats scan) filter slot holder
+    → FitsSlot state.accepted (tables_of state) filter slot holder → FitsSlot (map change state.accepted) (tables_of state) filter slot holder
 fits-anew state change keeps queries seats scan filter slot Free fits = fits
 fits-anew state change keeps queries seats scan filter slot (Held number built) fits = (
   λ has. some-anew (λ asked snapshot. Encodes filter slot asked snapshot (rows_in (tables_of state).dimensions filter.dimension))
@@ -94,7 +94,7 @@ filters-anew state change keeps queries seats scan old = record {
 }
 
 entry-anew : (state : State) (change : Accepted → Accepted) → KeepsAsked change → (queries : List QueryLife) (seats : List Seat) (scan : Scan) (entry : OnRoster)
-    → IfSome (life_in queries entry.number) MayBeOnRoster → IsOnRoster state entry → IsOnRoster (kept_anew state change queries seats scan) entry
+    → IfSome (life_in queries entry.number) MayBeOnRoster → IsOnRoster state.lives state.accepted entry → IsOnRoster (record state.lives { queries = queries }) (map change state.accepted) entry
 entry-anew state change keeps queries seats scan entry life old = record {
   there = old.there;
   held = old.held;
@@ -104,7 +104,7 @@ entry-anew state change keeps queries seats scan entry life old = record {
 
 pub batches-anew : (state : State) (change : Accepted → Accepted) → KeepsAsked change → (queries : List QueryLife) (seats : List Seat) (scan : Scan)
     → ((number : ℕ) → IfSome (life_in state.lives.queries number) MayBeOnRoster → IfSome (life_in queries number) MayBeOnRoster)
-    → All (IsSoundBatch state) scan.flights → AreSoundBatches (kept_anew state change queries seats scan)
+    → All (IsSoundBatch (frame_words state) (tables_of state) state.lives state.accepted) scan.flights → AreSoundBatches (kept_anew state change queries seats scan)
 batches-anew state change keeps queries seats scan stays old = λ k d low.
     let flight = get_or scan.flights k d in
     let sound = old k d low in
@@ -143,7 +143,7 @@ StayTaken seats now = (seat number : ℕ) → Contains (map (λ taken. taken.sta
 
 -- what is kept of a query does not hang on the others
 pub kept-anew : (state : State) (change : Accepted → Accepted) (queries : List QueryLife) (seats : List Seat) → StayTaken state.seats seats → (accepted : Accepted) (extent : ℕ) (now : Life)
-    → IsKept state accepted extent now → IsKept (kept_anew state change queries seats state.scan) accepted extent now
+    → IsKept (tables_of state) state.seats state.scan accepted extent now → IsKept (tables_of state) seats state.scan accepted extent now
 kept-anew state change queries seats stay accepted extent (life.Running start left) old =
     record { folded = old.folded; each_once = old.each_once; next = old.next; groups = old.groups }
 kept-anew state change queries seats stay accepted extent life.Ending old =
@@ -155,7 +155,7 @@ kept-anew state change queries seats stay accepted extent other old = old
 -- what is asked of an accepted query by its life
 abbrev pub LivesAs : State → Accepted → (given : Accepted) → QueryLife → Type 0
 LivesAs state accepted given entry =
-    IsKept state given entry.extent entry.life × (IsTrue (is_open entry.life)
+    IsKept (tables_of state) state.seats state.scan given entry.extent entry.life × (IsTrue (is_open entry.life)
     → (position : ℕ) → IfSome (slice_get (tables_of state).versions position)
     (λ version. (version.begin ≤ accepted.snapshot) ↔ (position < entry.extent)))
     × (entry.extent ≤ versions_in state)

@@ -14,7 +14,7 @@ IgnoresOrder = (query : Query) (rows others : List Joined) → IsPermutation row
 -- the first statement that a seat waits for
 record IsFirst (state : State) (seat : ℕ) (pending : Pending) : Type 0 where
   there : seat < length state.seats
-  sound : IsSoundSeat state (seat_at state seat)
+  sound : IsSoundSeat state.numbers.statement state.accepted state.lives.queries (seat_at state seat)
   rest : (rest : List Pending) × ((seat_at state seat).pending ≡ pending ∷ rest)
 
 first-of : (state : State) (seat : ℕ) (pending : Pending) → IsSound state → slice_get (seat_at state seat).pending 0 ≡ Some pending
@@ -36,19 +36,19 @@ first-of state seat pending sound is = record {
     by_list (first ∷ rest) e = let same : first ≡ pending = cc in (rest, ap (λ p. p ∷ rest) same)
 
 -- the seat waits for it as it should
-awaits : (state : State) (seat : ℕ) (pending : Pending) → IsFirst state seat pending → IsAwaited state pending.statement pending.awaited
+awaits : (state : State) (seat : ℕ) (pending : Pending) → IsFirst state seat pending → IsAwaited state.accepted state.lives.queries pending.statement pending.awaited
 awaits state seat pending first =
-    All-head (λ p. IsAwaited state p.statement p.awaited) pending first.rest.0
-    (subst (All (λ p. IsAwaited state p.statement p.awaited)) first.rest.1 first.sound.awaited)
+    All-head (λ p. IsAwaited state.accepted state.lives.queries p.statement p.awaited) pending first.rest.0
+    (subst (All (λ p. IsAwaited state.accepted state.lives.queries p.statement p.awaited)) first.rest.1 first.sound.awaited)
 
 -- an accepted query that is answered and whose reply was not taken keeps groups that answer it
 answer-kept : IgnoresOrder → (state : State) (accepted : Accepted) → IsSoundQuery state accepted → life_of state.lives accepted.number ≡ Some life.Answered
-    → ((accepted.groups ≡ None) × HasTaken state accepted)
+    → ((accepted.groups ≡ None) × HasTaken state.seats accepted)
     ⊎ ((groups : Grouped) × (accepted.groups ≡ Some groups) × AnswersAlone (tables_of state) accepted.query accepted.snapshot groups)
 answer-kept ignores state accepted sound is = by_entry (query_in state.lives.queries accepted.number) refl is
   where
-    by_kept : ((accepted.groups ≡ None) × HasTaken state accepted) ⊎ IsAnswer state accepted
-        → ((accepted.groups ≡ None) × HasTaken state accepted)
+    by_kept : ((accepted.groups ≡ None) × HasTaken state.seats accepted) ⊎ IsAnswer (tables_of state) accepted
+        → ((accepted.groups ≡ None) × HasTaken state.seats accepted)
         ⊎ ((groups : Grouped) × (accepted.groups ≡ Some groups) × AnswersAlone (tables_of state) accepted.query accepted.snapshot groups)
     by_kept (inl gone) = inl gone
     by_kept (inr answer) = inr (
@@ -62,17 +62,17 @@ answer-kept ignores state accepted sound is = by_entry (query_in state.lives.que
     )
 
     by_entry : (o : Option QueryLife) → query_in state.lives.queries accepted.number ≡ o → option_map (λ entry. entry.life) o ≡ Some life.Answered
-        → ((accepted.groups ≡ None) × HasTaken state accepted)
+        → ((accepted.groups ≡ None) × HasTaken state.seats accepted)
         ⊎ ((groups : Grouped) × (accepted.groups ≡ Some groups) × AnswersAlone (tables_of state) accepted.query accepted.snapshot groups)
     by_entry None found e = absurd (let both : None ≡ Some life.Answered = e in cc)
     by_entry (Some entry) found e =
         let answered : entry.life ≡ life.Answered = cc in
-        by_kept (subst (IsKept state accepted entry.extent) answered
-        (some-at (λ q. IsKept state accepted q.extent q.life) (query_in state.lives.queries accepted.number) entry found sound.kept))
+        by_kept (subst (IsKept (tables_of state) state.seats state.scan accepted entry.extent) answered
+        (some-at (λ q. IsKept (tables_of state) state.seats state.scan accepted q.extent q.life) (query_in state.lives.queries accepted.number) entry found sound.kept))
 
 -- a seat did not take what it waits for
 not-taken : (state : State) (seat : ℕ) (pending : Pending) (accepted : Accepted) → IsSound state → IsFirst state seat pending
-    → accepted.number ≡ pending.statement → Contains (seat_at state accepted.seat).submitted accepted.number → HasTaken state accepted → ⊥
+    → accepted.number ≡ pending.statement → Contains (seat_at state accepted.seat).submitted accepted.number → HasTaken state.seats accepted → ⊥
 not-taken state seat pending accepted sound first same submits taken =
     let here : Contains (seat_at state seat).submitted pending.statement =
     All-head (λ p. Contains (seat_at state seat).submitted p.statement) pending first.rest.0
@@ -102,7 +102,7 @@ not-taken state seat pending accepted sound first same submits taken =
 
 -- an awaited query that is answered has groups that answer it
 asked-answer : IgnoresOrder → (state : State) (seat : ℕ) (pending : Pending) (query : Query) (snapshot : ℕ) → IsSound state → IsFirst state seat pending
-    → HasAccepted state pending.statement query snapshot → life_of state.lives pending.statement ≡ Some life.Answered
+    → HasAccepted state.accepted pending.statement query snapshot → life_of state.lives pending.statement ≡ Some life.Answered
     → (groups : Grouped) × (groups_in state pending.statement ≡ Some groups) × AnswersAlone (tables_of state) query snapshot groups
 asked-answer ignores state seat pending query snapshot sound first has is = by_found (accepted_at state.accepted pending.statement) refl has
   where
@@ -127,7 +127,7 @@ asked-answer ignores state seat pending query snapshot sound first has is = by_f
         )) (answer-kept ignores state accepted of_query (subst (λ n. life_of state.lives n ≡ Some life.Answered) (sym number) is))
 
 -- a query that is asked has a life
-asked-lives : (state : State) (statement : ℕ) (query : Query) (snapshot : ℕ) → AreSoundQueries state → HasAccepted state statement query snapshot
+asked-lives : (state : State) (statement : ℕ) (query : Query) (snapshot : ℕ) → AreSoundQueries state → HasAccepted state.accepted statement query snapshot
     → life_of state.lives statement ≡ None → ⊥
 asked-lives state statement query snapshot queries has none =
     let found : is_some (accepted_at state.accepted statement) ≡ true = by_found (accepted_at state.accepted statement) has in
@@ -156,7 +156,7 @@ reply-right ignores state seat pending ready sound is may =
     first : IsFirst state seat pending
     first = first-of state seat pending sound is
 
-    by_life : (query : Query) (snapshot : ℕ) → HasAccepted state pending.statement query snapshot → (o : Option Life) → life_of state.lives pending.statement ≡ o
+    by_life : (query : Query) (snapshot : ℕ) → HasAccepted state.accepted pending.statement query snapshot → (o : Option Life) → life_of state.lives pending.statement ≡ o
         → option_and_then (ready_by state pending.statement snapshot) o ≡ Some ready → IsRight state pending.statement (Asked query snapshot) ready
     by_life query snapshot has (Some life.Answered) was e =
         let answer = asked-answer ignores state seat pending query snapshot sound first has was in
@@ -168,7 +168,7 @@ reply-right ignores state seat pending ready sound is may =
         subst (IsRight state pending.statement (Asked query snapshot)) same (refl, was)
     by_life query snapshot has other was e = absurd (let both : None ≡ Some ready = e in cc)
 
-    by_awaited : (awaited : Awaited) → IsAwaited state pending.statement awaited → ready_to state pending.statement awaited ≡ Some ready
+    by_awaited : (awaited : Awaited) → IsAwaited state.accepted state.lives.queries pending.statement awaited → ready_to state pending.statement awaited ≡ Some ready
         → IsRight state pending.statement awaited ready
     by_awaited (Replied reply) none e = let same : Whole reply ≡ ready = cc in sym same
     by_awaited (Asked query snapshot) has e = by_life query snapshot has.0 (life_of state.lives pending.statement) refl e
@@ -185,7 +185,7 @@ waits-open ignores state seat pending sound is none =
     first : IsFirst state seat pending
     first = first-of state seat pending sound is
 
-    by_life : (query : Query) (snapshot : ℕ) → IsAwaited state pending.statement (Asked query snapshot) → (o : Option Life)
+    by_life : (query : Query) (snapshot : ℕ) → IsAwaited state.accepted state.lives.queries pending.statement (Asked query snapshot) → (o : Option Life)
         → life_of state.lives pending.statement ≡ o → option_and_then (ready_by state pending.statement snapshot) o ≡ None
         → IfSome o (λ now. now ≢ life.Abandoned) → IsSomeAnd o (λ now. IsTrue (is_open now))
     by_life query snapshot has None was e wanted = absurd (asked-lives state pending.statement query snapshot sound.queries has.0 was)
@@ -196,7 +196,7 @@ waits-open ignores state seat pending sound is none =
     by_life query snapshot has (Some life.Abandoned) was e wanted = absurd (wanted refl)
     by_life query snapshot has other was e wanted = refl
 
-    by_awaited : (awaited : Awaited) → pending.awaited ≡ awaited → IsAwaited state pending.statement awaited
+    by_awaited : (awaited : Awaited) → pending.awaited ≡ awaited → IsAwaited state.accepted state.lives.queries pending.statement awaited
         → ready_to state pending.statement awaited ≡ None
         → (query : Query) × (snapshot : ℕ) × (pending.awaited ≡ Asked query snapshot)
         × IsSomeAnd (life_of state.lives pending.statement) (λ now. IsTrue (is_open now))
@@ -207,7 +207,7 @@ waits-open ignores state seat pending sound is none =
 -- what is kept of each answered query
 pub kept-answer : IgnoresOrder → (state : State) (accepted : Accepted) → IsSound state → Contains state.accepted accepted
     → life_of state.lives accepted.number ≡ Some life.Answered
-    → ((accepted.groups ≡ None) × HasTaken state accepted)
+    → ((accepted.groups ≡ None) × HasTaken state.seats accepted)
     ⊎ ((groups : Grouped) × (accepted.groups ≡ Some groups) × AnswersAlone (tables_of state) accepted.query accepted.snapshot groups)
 kept-answer ignores state accepted sound among is =
     answer-kept ignores state accepted (All-contains (IsSoundQuery state) state.accepted accepted sound.queries.each among) is

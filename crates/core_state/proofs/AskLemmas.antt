@@ -89,7 +89,7 @@ beside-asked state seats seat statement query snapshot count above stay settled 
             over = over;
             snapshot = omega arith;
             within = subst (λ o. IfSome o (λ (e : QueryLife). e.extent ≤ versions_in state)) (sym found) (omega arith);
-            kept = subst (λ o. IfSome o (λ (e : QueryLife). IsKept now new e.extent e.life)) (sym found) refl;
+            kept = subst (λ o. IfSome o (λ (e : QueryLife). IsKept (tables_of now) now.seats now.scan new e.extent e.life)) (sym found) refl;
             extent = subst (λ o. IfSome o (λ (e : QueryLife). IsTrue (is_open e.life) → (position : ℕ)
                 → IfSome (slice_get (tables_of state).versions position)
                 (λ version. (version.begin ≤ snapshot) ↔ (position < e.extent)))) (sym found)

@@ -126,8 +126,8 @@ attached-taking state seat sound ready = by_pending here.pending refl ready
     by_pending [] is some = absurd (let both : false ≡ true = some in cc)
     by_pending (first ∷ rest) is some =
         let told = ready-told state first.statement first.awaited sound.queries
-        (All-head (λ pending. IsAwaited state pending.statement pending.awaited) first rest
-        (subst (All (λ pending. IsAwaited state pending.statement pending.awaited)) is
+        (All-head (λ pending. IsAwaited state.accepted state.lives.queries pending.statement pending.awaited) first rest
+        (subst (All (λ pending. IsAwaited state.accepted state.lives.queries pending.statement pending.awaited)) is
         (sound.seats.each seat empty_seat (there first rest is)).awaited)) some in
         let none : gets state.lives first.statement ≡ false = told-none (life_in state.lives.queries first.statement) told in
         attached-held state (kept (first ∷ rest)) refl (λ slot low. refl) (λ number. (

@@ -1,5 +1,5 @@
 -- What a distributor has of an empty core, where a query begins its lap, and where its slot is taken from it.
-use Rattle.core_state.proofs.Words.{◌<◌, ◌∙◌, ◌≡◌, ◌≢◌, [], Accepted, accepted_at, after_finish, after_start, ap, arith, attached_to, Bool, CanRun, Clearing, cond, empty_core, eqb, eqb-true, ext_get_or, extent_in, false, first_of, Free, get_or-replicate, get_or-set_other, get_or-set_same, gets_rows, given_up, grouped_of, groups_in, Held, holder_of, IfSome, is_ending, is_some, IsKept, IsSome, IsSound, IsSoundQuery, length, length-replicate, length-set, Life, life_in, life_in-same, life_of, List, MayFinish, None, Option, option_map, option_map_or, query_in, QueryLife, refl, replicate, RunSettings, set, slice_get, slot_at, slot_of, SlotState, Some, started, State, subst, sym, true, versions_in, with_life, ℕ}
+use Rattle.core_state.proofs.Words.{◌<◌, ◌∙◌, ◌≡◌, ◌≢◌, [], Accepted, accepted_at, after_finish, after_start, ap, arith, attached_to, Bool, CanRun, Clearing, cond, empty_core, eqb, eqb-true, ext_get_or, extent_in, false, first_of, Free, get_or-replicate, get_or-set_other, get_or-set_same, gets_rows, given_up, grouped_of, groups_in, Held, holder_of, IfSome, is_ending, is_some, IsKept, IsSome, IsSound, IsSoundQuery, length, length-replicate, length-set, Life, life_in, life_in-same, life_of, List, MayFinish, None, Option, option_map, option_map_or, query_in, QueryLife, refl, replicate, RunSettings, set, slice_get, slot_at, slot_of, SlotState, Some, started, State, subst, sym, tables_of, true, versions_in, with_life, ℕ}
 use Rattle.pipeline_manager.specs.Conditions.{IsOver}
 use Rattle.pipeline_manager.specs.declared.life.Life.TheVariants as life
 use Rattle.core_state.proofs.AcceptedLemmas.{find-holds}
@@ -51,10 +51,10 @@ kept-building state query accepted sound found building =
     here = ap (life_in state.lives.queries) of.1 ∙ building
 
     by_query : (o : Option QueryLife) → option_map (λ (e : QueryLife). e.life) o ≡ Some life.Building
-        → IfSome o (λ entry. IsKept state accepted entry.extent entry.life) → accepted.groups ≡ Some (grouped_of accepted.query [])
+        → IfSome o (λ entry. IsKept (tables_of state) state.seats state.scan accepted entry.extent entry.life) → accepted.groups ≡ Some (grouped_of accepted.query [])
     by_query None is kept = cc
     by_query (Some entry) is kept =
-        let same : entry.life ≡ life.Building = cc in subst (IsKept state accepted entry.extent) same kept
+        let same : entry.life ≡ life.Building = cc in subst (IsKept (tables_of state) state.seats state.scan accepted entry.extent) same kept
 
 started-gets : (start extent : ℕ) → gets_rows (started start extent) ≡ true
 started-gets start extent = by_test (eqb extent 0)

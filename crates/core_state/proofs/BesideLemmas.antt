@@ -38,7 +38,7 @@ held-low state lives queries slot query built there holds =
 fits-later : (state : State) (seats : List Seat) (statement : ℕ) (accepted : List Accepted) (queries : List QueryLife)
     → Still state (later state seats statement accepted queries) → (filter : Filter) (slot : ℕ) (holder : SlotState)
     → ((query built : ℕ) → holder ≡ Held query built → query ≤ state.numbers.statement)
-    → FitsSlot state filter slot holder → FitsSlot (later state seats statement accepted queries) filter slot holder
+    → FitsSlot state.accepted (tables_of state) filter slot holder → FitsSlot accepted (tables_of state) filter slot holder
 fits-later state seats statement accepted queries still filter slot Free low fits = fits
 fits-later state seats statement accepted queries still filter slot (Held query built) low fits = (
   λ has. subst (λ o. IfSome o (λ (a : Accepted). Encodes filter slot a.query a.snapshot (rows_in (tables_of state).dimensions filter.dimension)))
@@ -70,7 +70,7 @@ filters-later state seats statement accepted queries still low old = record {
 
 entry-later : (state : State) (seats : List Seat) (statement : ℕ) (accepted : List Accepted) (queries : List QueryLife)
     → Still state (later state seats statement accepted queries) → (entry : OnRoster) → entry.number ≤ state.numbers.statement
-    → IsOnRoster state entry → IsOnRoster (later state seats statement accepted queries) entry
+    → IsOnRoster state.lives state.accepted entry → IsOnRoster (record state.lives { queries = queries }) accepted entry
 entry-later state seats statement accepted queries still entry low old = record {
   there = old.there;
   held = old.held;
@@ -116,7 +116,7 @@ hands-later state seats statement accepted queries count old = record {
 }
 
 kept-later : (state : State) (seats : List Seat) (statement : ℕ) (accepted : List Accepted) (queries : List QueryLife)
-    → StayTaken state.seats seats → (asked : Accepted) (extent : ℕ) (now : Life) → IsKept state asked extent now → IsKept (later state seats statement accepted queries) asked extent now
+    → StayTaken state.seats seats → (asked : Accepted) (extent : ℕ) (now : Life) → IsKept (tables_of state) state.seats state.scan asked extent now → IsKept (tables_of state) seats state.scan asked extent now
 kept-later state seats statement accepted queries stay asked extent (life.Running start left) old =
     record { folded = old.folded; each_once = old.each_once; next = old.next; groups = old.groups }
 kept-later state seats statement accepted queries stay asked extent life.Ending old =
@@ -136,7 +136,7 @@ query-later state seats statement accepted queries still above stay asked old =
       over = old.over;
       snapshot = old.snapshot;
       within = subst (λ o. IfSome o (λ (entry : QueryLife). entry.extent ≤ versions_in state)) same old.within;
-      kept = subst (λ o. IfSome o (λ (entry : QueryLife). IsKept (later state seats statement accepted queries) asked entry.extent entry.life)) same
+      kept = subst (λ o. IfSome o (λ (entry : QueryLife). IsKept (tables_of state) seats state.scan asked entry.extent entry.life)) same
           (IfSome_then (query_in state.lives.queries asked.number) old.kept
           (λ entry kept. kept-later state seats statement accepted queries stay asked entry.extent entry.life kept));
       extent = subst (λ o. IfSome o (λ (entry : QueryLife). IsTrue (is_open entry.life) → (position : ℕ)

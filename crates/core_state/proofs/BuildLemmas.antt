@@ -33,13 +33,13 @@ built-encodes filter slot query snapshot rows clear = record {
 -- the filter with the query
 built-next : (state : State) (slot query built : ℕ) (accepted : Accepted) (filter : Filter) → slot < length state.lives.slots
     → slot_at state.lives slot ≡ Held query built → accepted_at state.accepted query ≡ Some accepted → ¬ (Has built filter.dimension)
-    → IsSoundFilter state filter
+    → IsSoundFilter state.accepted (tables_of state) state.lives.slots state.lives.filters filter
     → IsNextVersion state slot (Held query (with_number built filter.dimension)) filter
     (filter_with slot (selection_in accepted.query filter.dimension) (rows_in (tables_of state).dimensions filter.dimension) filter)
 built-next state slot query built accepted filter there holds is not_built old =
     let selection = selection_in accepted.query filter.dimension in
     let rows = rows_in (tables_of state).dimensions filter.dimension in
-    let clear : IsClearOf filter slot = (subst (FitsSlot state filter slot) holds (old.slots slot there)).1 not_built in
+    let clear : IsClearOf filter slot = (subst (FitsSlot state.accepted (tables_of state) filter slot) holds (old.slots slot there)).1 not_built in
     record {
       table = added-sound filter slot selection rows old.table;
       ascending = added-ascends filter slot selection rows;
@@ -89,7 +89,7 @@ sound-with_built query dimension slot built accepted state can sound there at ho
           (filter_with slot (selection_in accepted.query d) (rows_in (tables_of state).dimensions d) filter)) same
           (built-next state slot query built accepted filter there holds is (λ has. not_built (subst (Has built) same has)) old);
       others = λ filter old apart.
-          let fits : FitsSlot state filter slot (Held query built) = subst (FitsSlot state filter slot) holds (old.slots slot there) in (
+          let fits : FitsSlot state.accepted (tables_of state) filter slot (Held query built) = subst (FitsSlot state.accepted (tables_of state) filter slot) holds (old.slots slot there) in (
             λ has. fits.0 (⊎_elim (λ h. h) (λ same. absurd (apart same)) ((Has-with built dimension filter.dimension).0 has)),
             λ none. fits.1 (λ has. none ((Has-with built dimension filter.dimension).1 (inl has))),
           );

@@ -1,5 +1,5 @@
 -- A filter that is cleared of a slot keeps a core sound.
-use Rattle.core_state.proofs.Words.{◌<◌, ◌∙◌, ◌≡◌, after_clear, CanClear, Clearing, Filter, FitsSlot, Free, Held, IsSound, IsSoundFilter, last_after, length, next_number, refl, slot_at, SlotState, State, subst, sym, versions_in_hands, with_slot, with_version, without_dimension, ℕ}
+use Rattle.core_state.proofs.Words.{◌<◌, ◌∙◌, ◌≡◌, after_clear, CanClear, Clearing, Filter, FitsSlot, Free, Held, IsSound, IsSoundFilter, last_after, length, next_number, refl, slot_at, SlotState, State, subst, sym, tables_of, versions_in_hands, with_slot, with_version, without_dimension, ℕ}
 use Rattle.std.proofs.Common.{◌^◌}
 use Rattle.bit_words.specs.Sets.{without}
 use Rattle.bit_words.proofs.SetLemmas.{Has-less}
@@ -13,7 +13,7 @@ use Rattle.core_state.proofs.HeldLemmas.{slot-there}
 use Rattle.core_state.proofs.VersionLemmas.{IsNextVersion, Versions, sound-versioned}
 
 -- the filter without the slot
-cleared-next : (state : State) (slot left : ℕ) (filter : Filter) → IsSoundFilter state filter
+cleared-next : (state : State) (slot left : ℕ) (filter : Filter) → IsSoundFilter state.accepted (tables_of state) state.lives.slots state.lives.filters filter
     → IsNextVersion state slot (Clearing left) filter (filter_without slot filter)
 cleared-next state slot left filter old = record {
   table = left-sound filter slot old.ascending old.table;
@@ -50,7 +50,7 @@ cleared-by slot dimension state sound (Clearing left) holds can =
       keeps = λ filter. refl;
       next = λ filter old same. cleared-next state slot (without left (2 ^ dimension)) filter old;
       others = λ filter old apart none.
-          let fits : FitsSlot state filter slot (Clearing left) = subst (FitsSlot state filter slot) holds (old.slots slot there) in
+          let fits : FitsSlot state.accepted (tables_of state) filter slot (Clearing left) = subst (FitsSlot state.accepted (tables_of state) filter slot) holds (old.slots slot there) in
           fits (λ has. none ((Has-less left dimension filter.dimension).1 (has, apart)));
     } in
     sound-versioned state slot dimension (next_number state.numbers.version (versions_in_hands state.scan.flights))

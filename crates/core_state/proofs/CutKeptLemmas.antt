@@ -1,5 +1,5 @@
 -- What is covered of each query behind a cut.
-use Rattle.core_state.proofs.Words.{◌++◌, ◌-◌, ◌∙◌, ◌∷◌, ◌≡◌, ◌≢◌, ◌≤◌, [], Accepted, ap, append-nil, append_assoc, arith, below, Bool, cond, cut_life, cut_query, end_in, eqb, eqb-false, eqb-true, false, Filters, find, first_in, flat_map, Flight, inl, inr, IsCovered, IsKept, IsNext, IsPermutation, IsSome, IsSound, lap, Life, life_of, List, None, Numbers, OnRoster, Option, option_map, option_map_or, positions_for, query_in, QueryLife, range_with_len, refl, Scan, SlotState, Some, starts_of, State, still_to_come, subst, sym, to_come, true, versions_in, ℕ, ⊎_elim}
+use Rattle.core_state.proofs.Words.{◌++◌, ◌-◌, ◌∙◌, ◌∷◌, ◌≡◌, ◌≢◌, ◌≤◌, [], Accepted, ap, append-nil, append_assoc, arith, below, Bool, cond, cut_life, cut_query, end_in, eqb, eqb-false, eqb-true, false, Filters, find, first_in, flat_map, Flight, inl, inr, IsCovered, IsKept, IsNext, IsPermutation, IsSome, IsSound, lap, Life, life_of, List, None, Numbers, OnRoster, Option, option_map, option_map_or, positions_for, query_in, QueryLife, range_with_len, refl, Scan, SlotState, Some, starts_of, State, still_to_come, subst, sym, tables_of, to_come, true, versions_in, ℕ, ⊎_elim}
 use Rattle.std.proofs.lemmas.List.Concat.{flat_map-append}
 use Rattle.pipeline_manager.specs.Changes as managed
 use Rattle.pipeline_manager.specs.declared.life.Life.TheVariants as life
@@ -40,8 +40,8 @@ covered-cut : (state : State) (queries : List QueryLife) (slots : List SlotState
     (accepted : Accepted) (extent : ℕ) (before now : Life)
     → flat_map (positions_for accepted.number extent) state.scan.flights ++ to_come extent before
     ≡ flat_map (positions_for accepted.number extent) scan.flights ++ to_come extent now
-    → IsNext scan.position extent now → IsCovered state accepted extent before
-    → IsCovered (moved state queries slots filters scan numbers) accepted extent now
+    → IsNext scan.position extent now → IsCovered (tables_of state) state.scan accepted extent before
+    → IsCovered (tables_of state) scan accepted extent now
 covered-cut state queries slots filters scan numbers accepted extent before now same next old = record {
   folded = old.folded;
   each_once = subst (λ positions. IsPermutation positions (range_with_len 0 extent))
@@ -105,8 +105,8 @@ pub kept-cut : (state : State) (queries : List QueryLife) (slots : List SlotStat
     → scan.flights ≡ flights_after state → scan.position ≡ end_in state → IsSound state → Cuts state
     → (accepted : Accepted) (extent : ℕ) (now : Life)
     → query_in state.lives.queries accepted.number ≡ Some (record { query = accepted.number; extent = extent; life = now })
-    → extent ≤ versions_in state → IsKept state accepted extent now
-    → IsKept (moved state queries slots filters scan numbers) accepted extent (cut_life (covered_of state extent) now)
+    → extent ≤ versions_in state → IsKept (tables_of state) state.seats state.scan accepted extent now
+    → IsKept (tables_of state) state.seats scan accepted extent (cut_life (covered_of state extent) now)
 kept-cut state queries slots filters scan numbers flies stands sound range accepted extent life.Waiting found within old = old
 kept-cut state queries slots filters scan numbers flies stands sound range accepted extent life.Building found within old = old
 kept-cut state queries slots filters scan numbers flies stands sound range accepted extent (life.Running start left) found within old =
@@ -131,7 +131,7 @@ kept-cut state queries slots filters scan numbers flies stands sound range accep
         ∙ ap (λ flights. flat_map (positions_for accepted.number extent) flights ++ still_to_come less (lap start extent)) (sym flies)
 
     by_test : (t : Bool) → eqb (left - covered_of state extent) 0 ≡ t
-        → IsKept (moved state queries slots filters scan numbers) accepted extent
+        → IsKept (tables_of state) state.seats scan accepted extent
         (cond {A = Life} t life.Ending (life.Running start (left - covered_of state extent)))
     by_test true is =
         let none : less ≡ 0 = sym same ∙ eqb-true (left - covered_of state extent) 0 is in
@@ -141,7 +141,7 @@ kept-cut state queries slots filters scan numbers flies stands sound range accep
     by_test false is =
         let some : left - covered_of state extent ≢ 0 = eqb-false (left - covered_of state extent) 0 is in
         let equal : left - covered_of state extent ≡ left - covered (first_in state) (end_in state) extent = same in
-        subst (λ n. IsKept (moved state queries slots filters scan numbers) accepted extent (life.Running start n)) (sym same)
+        subst (λ n. IsKept (tables_of state) state.seats scan accepted extent (life.Running start n)) (sym same)
         (covered-cut state queries slots filters scan numbers accepted extent (life.Running start left) (life.Running start less)
         flown
         (subst (λ position. IsNext position extent (life.Running start less)) (sym stands)

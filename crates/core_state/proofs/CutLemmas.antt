@@ -1,5 +1,5 @@
 -- A batch that the scan cuts keeps a core sound.
-use Rattle.core_state.proofs.Words.{◌-◌, ◌<◌, ◌↔◌, ◌∙◌, ◌∷◌, ◌≡◌, ◌≢◌, ◌≤◌, ◌⊎◌, [], Accepted, after_cutting, All-map, All-push, all_pairs_push, AllPairs, ap, append-nil, AreSoundBatches, AreSoundFilters, AreSoundHands, AreSoundNumbers, AreSoundQueries, AreSoundSeats, AreSoundSlots, arith, changes_of, counted, cut_query, end_in, filter_map, filter_map-append, first_in, Flight, get_or, get_or-map, gets_rows, Has, IfSome, IfSome_then, is_open, IsKept, IsOnRoster, IsSound, IsSoundBatch, IsSoundHand, IsSoundQuery, IsTrue, last_after, last_number, length, length-map, List, map, MayBeOnRoster, MayCut, Numbers, option_map, query_in, QueryLife, refl, Scan, slice_get, Some, State, subst, sym, tables_of, versions_in, ℕ, ⊎_elim}
+use Rattle.core_state.proofs.Words.{◌-◌, ◌<◌, ◌↔◌, ◌∙◌, ◌∷◌, ◌≡◌, ◌≢◌, ◌≤◌, ◌⊎◌, [], Accepted, after_cutting, All-map, All-push, all_pairs_push, AllPairs, ap, append-nil, AreSoundBatches, AreSoundFilters, AreSoundHands, AreSoundNumbers, AreSoundQueries, AreSoundSeats, AreSoundSlots, arith, changes_of, counted, cut_query, end_in, filter_map, filter_map-append, first_in, Flight, frame_words, get_or, get_or-map, gets_rows, Has, IfSome, IfSome_then, is_open, IsKept, IsOnRoster, IsSound, IsSoundBatch, IsSoundHand, IsSoundQuery, IsTrue, last_after, last_number, length, length-map, List, map, MayBeOnRoster, MayCut, Numbers, option_map, query_in, QueryLife, refl, Scan, slice_get, Some, State, subst, sym, tables_of, versions_in, ℕ, ⊎_elim}
 use Rattle.std.proofs.lemmas.List.{length_push}
 use Rattle.pipeline_manager.specs.declared.life.Life.TheVariants as life
 use Rattle.pipeline_manager.proofs.CallLemmas.{sound-after_cut}
@@ -45,7 +45,7 @@ filters-cut state old = record {
 batches-cut : Settles → (state : State) → Cuts state → IsSound state → AreSoundBatches (state_after state)
 batches-cut settles state range sound =
     let ordered : first_in state ≤ end_in state = let after = range.after in omega arith in
-    All-push (IsSoundBatch (state_after state)) state.scan.flights (cut_flight state)
+    All-push (IsSoundBatch (frame_words (state_after state)) (tables_of (state_after state)) (state_after state).lives (state_after state).accepted) state.scan.flights (cut_flight state)
     (λ k d low. batch-moved state (queries_after state) state.lives.slots state.filters (scan_after state) (numbers_after state)
     (get_or state.scan.flights k d)
     (λ j e within.
@@ -57,13 +57,13 @@ batches-cut settles state range sound =
     entry) (sound.batches k d low))
     (batch-cut state (queries_after state) state.lives.slots state.filters (scan_after state) (numbers_after state)
     (settles (changes_of state.entries) sound.store) sound ordered range.last
-    (roster-each (IsOnRoster (state_after state)) state
+    (roster-each (IsOnRoster (state_after state).lives (state_after state).accepted) state
     (entry-cut state (first_in state) (end_in state - 1) state.filters (scan_after state) (numbers_after state) sound)))
 
 -- the batch that is cut is in no hand
 hands-cut : (state : State) → AreSoundHands state → AreSoundHands (state_after state)
 hands-cut state old = record {
-  each = All-push (λ flight. IfSome flight.hand (IsSoundHand (state_after state) flight)) state.scan.flights (cut_flight state)
+  each = All-push (λ flight. IfSome flight.hand (IsSoundHand (length (state_after state).seats) (state_after state).lives.filters (tables_of (state_after state)) flight)) state.scan.flights (cut_flight state)
       (λ k d low. IfSome_then (get_or state.scan.flights k d).hand (old.each k d low)
       (λ hand. hand-moved state (queries_after state) state.lives.slots state.filters (scan_after state) (numbers_after state)
       (get_or state.scan.flights k d) hand))
@@ -77,13 +77,13 @@ query-cut : (state : State) → Cuts state → IsSound state → (accepted : Acc
     → IsSoundQuery (state_after state) accepted
 query-cut state range sound accepted old =
     query-moved state (queries_after state) state.lives.slots state.filters (scan_after state) (numbers_after state) accepted refl
-    (cut-found (λ e. IsKept (state_after state) accepted e.extent e.life) (first_in state) (end_in state - 1) state.lives.queries accepted.number
+    (cut-found (λ e. IsKept (tables_of (state_after state)) (state_after state).seats (state_after state).scan accepted e.extent e.life) (first_in state) (end_in state - 1) state.lives.queries accepted.number
     (λ entry found. kept-cut state (queries_after state) state.lives.slots state.filters (scan_after state) (numbers_after state) refl refl sound range
     accepted entry.extent entry.life
     (found ∙ ap (λ n. Some (record { query = n; extent = entry.extent; life = entry.life }))
     (query_in-number state.lives.queries accepted.number entry found))
     (some-at (λ e. e.extent ≤ versions_in state) (query_in state.lives.queries accepted.number) entry found old.within)
-    (some-at (λ e. IsKept state accepted e.extent e.life) (query_in state.lives.queries accepted.number) entry found old.kept)))
+    (some-at (λ e. IsKept (tables_of state) state.seats state.scan accepted e.extent e.life) (query_in state.lives.queries accepted.number) entry found old.kept)))
     (cut-found (λ e. IsTrue (is_open e.life) → (position : ℕ) → IfSome (slice_get (tables_of state).versions position)
     (λ version. (version.begin ≤ accepted.snapshot) ↔ (position < e.extent))) (first_in state) (end_in state - 1) state.lives.queries accepted.number
     (λ entry found opens.

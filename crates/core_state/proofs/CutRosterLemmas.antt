@@ -149,9 +149,9 @@ off-roster state query never = none-found (λ entry. eqb entry.number query) (ro
 -- the query of a slot in which one runs stands soundly on the roster of the batch that is cut
 pub entry-cut : (state : State) (first last : ℕ) (filters : Filters) (scan : Scan) (numbers : Numbers) → IsSound state
     → (slot : ℕ) (entry : OnRoster) → slot < length state.lives.slots → running_at state slot ≡ Some entry
-    → IsOnRoster (moved state (map (cut_query first last) state.lives.queries) state.lives.slots filters scan numbers) entry
+    → IsOnRoster (record state.lives { queries = (map (cut_query first last) state.lives.queries) }) state.accepted entry
 entry-cut state first last filters scan numbers sound slot entry low is =
-    subst (IsOnRoster (moved state (map (cut_query first last) state.lives.queries) state.lives.slots filters scan numbers)) (sym here.is)
+    subst (IsOnRoster (record state.lives { queries = (map (cut_query first last) state.lives.queries) }) state.accepted) (sym here.is)
     (record {
       there = low;
       held = (

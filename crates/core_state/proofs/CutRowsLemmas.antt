@@ -1,5 +1,5 @@
 -- The rows of a batch that is cut: their bits are what the queries on its roster say of their versions.
-use Rattle.core_state.proofs.Words.{◌*◌, ◌+◌, ◌-◌, ◌<◌, ◌∙◌, ◌∷◌, ◌≡◌, ◌≤◌, [], All, All-contains, All-contains_itself, All-filter, ap, arith, bit_at, bit_at-zero, bits_of, Bool, cond, Contains, drop, end_in, eq-eqb, eqb, false, filter, filter_passes, Filters, first_in, Flight, get_or, get_or-map, get_or-map-range_with_len, Has, has_passed, is_visible, IsOnRoster, IsSettled, IsSound, IsSoundBatch, IsSoundRow, joined, keeps_so_far, key_number, key_numbers, length, length-map, length-map-range_with_len, length-take-le, List, list_all, list_any, list_any_at, map, None, Numbers, OnRoster, passes, PlainVersion, QueryLife, range_with_len, refl, roster_of, rows_of, running_at, same_Some, Scan, slice_get, slots_of, SlotState, Some, State, Store, subst, suc, sym, tables_of, takes_at, takes_version, true, versions_from, versions_in, zero, ℕ}
+use Rattle.core_state.proofs.Words.{◌*◌, ◌+◌, ◌-◌, ◌<◌, ◌∙◌, ◌∷◌, ◌≡◌, ◌≤◌, [], All, All-contains, All-contains_itself, All-filter, ap, arith, bit_at, bit_at-zero, bits_of, Bool, cond, Contains, drop, end_in, eq-eqb, eqb, false, filter, filter_passes, Filters, first_in, Flight, frame_words, get_or, get_or-map, get_or-map-range_with_len, Has, has_passed, is_visible, IsOnRoster, IsSettled, IsSound, IsSoundBatch, IsSoundRow, joined, keeps_so_far, key_number, key_numbers, length, length-map, length-map-range_with_len, length-take-le, List, list_all, list_any, list_any_at, map, None, Numbers, OnRoster, passes, PlainVersion, QueryLife, range_with_len, refl, roster_of, rows_of, running_at, same_Some, Scan, slice_get, slots_of, SlotState, Some, State, Store, subst, suc, sym, tables_of, takes_at, takes_version, true, versions_from, versions_in, zero, ℕ}
 use Rattle.std.specs.Prelude.{◌&&◌}
 use Rattle.std.proofs.lemmas.List.{get_or-drop, get_or-take, length-drop}
 use Rattle.std.proofs.lemmas.Option.{get_or_from_slice_get}
@@ -111,7 +111,7 @@ key-inside state settled sound dimension has =
 row-cut : (state : State) → IsSettled (tables_of state) → IsSound state → end_in state ≤ versions_in state → (row : ℕ)
     → row < end_in state - first_in state → (version : PlainVersion)
     → slice_get (tables_of state).versions (first_in state + row) ≡ Some version
-    → IsSoundRow state (cut_flight state) row version
+    → IsSoundRow state.lives.filters (tables_of state) (cut_flight state) row version
 row-cut state settled sound within row low version is = record {
   keys = λ dimension has.
       let inside : dimension < 8 = key-inside state settled sound dimension has in
@@ -145,8 +145,8 @@ row-cut state settled sound within row low version is = record {
 -- the batch that is cut is sound where its roster is
 pub batch-cut : (state : State) (queries : List QueryLife) (slots : List SlotState) (filters : Filters) (scan : Scan) (numbers : Numbers)
     → IsSettled (tables_of state) → IsSound state → first_in state ≤ end_in state → end_in state ≤ versions_in state
-    → All (IsOnRoster (moved state queries slots filters scan numbers)) (roster_of state)
-    → IsSoundBatch (moved state queries slots filters scan numbers) (cut_flight state)
+    → All (IsOnRoster (record state.lives { queries = queries; slots = slots }) state.accepted) (roster_of state)
+    → IsSoundBatch (frame_words state) (tables_of state) (record state.lives { queries = queries; slots = slots }) state.accepted (cut_flight state)
 batch-cut state queries slots filters scan numbers settled sound ordered within roster =
     let cut : List PlainVersion = versions_from (first_in state) (end_in state) (tables_of state).versions in
     let long : length cut ≡ end_in state - first_in state = length-cut (tables_of state).versions (first_in state) (end_in state) within in
@@ -158,7 +158,7 @@ batch-cut state queries slots filters scan numbers settled sound ordered within 
       room = refl;
       roster = roster;
       slots = refl;
-      rows = λ row low. some-by (IsSoundRow (moved state queries slots filters scan numbers) (cut_flight state) row)
+      rows = λ row low. some-by (IsSoundRow state.lives.filters (tables_of state) (cut_flight state) row)
           (slice_get (tables_of state).versions (first_in state + row))
           (λ version is. row-moved state queries slots filters scan numbers (cut_flight state) row version
           (row-cut state settled sound within row low version is));

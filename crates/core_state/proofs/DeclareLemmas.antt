@@ -1,5 +1,5 @@
 -- A declaration that the tables take leaves everything sound beside the seats: before the fact table nothing was asked.
-use Rattle.core_state.proofs.Words.{◌++◌, ◌+◌, ◌<◌, ◌↔◌, ◌∙◌, ◌∷◌, ◌≡◌, ◌≤◌, ◌⊎◌, [], Accepts, AcceptsAll, All, All-cons, All-filter, All-head, All-nil, All-tail, ap, AreSoundFilters, arith, changes_of, cond, Contains, Contains-append_cases, Contains-append_right, empty_store, Entry, Err, fact_columns, false, Filter, filter, filter_dimensions, Filters, FilterVersion, first_versions, FitsSlot, Flight, Free, get_or, get_or-range_with_len, Has, Has-with, Held, IfSome, inl, inr, is_some, IsClearOf, IsQuietBefore, IsSound, IsSoundBatch, IsSoundBeside, IsSoundFilter, IsSoundHand, IsSoundOrder, IsSoundQuery, IsSoundStore, length, length-range_with_len, List, list_any, map, None, Ok, Option, option_map_or, OutOfOrder, range_with_len, references, refl, Refusal, Result, Schema, Some, State, subst, sym, TableDef, tables_by, tables_of, true, versions_in, with_number, ℕ}
+use Rattle.core_state.proofs.Words.{◌++◌, ◌+◌, ◌<◌, ◌↔◌, ◌∙◌, ◌∷◌, ◌≡◌, ◌≤◌, ◌⊎◌, [], Accepts, AcceptsAll, All, All-cons, All-filter, All-head, All-nil, All-tail, ap, AreSoundFilters, arith, changes_of, cond, Contains, Contains-append_cases, Contains-append_right, empty_store, Entry, Err, fact_columns, false, Filter, filter, filter_dimensions, Filters, FilterVersion, first_versions, FitsSlot, Flight, frame_words, Free, get_or, get_or-range_with_len, Has, Has-with, Held, IfSome, inl, inr, is_some, IsClearOf, IsQuietBefore, IsSound, IsSoundBatch, IsSoundBeside, IsSoundFilter, IsSoundHand, IsSoundOrder, IsSoundQuery, IsSoundStore, length, length-range_with_len, List, list_any, map, None, Ok, Option, option_map_or, OutOfOrder, range_with_len, references, refl, Refusal, Result, Schema, Some, State, subst, sym, TableDef, tables_by, tables_of, true, versions_in, with_number, ℕ}
 use Rattle.std.specs.Prelude.{fold}
 use Rattle.batch_flow.specs.declared.batch.TheConstants.{KEYS_IN_A_ROW}
 use Rattle.pipeline_manager.specs.Sound.{IsOfFilters}
@@ -55,10 +55,10 @@ declared-quiet state entry set filters version none old sound_filters store quie
     let lives = old.slots.lives in
     record {
       filters = sound_filters;
-      batches = subst (All (IsSoundBatch now)) (sym before.1) (All-nil (IsSoundBatch now));
+      batches = subst (All (IsSoundBatch (frame_words now) (tables_of now) now.lives now.accepted)) (sym before.1) (All-nil (IsSoundBatch (frame_words now) (tables_of now) now.lives now.accepted));
       hands = record {
-        each = subst (All (λ (flight : Flight). IfSome flight.hand (IsSoundHand now flight))) (sym before.1)
-            (All-nil (λ (flight : Flight). IfSome flight.hand (IsSoundHand now flight)));
+        each = subst (All (λ (flight : Flight). IfSome flight.hand (IsSoundHand (length now.seats) now.lives.filters (tables_of now) flight))) (sym before.1)
+            (All-nil (λ (flight : Flight). IfSome flight.hand (IsSoundHand (length now.seats) now.lives.filters (tables_of now) flight)));
         one = old.hands.one;
       };
       queries = record {
@@ -94,7 +94,7 @@ empty-clear : (dimension slot : ℕ) → IsClearOf (empty_filter dimension) slot
 empty-clear dimension slot = record { rows = λ key. none-in slot; others = none-in slot }
 
 pub empty-sound : (state : State) (dimension : ℕ) → dimension < KEYS_IN_A_ROW → Has state.lives.filters dimension
-    → All (λ slot. slot ≡ Free) state.lives.slots → IsSoundFilter state (empty_filter dimension)
+    → All (λ slot. slot ≡ Free) state.lives.slots → IsSoundFilter state.accepted (tables_of state) state.lives.slots state.lives.filters (empty_filter dimension)
 empty-sound state dimension few has free = record {
   table = record {
     numbered = few;
@@ -103,7 +103,7 @@ empty-sound state dimension few has free = record {
   };
   ascending = λ i j d before low. absurd (omega arith);
   is_filter = has;
-  slots = λ slot there. subst (FitsSlot state (empty_filter dimension) slot) (sym (free slot Free there)) (empty-clear dimension slot);
+  slots = λ slot there. subst (FitsSlot state.accepted (tables_of state) (empty_filter dimension) slot) (sym (free slot Free there)) (empty-clear dimension slot);
   beyond = λ slot past. empty-clear dimension slot;
   within = λ key is. absurd (let both : false ≡ true = is in cc);
 }

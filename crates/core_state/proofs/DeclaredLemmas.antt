@@ -11,8 +11,8 @@ dimension-declared : (seat statement : ℕ) (table : TableDef) (state : State) �
 dimension-declared seat statement table state none accepts old =
     declared-quiet state entry state.lives.filters state.filters state.numbers.version none old
     (record {
-      each = subst (All (λ (version : FilterVersion). IsSoundFilter now version.filter)) (sym empty)
-          (All-nil (λ (version : FilterVersion). IsSoundFilter now version.filter));
+      each = subst (All (λ (version : FilterVersion). IsSoundFilter now.accepted (tables_of now) now.lives.slots now.lives.filters version.filter)) (sym empty)
+          (All-nil (λ (version : FilterVersion). IsSoundFilter now.accepted (tables_of now) now.lives.slots now.lives.filters version.filter));
       dimensions = old.filters.dimensions ∙ same;
       set = subst (λ dimensions. (dimension : ℕ) → Has state.lives.filters dimension ↔ Contains dimensions dimension) same old.filters.set;
     })
@@ -44,7 +44,7 @@ fact-declared : Settles → (seat statement : ℕ) (table : TableDef) (state : S
 fact-declared settles seat statement table state none accepts old =
     declared-quiet state entry set filters version none old
     (record {
-      each = first-each (IsSoundFilter now) dimensions (state.numbers.version + 1)
+      each = first-each (IsSoundFilter now.accepted (tables_of now) now.lives.slots now.lives.filters) dimensions (state.numbers.version + 1)
           (λ k d low.
           let few = filters-low (tables_of now).schema k d low in
           let most = settled.declared.limits.dimensions in

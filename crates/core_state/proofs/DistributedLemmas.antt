@@ -1,5 +1,5 @@
 -- A batch that is distributed keeps a core sound.
-use Rattle.core_state.proofs.Words.{◌+◌, ◌<◌, ◌↔◌, ◌∙◌, ◌∷◌, ◌≡◌, ◌≢◌, ◌≤◌, [], Accepted, accepted_at, All, All-cons, All-contains, All-filter, All-nil, all_pairs_head, all_pairs_tail, AllPairs, AllPairs-cons, AllPairs-filter, ap, AreSoundHands, AreSoundQueries, arith, Bool, cond, cons_option, Contains, eq-eqb, eqb, false, filter, Flight, flight_at, get_or, get_or-map, Hand, IfSome, IfSome_then, is_open, IsKept, IsSound, IsSoundBatch, IsSoundHand, IsSoundQuery, IsThrough, IsTrue, length, length-map, List, map, ne_eqb, None, not, Option, option_map, query_in, QueryLife, refl, Scan, slice_get, Some, State, subst, sym, tables_of, true, versions_in, ℕ}
+use Rattle.core_state.proofs.Words.{◌+◌, ◌<◌, ◌↔◌, ◌∙◌, ◌∷◌, ◌≡◌, ◌≢◌, ◌≤◌, [], Accepted, accepted_at, All, All-cons, All-contains, All-filter, All-nil, all_pairs_head, all_pairs_tail, AllPairs, AllPairs-cons, AllPairs-filter, ap, AreSoundHands, AreSoundQueries, arith, Bool, cond, cons_option, Contains, eq-eqb, eqb, false, filter, Flight, flight_at, frame_words, get_or, get_or-map, Hand, IfSome, IfSome_then, is_open, IsKept, IsSound, IsSoundBatch, IsSoundHand, IsSoundQuery, IsThrough, IsTrue, length, length-map, List, map, ne_eqb, None, not, Option, option_map, query_in, QueryLife, refl, Scan, slice_get, Some, State, subst, sym, tables_of, true, versions_in, ℕ}
 use Rattle.pipeline_manager.specs.Sound.{AreRising}
 use Rattle.pipeline_manager.specs.declared.life.Life.TheVariants as life
 use Rattle.core_state.proofs.AnewLemmas.{LivesAs, batches-anew, filters-anew, hands-anew, queries-anew}
@@ -87,8 +87,8 @@ fewer-apart p (flight ∷ flights) apart =
 hands-left : (state : State) (p : Flight → Bool) (scan : Scan) → scan.flights ≡ filter p state.scan.flights → AreSoundHands state
     → AreSoundHands (record state { scan = scan })
 hands-left state p scan left old = record {
-  each = subst (All (λ f. IfSome f.hand (IsSoundHand (record state { scan = scan }) f))) (sym left)
-      (All-filter p (λ f. IfSome f.hand (IsSoundHand (record state { scan = scan }) f)) state.scan.flights
+  each = subst (All (λ f. IfSome f.hand (IsSoundHand (length (record state { scan = scan }).seats) (record state { scan = scan }).lives.filters (tables_of (record state { scan = scan })) f))) (sym left)
+      (All-filter p (λ f. IfSome f.hand (IsSoundHand (length (record state { scan = scan }).seats) (record state { scan = scan }).lives.filters (tables_of (record state { scan = scan })) f)) state.scan.flights
       (λ k d low. IfSome_then (get_or state.scan.flights k d).hand (old.each k d low)
       (λ hand h. record { seat = h.seat; table = h.table; is_filter = h.is_filter; not_passed = h.not_passed; encodes = h.encodes })));
   one = subst (λ flights. AllPairs (λ w other. w ≢ other) (workers flights)) (sym left) (fewer-apart p state.scan.flights old.one);
@@ -96,12 +96,12 @@ hands-left state p scan left old = record {
 
 -- the core as a batch has left it is sound
 pub sound-landed : FoldsOne → (batch : ℕ) (flight : Flight) (state : State) → flight_at state.scan.flights batch ≡ Some flight
-    → IsSoundBatch state flight → IsThrough state.filters flight → IsSound state → IsSound (landed batch flight state)
+    → IsSoundBatch (frame_words state) (tables_of state) state.lives state.accepted flight → IsThrough state.filters flight → IsSound state → IsSound (landed batch flight state)
 sound-landed folds batch flight state there of_batch through sound = record {
   settings = sound.settings;
   filters = filters-anew state change keeps queries state.seats scan sound.filters;
   batches = batches-anew state change keeps queries state.seats scan (λ number on. on)
-      (All-filter left (IsSoundBatch state) state.scan.flights sound.batches);
+      (All-filter left (IsSoundBatch (frame_words state) (tables_of state) state.lives state.accepted) state.scan.flights sound.batches);
   hands = hands-anew state change keeps queries state.seats scan refl (hands-left state left scan refl sound.hands);
   queries = queries-anew state change keeps queries state.seats scan refl
       (λ accepted among of_query. some-by (LivesAs (landed batch flight state) accepted (change accepted)) (query_in queries accepted.number)
@@ -148,7 +148,7 @@ sound-landed folds batch flight state there of_batch through sound = record {
           (life-found queries accepted.number entry found)
           (λ gets. batch-brings state flight accepted entry.extent sound.filters sound.order through.through of_batch
           (found-itself state sound.queries sound.slots.lives.rising accepted among) of_query.over (extent (gets-open entry.life gets)))
-          (some-at (λ e. IsKept state accepted e.extent e.life) (query_in queries accepted.number) entry found of_query.kept),
+          (some-at (λ e. IsKept (tables_of state) state.seats state.scan accepted e.extent e.life) (query_in queries accepted.number) entry found of_query.kept),
       extent,
       some-at (λ e. e.extent ≤ versions_in state) (query_in queries accepted.number) entry found of_query.within,
     )

@@ -1,5 +1,5 @@
 -- A slot that is taken from its query keeps a core sound.
-use Rattle.core_state.proofs.Words.{◌++◌, ◌<◌, ◌||◌, ◌↔◌, ◌∙◌, ◌∷◌, ◌≡◌, ◌≢◌, ◌≤◌, [], Accepted, after_finish, All, All-cons, All-nil, ap, append-nil, AreSoundQueries, Bool, Clearing, cond, eq-eqb, eqb, eqb-true, false, FitsSlot, flat_map, Flight, Free, get_or, get_or-set_other, get_or-set_same, gets_rows, given_up, Has, Held, IfSome, inr, is_ending, is_on_roster, is_open, IsKept, IsOnRoster, IsPermutation, IsSound, IsSoundBatch, IsTrue, kept_at, length, length-set, Life, life_in, life_in-other, List, list_any, MayBeOnRoster, MayFinish, None, OnRoster, Option, option_map_or, positions_for, query_in, QueryLife, range_with_len, refl, set, slice_get, slot_at, slot_of-holder, SlotState, Some, State, subst, sym, tables_of, true, versions_in, with_life, ℕ, ⊎_elim}
+use Rattle.core_state.proofs.Words.{◌++◌, ◌<◌, ◌||◌, ◌↔◌, ◌∙◌, ◌∷◌, ◌≡◌, ◌≢◌, ◌≤◌, [], Accepted, after_finish, All, All-cons, All-nil, ap, append-nil, AreSoundQueries, Bool, Clearing, cond, eq-eqb, eqb, eqb-true, false, FitsSlot, flat_map, Flight, frame_words, Free, get_or, get_or-set_other, get_or-set_same, gets_rows, given_up, Has, Held, IfSome, inr, is_ending, is_on_roster, is_open, IsKept, IsOnRoster, IsPermutation, IsSound, IsSoundBatch, IsTrue, kept_at, length, length-set, Life, life_in, life_in-other, List, list_any, MayBeOnRoster, MayFinish, None, OnRoster, Option, option_map_or, positions_for, query_in, QueryLife, range_with_len, refl, set, slice_get, slot_at, slot_of-holder, SlotState, Some, State, subst, sym, tables_of, true, versions_in, with_life, ℕ, ⊎_elim}
 use Rattle.std.proofs.Common.{find}
 use Rattle.pipeline_manager.specs.Conditions.{IsOver}
 use Rattle.pipeline_manager.specs.Sound as managed
@@ -44,11 +44,11 @@ none-landed slot query built state sound there holds landed = λ k d low.
     by_found (get_or state.scan.flights k d) (sound.batches k d low) (landed k d low)
     (find (λ entry. eqb entry.number query) (get_or state.scan.flights k d).roster) refl
   where
-    by_found : (flight : Flight) → IsSoundBatch state flight → is_on_roster slot flight ≡ false → (o : Option OnRoster)
+    by_found : (flight : Flight) → IsSoundBatch (frame_words state) (tables_of state) state.lives state.accepted flight → is_on_roster slot flight ≡ false → (o : Option OnRoster)
         → find (λ entry. eqb entry.number query) flight.roster ≡ o → o ≡ None
     by_found flight of_batch off None is = refl
     by_found flight of_batch off (Some entry) is =
-        let on : IsOnRoster state entry = find-holds (IsOnRoster state) (λ e. eqb e.number query) flight.roster entry is of_batch.roster in
+        let on : IsOnRoster state.lives state.accepted entry = find-holds (IsOnRoster state.lives state.accepted) (λ e. eqb e.number query) flight.roster entry is of_batch.roster in
         let same : entry.number ≡ query = eqb-true entry.number query (find-passes (λ e. eqb e.number query) flight.roster entry is) in
         absurd (find-holds (λ e. e.slot ≢ slot) (λ e. eqb e.number query) flight.roster entry is (apart-landed slot flight off)
         (one-slot state slot entry.slot query built on.held.0 sound there on.there holds (on.held.1 ∙ ap (λ n. Held n on.held.0) same)))
@@ -58,7 +58,7 @@ kept-finished : (slot query built : ℕ) (state : State) → IsSound state → s
     → All (λ flight. is_on_roster slot flight ≡ false) state.scan.flights
     → (accepted : Accepted) (extent : ℕ) → accepted.number ≡ query → extent ≤ versions_in state
     → ((position : ℕ) → IfSome (slice_get (tables_of state).versions position) (λ version. (version.begin ≤ accepted.snapshot) ↔ (position < extent)))
-    → IsKept state accepted extent life.Ending → IsKept state accepted extent life.Answered
+    → IsKept (tables_of state) state.seats state.scan accepted extent life.Ending → IsKept (tables_of state) state.seats state.scan accepted extent life.Answered
 kept-finished slot query built state sound there holds landed accepted extent same within came covered =
     let none : flat_map (positions_for accepted.number extent) state.scan.flights ≡ [] =
     none-in-flight accepted.number extent state.scan.flights
@@ -87,7 +87,7 @@ sound-given_up slot query built state queries there holds landed lives_now queri
     let now : Holds state queries slots state.filters state.numbers.version = record {
       filters_now = filters-held state queries slots state.numbers.version state.filters.order (length-set state.lives.slots slot (Clearing built))
           (λ filter of_filter other low fits. fits-set state slot (Clearing built) there filter
-          (subst (FitsSlot state filter slot) holds (of_filter.slots slot there)).1 other fits) sound.filters;
+          (subst (FitsSlot state.accepted (tables_of state) filter slot) holds (of_filter.slots slot there)).1 other fits) sound.filters;
       rosters = λ k d low j e within.
           let flight = get_or state.scan.flights k d in
           let entry = get_or flight.roster j e in

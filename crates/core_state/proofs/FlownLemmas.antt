@@ -37,8 +37,8 @@ all-positions-keep number extent change keeps (flight ∷ flights) =
     ∙ ap (λ rest. positions_for number extent flight ++ rest) (all-positions-keep number extent change keeps flights)
 
 -- the roster of a batch is as sound as it was
-pub entry-flown : (state : State) (tallies : List Tally) (change : Flight → Flight) (entry : OnRoster) → IsOnRoster state entry
-    → IsOnRoster (flown state tallies change) entry
+pub entry-flown : (state : State) (tallies : List Tally) (change : Flight → Flight) (entry : OnRoster) → IsOnRoster state.lives state.accepted entry
+    → IsOnRoster state.lives state.accepted entry
 entry-flown state tallies change entry old =
     record { there = old.there; held = old.held; life = old.life; same = old.same }
 

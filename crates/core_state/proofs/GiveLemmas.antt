@@ -86,7 +86,7 @@ SaysByKey state filter entry version = IsTrue (is_visible version.begin version.
 pub bits-given : (state : State) (flight : Flight) (filter : Filter) (row : ℕ) (version : PlainVersion) (entry : OnRoster)
     → row < length flight.rows.bits → filter.dimension < length (tables_of state).schema.dimensions
     → Has state.lives.filters filter.dimension → Contains flight.roster entry → SaysByKey state filter entry version
-    → IsSoundRow state flight row version
+    → IsSoundRow state.lives.filters (tables_of state) flight row version
     → Has (get_or (passed_by filter flight.rows).bits row 0) entry.slot
     ↔ IsTrue (keeps_so_far (tables_of state) (record flight { rows = passed_by filter flight.rows }) entry version)
 bits-given state flight filter row version entry low inside is_filter on says sound = (

@@ -1,5 +1,5 @@
 -- A batch that a worker gives back keeps a core sound.
-use Rattle.core_state.proofs.Words.{◌+◌, ◌<◌, ◌∙◌, ◌∷◌, ◌≡◌, ◌≢◌, [], Accepted, accepted_at, AcceptsAll, after_give, All, All-contains, All-map, all_at, AllPairs, AllPairs-cons, arith, bits_left_at, Bool, Change, changes_of, cond, cons_option, Contains, empty_store, Encodes, eqb, false, Filter, find, Flight, get_or, given_back, Hand, held_by, IfSome, is_held_by, IsMatched, IsOnRoster, IsOver, IsSettled, IsSome, IsSound, IsSoundBatch, IsSoundHand, IsSoundQuery, IsSoundRow, length, length-map-range_with_len, List, map, None, OnRoster, Option, option_map, option_map_or, passed_by, PlainVersion, refl, rows_in, slice_get, Some, State, store_of, subst, suc, tables_of, tallies_after, Tally, true, zero, ℕ}
+use Rattle.core_state.proofs.Words.{◌+◌, ◌<◌, ◌∙◌, ◌∷◌, ◌≡◌, ◌≢◌, [], Accepted, accepted_at, AcceptsAll, after_give, All, All-contains, All-map, all_at, AllPairs, AllPairs-cons, arith, bits_left_at, Bool, Change, changes_of, cond, cons_option, Contains, empty_store, Encodes, eqb, false, Filter, find, Flight, frame_words, get_or, given_back, Hand, held_by, IfSome, is_held_by, IsMatched, IsOnRoster, IsOver, IsSettled, IsSome, IsSound, IsSoundBatch, IsSoundHand, IsSoundQuery, IsSoundRow, length, length-map-range_with_len, List, map, None, OnRoster, Option, option_map, option_map_or, passed_by, PlainVersion, refl, rows_in, slice_get, Some, State, store_of, subst, suc, tables_of, tallies_after, Tally, true, zero, ℕ}
 use Rattle.core_state.proofs.AcceptedLemmas.{find-holds, held-accepted}
 use Rattle.core_state.proofs.FlownLemmas.{Flies, KeepsPlace, entry-flown, flown, sound-flown}
 use Rattle.core_state.proofs.GiveLemmas.{SaysByKey, bits-given, given-bits}
@@ -12,7 +12,7 @@ abbrev pub Settles : Type 0
 Settles = (history : List Change) → AcceptsAll empty_store history → IsSettled (store_of history)
 
 -- a query on a roster is one over the schema
-pub entry-over : (state : State) → IsSound state → (entry : OnRoster) → IsOnRoster state entry → IsOver (tables_of state).schema entry.query
+pub entry-over : (state : State) → IsSound state → (entry : OnRoster) → IsOnRoster state.lives state.accepted entry → IsOver (tables_of state).schema entry.query
 entry-over state sound entry on =
     by_accepted (accepted_at state.accepted entry.number) refl
     (held-accepted state entry.slot entry.number on.held.0 sound on.there on.held.1) on.same
@@ -27,13 +27,13 @@ entry-over state sound entry on =
         subst (IsOver (tables_of state).schema) same.0 of_query.over
 
 -- the vectors of a filter in a hand say what the queries of the batch take
-hand-says : Settles → (state : State) → IsSound state → (flight : Flight) → IsSoundBatch state flight → (hand : Hand) → IsSoundHand state flight hand
+hand-says : Settles → (state : State) → IsSound state → (flight : Flight) → IsSoundBatch (frame_words state) (tables_of state) state.lives state.accepted flight → (hand : Hand) → IsSoundHand (length state.seats) state.lives.filters (tables_of state) flight hand
     → (entry : OnRoster) → Contains flight.roster entry → (version : PlainVersion)
     → IsMatched (tables_of state).schema (tables_of state).dimensions version.row version.begin
     → SaysByKey state hand.version.filter entry version
 hand-says settles state sound flight of_batch hand of_hand entry on version matched =
     let over : IsOver (tables_of state).schema entry.query =
-    entry-over state sound entry (All-contains (IsOnRoster state) flight.roster entry of_batch.roster on) in
+    entry-over state sound entry (All-contains (IsOnRoster state.lives state.accepted) flight.roster entry of_batch.roster on) in
     says-by-key (tables_of state) hand.version.filter entry.slot entry.query entry.snapshot version
     (All-contains (λ e. Encodes hand.version.filter e.slot e.query e.snapshot
     (rows_in (tables_of state).dimensions hand.version.filter.dimension)) flight.roster entry of_hand.encodes on)
@@ -44,9 +44,9 @@ both-some P Q R None p q all = tt
 both-some P Q R (Some x) p q all = all x p q
 
 -- a batch that has passed the version in its hand is sound
-batch-passed : Settles → (state : State) (tallies : List Tally) (change : Flight → Flight) → IsSound state → (flight : Flight) → IsSoundBatch state flight
-    → (hand : Hand) → IsSoundHand state flight hand
-    → IsSoundBatch (flown state tallies change) (record flight { rows = passed_by hand.version.filter flight.rows; hand = None })
+batch-passed : Settles → (state : State) (tallies : List Tally) (change : Flight → Flight) → IsSound state → (flight : Flight) → IsSoundBatch (frame_words state) (tables_of state) state.lives state.accepted flight
+    → (hand : Hand) → IsSoundHand (length state.seats) state.lives.filters (tables_of state) flight hand
+    → IsSoundBatch (frame_words state) (tables_of state) state.lives state.accepted (record flight { rows = passed_by hand.version.filter flight.rows; hand = None })
 batch-passed settles state tallies change sound flight old hand of_hand = record {
   within = old.within;
   bits = length-map-range_with_len (bits_left_at filter flight.rows.keys flight.rows.bits) 0 (length flight.rows.bits) ∙ old.bits;
@@ -56,9 +56,9 @@ batch-passed settles state tallies change sound flight old hand of_hand = record
   slots = old.slots;
   rows = λ row low.
       let inside : row < length flight.rows.bits = let all = old.bits in omega arith in
-      both-some (IsSoundRow state flight row)
+      both-some (IsSoundRow state.lives.filters (tables_of state) flight row)
       (λ version. IsMatched (tables_of state).schema (tables_of state).dimensions version.row version.begin)
-      (IsSoundRow (flown state tallies change) (record flight { rows = passed_by filter flight.rows; hand = None }) row)
+      (IsSoundRow state.lives.filters (tables_of state) (record flight { rows = passed_by filter flight.rows; hand = None }) row)
       (slice_get (tables_of state).versions (flight.rows.first + row)) (old.rows row low)
       (all_at (λ version. IsMatched (tables_of state).schema (tables_of state).dimensions version.row version.begin) (tables_of state).versions
       (flight.rows.first + row) settled.versions.matched)
@@ -80,12 +80,12 @@ batch-passed settles state tallies change sound flight old hand of_hand = record
     there = (filter-there (tables_of state).schema filter.dimension ((sound.filters.set filter.dimension).0 of_hand.is_filter)).0
 
 -- a batch is sound as it is given back, whether it was in a hand or not
-batch-given : Settles → (state : State) (tallies : List Tally) (change : Flight → Flight) → IsSound state → (flight : Flight) → IsSoundBatch state flight
-    → IfSome flight.hand (IsSoundHand state flight) → IsSoundBatch (flown state tallies change) (given_back flight)
+batch-given : Settles → (state : State) (tallies : List Tally) (change : Flight → Flight) → IsSound state → (flight : Flight) → IsSoundBatch (frame_words state) (tables_of state) state.lives state.accepted flight
+    → IfSome flight.hand (IsSoundHand (length state.seats) state.lives.filters (tables_of state) flight) → IsSoundBatch (frame_words state) (tables_of state) state.lives state.accepted (given_back flight)
 batch-given settles state tallies change sound flight old of_hand = by_hand flight.hand of_hand
   where
-    by_hand : (o : Option Hand) → IfSome o (IsSoundHand state flight)
-        → IsSoundBatch (flown state tallies change)
+    by_hand : (o : Option Hand) → IfSome o (IsSoundHand (length state.seats) state.lives.filters (tables_of state) flight)
+        → IsSoundBatch (frame_words state) (tables_of state) state.lives state.accepted
         (record flight { rows = option_map_or (λ hand. passed_by hand.version.filter flight.rows) o flight.rows; hand = None })
     by_hand None h = batch-stays state tallies change flight None old
     by_hand (Some hand) h = batch-passed settles state tallies change sound flight old hand h
@@ -150,15 +150,15 @@ sound-given settles worker state some sound = by_found (find (is_held_by worker)
         record {
           place = λ f. by-number (KeepsPlace f) flight.rows.number f (place-given f)
               (record { number = refl; first = refl; count = refl; roster = refl });
-          batches = All-map (IsSoundBatch (flown state tallies change)) change state.scan.flights
+          batches = All-map (IsSoundBatch (frame_words state) (tables_of state) state.lives state.accepted) change state.scan.flights
               (λ k d low. let f = get_or state.scan.flights k d in
-              by-number (IsSoundBatch (flown state tallies change)) flight.rows.number f
+              by-number (IsSoundBatch (frame_words state) (tables_of state) state.lives state.accepted) flight.rows.number f
               (batch-given settles state tallies change sound f (sound.batches k d low) (sound.hands.each k d low))
               (batch-stays state tallies change f f.hand (sound.batches k d low)));
           hands = record {
-            each = All-map (λ f. IfSome f.hand (IsSoundHand (flown state tallies change) f)) change state.scan.flights
+            each = All-map (λ f. IfSome f.hand (IsSoundHand (length state.seats) state.lives.filters (tables_of state) f)) change state.scan.flights
                 (λ k d low. let f = get_or state.scan.flights k d in
-                by-number (λ g. IfSome g.hand (IsSoundHand (flown state tallies change) g)) flight.rows.number f tt
+                by-number (λ g. IfSome g.hand (IsSoundHand (length state.seats) state.lives.filters (tables_of state) g)) flight.rows.number f tt
                 (hand-stays state tallies change f (sound.hands.each k d low)));
             one = one-each flight.rows.number state.scan.flights sound.hands.one;
           };

@@ -17,7 +17,7 @@ snapshot-found state sound number accepted found =
     of_query.snapshot
 
 -- a query on a roster has a snapshot so far
-pub snapshot-on : (state : State) → IsSound state → (entry : OnRoster) → IsOnRoster state entry → entry.snapshot ≤ (tables_of state).commits
+pub snapshot-on : (state : State) → IsSound state → (entry : OnRoster) → IsOnRoster state.lives state.accepted entry → entry.snapshot ≤ (tables_of state).commits
 snapshot-on state sound entry on =
     by_accepted (accepted_at state.accepted entry.number) refl
     (held-accepted state entry.slot entry.number on.held.0 sound on.there on.held.1) on.same
@@ -50,7 +50,7 @@ encodes-grown before after filter slot query snapshot grows low =
     (rows_in after.dimensions filter.dimension) low (grows.rows filter.dimension)
 
 fits-grown : (state : State) (entries : List Entry) → IsSound state → Grows (tables_of state) (tables_by entries) → (filter : Filter) (slot : ℕ)
-    (holder : SlotState) → FitsSlot state filter slot holder → FitsSlot (entered state entries) filter slot holder
+    (holder : SlotState) → FitsSlot state.accepted (tables_of state) filter slot holder → FitsSlot state.accepted (tables_by entries) filter slot holder
 fits-grown state entries sound grows filter slot Free fits = fits
 fits-grown state entries sound grows filter slot (Held query built) fits = (
   λ has. some-by
@@ -65,7 +65,7 @@ fits-grown state entries sound grows filter slot (Held query built) fits = (
 fits-grown state entries sound grows filter slot (Clearing left) fits = fits
 
 filter-grown : (state : State) (entries : List Entry) → IsSound state → Grows (tables_of state) (tables_by entries) → (filter : Filter)
-    → IsSoundFilter state filter → IsSoundFilter (entered state entries) filter
+    → IsSoundFilter state.accepted (tables_of state) state.lives.slots state.lives.filters filter → IsSoundFilter state.accepted (tables_by entries) state.lives.slots state.lives.filters filter
 filter-grown state entries sound grows filter old = record {
   table = old.table;
   ascending = old.ascending;
@@ -90,8 +90,8 @@ filters-grown state entries sound grows = record {
 }
 
 hand-grown : (state : State) (entries : List Entry) → IsSound state → Grows (tables_of state) (tables_by entries) → (flight : Flight) (hand : Hand)
-    → ((k : ℕ) (d : OnRoster) → k < length flight.roster → IsOnRoster state (get_or flight.roster k d))
-    → IsSoundHand state flight hand → IsSoundHand (entered state entries) flight hand
+    → ((k : ℕ) (d : OnRoster) → k < length flight.roster → IsOnRoster state.lives state.accepted (get_or flight.roster k d))
+    → IsSoundHand (length state.seats) state.lives.filters (tables_of state) flight hand → IsSoundHand (length state.seats) state.lives.filters (tables_by entries) flight hand
 hand-grown state entries sound grows flight hand roster old = record {
   seat = old.seat;
   table = old.table;

@@ -74,8 +74,8 @@ abbrev pub KeepsKept : Store → Store → Type 0
 KeepsKept before after = (query : Query) (snapshot : ℕ) → snapshot ≤ before.commits → kept after query snapshot ≡ kept before query snapshot
 
 covered-grown : (state : State) (entries : List Entry) → Grows (tables_of state) (tables_by entries) → (accepted : Accepted) (extent : ℕ) (now : Life)
-    → accepted.snapshot ≤ (tables_of state).commits → extent ≤ versions_in state → IsCovered state accepted extent now
-    → IsCovered (entered state entries) accepted extent now
+    → accepted.snapshot ≤ (tables_of state).commits → extent ≤ versions_in state → IsCovered (tables_of state) state.scan accepted extent now
+    → IsCovered (tables_by entries) state.scan accepted extent now
 covered-grown state entries grows accepted extent now low within old = record {
   folded = old.folded;
   each_once = old.each_once;
@@ -91,7 +91,7 @@ covered-grown state entries grows accepted extent now low within old = record {
     bracket = append_assoc old.folded (flat_map (positions_for accepted.number extent) state.scan.flights) (to_come extent now)
 
 answer-grown : (state : State) (entries : List Entry) → KeepsKept (tables_of state) (tables_by entries) → (accepted : Accepted)
-    → accepted.snapshot ≤ (tables_of state).commits → IsAnswer state accepted → IsAnswer (entered state entries) accepted
+    → accepted.snapshot ≤ (tables_of state).commits → IsAnswer (tables_of state) accepted → IsAnswer (tables_by entries) accepted
 answer-grown state entries keeps accepted low old = record {
   rows = old.rows;
   all = subst (IsPermutation old.rows) (sym (keeps accepted.query accepted.snapshot low)) old.all;
@@ -100,7 +100,7 @@ answer-grown state entries keeps accepted low old = record {
 
 kept-grown : (state : State) (entries : List Entry) → Grows (tables_of state) (tables_by entries) → KeepsKept (tables_of state) (tables_by entries)
     → (accepted : Accepted) (extent : ℕ) (now : Life) → accepted.snapshot ≤ (tables_of state).commits → extent ≤ versions_in state
-    → IsKept state accepted extent now → IsKept (entered state entries) accepted extent now
+    → IsKept (tables_of state) state.seats state.scan accepted extent now → IsKept (tables_by entries) state.seats state.scan accepted extent now
 kept-grown state entries grows keeps accepted extent (life.Running start left) low within old =
     covered-grown state entries grows accepted extent (life.Running start left) low within old
 kept-grown state entries grows keeps accepted extent life.Ending low within old =
@@ -143,8 +143,8 @@ query-grown state entries grows keeps accepted old = record {
   snapshot = let low = old.snapshot in let more = grows.commits in omega arith;
   within = IfSome_then (query_in state.lives.queries accepted.number) old.within
       (λ entry within. let longer = grows.longer in omega arith);
-  kept = both-some (λ entry. entry.extent ≤ versions_in state) (λ entry. IsKept state accepted entry.extent entry.life)
-      (λ entry. IsKept (entered state entries) accepted entry.extent entry.life) (query_in state.lives.queries accepted.number)
+  kept = both-some (λ entry. entry.extent ≤ versions_in state) (λ entry. IsKept (tables_of state) state.seats state.scan accepted entry.extent entry.life)
+      (λ entry. IsKept (tables_by entries) state.seats state.scan accepted entry.extent entry.life) (query_in state.lives.queries accepted.number)
       (λ entry. kept-grown state entries grows keeps accepted entry.extent entry.life old.snapshot) old.within old.kept;
   extent = both-some (λ entry. entry.extent ≤ versions_in state)
       (λ entry. IsTrue (is_open entry.life) → (position : ℕ)

@@ -1,5 +1,5 @@
 -- What a worker took stays right while it holds it, whatever is committed meanwhile.
-use Rattle.core_state.proofs.Words.{◌*◌, ◌++◌, ◌+◌, ◌==◌, ◌∙◌, ◌≡◌, AcceptsAll, All, All-contains, ap, arith, bit_at, changes_of, Contains, empty_store, Encodes, Entry, filter_dimensions, Flight, Hand, Has, IfSome, IfSome_then, IsOnRoster, IsSome, IsSound, IsSoundBatch, IsSoundHand, length, List, None, OnRoster, Option, refl, rows_in, slice_get, Some, State, subst, sym, TableDef, tables_by, tables_of, ℕ}
+use Rattle.core_state.proofs.Words.{◌*◌, ◌++◌, ◌+◌, ◌==◌, ◌∙◌, ◌≡◌, AcceptsAll, All, All-contains, ap, arith, bit_at, changes_of, Contains, empty_store, Encodes, Entry, filter_dimensions, Flight, frame_words, Hand, Has, IfSome, IfSome_then, IsOnRoster, IsSome, IsSound, IsSoundBatch, IsSoundHand, length, List, None, OnRoster, Option, refl, rows_in, slice_get, Some, State, subst, sym, TableDef, tables_by, tables_of, ℕ}
 use Rattle.core_state.specs.Hands.{IsInHandAs}
 use Rattle.core_state.proofs.FoundLemmas.{some-at}
 use Rattle.core_state.proofs.GivenLemmas.{Settles}
@@ -35,14 +35,14 @@ same-filters before after sound later grows dimension has =
 
 -- a batch that a worker took is sound in a later core
 batch-held : Settles → (before after : State) (flight home : Flight) → IsSound before → IsSound after → after.settings ≡ before.settings
-    → Grows (tables_of before) (tables_of after) → IsSoundBatch before flight → IsSoundBatch after home → IsInHandAs flight home
-    → IsSoundBatch after flight
+    → Grows (tables_of before) (tables_of after) → IsSoundBatch (frame_words before) (tables_of before) before.lives before.accepted flight → IsSoundBatch (frame_words after) (tables_of after) after.lives after.accepted home → IsInHandAs flight home
+    → IsSoundBatch (frame_words after) (tables_of after) after.lives after.accepted flight
 batch-held settles before after flight home sound later settings grows old now alike = record {
   within = let low = now.within in let first = alike.first in let count = alike.count in omega arith;
   bits = old.bits;
   keys = old.keys;
   room = old.room ∙ ap (λ settings. 16 + settings.batch * 16) (sym settings);
-  roster = subst (λ roster. All (IsOnRoster after) roster) alike.roster now.roster;
+  roster = subst (λ roster. All (IsOnRoster after.lives after.accepted) roster) alike.roster now.roster;
   slots = old.slots;
   rows = λ row low. IfSome_then (slice_get (tables_of after).versions (flight.rows.first + row)) (grown.rows row low)
       (λ version r. record {
@@ -52,12 +52,12 @@ batch-held settles before after flight home sound later settings grows old now a
       });
 }
   where
-    grown : IsSoundBatch (entered before after.entries) flight
+    grown : IsSoundBatch (frame_words before) (tables_by after.entries) before.lives before.accepted flight
     grown = batch-grown before after.entries sound (settles (changes_of before.entries) sound.store) grows flight old
 
 -- a version that a worker took is sound in a later core
-hand-held : (after : State) (flight home : Flight) (hand : Hand) → IsSoundHand after home hand → IsInHandAs flight home
-    → IsSoundHand after flight hand
+hand-held : (after : State) (flight home : Flight) (hand : Hand) → IsSoundHand (length after.seats) after.lives.filters (tables_of after) home hand → IsInHandAs flight home
+    → IsSoundHand (length after.seats) after.lives.filters (tables_of after) flight hand
 hand-held after flight home hand now alike = record {
   seat = now.seat;
   table = now.table;
@@ -70,12 +70,12 @@ hand-held after flight home hand now alike = record {
 pub took-stays : Settles → (before after : State) (flight home : Flight) (hand : Hand) (more : List Entry) → IsSound before → IsSound after
     → after.settings ≡ before.settings → after.entries ≡ before.entries ++ more
     → Contains before.scan.flights flight → flight.hand ≡ Some hand
-    → Contains after.scan.flights home → IsInHandAs flight home → IsSoundBatch after flight × IsSoundHand after flight hand
+    → Contains after.scan.flights home → IsInHandAs flight home → IsSoundBatch (frame_words after) (tables_of after) after.lives after.accepted flight × IsSoundHand (length after.seats) after.lives.filters (tables_of after) flight hand
 took-stays settles before after flight home hand more sound later settings entries flies held at_home alike = (
   batch-held settles before after flight home sound later settings (later-grown before after flight more sound later entries flies)
-      (All-contains (IsSoundBatch before) before.scan.flights flight sound.batches flies)
-      (All-contains (IsSoundBatch after) after.scan.flights home later.batches at_home) alike,
+      (All-contains (IsSoundBatch (frame_words before) (tables_of before) before.lives before.accepted) before.scan.flights flight sound.batches flies)
+      (All-contains (IsSoundBatch (frame_words after) (tables_of after) after.lives after.accepted) after.scan.flights home later.batches at_home) alike,
   hand-held after flight home hand
-      (some-at (IsSoundHand after home) home.hand hand (alike.hand ∙ held)
-      (All-contains (λ f. IfSome f.hand (IsSoundHand after f)) after.scan.flights home later.hands.each at_home)) alike,
+      (some-at (IsSoundHand (length after.seats) after.lives.filters (tables_of after) home) home.hand hand (alike.hand ∙ held)
+      (All-contains (λ f. IfSome f.hand (IsSoundHand (length after.seats) after.lives.filters (tables_of after) f)) after.scan.flights home later.hands.each at_home)) alike,
 )

@@ -1,5 +1,5 @@
 -- A batch gets the same bits from each filter of a dimension that has every query on its roster.
-use Rattle.core_state.proofs.Words.{◌+◌, ◌<◌, ◌↔◌, ◌∙◌, ◌≡◌, [], All-contains, Any, Any-from_list_any, arith, bits_left_at, Bool, changes_of, Contains, Encodes, eqb, eqb-true, Filter, filtered, FilterVersion, Flight, get_or, get_or-map-range_with_len, Hand, Has, IfSome, is_visible, IsMatched, IsOnRoster, IsOver, IsSettled, IsSound, IsSoundBatch, IsSoundFilter, IsSoundHand, IsSoundRow, IsTrue, joined, key_place, length, length-map-range_with_len, List, list_all, OnRoster, passes, PlainVersion, range_with_len, refl, rows_in, slice_get, slice_get_at, Some, State, subst, sym, tables_of, takes_at, true, vector_of, version_at, ℕ}
+use Rattle.core_state.proofs.Words.{◌+◌, ◌<◌, ◌↔◌, ◌∙◌, ◌≡◌, [], All-contains, Any, Any-from_list_any, arith, bits_left_at, Bool, changes_of, Contains, Encodes, eqb, eqb-true, Filter, filtered, FilterVersion, Flight, frame_words, get_or, get_or-map-range_with_len, Hand, Has, IfSome, is_visible, IsMatched, IsOnRoster, IsOver, IsSettled, IsSound, IsSoundBatch, IsSoundFilter, IsSoundHand, IsSoundRow, IsTrue, joined, key_place, length, length-map-range_with_len, List, list_all, OnRoster, passes, PlainVersion, range_with_len, refl, rows_in, slice_get, slice_get_at, Some, State, subst, sym, tables_of, takes_at, true, vector_of, version_at, ℕ}
 use Rattle.std.proofs.lemmas.List.FromFn.{fill_by_all}
 use Rattle.bit_words.proofs.SetLemmas.{same_members}
 use Rattle.core_state.proofs.AcceptedLemmas.{find-holds}
@@ -18,7 +18,7 @@ pub record HasRoster (state : State) (flight : Flight) (dimension : ℕ) (filter
 
 -- the vectors of a filter that has a query on a roster say what the query takes
 roster-says : (state : State) → IsSound state → (filter : Filter) → Has state.lives.filters filter.dimension → (entry : OnRoster)
-    → IsOnRoster state entry
+    → IsOnRoster state.lives state.accepted entry
     → Encodes filter entry.slot entry.query entry.snapshot (rows_in (tables_of state).dimensions filter.dimension)
     → (version : PlainVersion) → IsMatched (tables_of state).schema (tables_of state).dimensions version.row version.begin
     → SaysByKey state filter entry version
@@ -28,9 +28,9 @@ roster-says state sound filter is_filter entry on encodes version matched =
     ((sound.filters.set filter.dimension).0 is_filter) matched
 
 -- what the vectors of such a filter say of a row with the bit of a query: whether the query takes the row of the dimension
-vector-says : (state : State) → IsSound state → (flight : Flight) → IsSoundBatch state flight → (dimension : ℕ) (filter : Filter)
+vector-says : (state : State) → IsSound state → (flight : Flight) → IsSoundBatch (frame_words state) (tables_of state) state.lives state.accepted flight → (dimension : ℕ) (filter : Filter)
     → HasRoster state flight dimension filter → (row : ℕ) (version : PlainVersion)
-    → IsMatched (tables_of state).schema (tables_of state).dimensions version.row version.begin → IsSoundRow state flight row version
+    → IsMatched (tables_of state).schema (tables_of state).dimensions version.row version.begin → IsSoundRow state.lives.filters (tables_of state) flight row version
     → (entry : OnRoster) → Contains flight.roster entry → Has (get_or flight.rows.bits row 0) entry.slot
     → Has (vector_of filter (get_or flight.rows.keys (key_place row filter.dimension) 0)) entry.slot
     ↔ IsTrue (takes_at entry.query (joined (tables_of state) entry.query entry.snapshot version.row) dimension)
@@ -40,7 +40,7 @@ vector-says state sound flight of_batch dimension filter has_roster row version 
     (subst (λ key. Has (vector_of filter key) entry.slot
     ↔ IsTrue (takes_at entry.query (joined (tables_of state) entry.query entry.snapshot version.row) filter.dimension))
     (sym (of_row.keys filter.dimension has_roster.is_filter))
-    (roster-says state sound filter has_roster.is_filter entry (All-contains (IsOnRoster state) flight.roster entry of_batch.roster on)
+    (roster-says state sound filter has_roster.is_filter entry (All-contains (IsOnRoster state.lives state.accepted) flight.roster entry of_batch.roster on)
     (has_roster.encodes entry on) version matched seen))
   where
     takes : ℕ → Bool
@@ -52,9 +52,9 @@ vector-says state sound flight of_batch dimension filter has_roster row version 
         ((of_row.bits entry on).0 has)).0
 
 -- a bit of a row is left by two such filters, or by neither
-slot-same : (state : State) → IsSound state → (flight : Flight) → IsSoundBatch state flight → (dimension : ℕ) (filter other : Filter)
+slot-same : (state : State) → IsSound state → (flight : Flight) → IsSoundBatch (frame_words state) (tables_of state) state.lives state.accepted flight → (dimension : ℕ) (filter other : Filter)
     → HasRoster state flight dimension filter → HasRoster state flight dimension other → (row : ℕ) (version : PlainVersion)
-    → IsMatched (tables_of state).schema (tables_of state).dimensions version.row version.begin → IsSoundRow state flight row version
+    → IsMatched (tables_of state).schema (tables_of state).dimensions version.row version.begin → IsSoundRow state.lives.filters (tables_of state) flight row version
     → (slot : ℕ) → Has (get_or flight.rows.bits row 0) slot
     → Has (vector_of filter (get_or flight.rows.keys (key_place row filter.dimension) 0)) slot
     → Has (vector_of other (get_or flight.rows.keys (key_place row other.dimension) 0)) slot
@@ -83,9 +83,9 @@ slot-same state sound flight of_batch dimension filter other first second row ve
     bit = subst (Has (get_or flight.rows.bits row 0)) (sym slot_is) has
 
 -- a row has the same bits left by two such filters
-row-same : (state : State) → IsSound state → (flight : Flight) → IsSoundBatch state flight → (dimension : ℕ) (filter other : Filter)
+row-same : (state : State) → IsSound state → (flight : Flight) → IsSoundBatch (frame_words state) (tables_of state) state.lives state.accepted flight → (dimension : ℕ) (filter other : Filter)
     → HasRoster state flight dimension filter → HasRoster state flight dimension other → (row : ℕ) (version : PlainVersion)
-    → IsMatched (tables_of state).schema (tables_of state).dimensions version.row version.begin → IsSoundRow state flight row version
+    → IsMatched (tables_of state).schema (tables_of state).dimensions version.row version.begin → IsSoundRow state.lives.filters (tables_of state) flight row version
     → row < length flight.rows.bits
     → get_or (filtered filter flight.rows.keys flight.rows.bits) row 0 ≡ get_or (filtered other flight.rows.keys flight.rows.bits) row 0
 row-same state sound flight of_batch dimension filter other first second row version matched of_row low =
@@ -105,7 +105,7 @@ row-same state sound flight of_batch dimension filter other first second row ver
     ))
 
 -- all rows have
-rows-same : Settles → (state : State) → IsSound state → (flight : Flight) → IsSoundBatch state flight → (dimension : ℕ) (filter other : Filter)
+rows-same : Settles → (state : State) → IsSound state → (flight : Flight) → IsSoundBatch (frame_words state) (tables_of state) state.lives state.accepted flight → (dimension : ℕ) (filter other : Filter)
     → HasRoster state flight dimension filter → HasRoster state flight dimension other
     → filtered filter flight.rows.keys flight.rows.bits ≡ filtered other flight.rows.keys flight.rows.bits
 rows-same settles state sound flight of_batch dimension filter other first second =
@@ -120,7 +120,7 @@ rows-same settles state sound flight of_batch dimension filter other first secon
     slice_get_at (tables_of state).versions (flight.rows.first + row) none there in
     row-same state sound flight of_batch dimension filter other first second row version
     (settled.versions.matched (flight.rows.first + row) none there)
-    (some-at (IsSoundRow state flight row) (slice_get (tables_of state).versions (flight.rows.first + row)) version at
+    (some-at (IsSoundRow state.lives.filters (tables_of state) flight row) (slice_get (tables_of state).versions (flight.rows.first + row)) version at
     (of_batch.rows row counted)) low
     ∙ get_or-map-range_with_len (bits_left_at other keys bits) 0 (length bits) row row 0 low (omega arith))
   where
@@ -154,16 +154,16 @@ same-bits settles state flight hand present sound flies held found =
           (find-passes (λ v. eqb v.filter.dimension hand.version.filter.dimension) state.filters.versions present found);
       is_filter = of_filter.is_filter;
       encodes = λ entry on. encodes-there state sound present.filter of_filter entry
-          (All-contains (IsOnRoster state) flight.roster entry of_batch.roster on);
+          (All-contains (IsOnRoster state.lives state.accepted) flight.roster entry of_batch.roster on);
     })
   where
-    of_batch : IsSoundBatch state flight
-    of_batch = All-contains (IsSoundBatch state) state.scan.flights flight sound.batches flies
+    of_batch : IsSoundBatch (frame_words state) (tables_of state) state.lives state.accepted flight
+    of_batch = All-contains (IsSoundBatch (frame_words state) (tables_of state) state.lives state.accepted) state.scan.flights flight sound.batches flies
 
-    of_hand : IsSoundHand state flight hand
-    of_hand = some-at (IsSoundHand state flight) flight.hand hand held
-        (All-contains (λ f. IfSome f.hand (IsSoundHand state f)) state.scan.flights flight sound.hands.each flies)
+    of_hand : IsSoundHand (length state.seats) state.lives.filters (tables_of state) flight hand
+    of_hand = some-at (IsSoundHand (length state.seats) state.lives.filters (tables_of state) flight) flight.hand hand held
+        (All-contains (λ f. IfSome f.hand (IsSoundHand (length state.seats) state.lives.filters (tables_of state) f)) state.scan.flights flight sound.hands.each flies)
 
-    of_filter : IsSoundFilter state present.filter
-    of_filter = find-holds (λ v. IsSoundFilter state v.filter) (λ v. eqb v.filter.dimension hand.version.filter.dimension)
+    of_filter : IsSoundFilter state.accepted (tables_of state) state.lives.slots state.lives.filters present.filter
+    of_filter = find-holds (λ v. IsSoundFilter state.accepted (tables_of state) state.lives.slots state.lives.filters v.filter) (λ v. eqb v.filter.dimension hand.version.filter.dimension)
         state.filters.versions present found sound.filters.each

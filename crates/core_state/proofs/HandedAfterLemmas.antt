@@ -1,5 +1,5 @@
 -- Slot by slot a distributor has after a batch what the core keeps.
-use Rattle.core_state.proofs.Words.{◌∙◌, ◌≡◌, Accepted, accepted_at, after_distribute, ap, AreKeyedTablesOf, attached_at, bit_at, Bool, Clearing, cond, Contains, DimensionRow, eqb, eqb-true, false, fed_in, Flight, flight_at, Free, get_or, gets_rows, Grouped, groups_in, Held, holder_of, IsSome, IsSound, IsSoundBatch, KeyedStore, List, list_any, map, None, Option, option_and_then, option_map, option_map_or, refl, Roomy, slot_at, SlotState, Some, State, sym, true, unkept, with_batch, ℕ}
+use Rattle.core_state.proofs.Words.{◌∙◌, ◌≡◌, Accepted, accepted_at, after_distribute, ap, AreKeyedTablesOf, attached_at, bit_at, Bool, Clearing, cond, Contains, DimensionRow, eqb, eqb-true, false, fed_in, Flight, flight_at, frame_words, Free, get_or, gets_rows, Grouped, groups_in, Held, holder_of, IsSome, IsSound, IsSoundBatch, KeyedStore, List, list_any, map, None, Option, option_and_then, option_map, option_map_or, refl, Roomy, slot_at, SlotState, Some, State, sym, tables_of, true, unkept, with_batch, ℕ}
 use Rattle.core_state.proofs.AcceptedLemmas.{held-accepted}
 use Rattle.core_state.proofs.AnewLemmas.{found-anew}
 use Rattle.core_state.proofs.FoundLemmas.{find-passes}
@@ -26,7 +26,7 @@ kept_by core holder = option_and_then (groups_in core)
 
 -- the queries of a set of slots that found no memory, and the core after the batch
 module _ (folds : FoldsTheSame) (state : State) (tables : KeyedStore) (dims : List (Roomy DimensionRow)) (flight : Flight) (sound : IsSound state)
-    (are : AreKeyedTablesOf state tables dims) (flies : Contains state.scan.flights flight) (batch : IsSoundBatch state flight) (number spoiled : ℕ) where
+    (are : AreKeyedTablesOf state tables dims) (flies : Contains state.scan.flights flight) (batch : IsSoundBatch (frame_words state) (tables_of state) state.lives state.accepted flight) (number spoiled : ℕ) where
   -- what a distributor makes of the groups at a slot
   abbrev folded : (slot : ℕ) → Grouped → Grouped
   folded slot = with_batch dims flight.rows tables.versions slot

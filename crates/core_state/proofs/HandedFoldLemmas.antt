@@ -1,5 +1,5 @@
 -- What a batch brings a query that gets rows is what a distributor folds for it.
-use Rattle.core_state.proofs.Words.{◌∙◌, ◌≡◌, Accepted, accepted_at, All-contains, All-contains_itself, ap, AreKeyedTablesOf, Contains, DimensionRow, eq-eqb, eqb, eqb-true, false, Flight, get_or, Grouped, grouped_of, Has, Held, IsOnRoster, IsSound, IsSoundBatch, IsSoundQuery, Joined, KeyedStore, List, None, OnRoster, Option, option_map, refl, Roomy, rows_for, slot_at, Some, State, sym, tables_of, true, with_batch, with_rows, with_versions, ℕ}
+use Rattle.core_state.proofs.Words.{◌∙◌, ◌≡◌, Accepted, accepted_at, All-contains, All-contains_itself, ap, AreKeyedTablesOf, Contains, DimensionRow, eq-eqb, eqb, eqb-true, false, Flight, frame_words, get_or, Grouped, grouped_of, Has, Held, IsOnRoster, IsSound, IsSoundBatch, IsSoundQuery, Joined, KeyedStore, List, None, OnRoster, Option, option_map, refl, Roomy, rows_for, slot_at, Some, State, sym, tables_of, true, with_batch, with_rows, with_versions, ℕ}
 use Rattle.core_state.proofs.AcceptedLemmas.{find-holds, find-none}
 use Rattle.core_state.proofs.FoundLemmas.{find-passes, some-at}
 use Rattle.core_state.proofs.HandedBatchLemmas.{entry-of, fed-groups, none-for}
@@ -14,14 +14,14 @@ FoldsTheSame = (state : State) (tables : KeyedStore) (dims : List (Roomy Dimensi
     ≡ with_rows (rows_for (tables_of state) flight.rows entry) (grouped_of entry.query rows)
 
 module _ (folds : FoldsTheSame) (state : State) (tables : KeyedStore) (dims : List (Roomy DimensionRow)) (flight : Flight) (sound : IsSound state)
-    (are : AreKeyedTablesOf state tables dims) (flies : Contains state.scan.flights flight) (batch : IsSoundBatch state flight) where
+    (are : AreKeyedTablesOf state tables dims) (flies : Contains state.scan.flights flight) (batch : IsSoundBatch (frame_words state) (tables_of state) state.lives state.accepted flight) where
   -- what a distributor makes of the groups at a slot
   abbrev pub folded : (slot : ℕ) → Grouped → Grouped
   folded slot = with_batch dims flight.rows tables.versions slot
 
   -- who is on the roster with a slot holds it
-  on-roster : (entry : OnRoster) → Contains flight.roster entry → IsOnRoster state entry
-  on-roster entry on = All-contains (IsOnRoster state) flight.roster entry batch.roster on
+  on-roster : (entry : OnRoster) → Contains flight.roster entry → IsOnRoster state.lives state.accepted entry
+  on-roster entry on = All-contains (IsOnRoster state.lives state.accepted) flight.roster entry batch.roster on
 
   -- a query that gets rows has what the batch brings it
   pub fed-as-folded : (slot built : ℕ) (accepted : Accepted) → slot_at state.lives slot ≡ Held accepted.number built

@@ -1,5 +1,5 @@
 -- What a distributor has after a batch is what the core keeps after it.
-use Rattle.core_state.proofs.Words.{◌<◌, ◌∙◌, ◌∷◌, ◌≡◌, ◌≤◌, [], after_distribute, All, All-contains, All-contains_itself, All-head, All-tail, Any, ap, AreFed, AreKeyedTablesOf, arith, attached_at, attached_to, bit_at, Bool, cases_lt, cond, Contains, DimensionRow, eqb, false, fed_at, fed_in, Flight, flight_at, Free, get_or, get_or-map-range_with_len, get_or-range_with_len, get_or_past, Grouped, Has, Held, holder_of, IfSome, IsFed, IsOnRoster, IsSomeAnd, IsSound, IsSoundBatch, KeyedStore, length, length-map-range_with_len, length-range_with_len, List, map, None, Option, option_map, range_with_len, refl, Roomy, Rows, slot_at, SlotState, Some, State, subst, sym, true, Version, with_batch, ℕ, ⊎_elim}
+use Rattle.core_state.proofs.Words.{◌<◌, ◌∙◌, ◌∷◌, ◌≡◌, ◌≤◌, [], after_distribute, All, All-contains, All-contains_itself, All-head, All-tail, Any, ap, AreFed, AreKeyedTablesOf, arith, attached_at, attached_to, bit_at, Bool, cases_lt, cond, Contains, DimensionRow, eqb, false, fed_at, fed_in, Flight, flight_at, frame_words, Free, get_or, get_or-map-range_with_len, get_or-range_with_len, get_or_past, Grouped, Has, Held, holder_of, IfSome, IsFed, IsOnRoster, IsSomeAnd, IsSound, IsSoundBatch, KeyedStore, length, length-map-range_with_len, length-range_with_len, List, map, None, Option, option_map, range_with_len, refl, Roomy, Rows, slot_at, SlotState, Some, State, subst, sym, tables_of, true, Version, with_batch, ℕ, ⊎_elim}
 use Rattle.distributor.specs.Folded.{after_batch}
 use Rattle.distributor.specs.Masked.{HaveRows}
 use Rattle.core_state.specs.Handed.{HasWhatIsKept}
@@ -82,9 +82,9 @@ found-flight : (state : State) (number : ℕ) (flight : Flight) → flight_at st
 found-flight state number flight there =
     find-holds (Contains state.scan.flights) (λ f. eqb f.rows.number number) state.scan.flights flight there (All-contains_itself state.scan.flights)
 
-found-sound : (state : State) (number : ℕ) (flight : Flight) → IsSound state → flight_at state.scan.flights number ≡ Some flight → IsSoundBatch state flight
+found-sound : (state : State) (number : ℕ) (flight : Flight) → IsSound state → flight_at state.scan.flights number ≡ Some flight → IsSoundBatch (frame_words state) (tables_of state) state.lives state.accepted flight
 found-sound state number flight sound there =
-    find-holds (IsSoundBatch state) (λ f. eqb f.rows.number number) state.scan.flights flight there sound.batches
+    find-holds (IsSoundBatch (frame_words state) (tables_of state) state.lives state.accepted) (λ f. eqb f.rows.number number) state.scan.flights flight there sound.batches
 
 pub groups-after : FoldsTheSame → (state : State) (tables : KeyedStore) (dims : List (Roomy DimensionRow)) (batch : ℕ) (flight : Flight) (spoiled : ℕ)
     → IsSound state → AreKeyedTablesOf state tables dims → flight_at state.scan.flights batch ≡ Some flight
@@ -118,14 +118,14 @@ fed-after state batch flight spoiled sound there rows = record {
   });
 }
   where
-    sound_batch : IsSoundBatch state flight
+    sound_batch : IsSoundBatch (frame_words state) (tables_of state) state.lives state.accepted flight
     sound_batch = found-sound state batch flight sound there
 
     on : (slot query : ℕ) → Has spoiled slot → fed_at state slot ≡ Some query → Any (λ entry. entry.number ≡ query) flight.roster
     on slot query has is =
         let row = rows slot has in
         let found = entry-of state flight sound_batch row.0 slot row.1 in
-        let held = (All-contains (IsOnRoster state) flight.roster found.0 sound_batch.roster found.1).held in
+        let held = (All-contains (IsOnRoster state.lives state.accepted) flight.roster found.0 sound_batch.roster found.1).held in
         let holds = fed-holds state slot query is in
         let same : Held found.0.number held.0 ≡ Held query holds.0 = sym held.1 ∙ ap (slot_at state.lives) found.2 ∙ holds.1 in
         let number : found.0.number ≡ query = cc in

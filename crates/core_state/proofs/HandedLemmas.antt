@@ -1,5 +1,5 @@
 -- What a distributor folds into the groups of a query is what the core folds.
-use Rattle.core_state.proofs.Words.{◌++◌, ◌+◌, ◌<◌, ◌∙◌, ◌∷◌, ◌≡◌, [], All, All-contains, All-head, All-tail, all_at, ap, append-nil, append_assoc, AreKeyedTablesOf, arith, bit_at, cond, Contains, DimensionRow, drop, eqb, filter_map, Flight, get_or, grouped_of, Has, HasKeyNumbers, IfSome, is_visible, IsOnRoster, IsOver, IsSound, IsSoundBatch, IsSoundRow, Joined, joined, joined_by_keys, KeyedStore, length, List, list_all, map, None, OnRoster, Option, option_map, passes, plain, plain_version, PlainVersion, Query, range_with_len, refl, Roomy, rows_for, slice_get, Some, State, Store, subst, sym, tables_of, take, takes_at, true, Version, versions_for, versions_of, with_batch, with_row, with_rows, with_versions, ℕ}
+use Rattle.core_state.proofs.Words.{◌++◌, ◌+◌, ◌<◌, ◌∙◌, ◌∷◌, ◌≡◌, [], All, All-contains, All-head, All-tail, all_at, ap, append-nil, append_assoc, AreKeyedTablesOf, arith, bit_at, cond, Contains, DimensionRow, drop, eqb, filter_map, Flight, frame_words, get_or, grouped_of, Has, HasKeyNumbers, IfSome, is_visible, IsOnRoster, IsOver, IsSound, IsSoundBatch, IsSoundRow, Joined, joined, joined_by_keys, KeyedStore, length, List, list_all, map, None, OnRoster, Option, option_map, passes, plain, plain_version, PlainVersion, Query, range_with_len, refl, Roomy, rows_for, slice_get, Some, State, Store, subst, sym, tables_of, take, takes_at, true, Version, versions_for, versions_of, with_batch, with_row, with_rows, with_versions, ℕ}
 use Rattle.std.proofs.lemmas.Option.{slice_get-map}
 use Rattle.star_history.specs.Kept.{rows_of_all}
 use Rattle.star_history.specs.Read.{NamesItsPlaces, value_by_key}
@@ -66,7 +66,7 @@ same-rows tables flight entry count =
 
 -- each of them is seen by the query
 seen : (state : State) (tables : KeyedStore) (flight : Flight) (entry : OnRoster) → plain tables ≡ tables_of state
-    → All (HasKeyNumbers tables.schema tables.dimensions) tables.versions → IsSoundBatch state flight → Contains flight.roster entry
+    → All (HasKeyNumbers tables.schema tables.dimensions) tables.versions → IsSoundBatch (frame_words state) (tables_of state) state.lives state.accepted flight → Contains flight.roster entry
     → All (IsSeen tables entry.snapshot) (versions_for entry.slot flight.rows.bits (versions_of flight.rows tables.versions))
 seen state tables flight entry same keyed sound on =
     subst (λ n. All (IsSeen tables entry.snapshot) (versions_for entry.slot flight.rows.bits (take n (drop flight.rows.first tables.versions))))
@@ -83,8 +83,8 @@ seen state tables flight entry same keyed sound on =
         let there : slice_get (tables_of state).versions place ≡ Some (plain_version version) =
         ap (λ (store : Store). slice_get store.versions place) (sym same) ∙ slice_get-map plain_version tables.versions place
         ∙ ap (option_map plain_version) is in
-        let of_row : IsSoundRow state flight row (plain_version version) =
-        some-at (IsSoundRow state flight row) (slice_get (tables_of state).versions place) (plain_version version) there (sound.rows row low) in
+        let of_row : IsSoundRow state.lives.filters (tables_of state) flight row (plain_version version) =
+        some-at (IsSoundRow state.lives.filters (tables_of state) flight row) (slice_get (tables_of state).versions place) (plain_version version) there (sound.rows row low) in
         let row_of : Joined = joined (tables_of state) entry.query entry.snapshot version.row in (
           some-at (HasKeyNumbers tables.schema tables.dimensions) (slice_get tables.versions place) version is
               (all_at (HasKeyNumbers tables.schema tables.dimensions) tables.versions place keyed),
@@ -109,9 +109,9 @@ batch-folded by_key one state tables dims flight entry rows sound are flies on =
     versions : List Version
     versions = versions_for entry.slot flight.rows.bits (versions_of flight.rows tables.versions)
 
-    batch : IsSoundBatch state flight
-    batch = All-contains (IsSoundBatch state) state.scan.flights flight sound.batches flies
+    batch : IsSoundBatch (frame_words state) (tables_of state) state.lives state.accepted flight
+    batch = All-contains (IsSoundBatch (frame_words state) (tables_of state) state.lives state.accepted) state.scan.flights flight sound.batches flies
 
     over : IsOver tables.schema entry.query
     over = subst (λ store. IsOver store.schema entry.query) (sym are.tables.same)
-        (entry-over state sound entry (All-contains (IsOnRoster state) flight.roster entry batch.roster on))
+        (entry-over state sound entry (All-contains (IsOnRoster state.lives state.accepted) flight.roster entry batch.roster on))

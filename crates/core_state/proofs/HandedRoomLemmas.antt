@@ -1,5 +1,5 @@
 -- What is kept of a query has room for the rows of a batch.
-use Rattle.core_state.proofs.Words.{◌++◌, ◌+◌, ◌∙◌, ◌∷◌, ◌≡◌, ◌≤◌, [], Accepted, accepted_at, All, All-contains, All-contains_itself, ap, AreKeyedTablesOf, arith, attached_at, attached_to, Bool, changes_of, cons_option, Contains, DimensionRow, eqb, false, fed_at, filter, filter_map, flat_map, Flight, get_or-map-range_with_len, Grouped, groups_in, IfSome, is_kept, is_some, is_visible, IsAnswer, IsCovered, IsKept, IsSettled, IsSound, IsSoundBatch, IsSoundQuery, Joined, joined, kept, kept_at, KeyedStore, length, length-map, length-map-range_with_len, length-range_with_len, Life, List, list_any, map, None, Option, option_and_then, option_map_or, plain_version, PlainVersion, positions_for, Query, query_in, QueryLife, range_with_len, refl, Roomy, slice_get, Some, State, Store, subst, sym, tables_of, to_come, true, versions_at, versions_in, ℕ, ⊎_elim}
+use Rattle.core_state.proofs.Words.{◌++◌, ◌+◌, ◌∙◌, ◌∷◌, ◌≡◌, ◌≤◌, [], Accepted, accepted_at, All, All-contains, All-contains_itself, ap, AreKeyedTablesOf, arith, attached_at, attached_to, Bool, changes_of, cons_option, Contains, DimensionRow, eqb, false, fed_at, filter, filter_map, flat_map, Flight, frame_words, get_or-map-range_with_len, Grouped, groups_in, IfSome, is_kept, is_some, is_visible, IsAnswer, IsCovered, IsKept, IsSettled, IsSound, IsSoundBatch, IsSoundQuery, Joined, joined, kept, kept_at, KeyedStore, length, length-map, length-map-range_with_len, length-range_with_len, Life, List, list_any, map, None, Option, option_and_then, option_map_or, plain_version, PlainVersion, positions_for, Query, query_in, QueryLife, range_with_len, refl, Roomy, slice_get, Some, State, Store, subst, sym, tables_of, to_come, true, versions_at, versions_in, ℕ, ⊎_elim}
 use Rattle.std.proofs.lemmas.List.{length-append}
 use Rattle.std.proofs.lemmas.List.Sorted.{length_permutation}
 use Rattle.std.proofs.lemmas.List.Sums.{count_by-le-length, length-filter}
@@ -56,7 +56,7 @@ few-kept store query snapshot =
 
 -- no more are folded than there are positions in the extent
 few-covered : (state : State) (accepted : Accepted) (extent : ℕ) (now : Life) → extent ≤ versions_in state
-    → IsCovered state accepted extent now → AreFew (versions_in state) accepted.groups
+    → IsCovered (tables_of state) state.scan accepted extent now → AreFew (versions_in state) accepted.groups
 few-covered state accepted extent now within old =
     let folded = old.folded in
     let flying = flat_map (positions_for accepted.number extent) state.scan.flights in
@@ -68,13 +68,13 @@ few-covered state accepted extent now within old =
     let few = few-at (tables_of state) accepted.query accepted.snapshot folded in
     subst (AreFew (versions_in state)) (sym old.groups) (omega arith)
 
-few-answered : (state : State) (accepted : Accepted) → IsAnswer state accepted → AreFew (versions_in state) accepted.groups
+few-answered : (state : State) (accepted : Accepted) → IsAnswer (tables_of state) accepted → AreFew (versions_in state) accepted.groups
 few-answered state accepted answer =
     let same = length_permutation answer.rows (kept (tables_of state) accepted.query accepted.snapshot) answer.all in
     let few = few-kept (tables_of state) accepted.query accepted.snapshot in
     subst (AreFew (versions_in state)) (sym answer.groups) (omega arith)
 
-few-by-life : (state : State) (accepted : Accepted) (extent : ℕ) (now : Life) → extent ≤ versions_in state → IsKept state accepted extent now
+few-by-life : (state : State) (accepted : Accepted) (extent : ℕ) (now : Life) → extent ≤ versions_in state → IsKept (tables_of state) state.seats state.scan accepted extent now
     → AreFew (versions_in state) accepted.groups
 few-by-life state accepted extent life.Waiting within kept = subst (AreFew (versions_in state)) (sym kept) (omega arith)
 few-by-life state accepted extent life.Building within kept = subst (AreFew (versions_in state)) (sym kept) (omega arith)
@@ -101,10 +101,10 @@ few-rows state accepted sound there of_query =
     by_life None is some = absurd (let both : false ≡ true = some in cc)
     by_life (Some entry) is some = few-by-life state accepted entry.extent entry.life
         (some-at (λ e. e.extent ≤ versions_in state) (query_in state.lives.queries accepted.number) entry is of_query.within)
-        (some-at (λ e. IsKept state accepted e.extent e.life) (query_in state.lives.queries accepted.number) entry is of_query.kept)
+        (some-at (λ e. IsKept (tables_of state) state.seats state.scan accepted e.extent e.life) (query_in state.lives.queries accepted.number) entry is of_query.kept)
 
 -- so there is room for the rows of a batch
-few-room : Settles → (state : State) (flight : Flight) → IsSound state → IsSoundBatch state flight → (o : Option Grouped)
+few-room : Settles → (state : State) (flight : Flight) → IsSound state → IsSoundBatch (frame_words state) (tables_of state) state.lives state.accepted flight → (o : Option Grouped)
     → AreFew (versions_in state) o → HaveRoom flight.rows.count o
 few-room settles state flight sound batch None few = tt
 few-room settles state flight sound batch (Some groups) few =
@@ -116,7 +116,7 @@ few-room settles state flight sound batch (Some groups) few =
 pub room-kept : Settles → (state : State) (flight : Flight) (accepted : Accepted) → IsSound state → Contains state.scan.flights flight
     → Contains state.accepted accepted → HaveRoom flight.rows.count accepted.groups
 room-kept settles state flight accepted sound flies there =
-    few-room settles state flight sound (All-contains (IsSoundBatch state) state.scan.flights flight sound.batches flies) accepted.groups
+    few-room settles state flight sound (All-contains (IsSoundBatch (frame_words state) (tables_of state) state.lives state.accepted) state.scan.flights flight sound.batches flies) accepted.groups
     (few-rows state accepted sound (found-itself state sound.queries sound.slots.lives.rising accepted there)
     (All-contains (IsSoundQuery state) state.accepted accepted sound.queries.each there))
 
@@ -143,7 +143,7 @@ room-attached settles state flight sound flies k d low =
 pub positions-within : (state : State) (tables : KeyedStore) (dims : List (Roomy DimensionRow)) (flight : Flight) → IsSound state
     → AreKeyedTablesOf state tables dims → Contains state.scan.flights flight → flight.rows.first + flight.rows.count ≤ length tables.versions
 positions-within state tables dims flight sound are flies =
-    let batch = All-contains (IsSoundBatch state) state.scan.flights flight sound.batches flies in
+    let batch = All-contains (IsSoundBatch (frame_words state) (tables_of state) state.lives state.accepted) state.scan.flights flight sound.batches flies in
     let within = batch.within in
     let same : length (map plain_version tables.versions) ≡ length (tables_of state).versions = ap (λ (store : Store). length store.versions) are.tables.same in
     let count = length-map tables.versions plain_version in

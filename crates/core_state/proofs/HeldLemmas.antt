@@ -8,19 +8,19 @@ pub slot-there : (slots : List SlotState) (slot : ℕ) → get_or slots slot Fre
 slot-there slots slot used = ⊎_elim (λ low. low) (λ past. absurd (used (get_or_past slots slot Free past))) (cases_lt slot (length slots))
 
 -- each slot has what it asks for where the written one has
-pub fits-set : (state : State) (slot : ℕ) (now : SlotState) → slot < length state.lives.slots → (filter : Filter) → FitsSlot state filter slot now
-    → (other : ℕ) → FitsSlot state filter other (slot_at state.lives other)
-    → FitsSlot state filter other (get_or (set state.lives.slots slot now) other Free)
+pub fits-set : (state : State) (slot : ℕ) (now : SlotState) → slot < length state.lives.slots → (filter : Filter) → FitsSlot state.accepted (tables_of state) filter slot now
+    → (other : ℕ) → FitsSlot state.accepted (tables_of state) filter other (slot_at state.lives other)
+    → FitsSlot state.accepted (tables_of state) filter other (get_or (set state.lives.slots slot now) other Free)
 fits-set state slot now there filter fits other old = ⊎_elim
-    (λ same. subst (λ at. FitsSlot state filter at (get_or (set state.lives.slots slot now) at Free)) (sym same)
-    (subst (FitsSlot state filter slot) (sym (get_or-set_same state.lives.slots slot now Free there)) fits))
-    (λ apart. subst (FitsSlot state filter other) (sym (get_or-set_other state.lives.slots slot other now Free apart)) old)
+    (λ same. subst (λ at. FitsSlot state.accepted (tables_of state) filter at (get_or (set state.lives.slots slot now) at Free)) (sym same)
+    (subst (FitsSlot state.accepted (tables_of state) filter slot) (sym (get_or-set_same state.lives.slots slot now Free there)) fits))
+    (λ apart. subst (FitsSlot state.accepted (tables_of state) filter other) (sym (get_or-set_other state.lives.slots slot other now Free apart)) old)
     (cases_eq other slot)
 
 -- the filters are sound where each slot has what it asks for
 pub filters-held : (state : State) (queries : List QueryLife) (slots : List SlotState) (version : ℕ) (order : List ℕ) → length slots ≡ length state.lives.slots
-    → ((filter : Filter) → IsSoundFilter state filter → (slot : ℕ) → slot < length state.lives.slots → FitsSlot state filter slot (slot_at state.lives slot)
-    → FitsSlot state filter slot (get_or slots slot Free))
+    → ((filter : Filter) → IsSoundFilter state.accepted (tables_of state) state.lives.slots state.lives.filters filter → (slot : ℕ) → slot < length state.lives.slots → FitsSlot state.accepted (tables_of state) filter slot (slot_at state.lives slot)
+    → FitsSlot state.accepted (tables_of state) filter slot (get_or slots slot Free))
     → AreSoundFilters state → AreSoundFilters (held_now state queries slots (record state.filters { order = order }) version)
 filters-held state queries slots version order count fits old = record {
   each = λ k d low. let filter = (get_or state.filters.versions k d).filter in
@@ -32,8 +32,8 @@ filters-held state queries slots version order count fits old = record {
 
 -- a slot that is written is on no roster, or is held as it was
 pub entry-set : (state : State) (queries : List QueryLife) (slot : ℕ) (now : SlotState) (filters : Filters) (version : ℕ) (entry : OnRoster)
-    → entry.slot ≢ slot → IfSome (life_in queries entry.number) MayBeOnRoster → IsOnRoster state entry
-    → IsOnRoster (held_now state queries (set state.lives.slots slot now) filters version) entry
+    → entry.slot ≢ slot → IfSome (life_in queries entry.number) MayBeOnRoster → IsOnRoster state.lives state.accepted entry
+    → IsOnRoster (record state.lives { queries = queries; slots = (set state.lives.slots slot now) }) state.accepted entry
 entry-set state queries slot now filters version entry apart life old =
     entry-moved state queries (set state.lives.slots slot now) filters state.scan (record state.numbers { version = version }) entry
     (length-set state.lives.slots slot now)
@@ -43,7 +43,7 @@ entry-set state queries slot now filters version entry apart life old =
 pub queries-held : (state : State) (queries : List QueryLife) (slots : List SlotState) (filters : Filters) (version : ℕ)
     → map (λ entry. entry.query) queries ≡ map (λ entry. entry.query) state.lives.queries
     → ((accepted : Accepted) → IsSoundQuery state accepted → IfSome (query_in queries accepted.number)
-    (λ entry. IsKept state accepted entry.extent entry.life × (IsTrue (is_open entry.life)
+    (λ entry. IsKept (tables_of state) state.seats state.scan accepted entry.extent entry.life × (IsTrue (is_open entry.life)
     → (position : ℕ) → IfSome (slice_get (tables_of state).versions position)
     (λ version. (version.begin ≤ accepted.snapshot) ↔ (position < entry.extent)))
     × (entry.extent ≤ versions_in state)))
@@ -66,7 +66,7 @@ pub queries-stay : (state : State) (slots : List SlotState) (filters : Filters) 
 queries-stay state slots filters version old =
     queries-held state state.lives.queries slots filters version refl
     (λ accepted sound. join
-    (λ entry. IsKept state accepted entry.extent entry.life)
+    (λ entry. IsKept (tables_of state) state.seats state.scan accepted entry.extent entry.life)
     (λ entry. IsTrue (is_open entry.life) → (position : ℕ) → IfSome (slice_get (tables_of state).versions position)
     (λ version. (version.begin ≤ accepted.snapshot) ↔ (position < entry.extent)))
     (λ entry. entry.extent ≤ versions_in state)

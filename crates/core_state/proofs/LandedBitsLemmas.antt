@@ -1,5 +1,5 @@
 -- What the bits of a batch say that has passed every filter, or has no bit left.
-use Rattle.core_state.proofs.Words.{◌&&◌, ◌+◌, ◌<◌, ◌↔◌, ◌∙◌, ◌∷◌, ◌≡◌, ◌≤◌, ◌⊎◌, [], All, All-cons, All-head, All-nil, All-permutation, All-tail, AllRows, ap, AreSoundFilters, arith, bit_at, Bool, Chosen, cond, Contains, eq-eqb, eqb, eqb-true, fact_columns, false, filter, Flight, get_or, get_or-range_with_len, Has, has_passed, has_passed_all, IfSome, is_empty, is_kept, is_named, is_visible, IsOver, IsPermutation-sym, IsSoundBatch, IsSoundOrder, IsSoundRow, IsTrue, Joined, joined, joined_row, keeps_so_far, length, length-range_with_len, List, list_all, list_any, list_any-from_Any, map, nat_lt, nat_tests, OnRoster, option_map_or, passes, PlainVersion, Query, range_with_len, references, refl, Schema, Selection, selection_in, slice_get, slice_get_at, Some, State, Store, subst, sym, tables_of, takes, takes_at, true, Unnamed, ℕ, ⊎_elim}
+use Rattle.core_state.proofs.Words.{◌&&◌, ◌+◌, ◌<◌, ◌↔◌, ◌∙◌, ◌∷◌, ◌≡◌, ◌≤◌, ◌⊎◌, [], All, All-cons, All-head, All-nil, All-permutation, All-tail, AllRows, ap, AreSoundFilters, arith, bit_at, Bool, Chosen, cond, Contains, eq-eqb, eqb, eqb-true, fact_columns, false, filter, Flight, frame_words, get_or, get_or-range_with_len, Has, has_passed, has_passed_all, IfSome, is_empty, is_kept, is_named, is_visible, IsOver, IsPermutation-sym, IsSoundBatch, IsSoundOrder, IsSoundRow, IsTrue, Joined, joined, joined_row, keeps_so_far, length, length-range_with_len, List, list_all, list_any, list_any-from_Any, map, nat_lt, nat_tests, OnRoster, option_map_or, passes, PlainVersion, Query, range_with_len, references, refl, Schema, Selection, selection_in, slice_get, slice_get_at, Some, State, Store, subst, sym, tables_of, takes, takes_at, true, Unnamed, ℕ, ⊎_elim}
 use Rattle.star_values.specs.declared.value.Value as cell
 use Rattle.core_state.proofs.FoundLemmas.{some-at}
 use Rattle.core_state.proofs.GiveLemmas.{all-asked, all-pass, all-three, asked, pass-all, three-all}
@@ -131,7 +131,7 @@ below-true position extent low = grind (arith, nat_tests)
 
 -- a bit of a batch that is through says whether the query keeps the version
 pub row-agrees : (state : State) (flight : Flight) (entry : OnRoster) (extent : ℕ) → AreSoundFilters state → IsSoundOrder state
-    → (has_passed_all state.filters flight ≡ true) ⊎ (is_empty flight ≡ true) → IsSoundBatch state flight → Contains flight.roster entry
+    → (has_passed_all state.filters flight ≡ true) ⊎ (is_empty flight ≡ true) → IsSoundBatch (frame_words state) (tables_of state) state.lives state.accepted flight → Contains flight.roster entry
     → IsOver (tables_of state).schema entry.query → SeesBelow (tables_of state) entry.snapshot extent
     → (row : ℕ) → row < flight.rows.count → (version : PlainVersion) → slice_get (tables_of state).versions (flight.rows.first + row) ≡ Some version
     → eqb (bit_at (get_or flight.rows.bits row 0) entry.slot) 1
@@ -163,8 +163,8 @@ row-agrees state flight entry extent filters order through sound on over sees ro
     all_taken : Bool
     all_taken = list_all (takes_at entry.query row_of) (range_with_len 0 (length entry.query.choices))
 
-    of_row : IsSoundRow state flight row version
-    of_row = some-at (IsSoundRow state flight row) (slice_get store.versions (flight.rows.first + row)) version found (sound.rows row low)
+    of_row : IsSoundRow state.lives.filters (tables_of state) flight row version
+    of_row = some-at (IsSoundRow state.lives.filters (tables_of state) flight row) (slice_get store.versions (flight.rows.first + row)) version found (sound.rows row low)
 
     bits : Has (get_or flight.rows.bits row 0) entry.slot ↔ IsTrue (keeps_so_far store flight entry version)
     bits = of_row.bits entry on

@@ -1,5 +1,5 @@
 -- What is kept of a query where a batch is distributed.
-use Rattle.core_state.proofs.Words.{◌++◌, ◌+◌, ◌∙◌, ◌≡◌, ◌≢◌, ◌⊎◌, [], Accepted, accepted_at, All-contains_itself, AllPairs, ap, append-nil, append_assoc, AreSoundFilters, Bool, cond, Contains, eqb, eqb-true, false, fed, filter, find, flat_map, Flight, flight_at, gets_rows, Grouped, grouped_of, has_passed_all, inl, inr, is_empty, is_open, IsCovered, IsKept, IsOnRoster, IsOver, IsPermutation, IsPermutation-append_left, IsPermutation-append_right, IsPermutation-sym, IsPermutation-trans, IsSoundBatch, IsSoundOrder, IsTrue, Joined, kept_at, Life, life_of, List, nat_lt, None, OnRoster, Option, option_map, option_map_or, positions_for, range_with_len, refl, rows_for, Some, State, Store, subst, sym, tables_of, to_come, true, with_rows, ℕ, ⊎_elim}
+use Rattle.core_state.proofs.Words.{◌++◌, ◌+◌, ◌∙◌, ◌≡◌, ◌≢◌, ◌⊎◌, [], Accepted, accepted_at, All-contains_itself, AllPairs, ap, append-nil, append_assoc, AreSoundFilters, Bool, cond, Contains, eqb, eqb-true, false, fed, filter, find, flat_map, Flight, flight_at, frame_words, gets_rows, Grouped, grouped_of, has_passed_all, inl, inr, is_empty, is_open, IsCovered, IsKept, IsOnRoster, IsOver, IsPermutation, IsPermutation-append_left, IsPermutation-append_right, IsPermutation-sym, IsPermutation-trans, IsSoundBatch, IsSoundOrder, IsTrue, Joined, kept_at, Life, life_of, List, nat_lt, None, OnRoster, Option, option_map, option_map_or, positions_for, range_with_len, refl, rows_for, Some, State, Store, subst, sym, tables_of, to_come, true, with_rows, ℕ, ⊎_elim}
 use Rattle.pipeline_manager.specs.declared.life.Life.TheVariants as life
 use Rattle.core_state.proofs.AcceptedLemmas.{find-holds}
 use Rattle.core_state.proofs.AnewLemmas.{KeepsAsked, kept_anew}
@@ -83,7 +83,7 @@ Brings state flight accepted extent = (entry : OnRoster) → entry_for accepted.
 covered-landed : FoldsOne → (state : State) (batch : ℕ) (flight : Flight) → flight_at state.scan.flights batch ≡ Some flight
     → AllPairs (λ f other. f.rows.number ≢ other.rows.number) state.scan.flights
     → (accepted : Accepted) (extent : ℕ) (now : Life) → Gets state accepted.number true → Brings state flight accepted extent
-    → IsCovered state accepted extent now → IsCovered (landed batch flight state) (fed_by state flight accepted) extent now
+    → IsCovered (tables_of state) state.scan accepted extent now → IsCovered (tables_of state) (record state.scan { flights = without_flight batch state.scan.flights; free = state.scan.free + 1 }) (fed_by state flight accepted) extent now
 covered-landed folds state batch flight there apart accepted extent now gets brings old = by_found (entry_for accepted.number flight) refl
   where
     here : List ℕ
@@ -97,11 +97,11 @@ covered-landed folds state batch flight there apart accepted extent now gets bri
         (landed-permutes (positions_for accepted.number extent) batch flight state.scan.flights there apart) old.each_once
 
     by_found : (o : Option OnRoster) → entry_for accepted.number flight ≡ o
-        → IsCovered (landed batch flight state) (fed_by state flight accepted) extent now
+        → IsCovered (tables_of state) (record state.scan { flights = without_flight batch state.scan.flights; free = state.scan.free + 1 }) (fed_by state flight accepted) extent now
     by_found None is =
         let none : here ≡ [] = ap (λ o. option_map_or
         (λ entry. filter (λ position. nat_lt position extent) (range_with_len flight.rows.first flight.rows.count)) o []) is in
-        subst (λ a. IsCovered (landed batch flight state) a extent now) (sym (fed-absent state flight accepted is)) (record {
+        subst (λ a. IsCovered (tables_of state) (record state.scan { flights = without_flight batch state.scan.flights; free = state.scan.free + 1 }) a extent now) (sym (fed-absent state flight accepted is)) (record {
           folded = old.folded;
           each_once = subst (λ positions. IsPermutation (positions ++ rest ++ to_come extent now) (range_with_len 0 extent))
               (ap (λ positions. old.folded ++ positions) none ∙ append-nil old.folded) once;
@@ -111,7 +111,7 @@ covered-landed folds state batch flight there apart accepted extent now gets bri
     by_found (Some entry) is =
         let store : Store = tables_of state in
         let before : List Joined = kept_at store accepted.query accepted.snapshot old.folded in
-        subst (λ a. IsCovered (landed batch flight state) a extent now) (sym (fed-there state flight accepted entry is gets)) (record {
+        subst (λ a. IsCovered (tables_of state) (record state.scan { flights = without_flight batch state.scan.flights; free = state.scan.free + 1 }) a extent now) (sym (fed-there state flight accepted entry is gets)) (record {
           folded = old.folded ++ here;
           each_once = once;
           next = old.next;
@@ -127,12 +127,12 @@ pub kept-landed : FoldsOne → (state : State) (batch : ℕ) (flight : Flight) �
     → AllPairs (λ f other. f.rows.number ≢ other.rows.number) state.scan.flights
     → (accepted : Accepted) (extent : ℕ) (now : Life) → life_of state.lives accepted.number ≡ Some now
     → (IsTrue (gets_rows now) → Brings state flight accepted extent)
-    → IsKept state accepted extent now → IsKept (landed batch flight state) (fed_by state flight accepted) extent now
+    → IsKept (tables_of state) state.seats state.scan accepted extent now → IsKept (tables_of state) state.seats (record state.scan { flights = without_flight batch state.scan.flights; free = state.scan.free + 1 }) (fed_by state flight accepted) extent now
 kept-landed folds state batch flight there apart accepted extent life.Waiting was brings kept =
-    subst (λ a. IsKept (landed batch flight state) a extent life.Waiting)
+    subst (λ a. IsKept (tables_of state) state.seats (record state.scan { flights = without_flight batch state.scan.flights; free = state.scan.free + 1 }) a extent life.Waiting)
     (sym (fed-not state flight accepted (ap (λ o. option_map_or gets_rows o false) was))) kept
 kept-landed folds state batch flight there apart accepted extent life.Building was brings kept =
-    subst (λ a. IsKept (landed batch flight state) a extent life.Building)
+    subst (λ a. IsKept (tables_of state) state.seats (record state.scan { flights = without_flight batch state.scan.flights; free = state.scan.free + 1 }) a extent life.Building)
     (sym (fed-not state flight accepted (ap (λ o. option_map_or gets_rows o false) was))) kept
 kept-landed folds state batch flight there apart accepted extent (life.Running start left) was brings kept =
     covered-landed folds state batch flight there apart accepted extent (life.Running start left)
@@ -141,19 +141,19 @@ kept-landed folds state batch flight there apart accepted extent life.Ending was
     covered-landed folds state batch flight there apart accepted extent life.Ending
     (ap (λ o. option_map_or gets_rows o false) was) (brings refl) kept
 kept-landed folds state batch flight there apart accepted extent life.Answered was brings kept =
-    subst (λ a. IsKept (landed batch flight state) a extent life.Answered)
+    subst (λ a. IsKept (tables_of state) state.seats (record state.scan { flights = without_flight batch state.scan.flights; free = state.scan.free + 1 }) a extent life.Answered)
     (sym (fed-not state flight accepted (ap (λ o. option_map_or gets_rows o false) was)))
     (⊎_elim (λ gone. inl gone) (λ answer. inr (record { rows = answer.rows; all = answer.all; groups = answer.groups })) kept)
 kept-landed folds state batch flight there apart accepted extent life.Spoiled was brings kept =
-    subst (λ a. IsKept (landed batch flight state) a extent life.Spoiled)
+    subst (λ a. IsKept (tables_of state) state.seats (record state.scan { flights = without_flight batch state.scan.flights; free = state.scan.free + 1 }) a extent life.Spoiled)
     (sym (fed-not state flight accepted (ap (λ o. option_map_or gets_rows o false) was))) kept
 kept-landed folds state batch flight there apart accepted extent life.Abandoned was brings kept =
-    subst (λ a. IsKept (landed batch flight state) a extent life.Abandoned)
+    subst (λ a. IsKept (tables_of state) state.seats (record state.scan { flights = without_flight batch state.scan.flights; free = state.scan.free + 1 }) a extent life.Abandoned)
     (sym (fed-not state flight accepted (ap (λ o. option_map_or gets_rows o false) was))) kept
 
 -- a batch that is through brings each query on its roster what the query keeps
 pub batch-brings : (state : State) (flight : Flight) (accepted : Accepted) (extent : ℕ) → AreSoundFilters state → IsSoundOrder state
-    → (has_passed_all state.filters flight ≡ true) ⊎ (is_empty flight ≡ true) → IsSoundBatch state flight
+    → (has_passed_all state.filters flight ≡ true) ⊎ (is_empty flight ≡ true) → IsSoundBatch (frame_words state) (tables_of state) state.lives state.accepted flight
     → accepted_at state.accepted accepted.number ≡ Some accepted → IsOver (tables_of state).schema accepted.query
     → SeesBelow (tables_of state) accepted.snapshot extent → Brings state flight accepted extent
 batch-brings state flight accepted extent filters order through sound itself over sees entry is =
@@ -171,8 +171,8 @@ batch-brings state flight accepted extent filters order through sound itself ove
     there : Contains flight.roster entry
     there = find-holds (Contains flight.roster) (λ e. eqb e.number accepted.number) flight.roster entry is (All-contains_itself flight.roster)
 
-    on : IsOnRoster state entry
-    on = find-holds (IsOnRoster state) (λ e. eqb e.number accepted.number) flight.roster entry is sound.roster
+    on : IsOnRoster state.lives state.accepted entry
+    on = find-holds (IsOnRoster state.lives state.accepted) (λ e. eqb e.number accepted.number) flight.roster entry is sound.roster
 
     number : entry.number ≡ accepted.number
     number = eqb-true entry.number accepted.number (find-passes (λ e. eqb e.number accepted.number) flight.roster entry is)

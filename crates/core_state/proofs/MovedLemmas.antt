@@ -17,7 +17,7 @@ StaysWanted state queries = (query : ℕ)
     → IfSome (life_in queries query) (λ now. (now ≡ life.Answered) ⊎ (now ≡ life.Spoiled)))
 
 pub batches-held : (state : State) (queries : List QueryLife) (slots : List SlotState) (filters : Filters) (version : ℕ)
-    → All (λ flight. All (IsOnRoster (held_now state queries slots filters version)) flight.roster) state.scan.flights
+    → All (λ flight. All (IsOnRoster (record state.lives { queries = queries; slots = slots }) state.accepted) flight.roster) state.scan.flights
     → AreSoundBatches state → AreSoundBatches (held_now state queries slots filters version)
 batches-held state queries slots filters version rosters old = λ k d low.
     batch-moved state queries slots filters state.scan (record state.numbers { version = version }) (get_or state.scan.flights k d)
@@ -32,20 +32,20 @@ hands-held state queries slots filters version old = record {
 }
 
 awaited-held : (state : State) (queries : List QueryLife) (slots : List SlotState) (filters : Filters) (version : ℕ)
-    → StaysWanted state queries → (statement : ℕ) (awaited : Awaited) → IsAwaited state statement awaited
-    → IsAwaited (held_now state queries slots filters version) statement awaited
+    → StaysWanted state queries → (statement : ℕ) (awaited : Awaited) → IsAwaited state.accepted state.lives.queries statement awaited
+    → IsAwaited state.accepted queries statement awaited
 awaited-held state queries slots filters version wanted statement (Replied reply) old = old
 awaited-held state queries slots filters version wanted statement (Asked query snapshot) old = (old.0, (wanted statement).0 old.1)
 
 taken-held : (state : State) (queries : List QueryLife) (slots : List SlotState) (filters : Filters) (version : ℕ)
-    → StaysWanted state queries → (statement : ℕ) (asked : Option (Query × ℕ)) → IsTaken state statement asked
-    → IsTaken (held_now state queries slots filters version) statement asked
+    → StaysWanted state queries → (statement : ℕ) (asked : Option (Query × ℕ)) → IsTaken state.accepted state.lives.queries statement asked
+    → IsTaken state.accepted queries statement asked
 taken-held state queries slots filters version wanted statement None old = tt
 taken-held state queries slots filters version wanted statement (Some asked) old = (old.0, (wanted statement).1 old.1)
 
 pub seat-held : (state : State) (queries : List QueryLife) (slots : List SlotState) (filters : Filters) (version : ℕ)
-    → StaysWanted state queries → (seat : Seat) → IsSoundSeat state seat
-    → IsSoundSeat (held_now state queries slots filters version) seat
+    → StaysWanted state queries → (seat : Seat) → IsSoundSeat state.numbers.statement state.accepted state.lives.queries seat
+    → IsSoundSeat state.numbers.statement state.accepted queries seat
 seat-held state queries slots filters version wanted seat old = record {
   rising = old.rising;
   given = old.given;
@@ -71,7 +71,7 @@ seats-held state queries slots filters version wanted old = record {
 -- what a change of lives and filters has to give
 pub record Holds (state : State) (queries : List QueryLife) (slots : List SlotState) (filters : Filters) (version : ℕ) : Type 0 where
   pub filters_now : AreSoundFilters (held_now state queries slots filters version)
-  pub rosters : All (λ flight. All (IsOnRoster (held_now state queries slots filters version)) flight.roster) state.scan.flights
+  pub rosters : All (λ flight. All (IsOnRoster (record state.lives { queries = queries; slots = slots }) state.accepted) flight.roster) state.scan.flights
   pub queries_now : AreSoundQueries (held_now state queries slots filters version)
   pub slots_now : AreSoundSlots (held_now state queries slots filters version)
   pub quiet : (tables_of state).schema.fact ≡ None → All (λ slot. slot ≡ Free) slots

@@ -1,5 +1,5 @@
 -- A slot that is given free keeps a core sound.
-use Rattle.core_state.proofs.Words.{◌<◌, ◌∙◌, ◌≡◌, ◌≢◌, after_release, All-set, arith, bit_at-zero, CanFree, Clearing, Filter, FitsSlot, Free, get_or, get_or-set_other, get_or-set_same, Has, Held, IsSound, length, length-set, refl, set, slot_at, State, subst, sym, ℕ}
+use Rattle.core_state.proofs.Words.{◌<◌, ◌∙◌, ◌≡◌, ◌≢◌, after_release, All-set, arith, bit_at-zero, CanFree, Clearing, Filter, FitsSlot, Free, get_or, get_or-set_other, get_or-set_same, Has, Held, IsSound, length, length-set, refl, set, slot_at, State, subst, sym, tables_of, ℕ}
 use Rattle.pipeline_manager.proofs.LawLemmas.{sound-after_free}
 use Rattle.core_state.proofs.HeldLemmas.{entry-set, filters-held, fits-set, queries-stay, slot-there}
 use Rattle.core_state.proofs.MovedLemmas.{Holds, order-held, sound-held}
@@ -9,9 +9,9 @@ pub none-in : (i : ℕ) → Has 0 i → ⊥
 none-in i has = let none = bit_at-zero i in absurd (omega arith)
 
 freed-fits : (state : State) (filter : Filter) (slot : ℕ) → slot_at state.lives slot ≡ Clearing 0
-    → FitsSlot state filter slot (slot_at state.lives slot) → FitsSlot state filter slot Free
+    → FitsSlot state.accepted (tables_of state) filter slot (slot_at state.lives slot) → FitsSlot state.accepted (tables_of state) filter slot Free
 freed-fits state filter slot is fits =
-    let cleared : FitsSlot state filter slot (Clearing 0) = subst (FitsSlot state filter slot) is fits in
+    let cleared : FitsSlot state.accepted (tables_of state) filter slot (Clearing 0) = subst (FitsSlot state.accepted (tables_of state) filter slot) is fits in
     cleared (none-in filter.dimension)
 
 pub sound-released : (slot : ℕ) (state : State) → CanFree slot state.lives → IsSound state → IsSound (after_release slot state)

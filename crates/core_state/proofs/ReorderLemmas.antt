@@ -8,7 +8,7 @@ use Rattle.core_parts.proofs.OrderLemmas.{order_by-permutes}
 
 -- who is on a roster stays there where the lives and slots stay
 pub rosters-stay : (state : State) (filters : Filters) (version : ℕ) → AreSoundBatches state
-    → All (λ flight. All (IsOnRoster (held_now state state.lives.queries state.lives.slots filters version)) flight.roster) state.scan.flights
+    → All (λ flight. All (IsOnRoster state.lives state.accepted) flight.roster) state.scan.flights
 rosters-stay state filters version old = λ k d low j e within.
     let flight = get_or state.scan.flights k d in
     let entry = (old k d low).roster j e within in

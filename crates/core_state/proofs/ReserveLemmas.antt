@@ -1,5 +1,5 @@
 -- A reservation keeps a core sound.
-use Rattle.core_state.proofs.Words.{◌<◌, ◌∙◌, ◌≡◌, ◌≢◌, ◌⊎◌, [], after_reserving, ap, cases_eq, Filter, FitsSlot, Free, get_or, get_or-set_other, get_or-set_same, gets_rows, Has, Held, IfSome, inl, inr, IsSound, IsTrue, length, length-set, Life, life_in, map, MayBeOnRoster, MayReserve, None, oldest-waits, option_map_or, refl, set, slot_at, Some, State, subst, sym, with_life, ℕ, ⊎_elim}
+use Rattle.core_state.proofs.Words.{◌<◌, ◌∙◌, ◌≡◌, ◌≢◌, ◌⊎◌, [], after_reserving, ap, cases_eq, Filter, FitsSlot, Free, get_or, get_or-set_other, get_or-set_same, gets_rows, Has, Held, IfSome, inl, inr, IsSound, IsTrue, length, length-set, Life, life_in, map, MayBeOnRoster, MayReserve, None, oldest-waits, option_map_or, refl, set, slot_at, Some, State, subst, sym, tables_of, with_life, ℕ, ⊎_elim}
 use Rattle.pipeline_manager.specs.declared.life.Life.TheVariants as life
 use Rattle.pipeline_manager.proofs.CallLemmas.{sound-reserved}
 use Rattle.core_state.proofs.FoundLemmas.{life-written, no-life}
@@ -10,9 +10,9 @@ use Rattle.core_state.proofs.WrittenLemmas.{queries-written, wanted-written}
 
 -- nothing is built for a query that gets its slot
 reserved-fits : (state : State) (filter : Filter) (slot query : ℕ) → slot_at state.lives slot ≡ Free
-    → FitsSlot state filter slot (slot_at state.lives slot) → FitsSlot state filter slot (Held query 0)
+    → FitsSlot state.accepted (tables_of state) filter slot (slot_at state.lives slot) → FitsSlot state.accepted (tables_of state) filter slot (Held query 0)
 reserved-fits state filter slot query is fits =
-    (λ has. absurd (none-in filter.dimension has), λ none. subst (FitsSlot state filter slot) is fits)
+    (λ has. absurd (none-in filter.dimension has), λ none. subst (FitsSlot state.accepted (tables_of state) filter slot) is fits)
 
 sound-with_reserved : (query slot : ℕ) (state : State) → MayReserve query slot state → IsSound state
     → IsSound (record state {

@@ -13,7 +13,7 @@ Told now = (now ≡ life.Answered) ⊎ (now ≡ life.Spoiled)
 
 awaited-anew : (state : State) (change : Accepted → Accepted) → KeepsAsked change → (queries : List QueryLife) (seats : List Seat) (scan : Scan) (statement : ℕ) (awaited : Awaited)
     → (IfSome (life_in state.lives.queries statement) Wanted → IfSome (life_in queries statement) Wanted)
-    → IsAwaited state statement awaited → IsAwaited (kept_anew state change queries seats scan) statement awaited
+    → IsAwaited state.accepted state.lives.queries statement awaited → IsAwaited (map change state.accepted) queries statement awaited
 awaited-anew state change keeps queries seats scan statement (Replied reply) wanted old =
     found-anew change keeps statement state.accepted ∙ ap (option_map change) old
 awaited-anew state change keeps queries seats scan statement (Asked asked snapshot) wanted old =
@@ -21,7 +21,7 @@ awaited-anew state change keeps queries seats scan statement (Asked asked snapsh
 
 taken-anew : (state : State) (change : Accepted → Accepted) → KeepsAsked change → (queries : List QueryLife) (seats : List Seat) (scan : Scan) (statement : ℕ) (asked : Option (Query × ℕ))
     → (IfSome (life_in state.lives.queries statement) Told → IfSome (life_in queries statement) Told)
-    → IsTaken state statement asked → IsTaken (kept_anew state change queries seats scan) statement asked
+    → IsTaken state.accepted state.lives.queries statement asked → IsTaken (map change state.accepted) queries statement asked
 taken-anew state change keeps queries seats scan statement None told old = tt
 taken-anew state change keeps queries seats scan statement (Some asked) told old =
     (has-anew state change keeps queries seats scan statement asked.0 asked.1 old.0, told old.1)
@@ -30,7 +30,7 @@ taken-anew state change keeps queries seats scan statement (Some asked) told old
 pub seat-anew : (state : State) (change : Accepted → Accepted) → KeepsAsked change → (queries : List QueryLife) (seats : List Seat) (scan : Scan) (seat : Seat)
     → All (λ pending. IfSome (life_in state.lives.queries pending.statement) Wanted → IfSome (life_in queries pending.statement) Wanted) seat.pending
     → ((number : ℕ) → IfSome (life_in state.lives.queries number) Told → IfSome (life_in queries number) Told)
-    → IsSoundSeat state seat → IsSoundSeat (kept_anew state change queries seats scan) seat
+    → IsSoundSeat state.numbers.statement state.accepted state.lives.queries seat → IsSoundSeat state.numbers.statement (map change state.accepted) queries seat
 seat-anew state change keeps queries seats scan seat wanted told old = record {
   rising = old.rising;
   given = old.given;
@@ -56,7 +56,7 @@ part-stays part seats seat now there same other =
 -- the seats and what was submitted by them stay
 pub seats-anew : (state : State) (change : Accepted → Accepted) → KeepsAsked change → (queries : List QueryLife) (seats : List Seat) (scan : Scan) → length seats ≡ length state.seats
     → ((seat : ℕ) → (get_or seats seat empty_seat).submitted ≡ (get_or state.seats seat empty_seat).submitted)
-    → All (IsSoundSeat (kept_anew state change queries seats scan)) seats → AreSoundSeats state → AreSoundSeats (kept_anew state change queries seats scan)
+    → All (IsSoundSeat state.numbers.statement (map change state.accepted) queries) seats → AreSoundSeats state → AreSoundSeats (kept_anew state change queries seats scan)
 seats-anew state change keeps queries seats scan count stays each old = record {
   count = count ∙ old.count;
   each = each;
@@ -104,7 +104,7 @@ one-seat state sound seat other number here there = ⊎_elim (λ same. same) (λ
     by_order apart (inr after) = sound.apart other seat empty_seat (omega arith) (seat-there state.seats seat number here) number there here
 
 -- what a seat waits for it submitted
-pub pending-submitted : (state : State) (seat : Seat) → IsSoundSeat state seat → All (λ pending. Contains seat.submitted pending.statement) seat.pending
+pub pending-submitted : (state : State) (seat : Seat) → IsSoundSeat state.numbers.statement state.accepted state.lives.queries seat → All (λ pending. Contains seat.submitted pending.statement) seat.pending
 pending-submitted state seat sound =
     awaited-there (Contains seat.submitted) (map (λ taken. taken.statement) seat.taken) seat.pending sound.submitted
 
@@ -138,8 +138,8 @@ pairs-fewer R number_of p (x ∷ front) ys pairs =
     (pairs-fewer R number_of p front ys (all_pairs_tail R x (front ++ map number_of ys) pairs))
 
 -- a seat that waits for less is sound
-pub seat-fewer : (state : State) (p : Pending → Bool) (seat : Seat) → IsSoundSeat state seat
-    → IsSoundSeat state (record seat { pending = filter p seat.pending })
+pub seat-fewer : (state : State) (p : Pending → Bool) (seat : Seat) → IsSoundSeat state.numbers.statement state.accepted state.lives.queries seat
+    → IsSoundSeat state.numbers.statement state.accepted state.lives.queries (record seat { pending = filter p seat.pending })
 seat-fewer state p seat old = record {
   rising = old.rising;
   given = old.given;
@@ -148,5 +148,5 @@ seat-fewer state p seat old = record {
   submitted = all-fewer (Contains seat.submitted) (λ pending. pending.statement) p (map (λ taken. taken.statement) seat.taken)
       seat.pending old.submitted;
   taken = old.taken;
-  awaited = All-filter p (λ pending. IsAwaited state pending.statement pending.awaited) seat.pending old.awaited;
+  awaited = All-filter p (λ pending. IsAwaited state.accepted state.lives.queries pending.statement pending.awaited) seat.pending old.awaited;
 }

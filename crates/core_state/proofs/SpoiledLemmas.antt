@@ -1,5 +1,5 @@
 -- Queries that find no memory for the rows of a batch are spoiled one after the other.
-use Rattle.core_state.proofs.Words.{◌||◌, ◌∙◌, ◌∷◌, ◌≡◌, ◌≢◌, [], Accepted, after_build_wants, after_distribute, after_spoil, All, All-head, All-tail, All-weaker, all_pairs_head, all_pairs_tail, AllPairs, ap, AreFed, Bool, CanSpoil, cond, eq-eqb, eqb, eqb-true, false, Flight, flight_at, fold, forgotten, get_or, gets_rows, is_begun, IsFed, IsSome, IsSound, IsSoundBatch, IsThrough, Life, life_in-other, life_of, List, list_any, map, MayDistribute, None, Option, option_map_or, refl, Some, State, subst, sym, true, unkept, ℕ}
+use Rattle.core_state.proofs.Words.{◌||◌, ◌∙◌, ◌∷◌, ◌≡◌, ◌≢◌, [], Accepted, after_build_wants, after_distribute, after_spoil, All, All-head, All-tail, All-weaker, all_pairs_head, all_pairs_tail, AllPairs, ap, AreFed, Bool, CanSpoil, cond, eq-eqb, eqb, eqb-true, false, Flight, flight_at, fold, forgotten, frame_words, get_or, gets_rows, is_begun, IsFed, IsSome, IsSound, IsSoundBatch, IsThrough, Life, life_in-other, life_of, List, list_any, map, MayDistribute, None, Option, option_map_or, refl, Some, State, subst, sym, tables_of, true, unkept, ℕ}
 use Rattle.std.proofs.lemmas.List.{map-id}
 use Rattle.pipeline_manager.specs.declared.life.Life.TheVariants as life
 use Rattle.core_state.proofs.AbandonLemmas.{sound-wanting}
@@ -97,5 +97,5 @@ sound-distributed folds batch spoiled state may fed sound = by_flight (flight_at
         (All-weaker (λ query. IsFed batch query state) (λ query. CanSpoil query state.lives)
         (λ query is_fed. fed-begun (life_of state.lives query) is_fed.gets) spoiled fed.each)
         (sound-landed folds batch flight state is
-        (find-holds (IsSoundBatch state) (λ f. eqb f.rows.number batch) state.scan.flights flight is sound.batches)
+        (find-holds (IsSoundBatch (frame_words state) (tables_of state) state.lives state.accepted) (λ f. eqb f.rows.number batch) state.scan.flights flight is sound.batches)
         (some-at (IsThrough state.filters) (flight_at state.scan.flights batch) flight is may.through) sound))

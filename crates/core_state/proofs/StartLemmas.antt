@@ -1,5 +1,5 @@
 -- A query that begins its lap keeps a core sound.
-use Rattle.core_state.proofs.Words.{◌++◌, ◌-◌, ◌<◌, ◌∙◌, ◌∷◌, ◌≡◌, ◌≢◌, ◌≤◌, ◌⊎◌, [], Accepted, after_start, All, All-head, All-tail, ap, AreSoundBatches, arith, Bool, built_of-holder, CanRun, cases_eq, cond, drop, eqb, eqb-true, extent_in, false, filter, first_cases, first_of, flat_map, Flight, get_or, gets_rows, grouped_of, Has, Held, IfSome, inl, inr, IsKept, IsOnRoster, IsPermutation, IsPermutation-refl, IsSound, IsSoundBatch, IsTrue, lap, lap_start, length, length-lap, Life, life_in, life_in-other, List, MayBeOnRoster, nat_lt, next_below, next_cases, None, OnRoster, Option, option_map_or, place_cases, place_in_lap, positions_for, Query, query_in, range_with_len, refl, slot_at, Some, start_cases, started, State, still_to_come, subst, sym, true, versions_in, with_life, ℕ, ⊎_elim}
+use Rattle.core_state.proofs.Words.{◌++◌, ◌-◌, ◌<◌, ◌∙◌, ◌∷◌, ◌≡◌, ◌≢◌, ◌≤◌, ◌⊎◌, [], Accepted, after_start, All, All-head, All-tail, ap, AreSoundBatches, arith, Bool, built_of-holder, CanRun, cases_eq, cond, drop, eqb, eqb-true, extent_in, false, filter, first_cases, first_of, flat_map, Flight, frame_words, get_or, gets_rows, grouped_of, Has, Held, IfSome, inl, inr, IsKept, IsOnRoster, IsPermutation, IsPermutation-refl, IsSound, IsSoundBatch, IsTrue, lap, lap_start, length, length-lap, Life, life_in, life_in-other, List, MayBeOnRoster, nat_lt, next_below, next_cases, None, OnRoster, Option, option_map_or, place_cases, place_in_lap, positions_for, Query, query_in, range_with_len, refl, slot_at, Some, start_cases, started, State, still_to_come, subst, sym, tables_of, true, versions_in, with_life, ℕ, ⊎_elim}
 use Rattle.std.proofs.Common.{find}
 use Rattle.star_plan.specs.Joined.{kept_of}
 use Rattle.continuous_scan.proofs.LapLemmas.{lap-permutation}
@@ -38,10 +38,10 @@ pub none-on-roster : (state : State) (query : ℕ) (now : Life) → life_in stat
 none-on-roster state query now was never batches = λ k d low.
     by_found (get_or state.scan.flights k d) (batches k d low) (find (λ entry. eqb entry.number query) (get_or state.scan.flights k d).roster) refl
   where
-    by_found : (flight : Flight) → IsSoundBatch state flight → (o : Option OnRoster) → find (λ entry. eqb entry.number query) flight.roster ≡ o → o ≡ None
+    by_found : (flight : Flight) → IsSoundBatch (frame_words state) (tables_of state) state.lives state.accepted flight → (o : Option OnRoster) → find (λ entry. eqb entry.number query) flight.roster ≡ o → o ≡ None
     by_found flight sound None is = refl
     by_found flight sound (Some entry) is =
-        let on : IsOnRoster state entry = find-holds (IsOnRoster state) (λ e. eqb e.number query) flight.roster entry is sound.roster in
+        let on : IsOnRoster state.lives state.accepted entry = find-holds (IsOnRoster state.lives state.accepted) (λ e. eqb e.number query) flight.roster entry is sound.roster in
         let same : entry.number ≡ query = eqb-true entry.number query (find-passes (λ e. eqb e.number query) flight.roster entry is) in
         absurd (never (some-at MayBeOnRoster (life_in state.lives.queries entry.number) now
         (subst (λ n. life_in state.lives.queries n ≡ Some now) (sym same) was) on.life))
@@ -77,8 +77,8 @@ kept_of-nil query = refl
 -- nothing is folded of a query that begins its lap
 kept-started : (state : State) (query : ℕ) → life_in state.lives.queries query ≡ Some life.Building → IsSound state
     → (accepted : Accepted) (extent : ℕ) → accepted.number ≡ query → extent ≤ versions_in state
-    → IsKept state accepted extent life.Building
-    → IsKept state accepted extent (started (first_of state.scan.position (versions_in state)) extent)
+    → IsKept (tables_of state) state.seats state.scan accepted extent life.Building
+    → IsKept (tables_of state) state.seats state.scan accepted extent (started (first_of state.scan.position (versions_in state)) extent)
 kept-started state query was sound accepted extent same within kept = by_test (eqb extent 0) refl
   where
     none : flat_map (positions_for accepted.number extent) state.scan.flights ≡ []
@@ -91,7 +91,7 @@ kept-started state query was sound accepted extent same within kept = by_test (e
     left_all : (positions : List ℕ) → length positions ≡ extent → still_to_come extent positions ≡ positions
     left_all positions long = ap (λ n. drop n positions) (let zero_left : length positions - extent ≡ 0 = omega arith in zero_left)
 
-    by_test : (t : Bool) → eqb extent 0 ≡ t → IsKept state accepted extent (cond {A = Life} t life.Ending (life.Running start extent))
+    by_test : (t : Bool) → eqb extent 0 ≡ t → IsKept (tables_of state) state.seats state.scan accepted extent (cond {A = Life} t life.Ending (life.Running start extent))
     by_test true is = record {
       folded = [];
       each_once =
@@ -130,7 +130,7 @@ sound-started query state can sound =
           let within : extent ≤ versions_in state = some-at (λ e. e.extent ≤ versions_in state) (query_in state.lives.queries accepted.number)
           (record { query = query; extent = extent; life = life.Building })
           (subst (λ n. query_in state.lives.queries n ≡ Some (record { query = query; extent = extent; life = life.Building })) (sym same) found) of_query.within in
-          subst (λ n. IsKept state accepted extent (started start n)) (sym is)
+          subst (λ n. IsKept (tables_of state) state.seats state.scan accepted extent (started start n)) (sym is)
           (kept-started state query can.building sound accepted extent same within kept)) (λ wanted. refl) sound.queries;
       slots_now = record {
         lives = sound-after_run query start state.lives can.building sound.slots.lives;

@@ -10,7 +10,7 @@ pub record Still (old new : State) : Type 0 where
       → query_in new.lives.queries number ≡ query_in old.lives.queries number
 
 taken-later : (old new : State) → Still old new → (statement : ℕ) → statement ≤ old.numbers.statement → (asked : Option (Query × ℕ))
-    → IsTaken old statement asked → IsTaken new statement asked
+    → IsTaken old.accepted old.lives.queries statement asked → IsTaken new.accepted new.lives.queries statement asked
 taken-later old new still statement low None is = tt
 taken-later old new still statement low (Some asked) is = (
   subst (λ o. IsSomeAnd o (λ (accepted : Accepted). (accepted.query ≡ asked.0) × (accepted.snapshot ≡ asked.1)))
@@ -20,7 +20,7 @@ taken-later old new still statement low (Some asked) is = (
 )
 
 awaited-later : (old new : State) → Still old new → (statement : ℕ) → statement ≤ old.numbers.statement → (awaited : Awaited)
-    → IsAwaited old statement awaited → IsAwaited new statement awaited
+    → IsAwaited old.accepted old.lives.queries statement awaited → IsAwaited new.accepted new.lives.queries statement awaited
 awaited-later old new still statement low (Replied reply) is = still.asked statement low ∙ is
 awaited-later old new still statement low (Asked query snapshot) is = (
   subst (λ o. IsSomeAnd o (λ (accepted : Accepted). (accepted.query ≡ query) × (accepted.snapshot ≡ snapshot)))
@@ -38,14 +38,14 @@ taken-there P (first ∷ taken) rest all =
 abbrev numbers_of : Seat → List ℕ
 numbers_of seat = map (λ taken. taken.statement) seat.taken ++ map (λ pending. pending.statement) seat.pending
 
-numbers-low : (state : State) (seat : Seat) → IsSoundSeat state seat → All (λ n. n ≤ state.numbers.statement) (numbers_of seat)
+numbers-low : (state : State) (seat : Seat) → IsSoundSeat state.numbers.statement state.accepted state.lives.queries seat → All (λ n. n ≤ state.numbers.statement) (numbers_of seat)
 numbers-low state seat is =
     All-weaker (Contains seat.submitted) (λ n. n ≤ state.numbers.statement)
     (λ n has. All-contains (λ s. s ≤ state.numbers.statement) seat.submitted n is.given has) (numbers_of seat) is.submitted
 
 -- a seat that submits nothing
-pub seat-later : (old new : State) → Still old new → old.numbers.statement ≤ new.numbers.statement → (seat : Seat) → IsSoundSeat old seat
-    → IsSoundSeat new seat
+pub seat-later : (old new : State) → Still old new → old.numbers.statement ≤ new.numbers.statement → (seat : Seat) → IsSoundSeat old.numbers.statement old.accepted old.lives.queries seat
+    → IsSoundSeat new.numbers.statement new.accepted new.lives.queries seat
 seat-later old new still later seat is = record {
   rising = is.rising;
   given = All-weaker (λ s. s ≤ old.numbers.statement) (λ s. s ≤ new.numbers.statement) (λ s low. omega arith) seat.submitted is.given;
@@ -63,8 +63,8 @@ seat-later old new still later seat is = record {
 
 -- a seat with a statement above those before
 pub seat-with : (state : State) (statement : ℕ) (told : Told) (seat : Seat) → All (λ s. s < statement) seat.submitted
-    → statement ≤ state.numbers.statement → IsAwaited state statement (awaited_by told) → IsSoundSeat state seat
-    → IsSoundSeat state (with_statement statement told seat)
+    → statement ≤ state.numbers.statement → IsAwaited state.accepted state.lives.queries statement (awaited_by told) → IsSoundSeat state.numbers.statement state.accepted state.lives.queries seat
+    → IsSoundSeat state.numbers.statement state.accepted state.lives.queries (with_statement statement told seat)
 seat-with state statement told seat above given waits is = record {
   rising = all_pairs_push (λ number later. number < later) seat.submitted statement is.rising above;
   given = All-push (λ s. s ≤ state.numbers.statement) seat.submitted statement is.given given;
@@ -78,7 +78,7 @@ seat-with state statement told seat above given waits is = record {
       (λ n has. Contains-append_left seat.submitted (statement ∷ []) n has) (numbers_of seat) is.submitted)
       (Contains-push seat.submitted statement));
   taken = is.taken;
-  awaited = All-push (λ pending. IsAwaited state pending.statement pending.awaited) seat.pending waiting is.awaited waits;
+  awaited = All-push (λ pending. IsAwaited state.accepted state.lives.queries pending.statement pending.awaited) seat.pending waiting is.awaited waits;
 }
   where
     waiting : Pending

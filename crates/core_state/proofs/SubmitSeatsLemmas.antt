@@ -14,7 +14,7 @@ pub record Submits (old new : State) (seat statement : ℕ) (told : Told) : Type
   pub number : new.numbers.statement ≡ statement
   pub settings : new.settings.seats ≡ old.settings.seats
   pub still : Still old new
-  pub awaited : IsAwaited new statement (awaited_by told)
+  pub awaited : IsAwaited new.accepted new.lives.queries statement (awaited_by told)
   pub rising : AllPairs (λ entry later. entry.statement < later.statement) new.entries
   pub entries : All (λ entry. Contains (get_or (seats_by old seat statement told) entry.seat empty_seat).submitted entry.statement) new.entries
   pub queries : All (λ accepted. Contains (get_or (seats_by old seat statement told) accepted.seat empty_seat).submitted accepted.number) new.accepted
@@ -49,7 +49,7 @@ stands-new old seat statement told there =
     (Contains-push (get_or old.seats seat empty_seat).submitted statement)
 
 -- a number that stands in a seat was given
-pub stands-low : (old : State) → All (IsSoundSeat old) old.seats → (seat number : ℕ) → Contains (get_or old.seats seat empty_seat).submitted number
+pub stands-low : (old : State) → All (IsSoundSeat old.numbers.statement old.accepted old.lives.queries) old.seats → (seat number : ℕ) → Contains (get_or old.seats seat empty_seat).submitted number
     → number ≤ old.numbers.statement
 stands-low old each seat number has = ⊎_elim
     (λ low. All-contains (λ s. s ≤ old.numbers.statement) (get_or old.seats seat empty_seat).submitted number (each seat empty_seat low).given has)
@@ -96,18 +96,18 @@ seats-submitted old new seat statement told gives is = record {
     later = let above = gives.above in let number = gives.number in omega arith
 
     each : (k : ℕ) (d : Seat) → k < length old.seats → (k ≡ seat) ⊎ (k ≢ seat)
-        → IsSoundSeat now (get_or (seats_by old seat statement told) k d)
+        → IsSoundSeat now.numbers.statement now.accepted now.lives.queries (get_or (seats_by old seat statement told) k d)
     each k d low (inl same) =
         let was = is.each k d low in
         let above = gives.above in
         let number = gives.number in
-        subst (IsSoundSeat now) (sym (at-same old seat statement told gives.there k d same))
+        subst (IsSoundSeat now.numbers.statement now.accepted now.lives.queries) (sym (at-same old seat statement told gives.there k d same))
         (seat-with now statement told (get_or old.seats k d)
         (All-weaker (λ s. s ≤ old.numbers.statement) (λ s. s < statement) (λ s given. omega arith) (get_or old.seats k d).submitted was.given)
         (omega arith) gives.awaited
         (seat-later old now gives.still later (get_or old.seats k d) was))
     each k d low (inr apart) =
-        subst (IsSoundSeat now) (sym (at-other old seat statement told k d apart))
+        subst (IsSoundSeat now.numbers.statement now.accepted now.lives.queries) (sym (at-other old seat statement told k d apart))
         (seat-later old now gives.still later (get_or old.seats k d) (is.each k d low))
 
     below : (k : ℕ) (d : Seat) → k < length old.seats → (number : ℕ) → Contains (get_or old.seats k d).submitted number

@@ -1,5 +1,5 @@
 -- A batch that is taken into a hand keeps a core sound.
-use Rattle.core_state.proofs.Words.{◌+◌, ◌<◌, ◌∙◌, ◌∷◌, ◌≡◌, ◌≢◌, [], Accepted, accepted_at, after_take, All, All-cons, All-head, All-map, All-nil, All-tail, AllPairs, AllPairs-cons, ap, arith, Bool, cond, cons_option, Encodes, eq-eqb, eqb, eqb-true, false, Filter, filter_map, Filters, FilterVersion, find, FitsSlot, Flight, get_or, Hand, has_passed, held_by, IfSome, IfSome_then, IsOnRoster, IsSome, IsSound, IsSoundBatch, IsSoundFilter, IsSoundHand, length, List, map, MayTake, ne_eqb, None, OnRoster, Option, option_map, option_map_or, refl, rows_in, slice_get, Some, State, subst, suc, sym, tables_of, Tally, true, version_at, zero, ℕ}
+use Rattle.core_state.proofs.Words.{◌+◌, ◌<◌, ◌∙◌, ◌∷◌, ◌≡◌, ◌≢◌, [], Accepted, accepted_at, after_take, All, All-cons, All-head, All-map, All-nil, All-tail, AllPairs, AllPairs-cons, ap, arith, Bool, cond, cons_option, Encodes, eq-eqb, eqb, eqb-true, false, Filter, filter_map, Filters, FilterVersion, find, FitsSlot, Flight, frame_words, get_or, Hand, has_passed, held_by, IfSome, IfSome_then, IsOnRoster, IsSome, IsSound, IsSoundBatch, IsSoundFilter, IsSoundHand, length, List, map, MayTake, ne_eqb, None, OnRoster, Option, option_map, option_map_or, refl, rows_in, slice_get, Some, State, subst, suc, sym, tables_of, Tally, true, version_at, zero, ℕ}
 use Rattle.std.specs.Prelude.{not}
 use Rattle.std.proofs.lemmas.Option.{option_and_then_some}
 use Rattle.core_state.specs.Found as found
@@ -9,12 +9,12 @@ use Rattle.core_state.proofs.FoundLemmas.{find-passes}
 use Rattle.core_state.proofs.AcceptedLemmas.{find-holds, find-none, held-accepted}
 
 -- the present version of a filter has the queries of a roster
-pub encodes-there : (state : State) → IsSound state → (filter : Filter) → IsSoundFilter state filter → (entry : OnRoster) → IsOnRoster state entry
+pub encodes-there : (state : State) → IsSound state → (filter : Filter) → IsSoundFilter state.accepted (tables_of state) state.lives.slots state.lives.filters filter → (entry : OnRoster) → IsOnRoster state.lives state.accepted entry
     → Encodes filter entry.slot entry.query entry.snapshot (rows_in (tables_of state).dimensions filter.dimension)
 encodes-there state sound filter of_filter entry on =
     by_accepted (accepted_at state.accepted entry.number)
     (held-accepted state entry.slot entry.number on.held.0 sound on.there on.held.1)
-    ((subst (FitsSlot state filter entry.slot) on.held.1 (of_filter.slots entry.slot on.there)).0 (on.held.2 filter.dimension of_filter.is_filter))
+    ((subst (FitsSlot state.accepted (tables_of state) filter entry.slot) on.held.1 (of_filter.slots entry.slot on.there)).0 (on.held.2 filter.dimension of_filter.is_filter))
     on.same
   where
     by_accepted : (o : Option Accepted) → IsSome o
@@ -49,20 +49,20 @@ by-number P worker batch filters flight taken other = by_test (eqb flight.rows.n
     by_test false = other
 
 -- the hand of a taken batch is sound
-hand-taken : (worker batch : ℕ) (state : State) → worker < length state.seats → IsSound state → (flight : Flight) → IsSoundBatch state flight
+hand-taken : (worker batch : ℕ) (state : State) → worker < length state.seats → IsSound state → (flight : Flight) → IsSoundBatch (frame_words state) (tables_of state) state.lives state.accepted flight
     → IfSome (taken_by worker state.filters flight).hand
-    (IsSoundHand (flown state state.filters.tallies (changed worker batch state.filters)) (taken_by worker state.filters flight))
+    (IsSoundHand (length state.seats) state.lives.filters (tables_of state) (taken_by worker state.filters flight))
 hand-taken worker batch state seat sound flight of_batch = by_next (next_filter state.filters flight) refl
   where
     by_next : (o : Option FilterVersion) → next_filter state.filters flight ≡ o
         → IfSome (option_map (λ version. record { worker = worker; version = version }) o)
-        (IsSoundHand (flown state state.filters.tallies (changed worker batch state.filters)) (taken_by worker state.filters flight))
+        (IsSoundHand (length state.seats) state.lives.filters (tables_of state) (taken_by worker state.filters flight))
     by_next None is = tt
     by_next (Some version) is =
         option_and_then_some (version_at state.filters.versions) (find (λ dimension. not (has_passed flight dimension)) state.filters.order) version is
         (λ dimension wants at.
-        let of_filter : IsSoundFilter state version.filter =
-        find-holds (λ v. IsSoundFilter state v.filter) (λ v. eqb v.filter.dimension dimension) state.filters.versions version at sound.filters.each in
+        let of_filter : IsSoundFilter state.accepted (tables_of state) state.lives.slots state.lives.filters version.filter =
+        find-holds (λ v. IsSoundFilter state.accepted (tables_of state) state.lives.slots state.lives.filters v.filter) (λ v. eqb v.filter.dimension dimension) state.filters.versions version at sound.filters.each in
         let same : version.filter.dimension ≡ dimension =
         eqb-true version.filter.dimension dimension (find-passes (λ v. eqb v.filter.dimension dimension) state.filters.versions version at) in
         record {
@@ -75,14 +75,14 @@ hand-taken worker batch state seat sound flight of_batch = by_next (next_filter 
         })
 
 -- the hand of another batch is as sound as it was
-pub hand-stays : (state : State) (tallies : List Tally) (change : Flight → Flight) (flight : Flight) → IfSome flight.hand (IsSoundHand state flight)
-    → IfSome flight.hand (IsSoundHand (flown state tallies change) flight)
+pub hand-stays : (state : State) (tallies : List Tally) (change : Flight → Flight) (flight : Flight) → IfSome flight.hand (IsSoundHand (length state.seats) state.lives.filters (tables_of state) flight)
+    → IfSome flight.hand (IsSoundHand (length state.seats) state.lives.filters (tables_of state) flight)
 hand-stays state tallies change flight old = IfSome_then flight.hand old
     (λ hand h. record { seat = h.seat; table = h.table; is_filter = h.is_filter; not_passed = h.not_passed; encodes = h.encodes })
 
 -- a batch is as sound as it was, whose hand it may be in
-pub batch-stays : (state : State) (tallies : List Tally) (change : Flight → Flight) (flight : Flight) (hand : Option Hand) → IsSoundBatch state flight
-    → IsSoundBatch (flown state tallies change) (record flight { hand = hand })
+pub batch-stays : (state : State) (tallies : List Tally) (change : Flight → Flight) (flight : Flight) (hand : Option Hand) → IsSoundBatch (frame_words state) (tables_of state) state.lives state.accepted flight
+    → IsSoundBatch (frame_words state) (tables_of state) state.lives state.accepted (record flight { hand = hand })
 batch-stays state tallies change flight hand old = record {
   within = old.within;
   bits = old.bits;
@@ -198,15 +198,15 @@ sound-taken worker batch state can sound =
       place = λ flight. by-number (KeepsPlace flight) worker batch state.filters flight
           (record { number = refl; first = refl; count = refl; roster = refl })
           (record { number = refl; first = refl; count = refl; roster = refl });
-      batches = All-map (IsSoundBatch (flown state state.filters.tallies change)) change flights
+      batches = All-map (IsSoundBatch (frame_words state) (tables_of state) state.lives state.accepted) change flights
           (λ k d low. let flight = get_or flights k d in
-          by-number (IsSoundBatch (flown state state.filters.tallies change)) worker batch state.filters flight
+          by-number (IsSoundBatch (frame_words state) (tables_of state) state.lives state.accepted) worker batch state.filters flight
           (batch-stays state state.filters.tallies change flight (taken_by worker state.filters flight).hand (sound.batches k d low))
           (batch-stays state state.filters.tallies change flight flight.hand (sound.batches k d low)));
       hands = record {
-        each = All-map (λ flight. IfSome flight.hand (IsSoundHand (flown state state.filters.tallies change) flight)) change flights
+        each = All-map (λ flight. IfSome flight.hand (IsSoundHand (length state.seats) state.lives.filters (tables_of state) flight)) change flights
             (λ k d low. let flight = get_or flights k d in
-            by-number (λ f. IfSome f.hand (IsSoundHand (flown state state.filters.tallies change) f)) worker batch state.filters flight
+            by-number (λ f. IfSome f.hand (IsSoundHand (length state.seats) state.lives.filters (tables_of state) f)) worker batch state.filters flight
             (hand-taken worker batch state can.seat sound flight (sound.batches k d low))
             (hand-stays state state.filters.tallies change flight (sound.hands.each k d low)));
         one = one-each worker batch state.filters flights (find-none (found.is_held_by worker) flights can.empty) sound.numbers.apart sound.hands.one;

@@ -8,7 +8,7 @@ use Rattle.core_state.proofs.AnewLemmas.{LivesAs, StayTaken, by-change, batches-
 use Rattle.core_state.proofs.SeatLemmas.{Told, one-seat, part-stays, pending-submitted, seat-anew, seats-anew}
 
 -- what is ready is no query, or one that is over
-pub ready-told : (state : State) (statement : ℕ) (awaited : Awaited) → AreSoundQueries state → IsAwaited state statement awaited
+pub ready-told : (state : State) (statement : ℕ) (awaited : Awaited) → AreSoundQueries state → IsAwaited state.accepted state.lives.queries statement awaited
     → IsSome (ready_to state statement awaited) → IfSome (life_in state.lives.queries statement) Told
 ready-told state statement (Replied reply) queries none ready = by_found (query_in state.lives.queries statement)
     (number-found (λ entry. entry.query) state.lives.queries statement ∙ ap (list_any (λ n. eqb n statement)) (sym queries.same)
@@ -33,25 +33,25 @@ told-closed : (now : Life) → Told now → is_open now ≡ false
 told-closed now told = ⊎_elim (λ e. ap is_open e) (λ e. ap is_open e) told
 
 -- nothing has to be kept of a query that is over once its seat took the reply
-told-kept : (state : State) (accepted : Accepted) (extent : ℕ) (now : Life) → Told now → accepted.groups ≡ None → HasTaken state accepted
-    → IsKept state accepted extent now
+told-kept : (state : State) (accepted : Accepted) (extent : ℕ) (now : Life) → Told now → accepted.groups ≡ None → HasTaken state.seats accepted
+    → IsKept (tables_of state) state.seats state.scan accepted extent now
 told-kept state accepted extent now told none taken =
-    ⊎_elim (λ e. subst (IsKept state accepted extent) (sym e) (inl (none, taken))) (λ e. subst (IsKept state accepted extent) (sym e) none) told
+    ⊎_elim (λ e. subst (IsKept (tables_of state) state.seats state.scan accepted extent) (sym e) (inl (none, taken))) (λ e. subst (IsKept (tables_of state) state.seats state.scan accepted extent) (sym e) none) told
 
 -- a seat that has taken the reply to its first statement
 abbrev with_first : Pending → List Pending → Seat → Seat
 with_first first rest seat = record seat { pending = rest; taken = seat.taken ++ taken_by first ∷ [] }
 
 seat-taken : (state : State) (first : Pending) (rest : List Pending) (seat : Seat) → IfSome (life_in state.lives.queries first.statement) Told
-    → IsSoundSeat state (record seat { pending = first ∷ rest }) → IsSoundSeat state (with_first first rest seat)
+    → IsSoundSeat state.numbers.statement state.accepted state.lives.queries (record seat { pending = first ∷ rest }) → IsSoundSeat state.numbers.statement state.accepted state.lives.queries (with_first first rest seat)
 seat-taken state first rest seat told old = record {
   rising = old.rising;
   given = old.given;
   in_order = subst (AllPairs (λ statement later. statement < later)) (sym same) old.in_order;
   submitted = subst (All (Contains seat.submitted)) (sym same) old.submitted;
-  taken = All-push (λ taken. IsTaken state taken.statement taken.query) seat.taken (taken_by first) old.taken
-      (by_awaited first.awaited (All-head (λ pending. IsAwaited state pending.statement pending.awaited) first rest old.awaited));
-  awaited = All-tail (λ pending. IsAwaited state pending.statement pending.awaited) first rest old.awaited;
+  taken = All-push (λ taken. IsTaken state.accepted state.lives.queries taken.statement taken.query) seat.taken (taken_by first) old.taken
+      (by_awaited first.awaited (All-head (λ pending. IsAwaited state.accepted state.lives.queries pending.statement pending.awaited) first rest old.awaited));
+  awaited = All-tail (λ pending. IsAwaited state.accepted state.lives.queries pending.statement pending.awaited) first rest old.awaited;
 }
   where
     same : map (λ taken. taken.statement) (seat.taken ++ taken_by first ∷ []) ++ map (λ pending. pending.statement) rest
@@ -61,7 +61,7 @@ seat-taken state first rest seat told old = record {
         (map-append (λ (taken : Taken). taken.statement) seat.taken (taken_by first ∷ []))
         ∙ append_assoc (map (λ taken. taken.statement) seat.taken) (first.statement ∷ []) (map (λ pending. pending.statement) rest)
 
-    by_awaited : (awaited : Awaited) → IsAwaited state first.statement awaited → IsTaken state first.statement (asked_by awaited)
+    by_awaited : (awaited : Awaited) → IsAwaited state.accepted state.lives.queries first.statement awaited → IsTaken state.accepted state.lives.queries first.statement (asked_by awaited)
     by_awaited (Replied reply) none = tt
     by_awaited (Asked query snapshot) is = (is.0, told)
 
@@ -105,15 +105,15 @@ sound-with_first seat first rest state is told sound = record {
         (λ past. let both : [] ≡ first ∷ rest = sym (ap (λ (s : Seat). s.pending) (get_or_past state.seats seat empty_seat past)) ∙ is in cc)
         (cases_lt seat (length state.seats))
 
-    each : (k : ℕ) (d : Seat) → k < length state.seats → (k ≡ seat) ⊎ (k ≢ seat) → IsSoundSeat now (get_or seats k d)
+    each : (k : ℕ) (d : Seat) → k < length state.seats → (k ≡ seat) ⊎ (k ≢ seat) → IsSoundSeat now.numbers.statement now.accepted now.lives.queries (get_or seats k d)
     each k d low (inl same) =
-        subst (λ n. IsSoundSeat now (get_or seats n d)) (sym same)
-        (subst (IsSoundSeat now) (sym (get_or-set_same state.seats seat with d there))
+        subst (λ n. IsSoundSeat now.numbers.statement now.accepted now.lives.queries (get_or seats n d)) (sym same)
+        (subst (IsSoundSeat now.numbers.statement now.accepted now.lives.queries) (sym (get_or-set_same state.seats seat with d there))
         (seat-anew state (forgotten first.statement) (forgets first.statement) queries seats state.scan with (λ j p inside h. h) (λ number h. h)
         (seat-taken state first rest (get_or state.seats seat empty_seat) told
-        (subst (λ ps. IsSoundSeat state (record (get_or state.seats seat empty_seat) { pending = ps })) is (sound.seats.each seat empty_seat there)))))
+        (subst (λ ps. IsSoundSeat state.numbers.statement state.accepted state.lives.queries (record (get_or state.seats seat empty_seat) { pending = ps })) is (sound.seats.each seat empty_seat there)))))
     each k d low (inr apart) =
-        subst (IsSoundSeat now) (sym (get_or-set_other state.seats seat k with d apart))
+        subst (IsSoundSeat now.numbers.statement now.accepted now.lives.queries) (sym (get_or-set_other state.seats seat k with d apart))
         (seat-anew state (forgotten first.statement) (forgets first.statement) queries seats state.scan (get_or state.seats k d) (λ j p inside h. h) (λ number h. h) (sound.seats.each k d low))
 
     -- the number of a statement stands in one seat
@@ -139,8 +139,8 @@ sound-with_first seat first rest state is told sound = record {
         (sym (get_or-set_other state.seats seat other with empty_seat apart)) has)
         (cases_eq other seat)
 
-    taken : (accepted : Accepted) → Contains state.accepted accepted → accepted.number ≡ first.statement → HasTaken now (forgotten first.statement accepted)
-    taken accepted among same = by-change (HasTaken now) (forgotten first.statement) (forgets first.statement) accepted (λ groups.
+    taken : (accepted : Accepted) → Contains state.accepted accepted → accepted.number ≡ first.statement → HasTaken now.seats (forgotten first.statement accepted)
+    taken accepted among same = by-change (HasTaken now.seats) (forgotten first.statement) (forgets first.statement) accepted (λ groups.
         subst (λ n. Contains (map (λ t. t.statement) (get_or seats n empty_seat).taken) accepted.number) (sym (one_seat accepted among same))
         (subst (λ (s : Seat). Contains (map (λ t. t.statement) s.taken) accepted.number) (sym (get_or-set_same state.seats seat with empty_seat there))
         (subst (Contains (map (λ t. t.statement) with.taken)) (sym same)
@@ -164,7 +164,7 @@ sound-with_first seat first rest state is told sound = record {
         subst (λ given. LivesAs now accepted given entry)
         (sym (ap (λ t. cond {A = Accepted} t (record accepted { groups = None }) accepted) (ne_eqb accepted.number first.statement apart))) (
           kept-anew state (forgotten first.statement) queries seats stay accepted entry.extent entry.life
-              (some-at (λ e. IsKept state accepted e.extent e.life) (query_in queries accepted.number) entry found of_query.kept),
+              (some-at (λ e. IsKept (tables_of state) state.seats state.scan accepted e.extent e.life) (query_in queries accepted.number) entry found of_query.kept),
           some-at (λ e. IsTrue (is_open e.life) → (position : ℕ) → IfSome (slice_get (tables_of state).versions position)
               (λ version. (version.begin ≤ accepted.snapshot) ↔ (position < e.extent)))
               (query_in queries accepted.number) entry found of_query.extent,
@@ -192,6 +192,6 @@ sound-replied seat state ready sound = by_pending here.pending refl ready
     by_pending (first ∷ rest) is some =
         sound-with_first seat first rest state is
         (ready-told state first.statement first.awaited sound.queries
-        (All-head (λ pending. IsAwaited state pending.statement pending.awaited) first rest
-        (subst (All (λ pending. IsAwaited state pending.statement pending.awaited)) is
+        (All-head (λ pending. IsAwaited state.accepted state.lives.queries pending.statement pending.awaited) first rest
+        (subst (All (λ pending. IsAwaited state.accepted state.lives.queries pending.statement pending.awaited)) is
         (sound.seats.each seat empty_seat (there first rest is)).awaited)) some) sound

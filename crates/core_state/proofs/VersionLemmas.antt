@@ -47,7 +47,7 @@ encodes-beside slot other before after state query snapshot beside apart old =
 
 -- what a slot has in a filter it has in one that differs in another slot
 fits-beside : (state : State) (slot other : ℕ) (before after : Filter) → IsBeside slot before after → other ≢ slot → (now : SlotState)
-    → FitsSlot state before other now → FitsSlot state after other now
+    → FitsSlot state.accepted (tables_of state) before other now → FitsSlot state.accepted (tables_of state) after other now
 fits-beside state slot other before after beside apart Free fits = clear-beside slot other before after beside apart fits
 fits-beside state slot other before after beside apart (Held query built) fits = (
   λ has. IfSome_then (accepted_at state.accepted query) (fits.0 (subst (Has built) beside.dimension has))
@@ -62,12 +62,12 @@ pub record IsNextVersion (state : State) (slot : ℕ) (now : SlotState) (before 
   pub table : table.IsSound after
   pub ascending : AreAscending after.stored
   pub beside : IsBeside slot before after
-  pub fits : FitsSlot state after slot now
+  pub fits : FitsSlot state.accepted (tables_of state) after slot now
   pub within : (key : ℕ) → IsTrue (is_stored after key) → key < length (rows_in (tables_of state).dimensions before.dimension)
 
 next-sound : (state : State) (slot : ℕ) (now : SlotState) (filters : Filters) (version : ℕ) (before after : Filter) → slot < length state.lives.slots
-    → IsNextVersion state slot now before after → IsSoundFilter state before
-    → IsSoundFilter (held_now state state.lives.queries (set state.lives.slots slot now) filters version) after
+    → IsNextVersion state slot now before after → IsSoundFilter state.accepted (tables_of state) state.lives.slots state.lives.filters before
+    → IsSoundFilter state.accepted (tables_of state) (set state.lives.slots slot now) state.lives.filters after
 next-sound state slot now filters version before after there next old = record {
   table = next.table;
   ascending = next.ascending;
@@ -80,25 +80,25 @@ next-sound state slot now filters version before after there next old = record {
 }
   where
     by_slot : (other : ℕ) → other < length state.lives.slots → (other ≡ slot) ⊎ (other ≢ slot)
-        → FitsSlot state after other (get_or (set state.lives.slots slot now) other Free)
+        → FitsSlot state.accepted (tables_of state) after other (get_or (set state.lives.slots slot now) other Free)
     by_slot other low (inl same) =
-        subst (λ at. FitsSlot state after at (get_or (set state.lives.slots slot now) at Free)) (sym same)
-        (subst (FitsSlot state after slot) (sym (get_or-set_same state.lives.slots slot now Free there)) next.fits)
+        subst (λ at. FitsSlot state.accepted (tables_of state) after at (get_or (set state.lives.slots slot now) at Free)) (sym same)
+        (subst (FitsSlot state.accepted (tables_of state) after slot) (sym (get_or-set_same state.lives.slots slot now Free there)) next.fits)
     by_slot other low (inr apart) =
-        subst (FitsSlot state after other) (sym (get_or-set_other state.lives.slots slot other now Free apart))
+        subst (FitsSlot state.accepted (tables_of state) after other) (sym (get_or-set_other state.lives.slots slot other now Free apart))
         (fits-beside state slot other before after next.beside apart (slot_at state.lives other) (old.slots other low))
 
 -- what the change of a slot and of a filter has to give
 pub record Versions (state : State) (slot dimension : ℕ) (now : SlotState) (change : Filter → Filter) : Type 0 where
   pub there : slot < length state.lives.slots
   pub used : slot_at state.lives slot ≢ Free
-  pub off : (entry : OnRoster) → IsOnRoster state entry → entry.slot ≢ slot
+  pub off : (entry : OnRoster) → IsOnRoster state.lives state.accepted entry → entry.slot ≢ slot
   pub built : (holder built : ℕ) → now ≡ Held holder built → IfSome (life_in state.lives.queries holder)
       (λ life. IsTrue (gets_rows life) → (other : ℕ) → Has state.lives.filters other → Has built other)
   pub lives : managed.IsSound (record state.lives { slots = set state.lives.slots slot now })
   pub keeps : (filter : Filter) → (change filter).dimension ≡ filter.dimension
-  pub next : (filter : Filter) → IsSoundFilter state filter → filter.dimension ≡ dimension → IsNextVersion state slot now filter (change filter)
-  pub others : (filter : Filter) → IsSoundFilter state filter → filter.dimension ≢ dimension → FitsSlot state filter slot now
+  pub next : (filter : Filter) → IsSoundFilter state.accepted (tables_of state) state.lives.slots state.lives.filters filter → filter.dimension ≡ dimension → IsNextVersion state slot now filter (change filter)
+  pub others : (filter : Filter) → IsSoundFilter state.accepted (tables_of state) state.lives.slots state.lives.filters filter → filter.dimension ≢ dimension → FitsSlot state.accepted (tables_of state) filter slot now
 
 same-dimensions : (dimension number : ℕ) (change : Filter → Filter) → ((filter : Filter) → (change filter).dimension ≡ filter.dimension)
     → (versions : List FilterVersion)
@@ -120,7 +120,7 @@ sound-versioned state slot dimension number version now change gives sound =
     let dimensions = same-dimensions dimension number change gives.keeps state.filters.versions in
     let holds : Holds state state.lives.queries slots filters version = record {
       filters_now = record {
-        each = All-map (λ v. IsSoundFilter (held_now state state.lives.queries slots filters version) v.filter) (versioned dimension number change) state.filters.versions
+        each = All-map (λ v. IsSoundFilter state.accepted (tables_of state) slots state.lives.filters v.filter) (versioned dimension number change) state.filters.versions
             (λ k d low. each (get_or state.filters.versions k d) (sound.filters.each k d low));
         dimensions = dimensions ∙ sound.filters.dimensions;
         set = sound.filters.set;
@@ -151,12 +151,12 @@ sound-versioned state slot dimension number version now change gives sound =
     filters : Filters
     filters = record state.filters { versions = map (versioned dimension number change) state.filters.versions }
 
-    each : (v : FilterVersion) → IsSoundFilter state v.filter
-        → IsSoundFilter (held_now state state.lives.queries slots filters version) (versioned dimension number change v).filter
+    each : (v : FilterVersion) → IsSoundFilter state.accepted (tables_of state) state.lives.slots state.lives.filters v.filter
+        → IsSoundFilter state.accepted (tables_of state) slots state.lives.filters (versioned dimension number change v).filter
     each v old = by_test (eqb v.filter.dimension dimension) refl
       where
         by_test : (t : Bool) → eqb v.filter.dimension dimension ≡ t
-            → IsSoundFilter (held_now state state.lives.queries slots filters version)
+            → IsSoundFilter state.accepted (tables_of state) slots state.lives.filters
             (cond {A = FilterVersion} t (record { number = number; filter = change v.filter }) v).filter
         by_test true is = next-sound state slot now filters version v.filter (change v.filter) gives.there
             (gives.next v.filter old (eqb-true v.filter.dimension dimension is)) old

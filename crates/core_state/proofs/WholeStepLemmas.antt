@@ -106,7 +106,7 @@ asked-without (first ∷ pending) accepted number query snapshot has =
     (asked-anew (forgotten first.statement) (forgets first.statement) accepted number query snapshot has)
 
 pub step-asked : (step : Step) (state : State) (number : ℕ) (query : Query) (snapshot : ℕ) → MayStep state step → IsSound state
-    → HasAccepted state number query snapshot → HasAccepted (after_step step state) number query snapshot
+    → HasAccepted state.accepted number query snapshot → HasAccepted (after_step step state).accepted number query snapshot
 step-asked step state number query snapshot may sound =
     step-cases (λ now. StayAsked state.accepted now.accepted) step state may sound (λ new leaves. leaves.asked)
     (λ seat found. asked-outcome seat found state) (λ asked can. asked-abandoning asked state) (λ seat. asked-without (take 1 (seat_at state seat).pending) state.accepted)

@@ -83,7 +83,7 @@ pub use Rattle.star_statement.specs.Text.{meaning_of}
 pub use Rattle.core_state.specs.Admitting.{after_build, after_build_wants, after_clear, after_finish, after_release, after_reserving, after_start, selection_in, versions_in_hands, with_built, with_version}
 pub use Rattle.core_state.specs.Answers.{IsRight}
 pub use Rattle.core_state.specs.Beside.{IsOfRows, IsSoundBeside, with_entry}
-pub use Rattle.core_state.specs.Cutting.{after_cutting, after_distribute, after_give, after_reorder, after_take, bits_of, end_in, fed, first_in, gets_rows, given_back, passed_by, roster_of, rows_for, rows_of, slots_of, starts_of, takes_version, tallies_after, unkept, versions_from, with_flight, with_rows}
+pub use Rattle.core_state.specs.Cutting.{after_cutting, after_distribute, after_give, after_reorder, after_take, bits_of, end_in, fed, first_in, frame_words, gets_rows, given_back, passed_by, roster_of, rows_for, rows_of, slots_of, starts_of, takes_version, tallies_after, unkept, versions_from, with_flight, with_rows}
 pub use Rattle.core_state.specs.Events.{AreFed, IsEnabled, IsFed, IsThrough, MayCut, MayDistribute, MayFinish, MayReserve, MayTake}
 pub use Rattle.core_state.specs.Fitting.{FitsTables}
 pub use Rattle.core_state.specs.Flown.{Encodes, FitsSlot, IsClearOf, IsOnRoster, IsSoundBatch, IsSoundFilter, IsSoundHand, IsSoundRow, keeps_so_far, MayBeOnRoster}

@@ -20,7 +20,7 @@ pub queries-written : (state : State) (query : ℕ) (old new : Life) (slots : Li
     → life_in state.lives.queries query ≡ Some old
     → ((accepted : Accepted) (extent : ℕ) → accepted.number ≡ query → IsSoundQuery state accepted
     → query_in state.lives.queries query ≡ Some (record { query = query; extent = extent; life = old })
-    → IsKept state accepted extent old → IsKept state accepted extent new)
+    → IsKept (tables_of state) state.seats state.scan accepted extent old → IsKept (tables_of state) state.seats state.scan accepted extent new)
     → (IsTrue (is_open new) → IsTrue (is_open old))
     → AreSoundQueries state
     → AreSoundQueries (held_now state (with_life query new state.lives.queries) slots filters version)
@@ -29,7 +29,7 @@ queries-written state query old new slots filters version was kept stays sound =
     (with_life-numbers query new state.lives.queries)
     (λ accepted each.
     with_life-found
-    (λ entry. IsKept state accepted entry.extent entry.life × (IsTrue (is_open entry.life)
+    (λ entry. IsKept (tables_of state) state.seats state.scan accepted entry.extent entry.life × (IsTrue (is_open entry.life)
     → (position : ℕ) → IfSome (slice_get (tables_of state).versions position)
     (λ version. (version.begin ≤ accepted.snapshot) ↔ (position < entry.extent)))
     × (entry.extent ≤ versions_in state))
@@ -37,7 +37,7 @@ queries-written state query old new slots filters version was kept stays sound =
     (λ entry found same.
     let is : entry.life ≡ old = same-life state.lives.queries query accepted.number old entry was found same in
     let number : entry.query ≡ query = query_in-number state.lives.queries accepted.number entry found ∙ same in
-    let kept_so : IsKept state accepted entry.extent entry.life = some-at (λ e. IsKept state accepted e.extent e.life)
+    let kept_so : IsKept (tables_of state) state.seats state.scan accepted entry.extent entry.life = some-at (λ e. IsKept (tables_of state) state.seats state.scan accepted e.extent e.life)
     (query_in state.lives.queries accepted.number) entry found each.kept in
     let extent_so = some-at (λ e. IsTrue (is_open e.life) → (position : ℕ) → IfSome (slice_get (tables_of state).versions position)
     (λ version. (version.begin ≤ accepted.snapshot) ↔ (position < e.extent)))
@@ -46,12 +46,12 @@ queries-written state query old new slots filters version was kept stays sound =
           (subst (λ n. query_in state.lives.queries n ≡ Some (record { query = query; extent = entry.extent; life = old })) same
           (found ∙ ap (λ l. Some (record { query = entry.query; extent = entry.extent; life = l })) is
           ∙ ap (λ n. Some (record { query = n; extent = entry.extent; life = old })) number))
-          (subst (IsKept state accepted entry.extent) is kept_so),
+          (subst (IsKept (tables_of state) state.seats state.scan accepted entry.extent) is kept_so),
       λ wanted. extent_so (subst (λ l. IsTrue (is_open l)) (sym is) (stays wanted)),
       within accepted each entry found,
     ))
     (λ entry found apart. (
-      some-at (λ e. IsKept state accepted e.extent e.life) (query_in state.lives.queries accepted.number) entry found each.kept,
+      some-at (λ e. IsKept (tables_of state) state.seats state.scan accepted e.extent e.life) (query_in state.lives.queries accepted.number) entry found each.kept,
       some-at (λ e. IsTrue (is_open e.life) → (position : ℕ) → IfSome (slice_get (tables_of state).versions position)
           (λ version. (version.begin ≤ accepted.snapshot) ↔ (position < e.extent)))
           (query_in state.lives.queries accepted.number) entry found each.extent,

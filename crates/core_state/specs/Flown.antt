@@ -12,7 +12,7 @@ use Rattle.star_history.specs.Alone.{joined}
 use Rattle.star_history.specs.Store.{PlainVersion, Store, rows_in}
 use Rattle.batch_flow.specs.Rows.{key_place}
 use Rattle.batch_flow.specs.declared.batch.TheConstants.{KEYS_IN_A_ROW}
-use Rattle.pipeline_manager.specs.Lives.{life_of, slot_at}
+use Rattle.pipeline_manager.specs.Lives.{Lives, life_of, slot_at}
 use Rattle.pipeline_manager.specs.declared.life.Life.{Life}
 use Rattle.pipeline_manager.specs.declared.life.Life.TheVariants as life
 use Rattle.pipeline_manager.specs.declared.life.SlotState.{SlotState}
@@ -20,10 +20,10 @@ use Rattle.pipeline_manager.specs.declared.life.SlotState.TheVariants.{Free, Hel
 use Rattle.dimension_filter.specs.Filter as table
 use Rattle.dimension_filter.specs.Filter.{AreAscending, Filter, is_stored, vector_of}
 use Rattle.core_state.specs.Admitting.{selection_in}
-use Rattle.core_state.specs.Cutting.{frame_words, slots_of}
+use Rattle.core_state.specs.Cutting.{slots_of}
 use Rattle.core_state.specs.Found.{accepted_at, has_passed, is_on_roster}
-use Rattle.core_state.specs.State.{Flight, Hand, OnRoster, State}
-use Rattle.core_state.specs.Tables.{key_number, tables_of}
+use Rattle.core_state.specs.State.{Accepted, Flight, Hand, OnRoster}
+use Rattle.core_state.specs.Tables.{key_number}
 
 -- a filter has a query in a slot: each row that came by the snapshot has the slot where the query takes it, and the
 -- complement has it where the query does not name the dimension
@@ -39,23 +39,25 @@ pub record IsClearOf (filter : Filter) (slot : ℕ) : Type 0 where
 
 -- what a slot in this state has in a filter: the query for which the filter is built, and else nothing; what is still to
 -- be cleared may be anything
-abbrev pub FitsSlot : State → Filter → (slot : ℕ) → SlotState → Type 0
-FitsSlot state filter slot Free = IsClearOf filter slot
-FitsSlot state filter slot (Held query built) =
-    (Has built filter.dimension → IfSome (accepted_at state.accepted query)
-    (λ accepted. Encodes filter slot accepted.query accepted.snapshot (rows_in (tables_of state).dimensions filter.dimension)))
+abbrev pub FitsSlot : List Accepted → Store → Filter → (slot : ℕ) → SlotState → Type 0
+FitsSlot accepted store filter slot Free = IsClearOf filter slot
+FitsSlot accepted store filter slot (Held query built) =
+    (Has built filter.dimension → IfSome (accepted_at accepted query)
+    (λ asked. Encodes filter slot asked.query asked.snapshot (rows_in store.dimensions filter.dimension)))
     × (¬ (Has built filter.dimension) → IsClearOf filter slot)
-FitsSlot state filter slot (Clearing left) = ¬ (Has left filter.dimension) → IsClearOf filter slot
+FitsSlot accepted store filter slot (Clearing left) = ¬ (Has left filter.dimension) → IsClearOf filter slot
 
 -- the present version of a filter: it is one, its rows are stored ascending, it has what each slot asks for, nothing at
 -- other slots, and stores rows of its dimension alone
-pub record IsSoundFilter (state : State) (filter : Filter) : Type 0 where
+pub record IsSoundFilter (accepted : List Accepted) (store : Store) (holders : List SlotState) (filters : ℕ)
+    (filter : Filter) : Type 0 where
   pub table : table.IsSound filter
   pub ascending : AreAscending filter.stored
-  pub is_filter : Has state.lives.filters filter.dimension
-  pub slots : (slot : ℕ) → slot < length state.lives.slots → FitsSlot state filter slot (slot_at state.lives slot)
-  pub beyond : (slot : ℕ) → length state.lives.slots ≤ slot → IsClearOf filter slot
-  pub within : (key : ℕ) → IsTrue (is_stored filter key) → key < length (rows_in (tables_of state).dimensions filter.dimension)
+  pub is_filter : Has filters filter.dimension
+  pub slots : (slot : ℕ) → slot < length holders
+      → FitsSlot accepted store filter slot (slice_index_or holders slot Free)
+  pub beyond : (slot : ℕ) → length holders ≤ slot → IsClearOf filter slot
+  pub within : (key : ℕ) → IsTrue (is_stored filter key) → key < length (rows_in store.dimensions filter.dimension)
 
 -- a query that is on a roster has no later life than these
 abbrev pub MayBeOnRoster : Life → Type 0
@@ -65,13 +67,13 @@ MayBeOnRoster life.Answered = ⊥
 MayBeOnRoster other = Unit {0}
 
 -- a slot on a roster is held by its query, which is as the core has it, and every filter is built for it
-pub record IsOnRoster (state : State) (entry : OnRoster) : Type 0 where
-  pub there : entry.slot < length state.lives.slots
-  pub held : (built : ℕ) × (slot_at state.lives entry.slot ≡ Held entry.number built)
-      × ((dimension : ℕ) → Has state.lives.filters dimension → Has built dimension)
-  pub life : IfSome (life_of state.lives entry.number) MayBeOnRoster
-  pub same : IfSome (accepted_at state.accepted entry.number)
-      (λ accepted. (accepted.query ≡ entry.query) × (accepted.snapshot ≡ entry.snapshot))
+pub record IsOnRoster (lives : Lives) (accepted : List Accepted) (entry : OnRoster) : Type 0 where
+  pub there : entry.slot < length lives.slots
+  pub held : (built : ℕ) × (slot_at lives entry.slot ≡ Held entry.number built)
+      × ((dimension : ℕ) → Has lives.filters dimension → Has built dimension)
+  pub life : IfSome (life_of lives entry.number) MayBeOnRoster
+  pub same : IfSome (accepted_at accepted entry.number)
+      (λ asked. (asked.query ≡ entry.query) × (asked.snapshot ≡ entry.snapshot))
 
 -- whether a query keeps a version as far as a batch has passed filters: it sees the version, its condition on the fact
 -- table holds, and it takes the row of each dimension whose filter the batch passed
@@ -83,30 +85,31 @@ keeps_so_far store flight entry version =
     (range_with_len 0 (length store.schema.dimensions)))
 
 -- the bits and keys of a row of a batch are what the queries on its roster say of its version
-pub record IsSoundRow (state : State) (flight : Flight) (row : ℕ) (version : PlainVersion) : Type 0 where
-  pub keys : (dimension : ℕ) → Has state.lives.filters dimension
-      → slice_index_or flight.rows.keys (key_place row dimension) 0 ≡ key_number (tables_of state) version.row dimension
+pub record IsSoundRow (filters : ℕ) (store : Store) (flight : Flight) (row : ℕ) (version : PlainVersion) : Type 0 where
+  pub keys : (dimension : ℕ) → Has filters dimension
+      → slice_index_or flight.rows.keys (key_place row dimension) 0 ≡ key_number store version.row dimension
   pub bits : (entry : OnRoster) → Contains flight.roster entry →
-      Has (slice_index_or flight.rows.bits row 0) entry.slot ↔ IsTrue (keeps_so_far (tables_of state) flight entry version)
+      Has (slice_index_or flight.rows.bits row 0) entry.slot ↔ IsTrue (keeps_so_far store flight entry version)
   pub others : (slot : ℕ) → Has (slice_index_or flight.rows.bits row 0) slot → IsTrue (is_on_roster slot flight)
 
 -- a batch in flight: its positions are in the table, its roster is that of its slots, and its rows are sound
-pub record IsSoundBatch (state : State) (flight : Flight) : Type 0 where
-  pub within : flight.rows.first + flight.rows.count ≤ length (tables_of state).versions
+pub record IsSoundBatch (words : ℕ) (store : Store) (lives : Lives) (accepted : List Accepted)
+    (flight : Flight) : Type 0 where
+  pub within : flight.rows.first + flight.rows.count ≤ length store.versions
   pub bits : length flight.rows.bits ≡ flight.rows.count
   pub keys : length flight.rows.keys ≡ flight.rows.count * KEYS_IN_A_ROW
-  pub room : flight.rows.room ≡ frame_words state
-  pub roster : All (IsOnRoster state) flight.roster
+  pub room : flight.rows.room ≡ words
+  pub roster : All (IsOnRoster lives accepted) flight.roster
   pub slots : flight.rows.roster ≡ slots_of flight.roster
   pub rows : (row : ℕ) → row < flight.rows.count →
-      IfSome (slice_get (tables_of state).versions (flight.rows.first + row)) (IsSoundRow state flight row)
+      IfSome (slice_get store.versions (flight.rows.first + row)) (IsSoundRow lives.filters store flight row)
 
 -- what a worker holds: a batch that did not pass this filter, whose version has every query on the batch's roster,
 -- whatever became of the filter since
-pub record IsSoundHand (state : State) (flight : Flight) (hand : Hand) : Type 0 where
-  pub seat : hand.worker < length state.seats
+pub record IsSoundHand (seats filters : ℕ) (store : Store) (flight : Flight) (hand : Hand) : Type 0 where
+  pub seat : hand.worker < seats
   pub table : table.IsSound hand.version.filter
-  pub is_filter : Has state.lives.filters hand.version.filter.dimension
+  pub is_filter : Has filters hand.version.filter.dimension
   pub not_passed : has_passed flight hand.version.filter.dimension ≡ false
   pub encodes : All (λ entry. Encodes hand.version.filter entry.slot entry.query entry.snapshot
-      (rows_in (tables_of state).dimensions hand.version.filter.dimension)) flight.roster
+      (rows_in store.dimensions hand.version.filter.dimension)) flight.roster

@@ -1,5 +1,5 @@
 -- What holds of every core, whatever events made it: a record for each subject.
-use Rattle.std.specs.Prelude.{◌≡◌, ◌≢◌, ℕ, ◌+◌, ◌<◌, ◌≤◌, ◌↔◌, ◌⊎◌, ◌==◌, nat_lt, List, [], ◌++◌, length, map, filter, filter_map, find, flat_map, slice_get, replicate, All, AllPairs, Contains, Option, Some, None, option_map, IfSome, IsSomeAnd, IsTrue}
+use Rattle.std.specs.Prelude.{◌≡◌, ◌≢◌, ℕ, ◌+◌, ◌<◌, ◌≤◌, ◌↔◌, ◌⊎◌, ◌==◌, nat_lt, List, [], ◌++◌, length, map, filter, filter_map, find, flat_map, slice_get, slice_index_or, replicate, All, AllPairs, Contains, Option, Some, None, option_map, IfSome, IsSomeAnd, IsTrue}
 use Rattle.std.specs.List.{range_with_len}
 use Rattle.std.specs.List.Sorted.{IsPermutation}
 use Rattle.std.specs.Option.{option_map_or}
@@ -12,36 +12,40 @@ use Rattle.star_history.specs.Accepted.{AcceptsAll}
 use Rattle.star_history.specs.Alone.{joined, kept}
 use Rattle.star_history.specs.Store.{PlainVersion, Store, empty_store}
 use Rattle.pipeline_manager.specs.Conditions.{is_open}
-use Rattle.pipeline_manager.specs.Lives.{life_of, query_in, slot_at}
+use Rattle.pipeline_manager.specs.Lives.{life_in, life_of, query_in, slot_at}
 use Rattle.pipeline_manager.specs.Sound as managed
 use Rattle.pipeline_manager.specs.declared.life.Life.{Life}
 use Rattle.pipeline_manager.specs.declared.life.Life.TheVariants as life
+use Rattle.pipeline_manager.specs.declared.life.QueryLife.{QueryLife}
 use Rattle.pipeline_manager.specs.declared.life.SlotState.TheVariants.{Free, Held}
 use Rattle.continuous_scan.specs.Lap.{lap, lap_start, next_below, place_in_lap, still_to_come}
 use Rattle.aggregations.specs.Grouped.{grouped_of}
-use Rattle.core_state.specs.Cutting.{gets_rows}
+use Rattle.core_state.specs.Cutting.{frame_words, gets_rows}
 use Rattle.core_state.specs.Flown.{IsSoundBatch, IsSoundFilter, IsSoundHand}
 use Rattle.core_state.specs.Found.{accepted_at}
 use Rattle.core_state.specs.Numbered.{last_number}
 use Rattle.core_state.specs.Settings.{AreWithin, frames_of}
-use Rattle.core_state.specs.State.{Accepted, Asked, Awaited, Flight, Replied, Seat, State}
+use Rattle.core_state.specs.State.{Accepted, Asked, Awaited, Flight, Replied, Scan, Seat, State}
 use Rattle.core_state.specs.Submitting.{empty_seat, seat_at}
 use Rattle.core_state.specs.declared.settings.RunSettings.{RunSettings}
 use Rattle.core_state.specs.Tables.{changes_of, filter_dimensions, tables_of, versions_in}
 
 -- the filters: one for each dimension that the fact table references, ascending, each sound
 pub record AreSoundFilters (state : State) : Type 0 where
-  pub each : All (λ version. IsSoundFilter state version.filter) state.filters.versions
+  pub each : All (λ version. IsSoundFilter state.accepted (tables_of state) state.lives.slots state.lives.filters version.filter)
+      state.filters.versions
   pub dimensions : map (λ version. version.filter.dimension) state.filters.versions ≡ filter_dimensions (tables_of state).schema
   pub set : (dimension : ℕ) → Has state.lives.filters dimension ↔ Contains (filter_dimensions (tables_of state).schema) dimension
 
 -- the batches in flight
 abbrev pub AreSoundBatches : State → Type 0
-AreSoundBatches state = All (IsSoundBatch state) state.scan.flights
+AreSoundBatches state =
+    All (IsSoundBatch (frame_words state) (tables_of state) state.lives state.accepted) state.scan.flights
 
 -- what is in hands; no worker has two batches
 pub record AreSoundHands (state : State) : Type 0 where
-  pub each : All (λ flight. IfSome flight.hand (IsSoundHand state flight)) state.scan.flights
+  pub each : All (λ flight. IfSome flight.hand
+      (IsSoundHand (length state.seats) state.lives.filters (tables_of state) flight)) state.scan.flights
   pub one : AllPairs (λ worker other. worker ≢ other) (filter_map (λ flight. option_map (λ hand. hand.worker) flight.hand) state.scan.flights)
 
 -- the versions at some positions, in their order
@@ -74,35 +78,36 @@ IsNext position extent other = Unit {0}
 
 -- a query that runs or is ending: each position of its extent was folded, or is in one batch in flight, or is still to
 -- come, each once; what is kept is what the folded positions give
-pub record IsCovered (state : State) (accepted : Accepted) (extent : ℕ) (life : Life) : Type 0 where
+pub record IsCovered (store : Store) (scan : Scan) (accepted : Accepted) (extent : ℕ) (life : Life) : Type 0 where
   pub folded : List ℕ
   pub each_once : IsPermutation
-      (folded ++ flat_map (positions_for accepted.number extent) state.scan.flights ++ to_come extent life)
+      (folded ++ flat_map (positions_for accepted.number extent) scan.flights ++ to_come extent life)
       (range_with_len 0 extent)
-  pub next : IsNext state.scan.position extent life
+  pub next : IsNext scan.position extent life
   pub groups : accepted.groups
-      ≡ Some (grouped_of accepted.query (kept_at (tables_of state) accepted.query accepted.snapshot folded))
+      ≡ Some (grouped_of accepted.query (kept_at store accepted.query accepted.snapshot folded))
 
 -- what is kept of an answered query is what its rows give, in some order
-pub record IsAnswer (state : State) (accepted : Accepted) : Type 0 where
+pub record IsAnswer (store : Store) (accepted : Accepted) : Type 0 where
   pub rows : List Joined
-  pub all : IsPermutation rows (kept (tables_of state) accepted.query accepted.snapshot)
+  pub all : IsPermutation rows (kept store accepted.query accepted.snapshot)
   pub groups : accepted.groups ≡ Some (grouped_of accepted.query rows)
 
 -- the seat of an accepted query took the reply to it
-abbrev pub HasTaken : State → Accepted → Type 0
-HasTaken state accepted = Contains (map (λ taken. taken.statement) (seat_at state accepted.seat).taken) accepted.number
+abbrev pub HasTaken : List Seat → Accepted → Type 0
+HasTaken seats accepted =
+    Contains (map (λ taken. taken.statement) (slice_index_or seats accepted.seat empty_seat).taken) accepted.number
 
 -- what is kept for an accepted query with this life: nothing folded before it starts, what is folded of its lap, the whole
 -- of it once it is answered until its seat took the reply, and nothing where it has no answer
-abbrev pub IsKept : State → Accepted → (extent : ℕ) → Life → Type 0
-IsKept state accepted extent life.Waiting = accepted.groups ≡ Some (grouped_of accepted.query [])
-IsKept state accepted extent life.Building = accepted.groups ≡ Some (grouped_of accepted.query [])
-IsKept state accepted extent (life.Running start left) = IsCovered state accepted extent (life.Running start left)
-IsKept state accepted extent life.Ending = IsCovered state accepted extent life.Ending
-IsKept state accepted extent life.Answered = ((accepted.groups ≡ None) × HasTaken state accepted) ⊎ IsAnswer state accepted
-IsKept state accepted extent life.Spoiled = accepted.groups ≡ None
-IsKept state accepted extent life.Abandoned = accepted.groups ≡ None
+abbrev pub IsKept : Store → List Seat → Scan → Accepted → (extent : ℕ) → Life → Type 0
+IsKept store seats scan accepted extent life.Waiting = accepted.groups ≡ Some (grouped_of accepted.query [])
+IsKept store seats scan accepted extent life.Building = accepted.groups ≡ Some (grouped_of accepted.query [])
+IsKept store seats scan accepted extent (life.Running start left) = IsCovered store scan accepted extent (life.Running start left)
+IsKept store seats scan accepted extent life.Ending = IsCovered store scan accepted extent life.Ending
+IsKept store seats scan accepted extent life.Answered = ((accepted.groups ≡ None) × HasTaken seats accepted) ⊎ IsAnswer store accepted
+IsKept store seats scan accepted extent life.Spoiled = accepted.groups ≡ None
+IsKept store seats scan accepted extent life.Abandoned = accepted.groups ≡ None
 
 -- an accepted query: it has its life, it is one over the schema, its snapshot is a commit so far, its extent is within the
 -- table, and what is kept is what its life says; while it is unfinished its extent is the versions that came by its snapshot
@@ -112,7 +117,7 @@ pub record IsSoundQuery (state : State) (accepted : Accepted) : Type 0 where
   pub snapshot : accepted.snapshot ≤ (tables_of state).commits
   pub within : IfSome (query_in state.lives.queries accepted.number) (λ entry. entry.extent ≤ versions_in state)
   pub kept : IfSome (query_in state.lives.queries accepted.number)
-      (λ entry. IsKept state accepted entry.extent entry.life)
+      (λ entry. IsKept (tables_of state) state.seats state.scan accepted entry.extent entry.life)
   pub extent : IfSome (query_in state.lives.queries accepted.number) (λ entry. IsTrue (is_open entry.life) →
       (position : ℕ) → IfSome (slice_get (tables_of state).versions position)
       (λ version. (version.begin ≤ accepted.snapshot) ↔ (position < entry.extent)))
@@ -156,41 +161,41 @@ pub record IsSoundOrder (state : State) : Type 0 where
   pub order : IsPermutation (map (λ version. version.filter.dimension) state.filters.versions) state.filters.order
 
 -- a query of the core has this number, and is this query at this snapshot
-abbrev pub HasAccepted : State → (number : ℕ) → Query → (snapshot : ℕ) → Type 0
-HasAccepted state number query snapshot =
-    IsSomeAnd (accepted_at state.accepted number) (λ accepted. (accepted.query ≡ query) × (accepted.snapshot ≡ snapshot))
+abbrev pub HasAccepted : List Accepted → (number : ℕ) → Query → (snapshot : ℕ) → Type 0
+HasAccepted accepted number query snapshot =
+    IsSomeAnd (accepted_at accepted number) (λ asked. (asked.query ≡ query) × (asked.snapshot ≡ snapshot))
 
 -- a statement that a seat waits for: a query is one of the core with its query and its snapshot, and not abandoned; what is
 -- no query has no number of one
-abbrev pub IsAwaited : State → (statement : ℕ) → Awaited → Type 0
-IsAwaited state statement (Replied reply) = accepted_at state.accepted statement ≡ None
-IsAwaited state statement (Asked query snapshot) =
-    HasAccepted state statement query snapshot × IfSome (life_of state.lives statement) (λ now. now ≢ life.Abandoned)
+abbrev pub IsAwaited : List Accepted → List QueryLife → (statement : ℕ) → Awaited → Type 0
+IsAwaited accepted queries statement (Replied reply) = accepted_at accepted statement ≡ None
+IsAwaited accepted queries statement (Asked query snapshot) =
+    HasAccepted accepted statement query snapshot × IfSome (life_in queries statement) (λ now. now ≢ life.Abandoned)
 
 -- a statement whose reply a seat took: a query is one of the core with its query and its snapshot, and was answered or
 -- replied that it found no memory
-abbrev pub IsTaken : State → (statement : ℕ) → Option (Query × ℕ) → Type 0
-IsTaken state statement None = Unit {0}
-IsTaken state statement (Some asked) =
-    HasAccepted state statement asked.0 asked.1
-    × IfSome (life_of state.lives statement) (λ now. (now ≡ life.Answered) ⊎ (now ≡ life.Spoiled))
+abbrev pub IsTaken : List Accepted → List QueryLife → (statement : ℕ) → Option (Query × ℕ) → Type 0
+IsTaken accepted queries statement None = Unit {0}
+IsTaken accepted queries statement (Some asked) =
+    HasAccepted accepted statement asked.0 asked.1
+    × IfSome (life_in queries statement) (λ now. (now ≡ life.Answered) ⊎ (now ≡ life.Spoiled))
 
 -- a seat: the numbers that it submitted rise, and those that it took and waits for are among them, in the same order
-pub record IsSoundSeat (state : State) (seat : Seat) : Type 0 where
+pub record IsSoundSeat (last : ℕ) (accepted : List Accepted) (queries : List QueryLife) (seat : Seat) : Type 0 where
   pub rising : AllPairs (λ statement later. statement < later) seat.submitted
-  pub given : All (λ statement. statement ≤ state.numbers.statement) seat.submitted
+  pub given : All (λ statement. statement ≤ last) seat.submitted
   pub in_order : AllPairs (λ statement later. statement < later)
       (map (λ taken. taken.statement) seat.taken ++ map (λ pending. pending.statement) seat.pending)
   pub submitted : All (Contains seat.submitted)
       (map (λ taken. taken.statement) seat.taken ++ map (λ pending. pending.statement) seat.pending)
-  pub taken : All (λ taken. IsTaken state taken.statement taken.query) seat.taken
-  pub awaited : All (λ pending. IsAwaited state pending.statement pending.awaited) seat.pending
+  pub taken : All (λ taken. IsTaken accepted queries taken.statement taken.query) seat.taken
+  pub awaited : All (λ pending. IsAwaited accepted queries pending.statement pending.awaited) seat.pending
 
 -- the seats and the entries: numbers of statements rise along the entries, each stands in its seat, and no number stands
 -- in two seats
 pub record AreSoundSeats (state : State) : Type 0 where
   pub count : length state.seats ≡ state.settings.seats
-  pub each : All (IsSoundSeat state) state.seats
+  pub each : All (IsSoundSeat state.numbers.statement state.accepted state.lives.queries) state.seats
   pub apart : AllPairs (λ seat other. (statement : ℕ) → Contains seat.submitted statement → ¬ (Contains other.submitted statement)) state.seats
   pub rising : AllPairs (λ entry later. entry.statement < later.statement) state.entries
   pub entries : All (λ entry. Contains (seat_at state entry.seat).submitted entry.statement) state.entries

@@ -28,7 +28,7 @@ pub fn a_reply_that_may_be_taken_is_right()
         IsRight state pending.statement pending.awaited ready }
     ensures kept { (state : State) (accepted : Accepted) → IsSound state → Contains state.accepted accepted →
         life_of state.lives accepted.number ≡ Some Answered →
-        ((accepted.groups ≡ None) × HasTaken state accepted)
+        ((accepted.groups ≡ None) × HasTaken state.seats accepted)
         ⊎ ((groups : Grouped) × (accepted.groups ≡ Some groups)
         × AnswersAlone (tables_of state) accepted.query accepted.snapshot groups) }
     ensures waits { (state : State) (seat : ℕ) (pending : Pending) → IsSound state →

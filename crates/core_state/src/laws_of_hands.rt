@@ -1,11 +1,13 @@
 //! What a worker holds is as right as what the core has at present, and stays so.
-ghost use Rattle.std.specs.Prelude.{◌≡◌, ◌++◌, List, Contains, Some};
+ghost use Rattle.std.specs.Prelude.{◌≡◌, ◌++◌, List, length, Contains, Some};
 ghost use Rattle.dimension_filter.specs.Pass.{filtered};
+ghost use Rattle.core_state.specs.Cutting.{frame_words};
 ghost use Rattle.core_state.specs.Flown.{IsSoundBatch, IsSoundHand};
 ghost use Rattle.core_state.specs.Found.{version_at};
 ghost use Rattle.core_state.specs.Hands.{IsInHandAs};
 ghost use Rattle.core_state.specs.Sound.{IsSound};
 ghost use Rattle.core_state.specs.State.{Entry, FilterVersion, Flight, Hand, State};
+ghost use Rattle.core_state.specs.Tables.{tables_of};
 
 use star_history::accepted_histories_are_settled;
 
@@ -28,7 +30,8 @@ pub fn what_a_worker_took_stays_right()
         after.settings ≡ before.settings → after.entries ≡ before.entries ++ more →
         Contains before.scan.flights flight → flight.hand ≡ Some hand →
         Contains after.scan.flights home → IsInHandAs flight home →
-        IsSoundBatch after flight × IsSoundHand after flight hand }
+        IsSoundBatch (frame_words after) (tables_of after) after.lives after.accepted flight
+        × IsSoundHand (length after.seats) after.lives.filters (tables_of after) flight hand }
 {
     accepted_histories_are_settled();
 }

@@ -41,7 +41,8 @@ pub fn only_abandon_abandons()
 /// A query's number, its query and its snapshot never change, and it is never dropped.
 pub fn no_step_changes_what_is_asked()
     ensures { (step : Step) (state : State) (number : ℕ) (query : Query) (snapshot : ℕ) → MayStep state step → IsSound state →
-        HasAccepted state number query snapshot → HasAccepted (after_step step state) number query snapshot }
+        HasAccepted state.accepted number query snapshot →
+        HasAccepted (after_step step state).accepted number query snapshot }
 {}
 
 /// No step takes a statement back: what a seat submitted it has submitted after it.

@@ -81,7 +81,7 @@ build-may settles fit parts query dimension slot asked old core can place found 
         (subst (Has held.0) present.dimension has))
 
     clear : IsClearOf old.filter slot
-    clear = (subst (FitsSlot (state_of parts) old.filter slot) held.2 (present.sound.slots slot held.1)).1 not_built
+    clear = (subst (FitsSlot (state_of parts).accepted (tables_of (state_of parts)) old.filter slot) held.2 (present.sound.slots slot held.1)).1 not_built
 
 -- the same is attached for each query
 seen-built : (parts : Parts) (query dimension slot : ℕ) → slot_of parts.lives query ≡ Some slot

@@ -1,5 +1,5 @@
 -- The parts of a core where a slot is finished.
-use Rattle.event_core.proofs.Words.{◌∙◌, ◌≡◌, ◌≢◌, Accepted, accepted_as, accepted_at, accepted_in, after_end, after_finish, All, ap, asked_at, AskedQuery, attached_for, attached_or, attached_to, Becomes, cases_eq, Done, Event, false, Finish, finished, get_or, get_or_from_slice_get, Grouped, Held, held-accepted, held-there, IsCore, IsEnabled, IsKept, IsScannedAs, IsSome, IsSound, IsTrue, known_in, LeavesScan, Life, life_of, List, MayFinish, None, Option, option_map_or, Parts, reaches_in, refl, Scanning, set, slice_get, slot_at, slot_of-holder, Some, State, state_of, subst, sym, true, unheld, with_kept_at, ℕ, ⊎_elim}
+use Rattle.event_core.proofs.Words.{◌∙◌, ◌≡◌, ◌≢◌, Accepted, accepted_as, accepted_at, accepted_in, after_end, after_finish, All, ap, asked_at, AskedQuery, attached_for, attached_or, attached_to, Becomes, cases_eq, Done, Event, false, Finish, finished, get_or, get_or_from_slice_get, Grouped, Held, held-accepted, held-there, IsCore, IsEnabled, IsKept, IsScannedAs, IsSome, IsSound, IsTrue, known_in, LeavesScan, Life, life_of, List, MayFinish, None, Option, option_map_or, Parts, reaches_in, refl, Scanning, set, slice_get, slot_at, slot_of-holder, Some, State, state_of, subst, sym, tables_of, true, unheld, with_kept_at, ℕ, ⊎_elim}
 use Rattle.pipeline_manager.specs.Conditions.{IsOver, gives_up}
 use Rattle.pipeline_manager.specs.declared.life.Life.TheVariants as life
 use Rattle.core_state.specs.Events.{after_event}
@@ -149,7 +149,7 @@ finish-answered keep leaves detach answers parts slot query built core may holds
 
 -- who holds a slot that may be finished, and is not to be answered, has nothing
 kept-over : (state : State) (accepted : Accepted) (extent : ℕ) (now : Life) → IsTrue (gives_up now) → now ≢ life.Ending
-    → IsKept state accepted extent now → accepted.groups ≡ None
+    → IsKept (tables_of state) state.seats state.scan accepted extent now → accepted.groups ≡ None
 kept-over state accepted extent life.Ending over apart kept = absurd (apart refl)
 kept-over state accepted extent life.Spoiled over apart kept = kept
 kept-over state accepted extent life.Abandoned over apart kept = kept

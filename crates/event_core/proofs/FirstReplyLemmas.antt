@@ -134,7 +134,7 @@ next-spoiled parts seat first core is stands lives = by_accepted (accepted_at (s
 pub record IsFirst (parts : Parts) (seat : ℕ) (first : Submitted) (pending : Pending) : Type 0 where
   pub is : slice_get (seat_at (state_of parts) seat).pending 0 ≡ Some pending
   pub statement : pending.statement ≡ first.number
-  pub awaited : IsAwaited (state_of parts) pending.statement pending.awaited
+  pub awaited : IsAwaited (state_of parts).accepted (state_of parts).lives.queries pending.statement pending.awaited
 
 pub first-is : (parts : Parts) (seat : ℕ) (first : Submitted) → IsCore parts
     → first_of (statements_at parts.seats seat) ≡ Some first → (pending : Pending) × IsFirst parts seat first pending
@@ -159,9 +159,9 @@ first-is parts seat first core is = (found.0, record { is = here; statement = fo
     pending : List Pending
     pending = (seat_at (state_of parts) seat).pending
 
-    waits : IsAwaited (state_of parts) found.0.statement found.0.awaited
+    waits : IsAwaited (state_of parts).accepted (state_of parts).lives.queries found.0.statement found.0.awaited
     waits =
-        subst (λ (p : Pending). IsAwaited (state_of parts) p.statement p.awaited)
+        subst (λ (p : Pending). IsAwaited (state_of parts).accepted (state_of parts).lives.queries p.statement p.awaited)
         (get_or_from_slice_get pending 0 found.0 found.0 here)
         ((core.sound.seats.each seat empty_seat there).awaited 0 found.0 (slice_get_within pending 0 found.0 here))
 

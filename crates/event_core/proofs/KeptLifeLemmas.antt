@@ -1,10 +1,10 @@
 -- What a sound core keeps of a query with a life.
-use Rattle.event_core.proofs.Words.{◌∙◌, ◌≡◌, Accepted, accepted_at, ap, eqb, eqb-true, find-holds, find-passes, IfSome, IsKept, IsSound, IsSoundQuery, Life, life_in, life_of, None, Option, option_map, query_in, QueryLife, Some, State, subst, ℕ}
+use Rattle.event_core.proofs.Words.{◌∙◌, ◌≡◌, Accepted, accepted_at, ap, eqb, eqb-true, find-holds, find-passes, IfSome, IsKept, IsSound, IsSoundQuery, Life, life_in, life_of, None, Option, option_map, query_in, QueryLife, Some, State, subst, tables_of, ℕ}
 
 -- what is kept is what its life says
 pub kept-with : (state : State) (query : ℕ) (accepted : Accepted) (now : Life) → IsSound state
     → accepted_at state.accepted query ≡ Some accepted → life_of state.lives query ≡ Some now
-    → (extent : ℕ) × IsKept state accepted extent now
+    → (extent : ℕ) × IsKept (tables_of state) state.seats state.scan accepted extent now
 kept-with state query accepted now sound found lives = by_query (query_in state.lives.queries accepted.number) here of_query.kept
   where
     of_query : IsSoundQuery state accepted
@@ -17,7 +17,7 @@ kept-with state query accepted now sound found lives = by_query (query_in state.
         ∙ lives
 
     by_query : (o : Option QueryLife) → option_map (λ (e : QueryLife). e.life) o ≡ Some now
-        → IfSome o (λ entry. IsKept state accepted entry.extent entry.life) → (extent : ℕ) × IsKept state accepted extent now
+        → IfSome o (λ entry. IsKept (tables_of state) state.seats state.scan accepted entry.extent entry.life) → (extent : ℕ) × IsKept (tables_of state) state.seats state.scan accepted extent now
     by_query None is kept = cc
     by_query (Some entry) is kept =
-        let same : entry.life ≡ now = cc in (entry.extent, subst (IsKept state accepted entry.extent) same kept)
+        let same : entry.life ≡ now = cc in (entry.extent, subst (IsKept (tables_of state) state.seats state.scan accepted entry.extent) same kept)

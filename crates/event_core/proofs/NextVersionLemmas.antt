@@ -24,7 +24,7 @@ found-among {X = X} number_of xs number among = by_found (find (λ x. eqb (numbe
 pub record IsPresent (state : State) (number : ℕ) (version : FilterVersion) : Type 0 where
   pub found : version_at state.filters.versions number ≡ Some version
   pub dimension : version.filter.dimension ≡ number
-  pub sound : IsSoundFilter state version.filter
+  pub sound : IsSoundFilter state.accepted (tables_of state) state.lives.slots state.lives.filters version.filter
 
 pub is-present : (state : State) (dimension : ℕ) (version : FilterVersion) → IsSound state
     → version_at state.filters.versions dimension ≡ Some version → IsPresent state dimension version
@@ -32,7 +32,7 @@ is-present state dimension version sound found = record {
   found = found;
   dimension = eqb-true version.filter.dimension dimension
       (find-passes (λ v. eqb v.filter.dimension dimension) state.filters.versions version found);
-  sound = find-holds (λ v. IsSoundFilter state v.filter) (λ v. eqb v.filter.dimension dimension) state.filters.versions version found
+  sound = find-holds (λ v. IsSoundFilter state.accepted (tables_of state) state.lives.slots state.lives.filters v.filter) (λ v. eqb v.filter.dimension dimension) state.filters.versions version found
       sound.filters.each;
 }
 

@@ -13,7 +13,7 @@ abbrev IsClosed : State → ℕ → Type 0
 IsClosed state number = option_map_or is_open (life_of state.lives number) false ≡ false
 
 -- a query whose reply was taken
-closed-taken : (state : State) (number : ℕ) (o : Option (Query × ℕ)) → IsTaken state number o → (o ≡ None → ⊥) → IsClosed state number
+closed-taken : (state : State) (number : ℕ) (o : Option (Query × ℕ)) → IsTaken state.accepted state.lives.queries number o → (o ≡ None → ⊥) → IsClosed state number
 closed-taken state number None taken some = absurd (some refl)
 closed-taken state number (Some asked) taken some = by_life (life_of state.lives number) taken.1
   where
@@ -30,14 +30,14 @@ apart-from (first ∷ accepted) number all =
     (apart-from accepted number (All-tail (λ (asked : ℕ × (Query × ℕ)). asked.0 ≢ number) (accepted_by first) (map accepted_by accepted) all))
 
 -- a seat that did nothing is not there
-seat-sound : (state : State) → IsSound state → (number : ℕ) → Contains (seat_at state 0).submitted number → IsSoundSeat state (seat_at state 0)
+seat-sound : (state : State) → IsSound state → (number : ℕ) → Contains (seat_at state 0).submitted number → IsSoundSeat state.numbers.statement state.accepted state.lives.queries (seat_at state 0)
 seat-sound state sound number has = by_seats state.seats refl has
   where
-    by_seats : (seats : List Seat) → state.seats ≡ seats → Contains (get_or seats 0 empty_seat).submitted number → IsSoundSeat state (seat_at state 0)
+    by_seats : (seats : List Seat) → state.seats ≡ seats → Contains (get_or seats 0 empty_seat).submitted number → IsSoundSeat state.numbers.statement state.accepted state.lives.queries (seat_at state 0)
     by_seats [] is among = absurd (let low = among.1 in omega arith)
     by_seats (seat ∷ seats) is among =
-        subst (λ list. IsSoundSeat state (get_or list 0 empty_seat)) (sym is)
-        (All-head (IsSoundSeat state) seat seats (subst (All (IsSoundSeat state)) is sound.seats.each))
+        subst (λ list. IsSoundSeat state.numbers.statement state.accepted state.lives.queries (get_or list 0 empty_seat)) (sym is)
+        (All-head (IsSoundSeat state.numbers.statement state.accepted state.lives.queries) seat seats (subst (All (IsSoundSeat state.numbers.statement state.accepted state.lives.queries)) is sound.seats.each))
 
 -- each query is closed
 closed-one : (state : State) → IsSound state → IsWaitedFor state → (seat_at state 0).pending ≡ [] → (number : ℕ)

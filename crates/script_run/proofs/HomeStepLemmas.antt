@@ -83,7 +83,7 @@ front-there P (first ∷ taken) rest all =
 taken-low : (state : State) → IsSound state → 0 < length state.seats
     → All (λ t. t.statement < state.numbers.statement + 1) (seat_at state 0).taken
 taken-low state sound there =
-    let is : IsSoundSeat state (seat_at state 0) = sound.seats.each 0 empty_seat there in
+    let is : IsSoundSeat state.numbers.statement state.accepted state.lives.queries (seat_at state 0) = sound.seats.each 0 empty_seat there in
     All-weaker (λ (t : Taken). Contains (seat_at state 0).submitted t.statement) (λ (t : Taken). t.statement < state.numbers.statement + 1)
     (λ t has. let low = All-contains (λ n. n ≤ state.numbers.statement) (seat_at state 0).submitted t.statement is.given has in omega arith)
     (seat_at state 0).taken
@@ -131,7 +131,7 @@ none-apart (first ∷ accepted) number none = by_test (eqb first.number number) 
         (λ same. let both : false ≡ true = sym is ∙ eq-eqb first.number number same in cc) (rest e)
 
 -- what is waited for as no query is none
-waited-apart : (state : State) (statement : ℕ) (awaited : Awaited) → IsAwaited state statement awaited
+waited-apart : (state : State) (statement : ℕ) (awaited : Awaited) → IsAwaited state.accepted state.lives.queries statement awaited
     → (taken_by (record { statement = statement; awaited = awaited })).query ≡ None → All (λ asked. asked.0 ≢ statement) (map accepted_by state.accepted)
 waited-apart state statement (Replied reply) waits none = none-apart state.accepted statement waits
 waited-apart state statement (Asked query snapshot) waits none = absurd (let both : Some (query, snapshot) ≡ None = none in cc)
@@ -143,9 +143,9 @@ serves-taken old sound ready mine =
     let first : Pending = waits.0 in
     let there = seat-waits old 0 first waits.1 in
     let behind = split-first (seat_at old 0).pending first waits.1 in
-    let is_seat : IsSoundSeat old (seat_at old 0) = sound.seats.each 0 empty_seat there in
-    let awaited : IsAwaited old first.statement first.awaited = All-head (λ (p : Pending). IsAwaited old p.statement p.awaited) first behind.0
-    (subst (All (λ (p : Pending). IsAwaited old p.statement p.awaited)) behind.1 is_seat.awaited) in
+    let is_seat : IsSoundSeat old.numbers.statement old.accepted old.lives.queries (seat_at old 0) = sound.seats.each 0 empty_seat there in
+    let awaited : IsAwaited old.accepted old.lives.queries first.statement first.awaited = All-head (λ (p : Pending). IsAwaited old.accepted old.lives.queries p.statement p.awaited) first behind.0
+    (subst (All (λ (p : Pending). IsAwaited old.accepted old.lives.queries p.statement p.awaited)) behind.1 is_seat.awaited) in
     let now : (seat_at (after_taking 0 old) 0).taken ≡ (seat_at old 0).taken ++ taken_by first ∷ [] = ap (λ (s : Seat). s.taken) (taken-seat 0 old there)
     ∙ ap (λ waits. (seat_at old 0).taken ++ map taken_by (take 1 waits)) behind.1 in
     record {

@@ -18,7 +18,7 @@ abbrev pub SameAnswers : (old new : Store) → Type 0
 SameAnswers old new = (query : Query) (snapshot : ℕ) → snapshot ≤ old.commits → alone new query snapshot ≡ alone old query snapshot
 
 -- a query that is waited for has a snapshot so far
-snapshot-low : (state : State) (statement : ℕ) (query : Query) (snapshot : ℕ) → IsSound state → HasAccepted state statement query snapshot
+snapshot-low : (state : State) (statement : ℕ) (query : Query) (snapshot : ℕ) → IsSound state → HasAccepted state.accepted statement query snapshot
     → snapshot ≤ (tables_of state).commits
 snapshot-low state statement query snapshot sound has = by_found (accepted_at state.accepted statement) refl has
   where
@@ -32,7 +32,7 @@ snapshot-low state statement query snapshot sound has = by_found (accepted_at st
 
 -- what is waited for comes to the same where answers so far are the same
 comes-before : (state : State) (new : Store) (statement : ℕ) (awaited : Awaited) (one : Played) → SameAnswers (tables_of state) new → IsSound state
-    → IsAwaited state statement awaited → ComesTo new awaited one → ComesTo (tables_of state) awaited one
+    → IsAwaited state.accepted state.lives.queries statement awaited → ComesTo new awaited one → ComesTo (tables_of state) awaited one
 comes-before state new statement (Replied reply) one same sound waits comes = comes
 comes-before state new statement (Asked query snapshot) one same sound waits comes = (
   comes.0,
@@ -43,14 +43,14 @@ comes-before state new statement (Asked query snapshot) one same sound waits com
 )
 
 come-before : (state : State) (new : Store) (pending : List Pending) (played : List Played) → SameAnswers (tables_of state) new → IsSound state
-    → All (λ p. IsAwaited state p.statement p.awaited) pending → ComeTo new pending played → ComeTo (tables_of state) pending played
+    → All (λ p. IsAwaited state.accepted state.lives.queries p.statement p.awaited) pending → ComeTo new pending played → ComeTo (tables_of state) pending played
 come-before state new [] [] same sound waits come = tt
 come-before state new [] (one ∷ played) same sound waits come = absurd come
 come-before state new (first ∷ pending) [] same sound waits come = absurd come
 come-before state new (first ∷ pending) (one ∷ played) same sound waits come = (
   comes-before state new first.statement first.awaited one same sound
-      (All-head (λ p. IsAwaited state p.statement p.awaited) first pending waits) come.0,
-  come-before state new pending played same sound (All-tail (λ p. IsAwaited state p.statement p.awaited) first pending waits) come.1,
+      (All-head (λ p. IsAwaited state.accepted state.lives.queries p.statement p.awaited) first pending waits) come.0,
+  come-before state new pending played same sound (All-tail (λ p. IsAwaited state.accepted state.lives.queries p.statement p.awaited) first pending waits) come.1,
 )
 
 -- what a statement is told comes to the same over the tables behind it, since a query changes nothing
