@@ -8,6 +8,7 @@ use Rattle.star_parser.specs.declared.tree.Tree.TheOpen as layer
 use Rattle.star_parser.specs.declared.tree.Tree.TheFolds.{fold-Tree}
 
 mutual
+  -- a condition on rows
   pub data Condition : Type 0 where
     Either : Conditions → Condition
     Both : Conditions → Condition
@@ -17,6 +18,7 @@ mutual
     Between : Column → Value → Value → Condition
     OneOf : Column → List Value → Condition
 
+  -- the members of an `and` or an `or`
   pub data Conditions : Type 0 where
     none : Conditions
     more : Condition → Conditions → Conditions
@@ -26,6 +28,7 @@ abbrev pub conditions : List Condition → Conditions
 conditions [] = none
 conditions (t ∷ ts) = more t (conditions ts)
 
+-- the conditions of such a list, one after the other
 abbrev pub members : Conditions → List Condition
 members none = []
 members (more t ts) = t ∷ members ts
@@ -74,6 +77,7 @@ tree_step (layer.Same c d) = Same c d
 tree_step (layer.Between c low high) = Between c low high
 tree_step (layer.OneOf c vs) = OneOf c vs
 
+-- the conditions of a list of trees
 abbrev pub list_step : layer.TreeList-F Condition (List Condition) → List Condition
 list_step list = list.members.items
 

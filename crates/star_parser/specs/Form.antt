@@ -23,9 +23,11 @@ nothing = stands_for tt
 abbrev pub one_symbol : Symbol → Form (Unit {0})
 one_symbol s symbols meaning = symbols ≡ s ∷ []
 
+-- a keyword
 abbrev pub word : Keyword → Form (Unit {0})
 word k = one_symbol (symbol.Keyword k)
 
+-- a sign
 abbrev pub sign : Sign → Form (Unit {0})
 sign s = one_symbol (symbol.Sign s)
 
@@ -42,6 +44,7 @@ infixl 10 ◌>>=◌
 abbrev pub ◌>>=◌ : {A B : Type 0} → Form A → (A → Form B) → Form B
 (first >>= second) symbols meaning = (front back : List Symbol) × (value : _) × (symbols ≡ front ++ back) × first front value × second value back meaning
 
+-- a front of the first form, and behind it one of the second, which the whole stands for
 infixl 10 ◌>>◌
 abbrev pub ◌>>◌ : {A B : Type 0} → Form A → Form B → Form B
 first >> second = first >>= λ _. second

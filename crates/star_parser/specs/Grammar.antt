@@ -16,6 +16,7 @@ use Rattle.star_parser.specs.Form.{Form, stands_for, nothing, word, sign, name, 
 use Rattle.star_parser.specs.Condition.{Condition, Negate, Test, Same, Between, OneOf, both_of, either_of}
 use Rattle.star_parser.specs.Statement.{Statement, Dimension, Fact, Load, Delete, Select, Wait}
 
+-- what stands between the members of a list
 abbrev pub comma : Symbol
 comma = symbol.Sign mark.Comma
 

@@ -30,9 +30,11 @@ abbrev pub joined : {A : Type 0} → Symbol → (A → List Symbol) → List A �
 joined separator print [] = []
 joined separator print (value ∷ values) = print value ++ flat_map (λ next. separator ∷ print next) values
 
+-- a name by itself
 abbrev pub name_symbols : List ℕ → List Symbol
 name_symbols name = symbol.Name name ∷ []
 
+-- a literal by itself
 abbrev pub literal_symbols : Value → List Symbol
 literal_symbols value = symbol.Literal value ∷ []
 
@@ -41,9 +43,11 @@ abbrev pub dotted_symbols : Option (List ℕ) → List ℕ → List Symbol
 dotted_symbols None name = symbol.Name name ∷ []
 dotted_symbols (Some table) name = symbol.Name table ∷ symbol.Sign mark.Dot ∷ symbol.Name name ∷ []
 
+-- a column, with or without the name of its table
 abbrev pub column_symbols : Column → List Symbol
 column_symbols column = dotted_symbols column.table column.name
 
+-- the sign of a comparison
 abbrev pub relation_sign : Relation → Sign
 relation_sign how.Eq = mark.Equal
 relation_sign how.Ne = mark.NotEqual
@@ -52,16 +56,20 @@ relation_sign how.Le = mark.LessOrEqual
 relation_sign how.Gt = mark.Greater
 relation_sign how.Ge = mark.GreaterOrEqual
 
+-- a column compared with a literal
 abbrev pub test_symbols : Column → Relation → Value → List Symbol
 test_symbols column how value = column_symbols column ++ symbol.Sign (relation_sign how) ∷ literal_symbols value
 
+-- two columns that are equal
 abbrev pub same_symbols : Column → Column → List Symbol
 same_symbols left right = column_symbols left ++ symbol.Sign mark.Equal ∷ column_symbols right
 
+-- a column between two literals
 abbrev pub between_symbols : Column → Value → Value → List Symbol
 between_symbols column low high =
     column_symbols column ++ symbol.Keyword key.Between ∷ symbol.Literal low ∷ symbol.Keyword key.And ∷ symbol.Literal high ∷ []
 
+-- a column among literals
 abbrev pub one_of_symbols : Column → List Value → List Symbol
 one_of_symbols column values = column_symbols column ++ symbol.Keyword key.In ∷ in_brackets (joined comma literal_symbols values)
 
@@ -77,6 +85,7 @@ abbrev mutual
   one_symbols (Between column low high) = between_symbols column low high
   one_symbols (OneOf column values) = one_of_symbols column values
 
+  -- a member of an `or`
   pub all_symbols : Condition → List Symbol
   all_symbols (Either ts) = in_brackets (either_symbols ts)
   all_symbols (Both ts) = both_symbols ts
@@ -86,18 +95,22 @@ abbrev mutual
   all_symbols (Between column low high) = between_symbols column low high
   all_symbols (OneOf column values) = one_of_symbols column values
 
+  -- the members of an `and`
   pub both_symbols : Conditions → List Symbol
   both_symbols none = []
   both_symbols (more t ts) = one_symbols t ++ more_both_symbols ts
 
+  -- members of an `and` behind another
   pub more_both_symbols : Conditions → List Symbol
   more_both_symbols none = []
   more_both_symbols (more t ts) = symbol.Keyword key.And ∷ one_symbols t ++ more_both_symbols ts
 
+  -- the members of an `or`
   pub either_symbols : Conditions → List Symbol
   either_symbols none = []
   either_symbols (more t ts) = all_symbols t ++ more_either_symbols ts
 
+  -- members of an `or` behind another
   pub more_either_symbols : Conditions → List Symbol
   more_either_symbols none = []
   more_either_symbols (more t ts) = symbol.Keyword key.Or ∷ all_symbols t ++ more_either_symbols ts
@@ -110,6 +123,7 @@ separator_symbols behind_another keyword = if behind_another then (symbol.Keywor
 abbrev pub both_symbols_from : Bool → Conditions → List Symbol
 both_symbols_from behind_another ts = if behind_another then more_both_symbols ts else both_symbols ts
 
+-- the same of an `or`
 abbrev pub either_symbols_from : Bool → Conditions → List Symbol
 either_symbols_from behind_another ts = if behind_another then more_either_symbols ts else either_symbols ts
 
@@ -123,15 +137,18 @@ any_symbols (Same left right) = same_symbols left right
 any_symbols (Between column low high) = between_symbols column low high
 any_symbols (OneOf column values) = one_of_symbols column values
 
+-- a WHERE, where there is one
 abbrev pub where_symbols : Option Condition → List Symbol
 where_symbols None = []
 where_symbols (Some t) = symbol.Keyword key.Where ∷ any_symbols t
 
+-- a GROUP BY, where there is one
 abbrev pub group_symbols : List Column → List Symbol
 group_symbols [] = []
 group_symbols (column ∷ columns) =
     symbol.Keyword key.Group ∷ symbol.Keyword key.By ∷ joined comma column_symbols (column ∷ columns)
 
+-- an item of a select list
 abbrev pub item_symbols : AstItem → List Symbol
 item_symbols (items.Plain column) = column_symbols column
 item_symbols items.CountAll = symbol.Keyword key.Count ∷ in_brackets (symbol.Sign mark.Star ∷ [])
@@ -140,10 +157,12 @@ item_symbols (items.Sum column) = symbol.Keyword key.Sum ∷ in_brackets (column
 item_symbols (items.Min column) = symbol.Keyword key.Min ∷ in_brackets (column_symbols column)
 item_symbols (items.Max column) = symbol.Keyword key.Max ∷ in_brackets (column_symbols column)
 
+-- the keyword of a kind
 abbrev pub kind_symbol : Kind → Symbol
 kind_symbol kinds.Int = symbol.Keyword key.Int
 kind_symbol kinds.Text = symbol.Keyword key.Text
 
+-- the dimension that is referenced, where there is one
 abbrev pub target_symbols : Option (List ℕ) → List Symbol
 target_symbols None = []
 target_symbols (Some dimension) = symbol.Keyword key.References ∷ symbol.Name dimension ∷ []
@@ -158,6 +177,7 @@ dimension_column_symbols [] = []
 dimension_column_symbols (first ∷ others) =
     declared_symbols first ++ symbol.Keyword key.Key ∷ flat_map (λ column. comma ∷ declared_symbols column) others
 
+-- that a block has a header, where it has one
 abbrev pub header_symbols : Bool → List Symbol
 header_symbols true = symbol.Keyword key.Header ∷ []
 header_symbols false = []
@@ -191,6 +211,7 @@ AreTwo none = ⊥
 AreTwo (more t none) = ⊥
 AreTwo (more t (more u ts)) = Unit {0}
 
+-- whether a condition is an `and`
 abbrev pub is_both : Condition → Bool
 is_both (Both ts) = true
 is_both (Either ts) = false
@@ -200,6 +221,7 @@ is_both (Same left right) = false
 is_both (Between column low high) = false
 is_both (OneOf column values) = false
 
+-- whether a condition is an `or`
 abbrev pub is_either : Condition → Bool
 is_either (Either ts) = true
 is_either (Both ts) = false
@@ -220,10 +242,12 @@ abbrev mutual
   IsTree (Between column low high) = Unit {0}
   IsTree (OneOf column values) = IsNonempty values
 
+  -- all are trees, and none is of this kind
   pub AreTrees : (Condition → Bool) → Conditions → Type 0
   AreTrees kind none = Unit {0}
   AreTrees kind (more t ts) = (kind t ≡ false) × IsTree t × AreTrees kind ts
 
+-- a condition that is there is a tree
 abbrev pub IsTreeWhere : Option Condition → Type 0
 IsTreeWhere None = Unit {0}
 IsTreeWhere (Some t) = IsTree t

@@ -15,20 +15,25 @@ use Rattle.star_parser.specs.declared.parser.Stop.TheVariants.{Memory, Unfit}
 abbrev pub Outcome : Type 0 → Type 0
 Outcome A = Option A × List Symbol
 
+-- what is read from the front of these symbols
 abbrev pub Reader : Type 0 → Type 0
 Reader A = List Symbol → Outcome A
 
+-- a value, with no symbol taken
 abbrev pub gives : {A : Type 0} → A → Reader A
 gives value symbols = (Some value, symbols)
 
+-- what the second reads behind a first outcome, unless that is nothing
 abbrev pub bind : {A B : Type 0} → Outcome A → (A → Reader B) → Outcome B
 bind (Some value, rest) second = second value rest
 bind (None, rest) second = (None, rest)
 
+-- one reader, and behind it another, which may depend on what the first read
 infixl 10 ◌>>=◌
 abbrev pub ◌>>=◌ : {A B : Type 0} → Reader A → (A → Reader B) → Reader B
 (first >>= second) symbols = bind (first symbols) second
 
+-- one reader, and behind it another
 infixl 10 ◌>>◌
 abbrev pub ◌>>◌ : {A B : Type 0} → Reader A → Reader B → Reader B
 first >> second = first >>= λ _. second
@@ -43,18 +48,21 @@ abbrev pub behind : (Symbol → Bool) → List Symbol → List Symbol
 behind test [] = []
 behind test (s ∷ symbols) = if test s then symbols else (s ∷ symbols)
 
+-- whether a symbol is this keyword
 abbrev pub is_word : Keyword → Symbol → Bool
 is_word k (symbol.Keyword l) = sameb keyword_type.the_type l k
 is_word k (symbol.Name n) = false
 is_word k (symbol.Literal v) = false
 is_word k (symbol.Sign s) = false
 
+-- whether a symbol is this sign
 abbrev pub is_sign : Sign → Symbol → Bool
 is_sign s (symbol.Sign t) = sameb sign_type.the_type t s
 is_sign s (symbol.Keyword k) = false
 is_sign s (symbol.Name n) = false
 is_sign s (symbol.Literal v) = false
 
+-- whether a symbol is a literal
 abbrev pub is_literal : Symbol → Bool
 is_literal (symbol.Literal v) = true
 is_literal (symbol.Keyword k) = false
@@ -74,6 +82,7 @@ abbrev pub expect : (Symbol → Bool) → Reader (Unit {0})
 expect test [] = (None, [])
 expect test (s ∷ symbols) = if test s then (Some tt, symbols) else (None, s ∷ symbols)
 
+-- a name
 abbrev pub name_at : Reader (List ℕ)
 name_at [] = (None, [])
 name_at (symbol.Name n ∷ symbols) = (Some n, symbols)
@@ -81,6 +90,7 @@ name_at (symbol.Keyword k ∷ symbols) = (None, symbol.Keyword k ∷ symbols)
 name_at (symbol.Literal v ∷ symbols) = (None, symbol.Literal v ∷ symbols)
 name_at (symbol.Sign s ∷ symbols) = (None, symbol.Sign s ∷ symbols)
 
+-- a literal
 abbrev pub literal_at : Reader Value
 literal_at [] = (None, [])
 literal_at (symbol.Literal v ∷ symbols) = (Some v, symbols)
@@ -99,6 +109,7 @@ separated_in separator member zero = λ symbols. (None, symbols)
 separated_in separator member (suc most) = member >>= λ value.
     on separator (separated_in separator member most >>= λ values. gives (value ∷ values)) (gives (value ∷ []))
 
+-- the same in any number, which is no greater than that of the symbols
 abbrev pub separated_at : {A : Type 0} → (Symbol → Bool) → Reader A → Reader (List A)
 separated_at separator member symbols = separated_in separator member (suc (length symbols)) symbols
 

@@ -7,6 +7,7 @@ use Rattle.star_parser.specs.declared.ast.AstItem.{AstItem}
 use Rattle.star_parser.specs.declared.tree.Column.{Column}
 use Rattle.star_parser.specs.Condition.{Condition, condition_of}
 
+-- what a statement says
 pub data Statement : Type 0 where
   Dimension : List ℕ → List AstColumn → Statement
   Fact : List ℕ → List AstColumn → Statement
