@@ -18,6 +18,7 @@ use Rattle.star_parser.specs.Reader.{Reader, begins, gives, on, expect, is_word,
 use Rattle.star_parser.specs.Reading as reading
 use Rattle.star_parser.specs.Reads.{Reads, IsInhabited}
 use Rattle.star_parser.proofs.ReadsLemmas.{no_symbol, Avoids, after, bind_reads, tight_reads, as_reads, after_reads, on_reads, when_reads, literal_reads, reads_by, avoids_symbol, avoids_or, avoids_front, symbol_there, literal_there, nothing_there, bind_there, or_there}
+use Rattle.star_parser.proofs.StepLemmas.{bind_bind}
 use Rattle.star_parser.proofs.TerminalLemmas.{finds_word, finds_sign, or_left, or_right}
 use Rattle.star_parser.proofs.SeparatedLemmas.{separated_reads}
 use Rattle.star_parser.proofs.GrammarLemmas.{dot, column_reads, column_there, column_avoids, closed_reads, bracketed_reads}
@@ -51,19 +52,21 @@ equal_to_reads c symbols =
 between_reads : {E : Symbol → Bool} (c : Column) (symbols : List Symbol)
     → Reads (form.◌>>=◌ form.literal (λ low. after (symbol.Keyword key.And) (form.◌>>=◌ form.literal (λ high. stands_for (Between c low high)))))
     (form.◌>>=◌ form.literal (λ low. after (symbol.Keyword key.And) (form.◌>>=◌ form.literal (λ high. stands_for (Between c low high))))) E symbols (reading.between_at c symbols)
-unfolding reading.between_at
-between_reads c symbols =
-    tight_reads symbols (literal_at symbols) (λ low. reader.◌>>◌ (expect (is_word key.And)) (reader.◌>>=◌ literal_at (λ high. gives (Between c low high)))) (literal_reads symbols)
-    (λ low rest e. after_reads rest (reader.◌>>=◌ literal_at (λ high. gives (Between c low high))) (finds_word key.And)
-    (λ last h. as_reads last (literal_at last) (Between c low) (literal_reads last)) (bind_there literal_there (λ high. nothing_there (Between c low high))))
+unfolding reading.between_at reading.upper_bound_at
+between_reads {E = E} c symbols =
+    let upper = λ (low : Value). after (symbol.Keyword key.And) (form.◌>>=◌ form.literal (λ high. stands_for (Between c low high))) in
+    tight_reads symbols (literal_at symbols) (λ low. reader.◌>>=◌ reading.upper_bound_at (λ high. gives (Between c low high))) (literal_reads symbols)
+    (λ low rest e. subst (Reads (upper low) (upper low) E rest) (sym (bind_bind (expect (is_word key.And) rest) (λ _. literal_at) (λ high. gives (Between c low high))))
+    (after_reads rest (reader.◌>>=◌ literal_at (λ high. gives (Between c low high))) (finds_word key.And)
+    (λ last h. as_reads last (literal_at last) (Between c low) (literal_reads last)) (bind_there literal_there (λ high. nothing_there (Between c low high)))))
     (λ low. bind_there (symbol_there (symbol.Keyword key.And)) (λ _. bind_there literal_there (λ high. nothing_there (Between c low high))))
 
 listed_reads : {E : Symbol → Bool} (c : Column) (symbols : List Symbol)
     → Reads (form.◌>>=◌ (grammar.bracketed (form.separated grammar.comma form.literal)) (λ values. stands_for (OneOf c values)))
     (form.◌>>=◌ (grammar.bracketed (form.separated grammar.comma form.literal)) (λ values. stands_for (OneOf c values))) E symbols (reading.listed_at c symbols)
-unfolding reading.listed_at
+unfolding reading.listed_at reading.bracketed_literals_at
 listed_reads c symbols =
-    as_reads symbols (reading.bracketed_at reading.literals_at symbols) (OneOf c)
+    as_reads symbols (reading.bracketed_literals_at symbols) (OneOf c)
     (bracketed_reads symbols reading.literals_at (λ rest h. literals_reads rest) refl literals_there)
 
 listed_there : (c : Column) → IsInhabited (form.◌>>=◌ (grammar.bracketed (form.separated grammar.comma form.literal)) (λ values. stands_for (OneOf c values)))
@@ -135,11 +138,11 @@ not_equal_avoid : (test : Symbol → Bool) (c : Column) → test (symbol.Sign ma
 not_equal_avoid test c other rest = either_avoids test (symbol.Sign mark.NotEqual) (grammar.compared c how.Ne) (less_tests c) other rest
 
 tested_reads : (c : Column) (symbols : List Symbol) → Reads (tests c) (tests c) dot symbols (reading.tested_at c symbols)
-unfolding reading.tested_at
+unfolding reading.tested_at reading.ordered_at reading.ranged_test_at
 tested_reads c symbols =
     let ranged = λ (test : Symbol → Bool) (h1 : test (symbol.Keyword key.Not) ≡ false) (h2 : test (symbol.Keyword key.Between) ≡ false) (h3 : test (symbol.Keyword key.In) ≡ false). ranged_tests_avoid test c h1 h2 h3 in
     on_reads symbols (reading.equal_to_at c) (reading.not_equal_at c) (finds_sign mark.Equal) (λ rest h. equal_to_reads c rest)
-    (on_reads symbols (reading.compared_at c how.Ne) (reading.less_at c) (finds_sign mark.NotEqual) (λ rest h. compared_reads c how.Ne rest)
+    (on_reads symbols (reading.compared_at c how.Ne) (reading.ordered_at c) (finds_sign mark.NotEqual) (λ rest h. compared_reads c how.Ne rest)
     (on_reads symbols (reading.compared_at c how.Lt) (reading.less_or_equal_at c) (finds_sign mark.Less) (λ rest h. compared_reads c how.Lt rest)
     (on_reads symbols (reading.compared_at c how.Le) (reading.greater_at c) (finds_sign mark.LessOrEqual) (λ rest h. compared_reads c how.Le rest)
     (on_reads symbols (reading.compared_at c how.Gt) (reading.greater_or_equal_at c) (finds_sign mark.Greater) (λ rest h. compared_reads c how.Gt rest)

@@ -6,6 +6,8 @@ pub mod ConditionLemmas
 pub mod StatementLemmas
 pub mod TreeLemmas
 pub mod ShorterLemmas
+pub mod StepLemmas
+pub mod MemberLemmas
 pub mod OneLemmas
 pub mod SentenceLemmas
 pub mod PrintedLemmas

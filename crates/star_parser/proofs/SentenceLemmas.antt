@@ -1,8 +1,12 @@
 -- What the reading of a whole line of symbols says of it.
 use Rattle.std.proofs.Common.{◌≡◌, ℕ, suc, ◌≤◌, ◌-◌, false, List, [], ◌∷◌, ◌++◌, length, take, Option, Some, None, refl, ap, sym, subst, ◌∙◌, arith, append_assoc, append-nil, length-append, inl, inr}
-use Rattle.std.specs.Prelude.{◌==◌, if◌then◌else◌, unwrap_or, slice_index}
+use Rattle.std.specs.Prelude.{◌==◌, if◌then◌else◌, unwrap_or, slice_index, Result, Ok, Err}
+use Rattle.std.specs.Option.{option_map_or}
 use Rattle.star_symbols.specs.declared.symbol.Symbol.{Symbol}
 use Rattle.star_symbols.specs.Symbol.{Symbolic}
+use Rattle.star_parser.specs.declared.ast.Ast.{Ast}
+use Rattle.star_parser.specs.declared.fault.ParseFault.{ParseFault}
+use Rattle.star_parser.specs.declared.fault.ParseFault.TheVariants.{Syntax}
 use Rattle.star_parser.specs.Statement.{Statement}
 use Rattle.star_parser.specs.Grammar as grammar
 use Rattle.star_parser.specs.Reader as reader
@@ -98,3 +102,13 @@ pub stops_behind : (line : Symbolic) (end place : ℕ) (meaning : Statement) (re
     → IsStopOf line end place
 stops_behind line end place meaning rest e bad =
     inr (inl (([], meaning, subst (λ z. grammar.sentence z meaning) (sym (append-nil line.symbols)) (sentence_read line.symbols meaning rest e)), bad))
+
+-- what holds of a whole sentence, whether a token behind it is bad or not
+pub whole_by : (P : Result Ast ParseFault → Type 0) (line : Symbolic) (ast : Ast) (bad : Option ℕ) (result : Result Ast ParseFault)
+    → result ≡ option_map_or (λ place. Err (Syntax place)) bad (Ok ast) → bad ≡ line.bad
+    → ((place : ℕ) → line.bad ≡ Some place → P (Err (Syntax place))) → (line.bad ≡ None → P (Ok ast)) → P result
+whole_by P line ast bad result is told broken whole = subst P (sym is) (by bad (sym told))
+  where
+    by : (bad : Option ℕ) → line.bad ≡ bad → P (option_map_or (λ place. Err (Syntax place)) bad (Ok ast))
+    by (Some place) e = broken place e
+    by None e = whole e

@@ -8,6 +8,7 @@ use Rattle.star_parser.specs.Reader as reader
 use Rattle.star_parser.specs.Reader.{Outcome, Reader, begins, behind, bind, on, gives, separated_in, separated_at, with_front}
 use Rattle.star_parser.specs.Reads.{Reads}
 use Rattle.star_parser.proofs.ReadsLemmas.{Finds, after, bind_reads, on_reads, gives_reads, reads_by, avoids_or, avoids_symbol, avoids_nothing, or_there, nothing_there}
+use Rattle.star_parser.proofs.StepLemmas.{on_true}
 
 pub reads_length : {A : Type 0} {L M : Form A} {E : Symbol → Bool} (symbols : List Symbol) (out : Outcome A) → Reads L M E symbols out → length out.1 ≤ length symbols
 reads_length symbols out r =
@@ -104,10 +105,6 @@ separated_same test member shorter (suc most) (suc others) symbols few less =
 with_front-one : {A : Type 0} (front : List A) (v : A) (out : Outcome (List A)) → with_front (front ++ v ∷ []) out ≡ with_front front (bind out (λ values. gives (v ∷ values)))
 with_front-one front v (Some values, rest) = ap (λ z. (Some z, rest)) (append_assoc front (v ∷ []) values)
 with_front-one front v (None, rest) = refl
-
-on_true : {A : Type 0} (test : Symbol → Bool) (one last : Reader A) (symbols : List Symbol) → begins test symbols ≡ true → on test one last symbols ≡ one (behind test symbols)
-on_true test one last [] e = absurd (cc e)
-on_true test one last (t ∷ symbols) e = ap (λ b. if b then one (behind test (t ∷ symbols)) else last (t ∷ symbols)) e
 
 behind_length : (test : Symbol → Bool) (symbols : List Symbol) → begins test symbols ≡ true → suc (length (behind test symbols)) ≡ length symbols
 behind_length test [] e = absurd (cc e)

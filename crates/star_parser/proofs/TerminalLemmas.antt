@@ -1,5 +1,5 @@
 -- The tests of keywords and signs find one symbol each.
-use Rattle.std.proofs.Common.{◌≡◌, Bool, true, false, ◌||◌, refl, ap, sym, rules}
+use Rattle.std.proofs.Common.{◌≡◌, Bool, true, false, ◌||◌, refl, ap, sym}
 use denote.Enum.Bare.{same_true, true_same}
 use Rattle.star_symbols.specs.contracts.sign.Sign as sign_type
 use Rattle.star_symbols.specs.contracts.keyword.Keyword as keyword_type
@@ -11,7 +11,7 @@ use Rattle.star_parser.specs.Reader.{is_word, is_sign}
 use Rattle.star_parser.proofs.ReadsLemmas.{Finds, true_false}
 
 word_found : (k : Keyword) (t : Symbol) → is_word k t ≡ true → t ≡ symbol.Keyword k
-word_found k (symbol.Keyword l) e = ap symbol.Keyword (same_true keyword_type.the_type (search rules) l k e)
+word_found k (symbol.Keyword l) e = ap symbol.Keyword (same_true keyword_type.the_type tt l k e)
 word_found k (symbol.Name n) e = true_false (sym e)
 word_found k (symbol.Literal v) e = true_false (sym e)
 word_found k (symbol.Sign s) e = true_false (sym e)
@@ -20,7 +20,7 @@ pub finds_word : (k : Keyword) → Finds (is_word k) (symbol.Keyword k)
 finds_word k = (true_same keyword_type.the_type k k refl, word_found k)
 
 sign_found : (s : Sign) (t : Symbol) → is_sign s t ≡ true → t ≡ symbol.Sign s
-sign_found s (symbol.Sign r) e = ap symbol.Sign (same_true sign_type.the_type (search rules) r s e)
+sign_found s (symbol.Sign r) e = ap symbol.Sign (same_true sign_type.the_type tt r s e)
 sign_found s (symbol.Name n) e = true_false (sym e)
 sign_found s (symbol.Literal v) e = true_false (sym e)
 sign_found s (symbol.Keyword k) e = true_false (sym e)

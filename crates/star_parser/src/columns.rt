@@ -55,8 +55,7 @@ impl Parser<'_> {
     {
         self.sign(Sign::Open)?;
         let column = self.column()?;
-        self.sign(Sign::Close)?;
-        Ok(column)
+        self.close(column)
     }
 
     fn counted_column(&mut self) -> Result<AstItem, Stop>
@@ -75,8 +74,7 @@ impl Parser<'_> {
     {
         self.sign(Sign::Open)?;
         let item = self.counted_column()?;
-        self.sign(Sign::Close)?;
-        Ok(item)
+        self.close(item)
     }
 
     #[tactic(auto, unfolding(crate::specs::Reading::item_at))]

@@ -3,12 +3,12 @@ ghost use Rattle.std.specs.Prelude.{◌≡◌, ◌++◌, map, OnOk};
 ghost use Rattle.star_parser.specs.Reader.{Gives};
 ghost use Rattle.star_parser.specs.Condition.{condition_of, conditions, conjuncts, disjuncts, alone_or};
 ghost use Rattle.star_parser.specs.Condition as plain;
-ghost use Rattle.star_parser.specs.Reading.{compared_at, equal_to_at, between_at, listed_at, ranged_at, not_ranged_at, tested_at, test_at, negated_at, not_negated_at, closed_at, one_at, conjuncts_at, all_at, disjuncts_at, any_at, condition_at};
+ghost use Rattle.star_parser.specs.Reading.{compared_at, equal_to_at, upper_bound_at, between_at, bracketed_literals_at, listed_at, ranged_at, not_ranged_at, ranged_test_at, ordered_at, tested_at, test_at, negated_at, not_negated_at, closed_at, one_at, conjuncts_at, all_at, disjuncts_at, any_at, condition_at};
 
 use crate::parser::{Parser, Stop};
 use crate::tree::{Column, Relation, Tree, TreeList};
 use star_symbols::{Keyword, Sign};
-use star_values::{LiteralList, NoMemory};
+use star_values::{LiteralList, NoMemory, Value};
 
 impl Parser<'_> {
     /// A condition. As many `not` and parentheses can stand around each other as there are symbols.
@@ -106,8 +106,7 @@ impl Parser<'_> {
         ensures { Gives condition_of result self.new.rest.now (closed_at depth self.old.rest.now) }
     {
         let tree = self.any(depth)?;
-        self.sign(Sign::Close)?;
-        Ok(tree)
+        self.close(tree)
     }
 
     #[tactic(auto, unfolding(crate::specs::Reading::compared_at))]
@@ -135,22 +134,38 @@ impl Parser<'_> {
         ensures { Gives condition_of result self.new.rest.now (between_at column self.old.rest.now) }
     {
         let low = self.literal()?;
-        self.keyword(Keyword::And)?;
-        let high = self.literal()?;
+        let high = self.upper_bound()?;
         Ok(Tree::Between { column, low, high })
+    }
+
+    #[tactic(auto, unfolding(crate::specs::Reading::upper_bound_at))]
+    fn upper_bound(&mut self) -> Result<Value, Stop>
+        ensures { Gives (λ value. value) result self.new.rest.now
+            (upper_bound_at self.old.rest.now) }
+    {
+        self.keyword(Keyword::And)?;
+        self.literal()
     }
 
     #[tactic(auto, unfolding(crate::specs::Reading::listed_at))]
     fn listed(&mut self, column: Column) -> Result<Tree, Stop>
         ensures { Gives condition_of result self.new.rest.now (listed_at column self.old.rest.now) }
     {
-        self.sign(Sign::Open)?;
-        let values = self.literals()?;
-        self.sign(Sign::Close)?;
+        let values = self.bracketed_literals()?;
         Ok(Tree::OneOf {
             column,
             values: LiteralList::from(values),
         })
+    }
+
+    #[tactic(auto, unfolding(crate::specs::Reading::bracketed_literals_at))]
+    fn bracketed_literals(&mut self) -> Result<Vec<Value>, Stop>
+        ensures { Gives (λ values. values.items) result self.new.rest.now
+            (bracketed_literals_at self.old.rest.now) }
+    {
+        self.sign(Sign::Open)?;
+        let values = self.literals()?;
+        self.close(values)
     }
 
     #[tactic(auto, unfolding(crate::specs::Reading::ranged_at))]
@@ -181,7 +196,18 @@ impl Parser<'_> {
             self.equal_to(column)
         } else if self.skip_sign(Sign::NotEqual) {
             self.compared(column, Relation::Ne)
-        } else if self.skip_sign(Sign::Less) {
+        } else {
+            self.ordered(column)
+        }
+    }
+
+    /// A comparison by order, or else what is no comparison.
+    #[tactic(auto, unfolding(crate::specs::Reading::ordered_at))]
+    fn ordered(&mut self, column: Column) -> Result<Tree, Stop>
+        ensures { Gives condition_of result self.new.rest.now
+            (ordered_at column self.old.rest.now) }
+    {
+        if self.skip_sign(Sign::Less) {
             self.compared(column, Relation::Lt)
         } else if self.skip_sign(Sign::LessOrEqual) {
             self.compared(column, Relation::Le)
@@ -189,7 +215,17 @@ impl Parser<'_> {
             self.compared(column, Relation::Gt)
         } else if self.skip_sign(Sign::GreaterOrEqual) {
             self.compared(column, Relation::Ge)
-        } else if self.skip_keyword(Keyword::Not) {
+        } else {
+            self.ranged_test(column)
+        }
+    }
+
+    #[tactic(auto, unfolding(crate::specs::Reading::ranged_test_at))]
+    fn ranged_test(&mut self, column: Column) -> Result<Tree, Stop>
+        ensures { Gives condition_of result self.new.rest.now
+            (ranged_test_at column self.old.rest.now) }
+    {
+        if self.skip_keyword(Keyword::Not) {
             self.not_ranged(column)
         } else {
             self.ranged(column)

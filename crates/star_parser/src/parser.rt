@@ -1,5 +1,6 @@
 //! Symbols from the front.
-ghost use Rattle.std.specs.Prelude.{◌≡◌};
+ghost use Rattle.std.specs.Prelude.{◌≡◌, IfOk};
+ghost use Rattle.star_symbols.specs.declared.sign.Sign.TheVariants as mark;
 ghost use Rattle.star_symbols.specs.declared.symbol.Symbol.TheVariants as symbol;
 ghost use Rattle.star_parser.specs.Reader.{Gives, begins, behind, is_word, is_sign, is_literal, expect, name_at, literal_at, end_at};
 
@@ -60,7 +61,7 @@ impl<'a> Parser<'a> {
         ensures rest { self.new.rest.now ≡ behind (is_word keyword) self.old.rest.now }
     {
         match self.rest {
-            [Symbol::Keyword(first), rest @ ..] if *first == keyword => {
+            [first, rest @ ..] if is_word(first, keyword) => {
                 self.rest = rest;
                 true
             }
@@ -73,7 +74,7 @@ impl<'a> Parser<'a> {
         ensures rest { self.new.rest.now ≡ behind (is_sign sign) self.old.rest.now }
     {
         match self.rest {
-            [Symbol::Sign(first), rest @ ..] if *first == sign => {
+            [first, rest @ ..] if is_sign(first, sign) => {
                 self.rest = rest;
                 true
             }
@@ -84,7 +85,10 @@ impl<'a> Parser<'a> {
     pub fn at_literal(&self) -> bool
         ensures { result ≡ begins is_literal self.now.rest.now }
     {
-        matches!(self.rest, [Symbol::Literal(_), ..])
+        match self.rest {
+            [first, ..] => is_literal(first),
+            [] => false,
+        }
     }
 
     pub fn keyword(&mut self, keyword: Keyword) -> Result<(), Stop>
@@ -133,13 +137,51 @@ impl<'a> Parser<'a> {
         }
     }
 
-    pub fn end(&mut self) -> Result<(), Stop>
-        ensures { Gives (λ u. u) result self.new.rest.now (end_at self.old.rest.now) }
+    /// Hands on what stood between parentheses, where the second one follows.
+    pub fn close<T: Drop>(&mut self, inner: T) -> Result<T, Stop>
+        ensures read { Gives (λ _. tt) result self.new.rest.now
+            (expect (is_sign mark.Close) self.old.rest.now) }
+        ensures same { IfOk result (λ value. value ≡ inner) }
+    {
+        self.sign(Sign::Close)?;
+        Ok(inner)
+    }
+
+    /// Hands on what was read, where nothing follows.
+    pub fn end<T: Drop>(&mut self, whole: T) -> Result<T, Stop>
+        ensures read { Gives (λ _. tt) result self.new.rest.now (end_at self.old.rest.now) }
+        ensures same { IfOk result (λ value. value ≡ whole) }
     {
         if self.rest.is_empty() {
-            Ok(())
+            Ok(whole)
         } else {
             Err(Stop::Unfit)
         }
     }
+}
+
+/// Whether a symbol is this keyword.
+fn is_word(symbol: &Symbol, keyword: Keyword) -> bool
+    ensures { result ≡ is_word keyword symbol.now }
+{
+    match symbol {
+        Symbol::Keyword(word) => *word == keyword,
+        Symbol::Name(_) | Symbol::Literal(_) | Symbol::Sign(_) => false,
+    }
+}
+
+/// Whether a symbol is this sign.
+fn is_sign(symbol: &Symbol, sign: Sign) -> bool
+    ensures { result ≡ is_sign sign symbol.now }
+{
+    match symbol {
+        Symbol::Sign(mark) => *mark == sign,
+        Symbol::Keyword(_) | Symbol::Name(_) | Symbol::Literal(_) => false,
+    }
+}
+
+fn is_literal(symbol: &Symbol) -> bool
+    ensures { result ≡ is_literal symbol.now }
+{
+    matches!(symbol, Symbol::Literal(_))
 }

@@ -1,5 +1,6 @@
 //! A line as a statement, or the reason why it is none.
-ghost use Rattle.std.specs.Prelude.{◌≡◌, ℕ, ◌<◌, ◌≤◌, ◌^◌, IfOk, OnOk, IsErrOf, length};
+ghost use Rattle.std.specs.Prelude.{◌≡◌, ℕ, ◌<◌, ◌≤◌, ◌^◌, Ok, Err, IfOk, OnOk, IsErrOf, length};
+ghost use Rattle.std.specs.Option.{option_map_or};
 ghost use Rattle.star_symbols.specs.Limits.{IsOverLimit};
 ghost use Rattle.star_parser.specs.Statement.{Statement, statement_of};
 ghost use Rattle.star_parser.specs.Parsed.{IsParsed, parsed_by, parsed_of};
@@ -41,12 +42,19 @@ fn read_sentence(alloc: Global, symbols: &Symbols, end: u32) -> Result<Ast, Pars
         rest: symbols.as_slice(),
     };
     match parser.sentence() {
-        Ok(ast) => match symbols.bad() {
-            Some(place) => Err(ParseFault::Syntax(place)),
-            None => Ok(ast),
-        },
+        Ok(ast) => unless_bad(ast, symbols.bad()),
         Err(Stop::Memory) => Err(ParseFault::Memory),
         Err(Stop::Unfit) => Err(ParseFault::Syntax(place_of(symbols, parser.rest.len(), end))),
+    }
+}
+
+/// What was read, unless a token behind it is bad.
+fn unless_bad<T: Drop>(read: T, bad: Option<u32>) -> Result<T, ParseFault>
+    ensures { result ≡ option_map_or (λ place. Err (ParseFault.Syntax place)) bad (Ok read) }
+{
+    match bad {
+        Some(place) => Err(ParseFault::Syntax(place)),
+        None => Ok(read),
     }
 }
 

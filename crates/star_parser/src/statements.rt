@@ -1,5 +1,5 @@
 //! Statements, read from the front.
-ghost use Rattle.std.specs.Prelude.{◌≡◌, Some, option_map};
+ghost use Rattle.std.specs.Prelude.{◌≡◌, Some, option_map, IfOk};
 ghost use Rattle.star_parser.specs.Condition.{condition_of};
 ghost use Rattle.star_parser.specs.Statement.{statement_of};
 ghost use Rattle.star_parser.specs.Reader.{Gives};
@@ -20,8 +20,7 @@ impl Parser<'_> {
     {
         let statement = self.statement()?;
         self.skip_semicolon();
-        self.end()?;
-        Ok(statement)
+        self.end(statement)
     }
 
     #[tactic(auto, unfolding(crate::specs::Reading::statement_at))]
@@ -168,7 +167,7 @@ impl Parser<'_> {
         self.keyword(Keyword::From)?;
         let tables = self.names()?;
         let condition = self.where_part()?;
-        let groups = self.group_part()?;
+        let (condition, groups) = self.with_groups(condition)?;
         Ok(Ast::Select {
             items: AstItemList::from(items),
             tables: NameList::from(tables),
@@ -186,6 +185,16 @@ impl Parser<'_> {
         } else {
             Ok(None)
         }
+    }
+
+    /// What was read, and the columns behind it.
+    fn with_groups<T: Drop>(&mut self, front: T) -> Result<(T, Vec<Column>), Stop>
+        ensures read { Gives (λ both. both.1.items) result self.new.rest.now
+            (group_at self.old.rest.now) }
+        ensures same { IfOk result (λ both. both.0 ≡ front) }
+    {
+        let groups = self.group_part()?;
+        Ok((front, groups))
     }
 
     #[tactic(auto, unfolding(crate::specs::Reading::group_at))]

@@ -1,10 +1,11 @@
-use Rattle.std.proofs.Common.{◌≡◌, ◌≤◌, ◌-◌, map, subst, sym, arith}
+use Rattle.std.proofs.Common.{◌≡◌, ◌≤◌, ◌-◌, Some, map, subst, sym, ap, ◌∙◌, arith}
 use Rattle.star_symbols.specs.declared.keyword.Keyword.TheVariants as key
-use Rattle.star_parser.specs.Condition.{conjuncts, disjuncts, condition_of}
-use Rattle.star_parser.specs.Reader.{Gives, is_word}
-use Rattle.star_parser.specs.Reading.{one_at, all_by, all_at, conjuncts_at, disjuncts_at}
+use Rattle.star_parser.specs.Condition.{Both, Either, alone_or, conjuncts, disjuncts, condition_of}
+use Rattle.star_parser.specs.Reader.{Gives, gives, is_word}
+use Rattle.star_parser.specs.Reading.{one_at, all_by, all_at, any_at, conjuncts_at, disjuncts_at}
 use Rattle.star_parser.proofs.SeparatedLemmas.{flat_on, smaller_on}
 use Rattle.star_parser.proofs.ShorterLemmas.{one_shorter, all_shorter}
+use Rattle.star_parser.proofs.StepLemmas.{bind_ok}
 use Rattle.star_parser.proofs.OneLemmas.{one_else}
 use Rattle.star_parser.proofs.parser.Parser.+nesting.Goals as goal
 
@@ -40,3 +41,17 @@ one-returns-else-skip_keyword t c =
     subst (λ z. Gives condition_of c.not_negated.result c.not_negated.new.self.rest.now z)
     (sym (one_else c.args.depth c.in-Some.inner c.args.self.now.rest.now c.skip_keyword.new.self.rest.now (omega (arith, deep.0, deep.1)) (sym c.if-skip_keyword.ensures.skipped) c.skip_keyword.ensures.rest))
     c.not_negated.ensures
+
+pub any-returns : goal.any-returns
+unfolding any_at disjuncts_at
+any-returns t c =
+    let rest = c.disjuncts.new.self.rest.now in
+    bind_ok (λ ts. gives (alone_or Either ts)) (map condition_of c.in_ok-disjuncts.disjuncts.items) rest c.in_ok-disjuncts.ensures
+    ∙ ap (λ z. (Some z, rest)) (sym c.any_of.ensures)
+
+pub all-returns : goal.all-returns
+unfolding all_at conjuncts_at
+all-returns t c =
+    let rest = c.conjuncts.new.self.rest.now in
+    bind_ok (λ ts. gives (alone_or Both ts)) (map condition_of c.in_ok-conjuncts.conjuncts.items) rest c.in_ok-conjuncts.ensures
+    ∙ ap (λ z. (Some z, rest)) (sym c.all_of.ensures)
