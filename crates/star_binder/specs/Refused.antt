@@ -74,6 +74,16 @@ is_not_grouped scope groups (Sum column) = false
 is_not_grouped scope groups (Min column) = false
 is_not_grouped scope groups (Max column) = false
 
+-- the query of a select whose names are known, or the first reason that refuses it
+abbrev pub bound_named : TablesInScope → SelectParts → Result Query Refusal
+bound_named scope select =
+    if has_another_kind scope select.conjuncts || list_any (sums_a_text scope) select.items
+    then Err refusal.TypeMismatch else
+    if lacks_a_join scope select.conjuncts then Err refusal.MissingJoin else
+    if list_any (is_mixed scope) select.conjuncts then Err refusal.MixedConjunct else
+    if list_any (is_not_grouped scope select.groups) select.items then Err refusal.NotGrouped else
+    Ok (query_in scope select)
+
 -- the query of a select whose FROM names these tables, or the first reason that refuses it
 abbrev pub bound_over : TablesInScope → SelectParts → Result Query Refusal
 bound_over scope select =
@@ -82,12 +92,7 @@ bound_over scope select =
     || list_any (is_unknown scope) (columns_named select) then Err refusal.UnknownName else
     if nat_lt MAX_ITEMS (length select.items) || nat_lt MAX_GROUPS (length select.groups) then Err refusal.Limit else
     if list_any (is_ambiguous scope) (columns_named select) then Err refusal.AmbiguousName else
-    if has_another_kind scope select.conjuncts || list_any (sums_a_text scope) select.items
-    then Err refusal.TypeMismatch else
-    if lacks_a_join scope select.conjuncts then Err refusal.MissingJoin else
-    if list_any (is_mixed scope) select.conjuncts then Err refusal.MixedConjunct else
-    if list_any (is_not_grouped scope select.groups) select.items then Err refusal.NotGrouped else
-    Ok (query_in scope select)
+    bound_named scope select
 
 -- the tables of a select whose FROM names these
 abbrev pub from_tables : Schema → List (List ℕ) → TablesInScope

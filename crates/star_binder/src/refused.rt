@@ -1,12 +1,15 @@
 //! The one order of checks: the first that fails gives the reason for which a statement is refused.
 //! Each check alone is in `known`, `select`, `kinds`, `joined` or `grouped`.
-ghost use Rattle.std.specs.Prelude.{◌≡◌, map, IfOk};
+ghost use Rattle.std.specs.Prelude.{◌≡◌, ◌||◌, flat_map, map, not, IfOk};
+ghost use Rattle.std.specs.List.{list_any};
 ghost use Rattle.star_parser.specs.Condition.{condition_of};
 ghost use Rattle.star_plan.specs.declared.table.Table.TheVariants as table;
 ghost use Rattle.star_binder.specs.Bound.{query_in, test_on};
 ghost use Rattle.star_binder.specs.Checked.{unless_refused};
+ghost use Rattle.star_binder.specs.Named.{columns_in};
 ghost use Rattle.star_binder.specs.Parts.{parts_of};
-ghost use Rattle.star_binder.specs.Refused.{bound_in, bound_over};
+ghost use Rattle.star_binder.specs.Places.{is_unknown};
+ghost use Rattle.star_binder.specs.Refused.{bound_in, bound_named, bound_over, names_the_fact};
 
 use crate::grouped::has_item_that_is_not_grouped;
 use crate::joined::{has_mixed_conjunct, lacks_a_join};
@@ -43,6 +46,18 @@ pub(crate) fn refusal_of(
     if has_ambiguous_column(scope, columns.as_slice()) {
         return Ok(Some(Refusal::AmbiguousName));
     }
+    refusal_of_named(alloc, scope, select)
+}
+
+/// The first reason that refuses a select of known names, where there is one.
+fn refusal_of_named(
+    alloc: Global,
+    scope: &Scope,
+    select: &Select,
+) -> Result<Option<Refusal>, NoMemory>
+    ensures { IfOk result (λ refusal. bound_named scope.now (parts_of select.now)
+        ≡ unless_refused refusal (query_in scope.now (parts_of select.now))) }
+{
     if has_type_mismatch(alloc, scope, select)? {
         return Ok(Some(Refusal::TypeMismatch));
     }
@@ -70,9 +85,7 @@ pub(crate) fn refusal_of_delete(
         ≡ unless_refused refusal
         (test_on scope.now (map condition_of conjuncts.now) table.Fact)) }
 {
-    let mut columns = Vec::new(alloc);
-    add_conjunct_columns(&mut columns, conjuncts)?;
-    if has_unknown_name_in_delete(scope, name, columns.as_slice()) {
+    if names_unknown(alloc, scope, name, conjuncts)? {
         return Ok(Some(Refusal::UnknownName));
     }
     if has_another_kind(alloc, scope, conjuncts)? {
@@ -82,4 +95,20 @@ pub(crate) fn refusal_of_delete(
         return Ok(Some(Refusal::MixedConjunct));
     }
     Ok(None)
+}
+
+/// Whether a delete names what is unknown.
+fn names_unknown(
+    alloc: Global,
+    scope: &Scope,
+    name: &SmallText,
+    conjuncts: &[Tree],
+) -> Result<bool, NoMemory>
+    ensures { IfOk result (λ unknown. unknown ≡ (not (names_the_fact scope.now.schema name.now)
+        || list_any (is_unknown scope.now)
+        (flat_map columns_in (map condition_of conjuncts.now)))) }
+{
+    let mut columns = Vec::new(alloc);
+    add_conjunct_columns(&mut columns, conjuncts)?;
+    Ok(has_unknown_name_in_delete(scope, name, columns.as_slice()))
 }

@@ -121,10 +121,10 @@ fn bind_over(alloc: Global, scope: &Scope, select: &Select) -> Result<StarQuery,
 fn query_in(alloc: Global, scope: &Scope, select: &Select) -> Result<StarQuery, NoMemory>
     ensures { IfOk result (λ query. query_of query ≡ bound.query_in scope.now (parts_of select.now)) }
 {
-    let fact = test_on(alloc, scope, select.conjuncts, Table::Fact)?;
     let choices = choices(alloc, scope, select.conjuncts)?;
     let groups = groups(alloc, scope, select.groups)?;
     let items = items(alloc, scope, select.items)?;
+    let fact = test_on(alloc, scope, select.conjuncts, Table::Fact)?;
     Ok(StarQuery {
         fact,
         choices,

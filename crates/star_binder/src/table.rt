@@ -40,14 +40,25 @@ fn table_of(
     ensures columns { IfOk result (λ table. table.columns
         ≡ map (defined_column schema.now) columns.now) }
 {
+    Ok(TableDef {
+        name: name.copy()?,
+        columns: defined_columns(alloc, schema, columns)?,
+    })
+}
+
+fn defined_columns(
+    alloc: Global,
+    schema: &Schema,
+    columns: &[AstColumn],
+) -> Result<ColumnList, NoMemory>
+    requires { IsWithinLimits schema.now }
+    ensures { IfOk result (λ defined. defined ≡ map (defined_column schema.now) columns.now) }
+{
     let mut defined = Vec::with_capacity(alloc, columns.len())?;
     'columns: for column in columns {
         defined.push(defined_column(schema, column)?)?;
     }
-    Ok(TableDef {
-        name: name.copy()?,
-        columns: ColumnList::from(defined),
-    })
+    Ok(ColumnList::from(defined))
 }
 
 fn defined_column(schema: &Schema, column: &AstColumn) -> Result<ColumnDef, NoMemory>

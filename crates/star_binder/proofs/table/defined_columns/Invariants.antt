@@ -1,6 +1,6 @@
 use Rattle.std.proofs.Common.{◌≡◌, ◌++◌, drop, map}
 use Rattle.star_binder.specs.Table.{defined_column}
-use Rattle.star_binder.proofs.table.table_of.Given as goal
+use Rattle.star_binder.proofs.table.defined_columns.Given as goal
 
 -- what is defined, and what is left to define, are the columns of the table
 abbrev pub invariant-columns : goal.invariant-columns
