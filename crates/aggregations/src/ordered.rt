@@ -9,7 +9,7 @@ use star_values::{NoMemory, Row};
 use std::alloc::Global;
 
 /// The key of a group, and the group's number.
-#[derive(Debug, Drop)]
+#[derive(Drop)]
 pub(crate) struct NumberedKey {
     pub(crate) key: Row,
     pub(crate) number: usize,
