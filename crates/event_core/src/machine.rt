@@ -93,19 +93,26 @@ impl Core {
         a_new_core_is_empty();
         let frames = 2 * settings.workers as usize + 8;
         let words = 16 + settings.batch as usize * 16;
+        // All that may find no memory comes first: each `?` takes down again what was made before it.
+        let seats = empty_seats(alloc, settings.seats)?;
+        let manager = Manager::new(alloc, settings.slots, 0)?;
+        let scan = Scan::new(alloc, settings.slots)?;
+        let distributor = Distributor::new(alloc, settings.slots)?;
+        let flights = Flights::new(alloc, frames)?;
+        let pool = Pool::new(alloc, frames, words)?;
         Ok(Core {
             alloc,
             settings,
             store: Store::new(alloc),
             log: ListWithRoom::new(alloc),
-            seats: empty_seats(alloc, settings.seats)?,
+            seats,
             asked: ListWithRoom::new(alloc),
-            manager: Manager::new(alloc, settings.slots, 0)?,
+            manager,
             filters: Filters::new(alloc),
-            scan: Scan::new(alloc, settings.slots)?,
-            distributor: Distributor::new(alloc, settings.slots)?,
-            flights: Flights::new(alloc, frames)?,
-            pool: Pool::new(alloc, frames, words)?,
+            scan,
+            distributor,
+            flights,
+            pool,
             cut: 0,
             last_statement: 0,
             last_batch: 0,
