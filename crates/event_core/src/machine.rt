@@ -1,10 +1,12 @@
 //! The core and its parts. What each event makes of them is in the files beside this one.
-ghost use Rattle.std.specs.Prelude.{◌≡◌, ◌↔◌, IsTrue, false, ℕ, ◌<◌, length, map, find, option_map, replicate, [], Some, IfOk, IsSome};
+ghost use Rattle.std.specs.Prelude.{◌≡◌, ◌↔◌, ◌+◌, ◌*◌, ◌<◌, ◌≤◌, IsTrue, false, ℕ, length, map, find, option_map, replicate, [], Some, None, IfOk, IsSome};
 ghost use Rattle.std.specs.Option.{option_map_or};
 ghost use Rattle.bit_words.specs.Sets.{Has};
 ghost use Rattle.pipeline_manager.specs.Conditions.{is_open};
 ghost use Rattle.pipeline_manager.specs.Lives.{life_of};
-ghost use Rattle.core_state.specs.Settings.{AreWithin};
+ghost use Rattle.pipeline_manager.specs.declared.life.SlotState.TheVariants.{Free};
+ghost use Rattle.continuous_scan.specs.Range.{new_scan};
+ghost use Rattle.core_state.specs.Settings.{AreWithin, frames_of};
 ghost use Rattle.core_state.specs.Sound.{IsSound, empty_core};
 ghost use Rattle.core_state.specs.Submitting.{seat_at};
 ghost use Rattle.core_state.specs.Tables.{tables_of};
@@ -91,15 +93,10 @@ impl Core {
         ensures { IfOk result (λ core. state_of core ≡ empty_core settings) }
     {
         a_new_core_is_empty();
-        let frames = 2 * settings.workers as usize + 8;
-        let words = 16 + settings.batch as usize * 16;
         // All that may find no memory comes first: each `?` takes down again what was made before it.
         let seats = empty_seats(alloc, settings.seats)?;
-        let manager = Manager::new(alloc, settings.slots, 0)?;
-        let scan = Scan::new(alloc, settings.slots)?;
-        let distributor = Distributor::new(alloc, settings.slots)?;
-        let flights = Flights::new(alloc, frames)?;
-        let pool = Pool::new(alloc, frames, words)?;
+        let (flights, pool) = free_frames(alloc, settings)?;
+        let (manager, scan, distributor) = free_slots(alloc, settings.slots)?;
         Ok(Core {
             alloc,
             settings,
@@ -200,4 +197,36 @@ fn empty_seats(alloc: Global, count: u32) -> Result<ListOf<Seat>, NoMemory>
         seats.push(Seat::new(alloc))?;
     }
     Ok(seats)
+}
+
+/// So many slots, which no query holds: nothing runs in them, and nothing gets rows.
+fn free_slots(alloc: Global, slots: u32) -> Result<(Manager, Scan, Distributor), NoMemory>
+    requires some { 1 ≤ slots }
+    requires few { slots ≤ 64 }
+    ensures lives { IfOk result (λ made. made.0 ≡ record { queries = []; slots = replicate slots Free; filters = 0 }) }
+    ensures scan { IfOk result (λ made. made.1 ≡ new_scan slots) }
+    ensures groups { IfOk result (λ made. made.2 ≡ replicate slots None) }
+{
+    let manager = Manager::new(alloc, slots, 0)?;
+    let scan = Scan::new(alloc, slots)?;
+    let distributor = Distributor::new(alloc, slots)?;
+    Ok((manager, scan, distributor))
+}
+
+/// All frames of a core, and room for a batch in each. No batch is in flight.
+fn free_frames(alloc: Global, settings: RunSettings) -> Result<(Flights, Pool), NoMemory>
+    requires { AreWithin settings }
+    ensures none { IfOk result (λ made. made.0.items ≡ []) }
+    ensures room { IfOk result (λ made. frames_of settings ≤ made.0.room) }
+    ensures pool { IfOk result (λ made. made.1 ≡ record {
+      made = frames_of settings;
+      words = 16 + settings.batch * 16;
+      inside = replicate (frames_of settings) (replicate (16 + settings.batch * 16) 0);
+    }) }
+{
+    let frames = 2 * settings.workers as usize + 8;
+    let words = 16 + settings.batch as usize * 16;
+    let flights = Flights::new(alloc, frames)?;
+    let pool = Pool::new(alloc, frames, words)?;
+    Ok((flights, pool))
 }
