@@ -1,12 +1,13 @@
 -- A query that loses its answer keeps a core sound.
-use Rattle.core_state.proofs.Words.{◌<◌, ◌↔◌, ◌∙◌, ◌≡◌, ◌≢◌, ◌≤◌, ◌⊎◌, [], Accepted, accepted_at, after_abandoning, after_build_wants, All-weaker, ap, AreSoundSeats, arith, CanAbandon, CanSpoil, cases_eq, cases_lt, cond, Contains, empty_seat, eq-eqb, eqb, eqb-true, false, filter_passes, forgotten, get_or, get_or-set_other, get_or-set_same, get_or_default, get_or_past, gets_rows, Has, IfSome, inl, inr, is_begun, is_open, IsKept, IsSound, IsSoundSeat, IsTrue, length, length-set, Life, life_in, life_in-other, List, map, MayBeOnRoster, ne_eqb, None, not, Option, option_map_or, query_in, QueryLife, refl, Seat, seat_at, set, slice_get, Some, State, subst, sym, tables_of, true, versions_in, with_life, without_pending, ℕ, ⊎_elim}
+use Rattle.core_state.proofs.Words.{◌<◌, ◌∙◌, ◌≡◌, ◌≢◌, ◌⊎◌, [], Accepted, accepted_at, after_abandoning, after_build_wants, All-weaker, ap, AreSoundSeats, arith, CanAbandon, CanSpoil, cases_eq, cases_lt, cond, Contains, empty_seat, eq-eqb, eqb, eqb-true, false, filter_passes, forgotten, get_or, get_or-set_other, get_or-set_same, get_or_default, get_or_past, gets_rows, Has, IfSome, inl, inr, is_begun, is_open, IsKept, IsSound, IsSoundSeat, IsTrue, length, length-set, Life, life_in, life_in-other, List, map, MayBeOnRoster, ne_eqb, None, not, Option, option_map_or, QueryLife, refl, Seat, seat_at, set, Some, State, subst, sym, tables_of, true, with_life, without_pending, ℕ, ⊎_elim}
 use Rattle.pipeline_manager.specs.Sound as managed
 use Rattle.pipeline_manager.specs.declared.life.Life.TheVariants as life
 use Rattle.pipeline_manager.proofs.CallLemmas.{sound-after_abandon, sound-after_spoil}
 use Rattle.core_state.proofs.AcceptedLemmas.{find-holds}
-use Rattle.core_state.proofs.FoundLemmas.{find-passes, life-written, some-at, with_life-found, with_life-numbers}
-use Rattle.core_state.proofs.AnewLemmas.{LivesAs, StayTaken, batches-anew, filters-anew, forgets, hands-anew, kept-anew, kept_anew, queries-anew}
-use Rattle.core_state.proofs.SeatLemmas.{Told, Wanted, awaited-there, part-stays, seat-anew, seat-fewer, seats-anew}
+use Rattle.core_state.proofs.FoundLemmas.{find-passes, life-written, with_life-found, with_life-numbers}
+use Rattle.core_state.proofs.AnewLemmas.{batches-anew, filters-anew, forgets, hands-anew, kept_anew, queries-anew}
+use Rattle.core_state.proofs.FrameLemmas.{awaited-there, kept-with, lives-as, LivesAs, StayTaken, Told, Wanted}
+use Rattle.core_state.proofs.SeatLemmas.{part-stays, seat-anew, seat-fewer, seats-anew}
 
 -- the life of a query that has no answer
 record IsLost (lost : Life) : Type 0 where
@@ -30,27 +31,25 @@ sound-lost : (query : ℕ) (old lost : Life) (state : State) (seats : List Seat)
 sound-lost query old lost state seats is_lost was lives count stay sound_seats sound = record {
   settings = sound.settings;
   filters = filters-anew state (forgotten query) (forgets query) queries seats state.scan sound.filters;
-  batches = batches-anew state (forgotten query) (forgets query) queries seats state.scan
+  batches = batches-anew state (forgotten query) (forgets query) queries state.scan.flights
       (λ number on. life-written MayBeOnRoster query old lost state.lives.queries number was (λ h. is_lost.rostered) on) sound.batches;
-  hands = hands-anew state (forgotten query) (forgets query) queries seats state.scan count sound.hands;
+  hands = hands-anew state (forgotten query) queries seats state.scan count sound.hands;
   queries = queries-anew state (forgotten query) (forgets query) queries seats state.scan (with_life-numbers query lost state.lives.queries)
-      (λ accepted there of_query. with_life-found (LivesAs (kept_anew state (forgotten query) queries seats state.scan) accepted (forgotten query accepted)) query lost
+      (λ accepted there of_query. with_life-found (LivesAs (tables_of state) seats state.scan accepted (forgotten query accepted)) query lost
       state.lives.queries accepted.number
       (λ entry found same. (
         is_lost.kept (kept_anew state (forgotten query) queries seats state.scan) (forgotten query accepted) entry.extent
             (ap (λ t. (cond {A = Accepted} t (record accepted { groups = None }) accepted).groups) (eq-eqb accepted.number query same)),
         λ opens. absurd (let both : true ≡ false = sym opens ∙ is_lost.closed in cc),
-        some-at (λ e. e.extent ≤ versions_in state) (query_in state.lives.queries accepted.number) entry found of_query.within,
+        (lives-as state accepted of_query entry found).2,
       ))
       (λ entry found apart.
-      subst (λ given. LivesAs (kept_anew state (forgotten query) queries seats state.scan) accepted given entry)
+      subst (λ given. LivesAs (tables_of state) seats state.scan accepted given entry)
       (sym (ap (λ t. cond {A = Accepted} t (record accepted { groups = None }) accepted) (ne_eqb accepted.number query apart))) (
-        kept-anew state (forgotten query) queries seats stay accepted entry.extent entry.life
-            (some-at (λ e. IsKept (tables_of state) state.seats state.scan accepted e.extent e.life) (query_in state.lives.queries accepted.number) entry found of_query.kept),
-        some-at (λ e. IsTrue (is_open e.life) → (position : ℕ) → IfSome (slice_get (tables_of state).versions position)
-            (λ version. (version.begin ≤ accepted.snapshot) ↔ (position < e.extent)))
-            (query_in state.lives.queries accepted.number) entry found of_query.extent,
-        some-at (λ e. e.extent ≤ versions_in state) (query_in state.lives.queries accepted.number) entry found of_query.within,
+        kept-with (tables_of state) state.seats seats state.scan state.scan stay accepted entry.extent entry.life refl refl
+            (lives-as state accepted of_query entry found).0,
+        (lives-as state accepted of_query entry found).1,
+        (lives-as state accepted of_query entry found).2,
       ))) sound.queries;
   slots = record {
     lives = lives;
@@ -102,7 +101,7 @@ sound-wanting query state can sound = by_life (life_in state.lives.queries query
         sound-lost query old life.Spoiled state state.seats spoiled was (sound-after_spoil query state.lives sound.slots.lives) refl
         (λ seat number has. has)
         (seats-anew state (forgotten query) (forgets query) queries state.seats state.scan refl (λ seat. refl)
-        (λ k d low. seat-anew state (forgotten query) (forgets query) queries state.seats state.scan (get_or state.seats k d)
+        (λ k d low. seat-anew state (forgotten query) (forgets query) queries (get_or state.seats k d)
         (λ j p inside. life-written Wanted query old life.Spoiled state.lives.queries (get_or (get_or state.seats k d).pending j p).statement was
         (λ h is. cc))
         (told-open query old life.Spoiled state was (begun-open old e)) (sound.seats.each k d low)) sound.seats) sound
@@ -150,7 +149,7 @@ sound-unpending query seat old state was opens submits sound =
     each k d low (inl same) =
         subst (λ n. IsSoundSeat state.numbers.statement (map (forgotten query) state.accepted) queries (get_or seats n d)) (sym same)
         (subst (IsSoundSeat state.numbers.statement (map (forgotten query) state.accepted) queries) (sym (get_or-set_same state.seats seat without d there))
-        (seat-anew state (forgotten query) (forgets query) queries seats state.scan without
+        (seat-anew state (forgotten query) (forgets query) queries without
         (All-weaker (λ pending. not (eqb pending.statement query) ≡ true)
         (λ pending. IfSome (life_in state.lives.queries pending.statement) Wanted → IfSome (life_in queries pending.statement) Wanted)
         (λ pending other. still pending.statement
@@ -162,7 +161,7 @@ sound-unpending query seat old state was opens submits sound =
         let here = get_or state.seats k d in
         let of_seat : IsSoundSeat state.numbers.statement state.accepted state.lives.queries here = sound.seats.each k d low in
         subst (IsSoundSeat state.numbers.statement (map (forgotten query) state.accepted) queries) (sym (get_or-set_other state.seats seat k without d apart))
-        (seat-anew state (forgotten query) (forgets query) queries seats state.scan here
+        (seat-anew state (forgotten query) (forgets query) queries here
         (All-weaker (λ pending. Contains here.submitted pending.statement)
         (λ pending. IfSome (life_in state.lives.queries pending.statement) Wanted → IfSome (life_in queries pending.statement) Wanted)
         (λ pending has. still pending.statement

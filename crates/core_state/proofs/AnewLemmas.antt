@@ -1,6 +1,6 @@
 -- What stays sound where other groups are kept of accepted queries, and lives and seats are others.
-use Rattle.core_state.proofs.Words.{◌+◌, ◌<◌, ◌↔◌, ◌∙◌, ◌∷◌, ◌≡◌, ◌≤◌, [], Accepted, accepted_at, All, All-map, ap, AreSoundBatches, AreSoundFilters, AreSoundHands, AreSoundQueries, Bool, Clearing, cond, Contains, Contains-get_or, empty_seat, Encodes, eqb, false, Filter, FitsSlot, forgotten, frame_words, Free, get_or, Grouped, HasAccepted, Held, IfSome, IfSome_then, inl, inr, is_open, IsKept, IsOnRoster, IsSomeAnd, IsSoundBatch, IsSoundQuery, IsTrue, length, Life, life_in, List, map, MayBeOnRoster, None, OnRoster, Option, option_map, Query, query_in, QueryLife, refl, rows_in, Scan, Seat, slice_get, slot_at, SlotState, Some, State, subst, sym, tables_of, true, versions_in, ℕ, ⊎_elim}
-use Rattle.pipeline_manager.specs.declared.life.Life.TheVariants as life
+use Rattle.core_state.proofs.Words.{◌∙◌, ◌∷◌, ◌≡◌, [], Accepted, accepted_at, All, All-map, ap, AreSoundFilters, AreSoundHands, AreSoundQueries, arith, Bool, cond, Contains, Contains-get_or, Encodes, eqb, false, Filter, FitsSlot, Flight, forgotten, frame_words, get_or, Grouped, HasAccepted, Held, IfSome, IsSomeAnd, IsSoundAccepted, IsSoundBatch, IsSoundHand, IsSoundQuery, length, life_in, List, map, MayBeOnRoster, None, Option, option_map, Query, query_in, QueryLife, refl, rows_in, Scan, Seat, slot_at, SlotState, Some, State, Store, subst, sym, tables_of, true, ℕ}
+use Rattle.core_state.proofs.FrameLemmas.{batches-with, filter-with, LivesAs, query-with}
 
 -- a change of what is kept of accepted queries, and of nothing else of them
 abbrev pub KeepsAsked : (Accepted → Accepted) → Type 0
@@ -54,122 +54,58 @@ some-anew P change keeps number accepted holds =
     by_found None h = tt
     by_found (Some a) h = by-change (λ b. P b.query b.snapshot) change keeps a (λ groups. h)
 
-pub has-anew : (state : State) (change : Accepted → Accepted) → KeepsAsked change → (queries : List QueryLife) (seats : List Seat) (scan : Scan) (number : ℕ) (asked : Query) (snapshot : ℕ)
-    → HasAccepted state.accepted number asked snapshot → HasAccepted (map change state.accepted) number asked snapshot
-has-anew state change keeps queries seats scan number asked snapshot holds =
-    subst (λ o. IsSomeAnd o (λ a. (a.query ≡ asked) × (a.snapshot ≡ snapshot))) (sym (found-anew change keeps number state.accepted))
-    (by_found (accepted_at state.accepted number) holds)
+pub has-anew : (change : Accepted → Accepted) → KeepsAsked change → (accepted : List Accepted) (number : ℕ) (query : Query) (snapshot : ℕ)
+    → HasAccepted accepted number query snapshot → HasAccepted (map change accepted) number query snapshot
+has-anew change keeps accepted number query snapshot holds =
+    subst (λ o. IsSomeAnd o (λ a. (a.query ≡ query) × (a.snapshot ≡ snapshot))) (sym (found-anew change keeps number accepted))
+    (by_found (accepted_at accepted number) holds)
   where
-    by_found : (o : Option Accepted) → IsSomeAnd o (λ a. (a.query ≡ asked) × (a.snapshot ≡ snapshot))
-        → IsSomeAnd (option_map change o) (λ a. (a.query ≡ asked) × (a.snapshot ≡ snapshot))
+    by_found : (o : Option Accepted) → IsSomeAnd o (λ a. (a.query ≡ query) × (a.snapshot ≡ snapshot))
+        → IsSomeAnd (option_map change o) (λ a. (a.query ≡ query) × (a.snapshot ≡ snapshot))
     by_found None h = absurd h
-    by_found (Some a) h = by-change (λ b. (b.query ≡ asked) × (b.snapshot ≡ snapshot)) change keeps a (λ groups. h)
+    by_found (Some a) h = by-change (λ b. (b.query ≡ query) × (b.snapshot ≡ snapshot)) change keeps a (λ groups. h)
 
-fits-anew : (state : State) (change : Accepted → Accepted) → KeepsAsked change → (queries : List QueryLife) (seats : List Seat) (scan : Scan) (filter : Filter) (slot : ℕ) (holder : SlotState)
-    → FitsSlot state.accepted (tables_of state) filter slot holder → FitsSlot (map change state.accepted) (tables_of state) filter slot holder
-fits-anew state change keeps queries seats scan filter slot Free fits = fits
-fits-anew state change keeps queries seats scan filter slot (Held number built) fits = (
-  λ has. some-anew (λ asked snapshot. Encodes filter slot asked snapshot (rows_in (tables_of state).dimensions filter.dimension))
-      change keeps number state.accepted (fits.0 has),
+fits-anew : (store : Store) (accepted : List Accepted) (change : Accepted → Accepted) → KeepsAsked change → (filter : Filter) (slot : ℕ) (holder : SlotState)
+    → FitsSlot accepted store filter slot holder → FitsSlot (map change accepted) store filter slot holder
+fits-anew store accepted change keeps filter slot (Held number built) fits = (
+  λ has. some-anew (λ asked snapshot. Encodes filter slot asked snapshot (rows_in store.dimensions filter.dimension))
+      change keeps number accepted (fits.0 has),
   fits.1,
 )
-fits-anew state change keeps queries seats scan filter slot (Clearing left) fits = fits
+fits-anew store accepted change keeps filter slot other fits = fits
 
 pub filters-anew : (state : State) (change : Accepted → Accepted) → KeepsAsked change → (queries : List QueryLife) (seats : List Seat) (scan : Scan) → AreSoundFilters state
     → AreSoundFilters (kept_anew state change queries seats scan)
 filters-anew state change keeps queries seats scan old = record {
   each = λ k d low.
       let filter = (get_or state.filters.versions k d).filter in
-      let sound = old.each k d low in
-      record {
-        table = sound.table;
-        ascending = sound.ascending;
-        is_filter = sound.is_filter;
-        slots = λ slot there. fits-anew state change keeps queries seats scan filter slot (slot_at state.lives slot) (sound.slots slot there);
-        beyond = sound.beyond;
-        within = sound.within;
-      };
+      filter-with state.accepted (map change state.accepted) (tables_of state) state.lives.slots state.lives.slots state.lives.filters filter refl
+      (λ slot there. fits-anew (tables_of state) state.accepted change keeps filter slot (slot_at state.lives slot)) (old.each k d low);
   dimensions = old.dimensions;
   set = old.set;
 }
 
-entry-anew : (state : State) (change : Accepted → Accepted) → KeepsAsked change → (queries : List QueryLife) (seats : List Seat) (scan : Scan) (entry : OnRoster)
-    → IfSome (life_in queries entry.number) MayBeOnRoster → IsOnRoster state.lives state.accepted entry → IsOnRoster (record state.lives { queries = queries }) (map change state.accepted) entry
-entry-anew state change keeps queries seats scan entry life old = record {
-  there = old.there;
-  held = old.held;
-  life = life;
-  same = some-anew (λ asked snapshot. (asked ≡ entry.query) × (snapshot ≡ entry.snapshot)) change keeps entry.number state.accepted old.same;
-}
-
-pub batches-anew : (state : State) (change : Accepted → Accepted) → KeepsAsked change → (queries : List QueryLife) (seats : List Seat) (scan : Scan)
+pub batches-anew : (state : State) (change : Accepted → Accepted) → KeepsAsked change → (queries : List QueryLife) (flights : List Flight)
     → ((number : ℕ) → IfSome (life_in state.lives.queries number) MayBeOnRoster → IfSome (life_in queries number) MayBeOnRoster)
-    → All (IsSoundBatch (frame_words state) (tables_of state) state.lives state.accepted) scan.flights → AreSoundBatches (kept_anew state change queries seats scan)
-batches-anew state change keeps queries seats scan stays old = λ k d low.
-    let flight = get_or scan.flights k d in
-    let sound = old k d low in
+    → All (IsSoundBatch (frame_words state) (tables_of state) state.lives state.accepted) flights
+    → All (IsSoundBatch (frame_words state) (tables_of state) (record state.lives { queries = queries }) (map change state.accepted)) flights
+batches-anew state change keeps queries flights stays old =
+    batches-with (frame_words state) (tables_of state) state.lives queries state.lives.slots state.accepted (map change state.accepted) flights
+    (λ k d low j e inside.
+    let entry = get_or (get_or flights k d).roster j e in
+    let on = (old k d low).roster j e inside in
     record {
-      within = sound.within;
-      bits = sound.bits;
-      keys = sound.keys;
-      room = sound.room;
-      roster = λ j e inside.
-          let entry = get_or flight.roster j e in
-          let on = sound.roster j e inside in
-          entry-anew state change keeps queries seats scan entry (stays entry.number on.life) on;
-      slots = sound.slots;
-      rows = λ row inside. IfSome_then (slice_get (tables_of state).versions (flight.rows.first + row)) (sound.rows row inside)
-          (λ version r. record { keys = r.keys; bits = r.bits; others = r.others });
-    }
+      there = on.there;
+      held = on.held;
+      life = stays entry.number on.life;
+      same = some-anew (λ asked snapshot. (asked ≡ entry.query) × (snapshot ≡ entry.snapshot)) change keeps entry.number state.accepted on.same;
+    }) old
 
-pub hands-anew : (state : State) (change : Accepted → Accepted) → KeepsAsked change → (queries : List QueryLife) (seats : List Seat) (scan : Scan) → length seats ≡ length state.seats
-    → AreSoundHands (record state { scan = scan }) → AreSoundHands (kept_anew state change queries seats scan)
-hands-anew state change keeps queries seats scan count old = record {
-  each = λ k d low. IfSome_then (get_or scan.flights k d).hand (old.each k d low)
-      (λ hand h. record {
-        seat = subst (λ n. hand.worker < n) (sym count) h.seat;
-        table = h.table;
-        is_filter = h.is_filter;
-        not_passed = h.not_passed;
-        encodes = h.encodes;
-      });
+pub hands-anew : (state : State) (change : Accepted → Accepted) (queries : List QueryLife) (seats : List Seat) (scan : Scan)
+    → length seats ≡ length state.seats → AreSoundHands (record state { scan = scan }) → AreSoundHands (kept_anew state change queries seats scan)
+hands-anew state change queries seats scan count old = record {
+  each = subst (λ n. All (λ flight. IfSome flight.hand (IsSoundHand n state.lives.filters (tables_of state) flight)) scan.flights) (sym count) old.each;
   one = old.one;
-}
-
--- what seats took they have taken in other seats, too
-abbrev pub StayTaken : List Seat → (now : List Seat) → Type 0
-StayTaken seats now = (seat number : ℕ) → Contains (map (λ taken. taken.statement) (get_or seats seat empty_seat).taken) number
-    → Contains (map (λ taken. taken.statement) (get_or now seat empty_seat).taken) number
-
--- what is kept of a query does not hang on the others
-pub kept-anew : (state : State) (change : Accepted → Accepted) (queries : List QueryLife) (seats : List Seat) → StayTaken state.seats seats → (accepted : Accepted) (extent : ℕ) (now : Life)
-    → IsKept (tables_of state) state.seats state.scan accepted extent now → IsKept (tables_of state) seats state.scan accepted extent now
-kept-anew state change queries seats stay accepted extent (life.Running start left) old =
-    record { folded = old.folded; each_once = old.each_once; next = old.next; groups = old.groups }
-kept-anew state change queries seats stay accepted extent life.Ending old =
-    record { folded = old.folded; each_once = old.each_once; next = old.next; groups = old.groups }
-kept-anew state change queries seats stay accepted extent life.Answered old =
-    ⊎_elim (λ gone. inl (gone.0, stay accepted.seat accepted.number gone.1)) (λ answer. inr (record { rows = answer.rows; all = answer.all; groups = answer.groups })) old
-kept-anew state change queries seats stay accepted extent other old = old
-
--- what is asked of an accepted query by its life
-abbrev pub LivesAs : State → Accepted → (given : Accepted) → QueryLife → Type 0
-LivesAs state accepted given entry =
-    IsKept (tables_of state) state.seats state.scan given entry.extent entry.life × (IsTrue (is_open entry.life)
-    → (position : ℕ) → IfSome (slice_get (tables_of state).versions position)
-    (λ version. (version.begin ≤ accepted.snapshot) ↔ (position < entry.extent)))
-    × (entry.extent ≤ versions_in state)
-
-query-anew : (state : State) (change : Accepted → Accepted) (queries : List QueryLife) (seats : List Seat) (scan : Scan) (accepted : Accepted) (groups : Option Grouped)
-    → IfSome (query_in queries accepted.number) (LivesAs (kept_anew state change queries seats scan) accepted (record accepted { groups = groups }))
-    → IsSoundQuery state accepted → IsSoundQuery (kept_anew state change queries seats scan) (record accepted { groups = groups })
-query-anew state change queries seats scan accepted groups lives old = record {
-  number = old.number;
-  over = old.over;
-  snapshot = old.snapshot;
-  within = IfSome_then (query_in queries accepted.number) lives (λ entry all. all.2);
-  kept = IfSome_then (query_in queries accepted.number) lives (λ entry all. all.0);
-  extent = IfSome_then (query_in queries accepted.number) lives (λ entry all. all.1);
 }
 
 numbers-anew : (change : Accepted → Accepted) → KeepsAsked change → (accepted : List Accepted)
@@ -183,14 +119,18 @@ numbers-anew change keeps (first ∷ accepted) =
 pub queries-anew : (state : State) (change : Accepted → Accepted) → KeepsAsked change → (queries : List QueryLife) (seats : List Seat) (scan : Scan)
     → map (λ entry. entry.query) queries ≡ map (λ entry. entry.query) state.lives.queries
     → ((accepted : Accepted) → Contains state.accepted accepted → IsSoundQuery state accepted
-    → IfSome (query_in queries accepted.number) (LivesAs (kept_anew state change queries seats scan) accepted (change accepted)))
+    → IfSome (query_in queries accepted.number) (LivesAs (tables_of state) seats scan accepted (change accepted)))
     → AreSoundQueries state → AreSoundQueries (kept_anew state change queries seats scan)
 queries-anew state change keeps queries seats scan same each old = record {
   same = numbers-anew change keeps state.accepted ∙ old.same ∙ sym same;
-  each = All-map (IsSoundQuery (kept_anew state change queries seats scan)) change state.accepted (λ k d low.
+  each = All-map Sound change state.accepted (λ k d low.
       let accepted = get_or state.accepted k d in
-      subst (IsSoundQuery (kept_anew state change queries seats scan)) (sym (keeps accepted).1)
-      (query-anew state change queries seats scan accepted (keeps accepted).0
-      (subst (λ given. IfSome (query_in queries accepted.number) (LivesAs (kept_anew state change queries seats scan) accepted given))
+      subst Sound (sym (keeps accepted).1)
+      (query-with state.numbers.statement state.numbers.statement (tables_of state) state.lives.queries queries state.seats seats state.scan scan
+      accepted (keeps accepted).0 (omega arith)
+      (subst (λ given. IfSome (query_in queries accepted.number) (LivesAs (tables_of state) seats scan accepted given))
       (keeps accepted).1 (each accepted (Contains-get_or state.accepted k d low) (old.each k d low))) (old.each k d low)));
 }
+  where
+    Sound : Accepted → Type 0
+    Sound = IsSoundAccepted state.numbers.statement (tables_of state) queries seats scan

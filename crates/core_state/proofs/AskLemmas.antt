@@ -4,8 +4,8 @@ use Rattle.std.proofs.lemmas.Option.{slice_get_past}
 use Rattle.pipeline_manager.specs.Conditions.{IsNew}
 use Rattle.pipeline_manager.specs.declared.life.Life.TheVariants as life
 use Rattle.pipeline_manager.proofs.CallLemmas.{sound-after_submit}
-use Rattle.core_state.proofs.AnewLemmas.{StayTaken}
 use Rattle.core_state.proofs.BesideLemmas.{beside-later, later, query-later}
+use Rattle.core_state.proofs.FrameLemmas.{StayTaken}
 use Rattle.core_state.proofs.SubmitSeatLemmas.{Still}
 
 -- one accepted query more changes what is found of no other number

@@ -1,5 +1,5 @@
 -- The other events leave as it is what a distributor has.
-use Rattle.core_state.proofs.Words.{◌+◌, ◌-◌, ◌<◌, ◌∙◌, ◌≡◌, ◌≢◌, [], Abandon, Accepted, accepted_at, after_build, after_clear, after_cutting, after_give, after_outcome, after_release, after_reserving, ap, attached_to, Build, cases_eq, Change, Clear, covered, Cut, cut_life, DimensionDeclared, Distribute, end_in, Ended, Event, FactDeclared, false, filter_with, Finish, first_in, Flight, Free, get_or-set_other, get_or-set_same, gets_rows, Give, given_back, grouped_of, Held, holder_of, is_held_by, IsEnabled, IsSound, length, length-set, life_in-cut, Lives, Loaded, MayReserve, None, oldest-waits, Option, option_map, option_map_or, outcome_of, query_in, query_in-push_other, QueryLife, refl, Release, Reorder, Reserve, rows_in, selection_in, set, slot_at, slot_of, SlotState, Some, Start, State, Submit, subst, sym, tables_of, Take, tallies_after, Told, versions_in, with_built, with_change, with_dimension, with_flight, with_life, with_query, with_slot, with_version, without_dimension, ℕ, ⊎_elim}
+use Rattle.core_state.proofs.Words.{◌+◌, ◌-◌, ◌<◌, ◌∙◌, ◌≡◌, ◌≢◌, [], Accepted, accepted_at, after_build, after_clear, after_cutting, after_give, after_outcome, after_release, after_reserving, ap, attached_to, Build, cases_eq, Change, Clear, covered, Cut, cut_life, DimensionDeclared, end_in, Event, false, filter_with, first_in, Flight, Free, get_or-set_other, get_or-set_same, gets_rows, Give, given_back, grouped_of, Held, holder_of, is_held_by, IsEnabled, IsSound, length, length-set, life_in-cut, Lives, MayReserve, None, oldest-waits, Option, option_map, option_map_or, outcome_of, query_in, query_in-push_other, QueryLife, refl, Release, Reorder, Reserve, rows_in, selection_in, set, slot_at, slot_of, SlotState, Some, State, Submit, subst, sym, tables_of, Take, tallies_after, Told, versions_in, with_built, with_change, with_dimension, with_flight, with_life, with_query, with_slot, with_version, without_dimension, ℕ, ⊎_elim}
 use Rattle.std.proofs.Common.{find}
 use Rattle.star_statement.specs.Outcome as outcome
 use Rattle.pipeline_manager.specs.Changes.{after_cut}

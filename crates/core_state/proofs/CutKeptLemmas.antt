@@ -1,5 +1,5 @@
 -- What is covered of each query behind a cut.
-use Rattle.core_state.proofs.Words.{◌++◌, ◌-◌, ◌∙◌, ◌∷◌, ◌≡◌, ◌≢◌, ◌≤◌, [], Accepted, ap, append-nil, append_assoc, arith, below, Bool, cond, cut_life, cut_query, end_in, eqb, eqb-false, eqb-true, false, Filters, find, first_in, flat_map, Flight, inl, inr, IsCovered, IsKept, IsNext, IsPermutation, IsSome, IsSound, lap, Life, life_of, List, None, Numbers, OnRoster, Option, option_map, option_map_or, positions_for, query_in, QueryLife, range_with_len, refl, Scan, SlotState, Some, starts_of, State, still_to_come, subst, sym, tables_of, to_come, true, versions_in, ℕ, ⊎_elim}
+use Rattle.core_state.proofs.Words.{◌++◌, ◌-◌, ◌∙◌, ◌∷◌, ◌≡◌, ◌≢◌, ◌≤◌, [], Accepted, ap, append-nil, append_assoc, arith, below, Bool, cond, cut_life, end_in, eqb, eqb-false, eqb-true, false, find, first_in, flat_map, Flight, IsCovered, IsKept, IsNext, IsPermutation, IsSome, IsSound, lap, Life, life_of, List, None, OnRoster, Option, option_map, option_map_or, positions_for, query_in, range_with_len, refl, Scan, Some, starts_of, State, still_to_come, subst, sym, tables_of, to_come, true, versions_in, ℕ}
 use Rattle.std.proofs.lemmas.List.Concat.{flat_map-append}
 use Rattle.pipeline_manager.specs.Changes as managed
 use Rattle.pipeline_manager.specs.declared.life.Life.TheVariants as life
@@ -9,7 +9,6 @@ use Rattle.core_state.proofs.CutRangeLemmas.{end-to-start}
 use Rattle.core_state.proofs.CutRosterLemmas.{off-roster, on-roster, start-among}
 use Rattle.core_state.proofs.CutRowsLemmas.{cut_flight}
 use Rattle.core_state.proofs.CutRunsLemmas.{Cuts, left-of}
-use Rattle.core_state.proofs.FrameLemmas.{answer-moved, moved}
 
 -- what a cut does along the lap of a query that runs
 cuts-lap : (state : State) → IsSound state → Cuts state → (query extent start left : ℕ)
@@ -36,13 +35,12 @@ flown-more query extent flights flight =
     ∙ ap (λ xs. flat_map (positions_for query extent) flights ++ xs) (append-nil (positions_for query extent flight))
 
 -- what is covered stays so where what is in flight and what is to come are together what they were
-covered-cut : (state : State) (queries : List QueryLife) (slots : List SlotState) (filters : Filters) (scan : Scan) (numbers : Numbers)
-    (accepted : Accepted) (extent : ℕ) (before now : Life)
+covered-cut : (state : State) (scan : Scan) (accepted : Accepted) (extent : ℕ) (before now : Life)
     → flat_map (positions_for accepted.number extent) state.scan.flights ++ to_come extent before
     ≡ flat_map (positions_for accepted.number extent) scan.flights ++ to_come extent now
     → IsNext scan.position extent now → IsCovered (tables_of state) state.scan accepted extent before
     → IsCovered (tables_of state) scan accepted extent now
-covered-cut state queries slots filters scan numbers accepted extent before now same next old = record {
+covered-cut state scan accepted extent before now same next old = record {
   folded = old.folded;
   each_once = subst (λ positions. IsPermutation positions (range_with_len 0 extent))
       (append_assoc old.folded (flat_map (positions_for accepted.number extent) state.scan.flights) (to_come extent before)
@@ -101,15 +99,13 @@ flown-on state sound query extent start left runs along =
     ∙ ap (λ xs. xs ++ rest) (sym (flown-more query extent state.scan.flights (cut_flight state)))
 
 -- what is kept of each query, with the batch that is cut in flight and the scan behind it
-pub kept-cut : (state : State) (queries : List QueryLife) (slots : List SlotState) (filters : Filters) (scan : Scan) (numbers : Numbers)
+pub kept-cut : (state : State) (scan : Scan)
     → scan.flights ≡ flights_after state → scan.position ≡ end_in state → IsSound state → Cuts state
     → (accepted : Accepted) (extent : ℕ) (now : Life)
     → query_in state.lives.queries accepted.number ≡ Some (record { query = accepted.number; extent = extent; life = now })
     → extent ≤ versions_in state → IsKept (tables_of state) state.seats state.scan accepted extent now
     → IsKept (tables_of state) state.seats scan accepted extent (cut_life (covered_of state extent) now)
-kept-cut state queries slots filters scan numbers flies stands sound range accepted extent life.Waiting found within old = old
-kept-cut state queries slots filters scan numbers flies stands sound range accepted extent life.Building found within old = old
-kept-cut state queries slots filters scan numbers flies stands sound range accepted extent (life.Running start left) found within old =
+kept-cut state scan flies stands sound range accepted extent (life.Running start left) found within old =
     by_test (eqb (left - covered_of state extent) 0) refl
   where
     runs : life_of state.lives accepted.number ≡ Some (life.Running start left)
@@ -135,24 +131,21 @@ kept-cut state queries slots filters scan numbers flies stands sound range accep
         (cond {A = Life} t life.Ending (life.Running start (left - covered_of state extent)))
     by_test true is =
         let none : less ≡ 0 = sym same ∙ eqb-true (left - covered_of state extent) 0 is in
-        covered-cut state queries slots filters scan numbers accepted extent (life.Running start left) life.Ending
+        covered-cut state scan accepted extent (life.Running start left) life.Ending
         (flown ∙ ap (λ xs. flat_map (positions_for accepted.number extent) scan.flights ++ xs)
         (ap (λ n. still_to_come n (lap start extent)) none ∙ none-to-come start extent)) tt old
     by_test false is =
         let some : left - covered_of state extent ≢ 0 = eqb-false (left - covered_of state extent) 0 is in
         let equal : left - covered_of state extent ≡ left - covered (first_in state) (end_in state) extent = same in
         subst (λ n. IsKept (tables_of state) state.seats scan accepted extent (life.Running start n)) (sym same)
-        (covered-cut state queries slots filters scan numbers accepted extent (life.Running start left) (life.Running start less)
+        (covered-cut state scan accepted extent (life.Running start left) (life.Running start less)
         flown
         (subst (λ position. IsNext position extent (life.Running start less)) (sym stands)
         (cut-next state.scan.position (versions_in state) (first_in state) (end_in state) extent start left along (omega arith))) old)
-kept-cut state queries slots filters scan numbers flies stands sound range accepted extent life.Ending found within old =
-    covered-cut state queries slots filters scan numbers accepted extent life.Ending life.Ending
+kept-cut state scan flies stands sound range accepted extent life.Ending found within old =
+    covered-cut state scan accepted extent life.Ending life.Ending
     (ap (λ xs. xs ++ []) (sym (ap (flat_map (positions_for accepted.number extent)) flies
     ∙ flown-off state accepted.number extent
     (λ start left runs. let both : Some life.Ending ≡ Some (life.Running start left) = sym (ap (option_map (λ e. e.life)) found) ∙ runs in cc))))
     tt old
-kept-cut state queries slots filters scan numbers flies stands sound range accepted extent life.Answered found within old =
-    ⊎_elim (λ none. inl none) (λ answer. inr (answer-moved state queries slots filters scan numbers accepted answer)) old
-kept-cut state queries slots filters scan numbers flies stands sound range accepted extent life.Spoiled found within old = old
-kept-cut state queries slots filters scan numbers flies stands sound range accepted extent life.Abandoned found within old = old
+kept-cut state scan flies stands sound range accepted extent other found within old = old

@@ -1,5 +1,5 @@
 -- A batch that the scan cuts keeps a core sound.
-use Rattle.core_state.proofs.Words.{◌-◌, ◌<◌, ◌↔◌, ◌∙◌, ◌∷◌, ◌≡◌, ◌≢◌, ◌≤◌, ◌⊎◌, [], Accepted, after_cutting, All-map, All-push, all_pairs_push, AllPairs, ap, append-nil, AreSoundBatches, AreSoundFilters, AreSoundHands, AreSoundNumbers, AreSoundQueries, AreSoundSeats, AreSoundSlots, arith, changes_of, counted, cut_query, end_in, filter_map, filter_map-append, first_in, Flight, frame_words, get_or, get_or-map, gets_rows, Has, IfSome, IfSome_then, is_open, IsKept, IsOnRoster, IsSound, IsSoundBatch, IsSoundHand, IsSoundQuery, IsTrue, last_after, last_number, length, length-map, List, map, MayBeOnRoster, MayCut, Numbers, option_map, query_in, QueryLife, refl, Scan, slice_get, Some, State, subst, sym, tables_of, versions_in, ℕ, ⊎_elim}
+use Rattle.core_state.proofs.Words.{◌-◌, ◌<◌, ◌∙◌, ◌∷◌, ◌≡◌, ◌≢◌, ◌≤◌, ◌⊎◌, [], after_cutting, All-map, All-push, all_pairs_push, AllPairs, ap, append-nil, AreSoundBatches, AreSoundHands, AreSoundNumbers, AreSoundQueries, AreSoundSlots, arith, changes_of, counted, cut_query, end_in, filter_map, filter_map-append, first_in, Flight, frame_words, get_or, get_or-map, gets_rows, Has, IfSome, IsOnRoster, IsSound, IsSoundBatch, IsSoundHand, IsTrue, last_after, last_number, length, length-map, List, map, MayBeOnRoster, MayCut, Numbers, option_map, QueryLife, refl, Scan, Some, State, subst, sym, tables_of, ℕ, ⊎_elim}
 use Rattle.std.proofs.lemmas.List.{length_push}
 use Rattle.pipeline_manager.specs.declared.life.Life.TheVariants as life
 use Rattle.pipeline_manager.proofs.CallLemmas.{sound-after_cut}
@@ -9,9 +9,10 @@ use Rattle.core_state.proofs.CutNumberLemmas.{next-apart, next-given, still-give
 use Rattle.core_state.proofs.CutRosterLemmas.{entry-cut, roster-each}
 use Rattle.core_state.proofs.CutRowsLemmas.{batch-cut, cut_flight}
 use Rattle.core_state.proofs.CutRunsLemmas.{Cuts, cuts}
-use Rattle.core_state.proofs.FoundLemmas.{query_in-number, some-at}
-use Rattle.core_state.proofs.FrameLemmas.{batch-moved, entry-moved, filter-moved, hand-moved, moved, query-moved}
+use Rattle.core_state.proofs.FoundLemmas.{query_in-number}
+use Rattle.core_state.proofs.FrameLemmas.{batches-with, lives-as, LivesAs, moved}
 use Rattle.core_state.proofs.GivenLemmas.{Settles}
+use Rattle.core_state.proofs.HeldLemmas.{queries-held}
 use Rattle.core_state.proofs.MovedLemmas.{StaysWanted, seats-held}
 
 -- the lives after a cut, the scan behind it, and the numbers with one batch more
@@ -32,74 +33,49 @@ numbers_after state = record state.numbers { batch = last_after state.numbers.ba
 abbrev state_after : State → State
 state_after state = moved state (queries_after state) state.lives.slots state.filters (scan_after state) (numbers_after state)
 
--- the filters are what they were
-filters-cut : (state : State) → AreSoundFilters state → AreSoundFilters (state_after state)
-filters-cut state old = record {
-  each = λ k d low. filter-moved state (queries_after state) state.lives.slots state.filters (scan_after state) (numbers_after state)
-      (get_or state.filters.versions k d).filter refl (λ slot there fits. fits) (old.each k d low);
-  dimensions = old.dimensions;
-  set = old.set;
-}
-
 -- the batches in flight keep their rosters, and the one that is cut has its own
 batches-cut : Settles → (state : State) → Cuts state → IsSound state → AreSoundBatches (state_after state)
 batches-cut settles state range sound =
     let ordered : first_in state ≤ end_in state = let after = range.after in omega arith in
-    All-push (IsSoundBatch (frame_words (state_after state)) (tables_of (state_after state)) (state_after state).lives (state_after state).accepted) state.scan.flights (cut_flight state)
-    (λ k d low. batch-moved state (queries_after state) state.lives.slots state.filters (scan_after state) (numbers_after state)
-    (get_or state.scan.flights k d)
-    (λ j e within.
+    All-push (IsSoundBatch (frame_words state) (tables_of state) (record state.lives { queries = queries_after state }) state.accepted)
+    state.scan.flights (cut_flight state)
+    (batches-with (frame_words state) (tables_of state) state.lives (queries_after state) state.lives.slots state.accepted state.accepted state.scan.flights
+    (λ k d low j e within.
     let entry = (sound.batches k d low).roster j e within in
-    entry-moved state (queries_after state) state.lives.slots state.filters (scan_after state) (numbers_after state)
-    (get_or (get_or state.scan.flights k d).roster j e) refl entry.held
-    (life-cut MayBeOnRoster (first_in state) (end_in state - 1) state.lives.queries (get_or (get_or state.scan.flights k d).roster j e).number
-    may-stay entry.life)
-    entry) (sound.batches k d low))
-    (batch-cut state (queries_after state) state.lives.slots state.filters (scan_after state) (numbers_after state)
-    (settles (changes_of state.entries) sound.store) sound ordered range.last
-    (roster-each (IsOnRoster (state_after state).lives (state_after state).accepted) state
-    (entry-cut state (first_in state) (end_in state - 1) state.filters (scan_after state) (numbers_after state) sound)))
+    record {
+      there = entry.there;
+      held = entry.held;
+      life = life-cut MayBeOnRoster (first_in state) (end_in state - 1) state.lives.queries (get_or (get_or state.scan.flights k d).roster j e).number
+          may-stay entry.life;
+      same = entry.same;
+    }) sound.batches)
+    (batch-cut state (queries_after state) state.lives.slots (settles (changes_of state.entries) sound.store) sound ordered range.last
+    (roster-each (IsOnRoster (record state.lives { queries = queries_after state }) state.accepted) state
+    (entry-cut state (first_in state) (end_in state - 1) sound)))
 
 -- the batch that is cut is in no hand
 hands-cut : (state : State) → AreSoundHands state → AreSoundHands (state_after state)
 hands-cut state old = record {
-  each = All-push (λ flight. IfSome flight.hand (IsSoundHand (length (state_after state).seats) (state_after state).lives.filters (tables_of (state_after state)) flight)) state.scan.flights (cut_flight state)
-      (λ k d low. IfSome_then (get_or state.scan.flights k d).hand (old.each k d low)
-      (λ hand. hand-moved state (queries_after state) state.lives.slots state.filters (scan_after state) (numbers_after state)
-      (get_or state.scan.flights k d) hand))
-      tt;
+  each = All-push (λ flight. IfSome flight.hand (IsSoundHand (length state.seats) state.lives.filters (tables_of state) flight)) state.scan.flights (cut_flight state)
+      old.each tt;
   one = subst (AllPairs (λ worker other. worker ≢ other))
       (sym (filter_map-append (λ (flight : Flight). option_map (λ hand. hand.worker) flight.hand) state.scan.flights (cut_flight state ∷ [])
       ∙ append-nil (filter_map (λ (flight : Flight). option_map (λ hand. hand.worker) flight.hand) state.scan.flights))) old.one;
 }
 
-query-cut : (state : State) → Cuts state → IsSound state → (accepted : Accepted) → IsSoundQuery state accepted
-    → IsSoundQuery (state_after state) accepted
-query-cut state range sound accepted old =
-    query-moved state (queries_after state) state.lives.slots state.filters (scan_after state) (numbers_after state) accepted refl
-    (cut-found (λ e. IsKept (tables_of (state_after state)) (state_after state).seats (state_after state).scan accepted e.extent e.life) (first_in state) (end_in state - 1) state.lives.queries accepted.number
-    (λ entry found. kept-cut state (queries_after state) state.lives.slots state.filters (scan_after state) (numbers_after state) refl refl sound range
-    accepted entry.extent entry.life
-    (found ∙ ap (λ n. Some (record { query = n; extent = entry.extent; life = entry.life }))
-    (query_in-number state.lives.queries accepted.number entry found))
-    (some-at (λ e. e.extent ≤ versions_in state) (query_in state.lives.queries accepted.number) entry found old.within)
-    (some-at (λ e. IsKept (tables_of state) state.seats state.scan accepted e.extent e.life) (query_in state.lives.queries accepted.number) entry found old.kept)))
-    (cut-found (λ e. IsTrue (is_open e.life) → (position : ℕ) → IfSome (slice_get (tables_of state).versions position)
-    (λ version. (version.begin ≤ accepted.snapshot) ↔ (position < e.extent))) (first_in state) (end_in state - 1) state.lives.queries accepted.number
-    (λ entry found opens.
-    some-at (λ e. IsTrue (is_open e.life) → (position : ℕ) → IfSome (slice_get (tables_of state).versions position)
-    (λ version. (version.begin ≤ accepted.snapshot) ↔ (position < e.extent)))
-    (query_in state.lives.queries accepted.number) entry found old.extent
-    (open-stays (covered_of state entry.extent) entry.life opens)))
-    (cut-found (λ e. e.extent ≤ versions_in state) (first_in state) (end_in state - 1) state.lives.queries accepted.number
-    (λ entry found. some-at (λ e. e.extent ≤ versions_in state) (query_in state.lives.queries accepted.number) entry found old.within))
-    old
-
 queries-cut : (state : State) → Cuts state → IsSound state → AreSoundQueries (state_after state)
-queries-cut state range sound = record {
-  same = sound.queries.same ∙ sym (same-numbers (first_in state) (end_in state - 1) state.lives.queries);
-  each = λ k d low. query-cut state range sound (get_or state.accepted k d) (sound.queries.each k d low);
-}
+queries-cut state range sound =
+    queries-held state (queries_after state) state.lives.slots state.filters (scan_after state) (numbers_after state) refl
+    (same-numbers (first_in state) (end_in state - 1) state.lives.queries)
+    (λ accepted old. cut-found (LivesAs (tables_of state) state.seats (scan_after state) accepted accepted) (first_in state) (end_in state - 1)
+    state.lives.queries accepted.number
+    (λ entry found. let was = lives-as state accepted old entry found in (
+      kept-cut state (scan_after state) refl refl sound range accepted entry.extent entry.life
+          (found ∙ ap (λ n. Some (record { query = n; extent = entry.extent; life = entry.life }))
+          (query_in-number state.lives.queries accepted.number entry found)) was.2 was.0,
+      λ opens. was.1 (open-stays (covered_of state entry.extent) entry.life opens),
+      was.2,
+    ))) sound.queries
 
 slots-cut : (state : State) → AreSoundSlots state → AreSoundSlots (state_after state)
 slots-cut state old = record {
@@ -139,31 +115,10 @@ wanted-cut state = λ query. (
       (λ now h. h) (λ start left h. absurd (⊎_elim (λ e. cc) (λ e. cc) h)) (λ start left less h. absurd (⊎_elim (λ e. cc) (λ e. cc) h))),
 )
 
-seats-cut : (state : State) → AreSoundSeats state → AreSoundSeats (state_after state)
-seats-cut state sound =
-    let old = seats-held state (queries_after state) state.lives.slots state.filters state.numbers.version (wanted-cut state) sound in
-    record {
-      count = old.count;
-      each = λ k d low.
-          let seat = old.each k d low in
-          record {
-            rising = seat.rising;
-            given = seat.given;
-            in_order = seat.in_order;
-            submitted = seat.submitted;
-            taken = seat.taken;
-            awaited = seat.awaited;
-          };
-      apart = old.apart;
-      rising = old.rising;
-      entries = old.entries;
-      queries = old.queries;
-    }
-
 pub sound-cut : Settles → (state : State) → MayCut state → IsSound state → IsSound (after_cutting state)
 sound-cut settles state can sound = record {
   settings = sound.settings;
-  filters = filters-cut state sound.filters;
+  filters = record { each = sound.filters.each; dimensions = sound.filters.dimensions; set = sound.filters.set };
   batches = batches-cut settles state range sound;
   hands = hands-cut state sound.hands;
   queries = queries-cut state range sound;
@@ -176,7 +131,7 @@ sound-cut settles state can sound = record {
     position = range.last;
   };
   order = record { tallies = sound.order.tallies; count = sound.order.count; order = sound.order.order };
-  seats = seats-cut state sound.seats;
+  seats = seats-held state (queries_after state) state.lives.slots state.filters (scan_after state) (numbers_after state) refl (wanted-cut state) sound.seats;
 }
   where
     range : Cuts state

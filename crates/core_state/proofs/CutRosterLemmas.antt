@@ -1,12 +1,11 @@
 -- Which queries run, and how they stand on the roster of a batch that is cut.
-use Rattle.core_state.proofs.Words.{◌<◌, ◌∙◌, ◌≡◌, ◌≢◌, Accepted, accepted_at, All, ap, Clearing, Contains, cut_query, entry_of, eq-eqb, eqb, eqb-true, false, Filters, find, Free, gets_rows, Has, Held, holder_of, IfSome, is_begun, IsOnRoster, IsSome, IsSound, IsTrue, length, Life, life_of, map, MayBeOnRoster, ne_eqb, None, none-some, Numbers, OnRoster, Option, option_and_then, option_map, option_map_or, position-Some, range_with_len, refl, roster_of, running_at, same_Some, Scan, slot_at, slot_of, slot_of-begun, SlotState, Some, start_at, start_in, starts_of, State, subst, sym, true, ℕ}
+use Rattle.core_state.proofs.Words.{◌<◌, ◌∙◌, ◌≡◌, ◌≢◌, Accepted, accepted_at, All, ap, Clearing, Contains, cut_query, entry_of, eq-eqb, eqb, eqb-true, false, find, Free, gets_rows, Has, Held, holder_of, IfSome, is_begun, IsOnRoster, IsSome, IsSound, IsTrue, length, Life, life_of, map, MayBeOnRoster, ne_eqb, None, none-some, OnRoster, Option, option_and_then, option_map, option_map_or, position-Some, range_with_len, refl, roster_of, running_at, same_Some, slot_at, slot_of, slot_of-begun, SlotState, Some, start_at, start_in, starts_of, State, subst, sym, true, ℕ}
 use Rattle.pipeline_manager.specs.Lives.{is_held_by}
 use Rattle.pipeline_manager.specs.declared.life.Life.TheVariants as life
 use Rattle.core_state.proofs.AcceptedLemmas.{held-accepted}
 use Rattle.core_state.proofs.CutFoundLemmas.{all-below, all-found, find-there, found-below, none-found}
 use Rattle.core_state.proofs.CutLifeLemmas.{life-cut, may-stay}
 use Rattle.core_state.proofs.FoundLemmas.{find-passes, some-at}
-use Rattle.core_state.proofs.FrameLemmas.{moved}
 
 -- what is known of a slot whose query runs
 pub record RunsIn (state : State) (slot : ℕ) (entry : OnRoster) : Type 0 where
@@ -147,10 +146,10 @@ off-roster state query never = none-found (λ entry. eqb entry.number query) (ro
     never here.start here.left (ap (life_of state.lives) (sym number) ∙ here.runs))))
 
 -- the query of a slot in which one runs stands soundly on the roster of the batch that is cut
-pub entry-cut : (state : State) (first last : ℕ) (filters : Filters) (scan : Scan) (numbers : Numbers) → IsSound state
+pub entry-cut : (state : State) (first last : ℕ) → IsSound state
     → (slot : ℕ) (entry : OnRoster) → slot < length state.lives.slots → running_at state slot ≡ Some entry
     → IsOnRoster (record state.lives { queries = (map (cut_query first last) state.lives.queries) }) state.accepted entry
-entry-cut state first last filters scan numbers sound slot entry low is =
+entry-cut state first last sound slot entry low is =
     subst (IsOnRoster (record state.lives { queries = (map (cut_query first last) state.lives.queries) }) state.accepted) (sym here.is)
     (record {
       there = low;

@@ -1,5 +1,5 @@
 -- The rows of a batch that is cut: their bits are what the queries on its roster say of their versions.
-use Rattle.core_state.proofs.Words.{◌*◌, ◌+◌, ◌-◌, ◌<◌, ◌∙◌, ◌∷◌, ◌≡◌, ◌≤◌, [], All, All-contains, All-contains_itself, All-filter, ap, arith, bit_at, bit_at-zero, bits_of, Bool, cond, Contains, drop, end_in, eq-eqb, eqb, false, filter, filter_passes, Filters, first_in, Flight, frame_words, get_or, get_or-map, get_or-map-range_with_len, Has, has_passed, is_visible, IsOnRoster, IsSettled, IsSound, IsSoundBatch, IsSoundRow, joined, keeps_so_far, key_number, key_numbers, length, length-map, length-map-range_with_len, length-take-le, List, list_all, list_any, list_any_at, map, None, Numbers, OnRoster, passes, PlainVersion, QueryLife, range_with_len, refl, roster_of, rows_of, running_at, same_Some, Scan, slice_get, slots_of, SlotState, Some, State, Store, subst, suc, sym, tables_of, takes_at, takes_version, true, versions_from, versions_in, zero, ℕ}
+use Rattle.core_state.proofs.Words.{◌*◌, ◌+◌, ◌-◌, ◌<◌, ◌∙◌, ◌∷◌, ◌≡◌, ◌≤◌, [], All, All-contains, All-contains_itself, All-filter, ap, arith, bit_at, bit_at-zero, bits_of, Bool, cond, Contains, drop, end_in, eq-eqb, eqb, false, filter, filter_passes, first_in, Flight, frame_words, get_or, get_or-map, get_or-map-range_with_len, Has, has_passed, is_visible, IsOnRoster, IsSettled, IsSound, IsSoundBatch, IsSoundRow, joined, keeps_so_far, key_number, key_numbers, length, length-map, length-map-range_with_len, length-take-le, List, list_all, list_any, list_any_at, map, None, OnRoster, passes, PlainVersion, QueryLife, range_with_len, refl, roster_of, rows_of, running_at, same_Some, slice_get, slots_of, SlotState, Some, State, Store, subst, suc, sym, tables_of, takes_at, takes_version, true, versions_from, versions_in, zero, ℕ}
 use Rattle.std.specs.Prelude.{◌&&◌}
 use Rattle.std.proofs.lemmas.List.{get_or-drop, get_or-take, length-drop}
 use Rattle.std.proofs.lemmas.Option.{get_or_from_slice_get}
@@ -7,7 +7,6 @@ use Rattle.core_state.proofs.CutFoundLemmas.{has-any, has-at}
 use Rattle.core_state.proofs.CutNumberLemmas.{get_or-of_rows, length-of_rows}
 use Rattle.core_state.proofs.CutRosterLemmas.{roster-own}
 use Rattle.core_state.proofs.FoundLemmas.{some-by}
-use Rattle.core_state.proofs.FrameLemmas.{moved, row-moved}
 use Rattle.core_state.proofs.KeyedLemmas.{filter-there}
 
 -- the batch that is cut, in flight
@@ -143,11 +142,11 @@ row-cut state settled sound within row low version is = record {
     bits = get_or-map (bits_of (roster_of state)) cut row version 0 many ∙ ap (bits_of (roster_of state)) there
 
 -- the batch that is cut is sound where its roster is
-pub batch-cut : (state : State) (queries : List QueryLife) (slots : List SlotState) (filters : Filters) (scan : Scan) (numbers : Numbers)
+pub batch-cut : (state : State) (queries : List QueryLife) (slots : List SlotState)
     → IsSettled (tables_of state) → IsSound state → first_in state ≤ end_in state → end_in state ≤ versions_in state
     → All (IsOnRoster (record state.lives { queries = queries; slots = slots }) state.accepted) (roster_of state)
     → IsSoundBatch (frame_words state) (tables_of state) (record state.lives { queries = queries; slots = slots }) state.accepted (cut_flight state)
-batch-cut state queries slots filters scan numbers settled sound ordered within roster =
+batch-cut state queries slots settled sound ordered within roster =
     let cut : List PlainVersion = versions_from (first_in state) (end_in state) (tables_of state).versions in
     let long : length cut ≡ end_in state - first_in state = length-cut (tables_of state).versions (first_in state) (end_in state) within in
     record {
@@ -160,6 +159,5 @@ batch-cut state queries slots filters scan numbers settled sound ordered within 
       slots = refl;
       rows = λ row low. some-by (IsSoundRow state.lives.filters (tables_of state) (cut_flight state) row)
           (slice_get (tables_of state).versions (first_in state + row))
-          (λ version is. row-moved state queries slots filters scan numbers (cut_flight state) row version
-          (row-cut state settled sound within row low version is));
+          (λ version is. row-cut state settled sound within row low version is);
     }

@@ -49,7 +49,7 @@ pub declared-quiet : (state : State) (entry : Entry) (set : ℕ) (filters : Filt
     → AreSoundFilters (declared_now state entry set filters version) → IsSoundStore (declared_now state entry set filters version)
     → IsQuietBefore (declared_now state entry set filters version)
     → state.scan.position ≤ versions_in (declared_now state entry set filters version)
-    → IsSoundOrder (declared_now state entry set filters version) → IsSoundBeside (declared_now state entry set filters version)
+    → IsSoundOrder filters → IsSoundBeside (declared_now state entry set filters version)
 declared-quiet state entry set filters version none old sound_filters store quiet position order =
     let before = old.quiet none in
     let lives = old.slots.lives in

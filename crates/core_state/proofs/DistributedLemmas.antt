@@ -1,10 +1,11 @@
 -- A batch that is distributed keeps a core sound.
-use Rattle.core_state.proofs.Words.{◌+◌, ◌<◌, ◌↔◌, ◌∙◌, ◌∷◌, ◌≡◌, ◌≢◌, ◌≤◌, [], Accepted, accepted_at, All, All-cons, All-contains, All-filter, All-nil, all_pairs_head, all_pairs_tail, AllPairs, AllPairs-cons, AllPairs-filter, ap, AreSoundHands, AreSoundQueries, arith, Bool, cond, cons_option, Contains, eq-eqb, eqb, false, filter, Flight, flight_at, frame_words, get_or, get_or-map, Hand, IfSome, IfSome_then, is_open, IsKept, IsSound, IsSoundBatch, IsSoundHand, IsSoundQuery, IsThrough, IsTrue, length, length-map, List, map, ne_eqb, None, not, Option, option_map, query_in, QueryLife, refl, Scan, slice_get, Some, State, subst, sym, tables_of, true, versions_in, ℕ}
+use Rattle.core_state.proofs.Words.{◌+◌, ◌<◌, ◌∙◌, ◌∷◌, ◌≡◌, ◌≢◌, ◌≤◌, [], Accepted, accepted_at, All, All-cons, All-contains, All-filter, All-nil, all_pairs_head, all_pairs_tail, AllPairs, AllPairs-cons, AllPairs-filter, ap, AreSoundHands, AreSoundQueries, arith, Bool, cond, cons_option, Contains, eq-eqb, eqb, false, filter, Flight, flight_at, frame_words, get_or, get_or-map, Hand, IfSome, IsSound, IsSoundBatch, IsSoundHand, IsSoundQuery, IsThrough, length, length-map, List, map, ne_eqb, None, not, Option, option_map, query_in, QueryLife, refl, Scan, Some, State, subst, sym, tables_of, true, ℕ}
 use Rattle.pipeline_manager.specs.Sound.{AreRising}
 use Rattle.pipeline_manager.specs.declared.life.Life.TheVariants as life
-use Rattle.core_state.proofs.AnewLemmas.{LivesAs, batches-anew, filters-anew, hands-anew, queries-anew}
+use Rattle.core_state.proofs.AnewLemmas.{batches-anew, filters-anew, hands-anew, queries-anew}
 use Rattle.core_state.proofs.DistributeLemmas.{FoldsOne, length-landed, without_flight}
-use Rattle.core_state.proofs.FoundLemmas.{life-found, some-at, some-by}
+use Rattle.core_state.proofs.FoundLemmas.{life-found, some-by}
+use Rattle.core_state.proofs.FrameLemmas.{lives-as, LivesAs}
 use Rattle.core_state.proofs.LandedLemmas.{batch-brings, fed_by, feeds, gets-open, kept-landed, landed}
 use Rattle.core_state.proofs.SeatLemmas.{seat-anew, seats-anew}
 use Rattle.core_state.proofs.TakeLemmas.{All-option, All-option_tail, cons-tail, workers}
@@ -87,10 +88,8 @@ fewer-apart p (flight ∷ flights) apart =
 hands-left : (state : State) (p : Flight → Bool) (scan : Scan) → scan.flights ≡ filter p state.scan.flights → AreSoundHands state
     → AreSoundHands (record state { scan = scan })
 hands-left state p scan left old = record {
-  each = subst (All (λ f. IfSome f.hand (IsSoundHand (length (record state { scan = scan }).seats) (record state { scan = scan }).lives.filters (tables_of (record state { scan = scan })) f))) (sym left)
-      (All-filter p (λ f. IfSome f.hand (IsSoundHand (length (record state { scan = scan }).seats) (record state { scan = scan }).lives.filters (tables_of (record state { scan = scan })) f)) state.scan.flights
-      (λ k d low. IfSome_then (get_or state.scan.flights k d).hand (old.each k d low)
-      (λ hand h. record { seat = h.seat; table = h.table; is_filter = h.is_filter; not_passed = h.not_passed; encodes = h.encodes })));
+  each = subst (All (λ f. IfSome f.hand (IsSoundHand (length state.seats) state.lives.filters (tables_of state) f))) (sym left)
+      (All-filter p (λ f. IfSome f.hand (IsSoundHand (length state.seats) state.lives.filters (tables_of state) f)) state.scan.flights old.each);
   one = subst (λ flights. AllPairs (λ w other. w ≢ other) (workers flights)) (sym left) (fewer-apart p state.scan.flights old.one);
 }
 
@@ -100,11 +99,11 @@ pub sound-landed : FoldsOne → (batch : ℕ) (flight : Flight) (state : State) 
 sound-landed folds batch flight state there of_batch through sound = record {
   settings = sound.settings;
   filters = filters-anew state change keeps queries state.seats scan sound.filters;
-  batches = batches-anew state change keeps queries state.seats scan (λ number on. on)
+  batches = batches-anew state change keeps queries scan.flights (λ number on. on)
       (All-filter left (IsSoundBatch (frame_words state) (tables_of state) state.lives state.accepted) state.scan.flights sound.batches);
-  hands = hands-anew state change keeps queries state.seats scan refl (hands-left state left scan refl sound.hands);
+  hands = hands-anew state change queries state.seats scan refl (hands-left state left scan refl sound.hands);
   queries = queries-anew state change keeps queries state.seats scan refl
-      (λ accepted among of_query. some-by (LivesAs (landed batch flight state) accepted (change accepted)) (query_in queries accepted.number)
+      (λ accepted among of_query. some-by (LivesAs (tables_of state) state.seats scan accepted (change accepted)) (query_in queries accepted.number)
       (λ entry found. lives accepted among of_query entry found)) sound.queries;
   slots = record { lives = sound.slots.lives; count = sound.slots.count; built = sound.slots.built };
   store = sound.store;
@@ -122,7 +121,7 @@ sound-landed folds batch flight state there of_batch through sound = record {
   };
   order = record { tallies = sound.order.tallies; count = sound.order.count; order = sound.order.order };
   seats = seats-anew state change keeps queries state.seats scan refl (λ seat. refl)
-      (λ k d low. seat-anew state change keeps queries state.seats scan (get_or state.seats k d) (λ j p inside h. h) (λ number h. h)
+      (λ k d low. seat-anew state change keeps queries (get_or state.seats k d) (λ j p inside h. h) (λ number h. h)
       (sound.seats.each k d low)) sound.seats;
 }
   where
@@ -142,18 +141,14 @@ sound-landed folds batch flight state there of_batch through sound = record {
     scan = record state.scan { flights = without_flight batch state.scan.flights; free = state.scan.free + 1 }
 
     lives : (accepted : Accepted) → Contains state.accepted accepted → IsSoundQuery state accepted → (entry : QueryLife)
-        → query_in queries accepted.number ≡ Some entry → LivesAs (landed batch flight state) accepted (change accepted) entry
-    lives accepted among of_query entry found = (
-      kept-landed folds state batch flight there sound.numbers.apart accepted entry.extent entry.life
-          (life-found queries accepted.number entry found)
-          (λ gets. batch-brings state flight accepted entry.extent sound.filters sound.order through.through of_batch
-          (found-itself state sound.queries sound.slots.lives.rising accepted among) of_query.over (extent (gets-open entry.life gets)))
-          (some-at (λ e. IsKept (tables_of state) state.seats state.scan accepted e.extent e.life) (query_in queries accepted.number) entry found of_query.kept),
-      extent,
-      some-at (λ e. e.extent ≤ versions_in state) (query_in queries accepted.number) entry found of_query.within,
-    )
-      where
-        extent : IsTrue (is_open entry.life) → (position : ℕ) → IfSome (slice_get (tables_of state).versions position)
-            (λ version. (version.begin ≤ accepted.snapshot) ↔ (position < entry.extent))
-        extent = some-at (λ e. IsTrue (is_open e.life) → (position : ℕ) → IfSome (slice_get (tables_of state).versions position)
-            (λ version. (version.begin ≤ accepted.snapshot) ↔ (position < e.extent))) (query_in queries accepted.number) entry found of_query.extent
+        → query_in queries accepted.number ≡ Some entry → LivesAs (tables_of state) state.seats scan accepted (change accepted) entry
+    lives accepted among of_query entry found =
+        let was = lives-as state accepted of_query entry found in (
+          kept-landed folds state batch flight there sound.numbers.apart accepted entry.extent entry.life
+              (life-found queries accepted.number entry found)
+              (λ gets. batch-brings state flight accepted entry.extent sound.filters sound.order through.through of_batch
+              (found-itself state sound.queries sound.slots.lives.rising accepted among) of_query.over (was.1 (gets-open entry.life gets)))
+              was.0,
+          was.1,
+          was.2,
+        )

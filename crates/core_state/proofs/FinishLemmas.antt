@@ -1,13 +1,13 @@
 -- A slot that is taken from its query keeps a core sound.
-use Rattle.core_state.proofs.Words.{◌++◌, ◌<◌, ◌||◌, ◌↔◌, ◌∙◌, ◌∷◌, ◌≡◌, ◌≢◌, ◌≤◌, [], Accepted, after_finish, All, All-cons, All-nil, ap, append-nil, AreSoundQueries, Bool, Clearing, cond, eq-eqb, eqb, eqb-true, false, FitsSlot, flat_map, Flight, frame_words, Free, get_or, get_or-set_other, get_or-set_same, gets_rows, given_up, Has, Held, IfSome, inr, is_ending, is_on_roster, is_open, IsKept, IsOnRoster, IsPermutation, IsSound, IsSoundBatch, IsTrue, kept_at, length, length-set, Life, life_in, life_in-other, List, list_any, MayBeOnRoster, MayFinish, None, OnRoster, Option, option_map_or, positions_for, query_in, QueryLife, range_with_len, refl, set, slice_get, slot_at, slot_of-holder, SlotState, Some, State, subst, sym, tables_of, true, versions_in, with_life, ℕ, ⊎_elim}
+use Rattle.core_state.proofs.Words.{◌++◌, ◌<◌, ◌||◌, ◌↔◌, ◌∙◌, ◌∷◌, ◌≡◌, ◌≢◌, ◌≤◌, [], Accepted, after_finish, All, All-cons, All-nil, ap, append-nil, AreSoundQueries, Bool, Clearing, cond, eq-eqb, eqb, eqb-true, false, FitsSlot, flat_map, Flight, frame_words, Free, get_or, get_or-set_other, get_or-set_same, gets_rows, given_up, Has, Held, IfSome, inr, is_ending, is_on_roster, IsKept, IsOnRoster, IsPermutation, IsSound, IsSoundBatch, IsTrue, kept_at, length, length-set, Life, life_in, life_in-other, List, list_any, MayBeOnRoster, MayFinish, None, OnRoster, Option, option_map_or, positions_for, QueryLife, range_with_len, refl, set, slice_get, slot_at, slot_of-holder, SlotState, Some, State, subst, sym, tables_of, true, versions_in, with_life, ℕ, ⊎_elim}
 use Rattle.std.proofs.Common.{find}
 use Rattle.pipeline_manager.specs.Conditions.{IsOver}
 use Rattle.pipeline_manager.specs.Sound as managed
 use Rattle.pipeline_manager.specs.declared.life.Life.TheVariants as life
 use Rattle.pipeline_manager.proofs.EndLemmas.{sound-ended}
-use Rattle.core_state.proofs.FoundLemmas.{find-passes, some-at}
-use Rattle.core_state.proofs.HeldLemmas.{entry-set, filters-held, fits-set, queries-stay, slot-there}
-use Rattle.core_state.proofs.MovedLemmas.{Holds, StaysWanted, held_now, order-held, sound-held}
+use Rattle.core_state.proofs.FoundLemmas.{find-passes}
+use Rattle.core_state.proofs.HeldLemmas.{entry-set, filters-held, fits-set, slot-there}
+use Rattle.core_state.proofs.MovedLemmas.{Holds, StaysWanted, held_now, sound-held}
 use Rattle.core_state.proofs.RowsLemmas.{whole-extent}
 use Rattle.core_state.proofs.StartLemmas.{none-in-flight}
 use Rattle.core_state.proofs.AcceptedLemmas.{find-holds}
@@ -93,7 +93,7 @@ sound-given_up slot query built state queries there holds landed lives_now queri
           let entry = get_or flight.roster j e in
           let on = (sound.batches k d low).roster j e within in
           let apart : entry.slot ≢ slot = apart-landed slot flight (landed k d low) j e within in
-          entry-set state queries slot (Clearing built) state.filters state.numbers.version entry apart
+          entry-set state queries slot (Clearing built) entry apart
           (subst (λ o. IfSome o MayBeOnRoster) (sym (others entry.number (λ same. apart
           (one-slot state slot entry.slot query built on.held.0 sound there on.there holds (on.held.1 ∙ ap (λ n. Held n on.held.0) same)))))
           on.life) on;
@@ -114,7 +114,7 @@ sound-given_up slot query built state queries there holds landed lives_now queri
       quiet = λ none.
           let free : slot_at state.lives slot ≡ Free = (sound.quiet none).2 slot Free there in
           let both : Held query built ≡ Free = sym holds ∙ free in cc;
-      order = order-held state queries slots state.numbers.version sound.order;
+      order = sound.order;
       wanted = wanted;
     } in
     sound-held state queries slots state.filters state.numbers.version now sound
@@ -149,21 +149,15 @@ sound-by_state slot state can sound (Held query built) holds over =
         sound-given_up slot query built state (with_life query life.Answered state.lives.queries) there holds can.landed
         (subst (λ t. managed.IsSound (record state.lives { queries = queries_of t; slots = slots })) is ended)
         (queries-written state query life.Ending life.Answered slots state.filters state.numbers.version was
-        (λ accepted extent same of_query found kept.
-        let at : query_in state.lives.queries accepted.number ≡ Some (record { query = query; extent = extent; life = life.Ending }) =
-        subst (λ n. query_in state.lives.queries n ≡ Some (record { query = query; extent = extent; life = life.Ending })) (sym same) found in
-        kept-finished slot query built state sound there holds can.landed accepted extent same
-        (some-at (λ e. e.extent ≤ versions_in state) (query_in state.lives.queries accepted.number) (record { query = query; extent = extent; life = life.Ending }) at of_query.within)
-        (some-at (λ e. IsTrue (is_open e.life) → (position : ℕ) → IfSome (slice_get (tables_of state).versions position)
-        (λ version. (version.begin ≤ accepted.snapshot) ↔ (position < e.extent)))
-        (query_in state.lives.queries accepted.number) (record { query = query; extent = extent; life = life.Ending }) at of_query.extent refl) kept)
+        (λ accepted extent same found was.
+        kept-finished slot query built state sound there holds can.landed accepted extent same was.2 (was.1 refl) was.0)
         (λ wanted. refl) sound.queries)
         (wanted-written state query life.Ending life.Answered was (λ h e. cc) (λ h. ⊎_elim (λ e. cc) (λ e. cc) h))
         (λ other apart. life_in-other state.lives.queries query other life.Answered apart) sound
     by_test false is =
         sound-given_up slot query built state state.lives.queries there holds can.landed
         (subst (λ t. managed.IsSound (record state.lives { queries = queries_of t; slots = slots })) is ended)
-        (queries-stay state slots state.filters state.numbers.version sound.queries) (λ number. (λ h. h, λ h. h)) (λ other apart. refl) sound
+        (record { same = sound.queries.same; each = sound.queries.each }) (λ number. (λ h. h, λ h. h)) (λ other apart. refl) sound
 
 pub sound-finished : (slot : ℕ) (state : State) → MayFinish slot state → IsSound state → IsSound (after_finish slot state)
 sound-finished slot state can sound = sound-by_state slot state can sound (slot_at state.lives slot) refl can.over

@@ -1,8 +1,11 @@
 -- What stays sound where the batches in flight change, and not their positions.
-use Rattle.core_state.proofs.Words.{◌++◌, ◌+◌, ◌<◌, ◌==◌, ◌∙◌, ◌∷◌, ◌≡◌, ◌≤◌, [], All-map, ap, AreSoundBatches, AreSoundFilters, AreSoundHands, AreSoundNumbers, AreSoundQueries, AreSoundSeats, arith, filter, flat_map, Flight, get_or, get_or-map, IfSome_then, IsOnRoster, IsSound, IsSoundOrder, length, length-map, List, map, OnRoster, option_map_or, positions_for, query_in, range_with_len, refl, State, subst, sym, Tally, ℕ}
+use Rattle.core_state.proofs.Words.{◌++◌, ◌+◌, ◌<◌, ◌==◌, ◌∙◌, ◌∷◌, ◌≡◌, ◌≤◌, [], All-map, ap, AreSoundBatches, AreSoundHands, AreSoundNumbers, AreSoundQueries, arith, filter, flat_map, Flight, get_or, get_or-map, IsSound, IsSoundOrder, length, length-map, List, map, option_map_or, positions_for, query_in, range_with_len, refl, Scan, State, subst, sym, tables_of, Tally, ℕ}
 use Rattle.std.specs.List.{find}
 use Rattle.std.specs.Prelude.{nat_lt}
-use Rattle.core_state.proofs.FrameLemmas.{filter-moved, kept-moved, moved, query-moved}
+use Rattle.core_state.proofs.FoundLemmas.{some-by}
+use Rattle.core_state.proofs.FrameLemmas.{kept-with, lives-as, LivesAs, moved}
+use Rattle.core_state.proofs.HeldLemmas.{queries-held}
+use Rattle.core_state.proofs.MovedLemmas.{seats-held}
 
 -- the core with changed batches in flight, and other tallies
 abbrev pub flown : State → List Tally → (Flight → Flight) → State
@@ -36,49 +39,20 @@ all-positions-keep number extent change keeps (flight ∷ flights) =
     (positions-keep number extent flight (change flight) (keeps flight))
     ∙ ap (λ rest. positions_for number extent flight ++ rest) (all-positions-keep number extent change keeps flights)
 
--- the roster of a batch is as sound as it was
-pub entry-flown : (state : State) (tallies : List Tally) (change : Flight → Flight) (entry : OnRoster) → IsOnRoster state.lives state.accepted entry
-    → IsOnRoster state.lives state.accepted entry
-entry-flown state tallies change entry old =
-    record { there = old.there; held = old.held; life = old.life; same = old.same }
-
-filters-flown : (state : State) (tallies : List Tally) (change : Flight → Flight) → AreSoundFilters state
-    → AreSoundFilters (flown state tallies change)
-filters-flown state tallies change old = record {
-  each = λ k d low. filter-moved state state.lives.queries state.lives.slots (record state.filters { tallies = tallies })
-      (record state.scan { flights = map change state.scan.flights }) state.numbers
-      (get_or state.filters.versions k d).filter refl (λ slot there fits. fits) (old.each k d low);
-  dimensions = old.dimensions;
-  set = old.set;
-}
-
 queries-flown : (state : State) (tallies : List Tally) (change : Flight → Flight) → ((flight : Flight) → KeepsPlace flight (change flight))
     → AreSoundQueries state → AreSoundQueries (flown state tallies change)
-queries-flown state tallies change keeps old = record {
-  same = old.same;
-  each = λ k d low.
-      let accepted = get_or state.accepted k d in
-      let sound = old.each k d low in
-      let scan = record state.scan { flights = map change state.scan.flights } in
-      query-moved state state.lives.queries state.lives.slots (record state.filters { tallies = tallies }) scan state.numbers accepted refl
-      (IfSome_then (query_in state.lives.queries accepted.number) sound.kept (λ entry kept.
-      kept-moved state state.lives.queries state.lives.slots (record state.filters { tallies = tallies }) scan state.numbers accepted entry.extent entry.life
-      (all-positions-keep accepted.number entry.extent change keeps state.scan.flights) refl kept))
-      sound.extent sound.within sound;
-}
-
-seats-flown : (state : State) (tallies : List Tally) (change : Flight → Flight) → AreSoundSeats state
-    → AreSoundSeats (flown state tallies change)
-seats-flown state tallies change old = record {
-  count = old.count;
-  each = λ k d low.
-      let seat = old.each k d low in
-      record { rising = seat.rising; given = seat.given; in_order = seat.in_order; submitted = seat.submitted; taken = seat.taken; awaited = seat.awaited };
-  apart = old.apart;
-  rising = old.rising;
-  entries = old.entries;
-  queries = old.queries;
-}
+queries-flown state tallies change keeps =
+    queries-held state state.lives.queries state.lives.slots (record state.filters { tallies = tallies }) scan state.numbers refl refl
+    (λ accepted sound. some-by (LivesAs (tables_of state) state.seats scan accepted accepted) (query_in state.lives.queries accepted.number)
+    (λ entry found. let was = lives-as state accepted sound entry found in (
+      kept-with (tables_of state) state.seats state.seats state.scan scan (λ seat number has. has) accepted entry.extent entry.life
+          (all-positions-keep accepted.number entry.extent change keeps state.scan.flights) refl was.0,
+      was.1,
+      was.2,
+    )))
+  where
+    scan : Scan
+    scan = record state.scan { flights = map change state.scan.flights }
 
 numbers-flown : (state : State) (tallies : List Tally) (change : Flight → Flight) → ((flight : Flight) → KeepsPlace flight (change flight))
     → AreSoundNumbers state → AreSoundNumbers (flown state tallies change)
@@ -100,13 +74,13 @@ pub record Flies (state : State) (tallies : List Tally) (change : Flight → Fli
   pub place : (flight : Flight) → KeepsPlace flight (change flight)
   pub batches : AreSoundBatches (flown state tallies change)
   pub hands : AreSoundHands (flown state tallies change)
-  pub order : IsSoundOrder (flown state tallies change)
+  pub order : IsSoundOrder (record state.filters { tallies = tallies })
 
 pub sound-flown : (state : State) (tallies : List Tally) (change : Flight → Flight) → Flies state tallies change → IsSound state
     → IsSound (flown state tallies change)
 sound-flown state tallies change flies old = record {
   settings = old.settings;
-  filters = filters-flown state tallies change old.filters;
+  filters = record { each = old.filters.each; dimensions = old.filters.dimensions; set = old.filters.set };
   batches = flies.batches;
   hands = flies.hands;
   queries = queries-flown state tallies change flies.place old.queries;
@@ -119,5 +93,6 @@ sound-flown state tallies change flies old = record {
     position = old.scan.position;
   };
   order = flies.order;
-  seats = seats-flown state tallies change old.seats;
+  seats = seats-held state state.lives.queries state.lives.slots (record state.filters { tallies = tallies })
+      (record state.scan { flights = map change state.scan.flights }) state.numbers refl (λ number. (λ h. h, λ h. h)) old.seats;
 }

@@ -1,5 +1,5 @@
--- What stays sound where only the lives, the filters, the scan and the numbers of a core change.
-use Rattle.core_state.proofs.Words.{◌++◌, ◌+◌, ◌<◌, ◌↔◌, ◌≡◌, ◌≤◌, Accepted, All, arith, Filter, Filters, FitsSlot, flat_map, Flight, frame_words, Free, get_or, Hand, Has, Held, IfSome, IfSome_then, inl, inr, is_open, IsAnswer, IsCovered, IsKept, IsNext, IsOnRoster, IsPermutation, IsSoundBatch, IsSoundFilter, IsSoundHand, IsSoundQuery, IsSoundRow, IsTrue, length, Life, life_in, List, MayBeOnRoster, Numbers, OnRoster, PlainVersion, positions_for, query_in, QueryLife, range_with_len, Scan, slice_get, slot_at, SlotState, State, subst, sym, tables_of, to_come, versions_in, ℕ, ⊎_elim}
+-- What stays sound of each part of a core where what it reads changes: one lemma a part.
+use Rattle.core_state.proofs.Words.{◌++◌, ◌<◌, ◌↔◌, ◌∷◌, ◌≡◌, ◌≢◌, ◌≤◌, ◌⊎◌, [], Accepted, accepted_at, All, All-cons, All-contains, All-head, All-nil, All-tail, All-weaker, arith, Asked, Awaited, Contains, empty_seat, Filter, Filters, FitsSlot, flat_map, Flight, Free, get_or, Grouped, HasAccepted, IfSome, IfSome_then, inl, inr, is_open, IsAwaited, IsCovered, IsKept, IsNext, IsOnRoster, IsPermutation, IsSoundAccepted, IsSoundBatch, IsSoundFilter, IsSoundQuery, IsSoundSeat, IsTaken, IsTrue, length, Life, life_in, List, Lives, map, None, none-some, Numbers, Option, Pending, positions_for, Query, query_in, QueryLife, range_with_len, Replied, same_Some, Scan, Seat, slice_get, SlotState, Some, State, Store, subst, sym, tables_of, Taken, to_come, ℕ, ⊎_elim}
 use Rattle.pipeline_manager.specs.declared.life.Life.TheVariants as life
 
 -- the core with other lives of the same filters, other filters, another scan and other numbers
@@ -11,109 +11,170 @@ moved state queries slots filters scan numbers = record state {
   numbers = numbers;
 }
 
-pub row-moved : (state : State) (queries : List QueryLife) (slots : List SlotState) (filters : Filters) (scan : Scan) (numbers : Numbers)
-    (flight : Flight) (row : ℕ) (version : PlainVersion) → IsSoundRow state.lives.filters (tables_of state) flight row version
-    → IsSoundRow state.lives.filters (tables_of state) flight row version
-row-moved state queries slots filters scan numbers flight row version old =
-    record { keys = old.keys; bits = old.bits; others = old.others }
+-- batches stay sound where their rosters do
+pub batches-with : (words : ℕ) (store : Store) (lives : Lives) (queries : List QueryLife) (slots : List SlotState) (accepted others : List Accepted)
+    (flights : List Flight) → All (λ flight. All (IsOnRoster (record lives { queries = queries; slots = slots }) others) flight.roster) flights
+    → All (IsSoundBatch words store lives accepted) flights
+    → All (IsSoundBatch words store (record lives { queries = queries; slots = slots }) others) flights
+batches-with words store lives queries slots accepted others flights rosters old = λ k d low.
+    let sound = old k d low in
+    record {
+      within = sound.within;
+      bits = sound.bits;
+      keys = sound.keys;
+      room = sound.room;
+      roster = rosters k d low;
+      slots = sound.slots;
+      rows = sound.rows;
+    }
 
-pub batch-moved : (state : State) (queries : List QueryLife) (slots : List SlotState) (filters : Filters) (scan : Scan) (numbers : Numbers)
-    (flight : Flight) → All (IsOnRoster (record state.lives { queries = queries; slots = slots }) state.accepted) flight.roster → IsSoundBatch (frame_words state) (tables_of state) state.lives state.accepted flight
-    → IsSoundBatch (frame_words state) (tables_of state) (record state.lives { queries = queries; slots = slots }) state.accepted flight
-batch-moved state queries slots filters scan numbers flight roster old = record {
-  within = old.within;
-  bits = old.bits;
-  keys = old.keys;
-  room = old.room;
-  roster = roster;
-  slots = old.slots;
-  rows = λ row low. IfSome_then (slice_get (tables_of state).versions (flight.rows.first + row)) (old.rows row low)
-      (λ version. row-moved state queries slots filters scan numbers flight row version);
-}
-
-pub hand-moved : (state : State) (queries : List QueryLife) (slots : List SlotState) (filters : Filters) (scan : Scan) (numbers : Numbers)
-    (flight : Flight) (hand : Hand) → IsSoundHand (length state.seats) state.lives.filters (tables_of state) flight hand
-    → IsSoundHand (length state.seats) state.lives.filters (tables_of state) flight hand
-hand-moved state queries slots filters scan numbers flight hand old = record {
-  seat = old.seat;
-  table = old.table;
-  is_filter = old.is_filter;
-  not_passed = old.not_passed;
-  encodes = old.encodes;
-}
-
-pub filter-moved : (state : State) (queries : List QueryLife) (slots : List SlotState) (filters : Filters) (scan : Scan) (numbers : Numbers)
-    (filter : Filter) → length slots ≡ length state.lives.slots
-    → ((slot : ℕ) → slot < length state.lives.slots → FitsSlot state.accepted (tables_of state) filter slot (slot_at state.lives slot)
-    → FitsSlot state.accepted (tables_of state) filter slot (get_or slots slot Free))
-    → IsSoundFilter state.accepted (tables_of state) state.lives.slots state.lives.filters filter → IsSoundFilter state.accepted (tables_of state) slots state.lives.filters filter
-filter-moved state queries slots filters scan numbers filter count fits old = record {
+-- a filter stays sound where it still has what each slot asks for
+pub filter-with : (accepted others : List Accepted) (store : Store) (slots holders : List SlotState) (filters : ℕ) (filter : Filter)
+    → length holders ≡ length slots
+    → ((slot : ℕ) → slot < length slots → FitsSlot accepted store filter slot (get_or slots slot Free)
+    → FitsSlot others store filter slot (get_or holders slot Free))
+    → IsSoundFilter accepted store slots filters filter → IsSoundFilter others store holders filters filter
+filter-with accepted others store slots holders filters filter count fits old = record {
   table = old.table;
   ascending = old.ascending;
   is_filter = old.is_filter;
-  slots = λ slot there. let low : slot < length state.lives.slots = omega arith in fits slot low (old.slots slot low);
+  slots = λ slot there. let low : slot < length slots = omega arith in fits slot low (old.slots slot low);
   beyond = λ slot past. old.beyond slot (omega arith);
   within = old.within;
 }
 
-pub entry-moved : (state : State) (queries : List QueryLife) (slots : List SlotState) (filters : Filters) (scan : Scan) (numbers : Numbers)
-    (entry : OnRoster) → length slots ≡ length state.lives.slots
-    → ((built : ℕ) × (get_or slots entry.slot Free ≡ Held entry.number built)
-    × ((dimension : ℕ) → Has state.lives.filters dimension → Has built dimension))
-    → IfSome (life_in queries entry.number) MayBeOnRoster → IsOnRoster state.lives state.accepted entry
-    → IsOnRoster (record state.lives { queries = queries; slots = slots }) state.accepted entry
-entry-moved state queries slots filters scan numbers entry count held life old = record {
-  there = let low = old.there in omega arith;
-  held = held;
-  life = life;
-  same = old.same;
-}
+-- what seats took they have taken in other seats, too
+abbrev pub StayTaken : List Seat → (now : List Seat) → Type 0
+StayTaken seats now = (seat number : ℕ) → Contains (map (λ taken. taken.statement) (get_or seats seat empty_seat).taken) number
+    → Contains (map (λ taken. taken.statement) (get_or now seat empty_seat).taken) number
 
--- what is kept does not change where the same positions are in flight and the scan stands where it stood
-pub covered-moved : (state : State) (queries : List QueryLife) (slots : List SlotState) (filters : Filters) (scan : Scan) (numbers : Numbers)
-    (accepted : Accepted) (extent : ℕ) (life : Life)
-    → flat_map (positions_for accepted.number extent) scan.flights ≡ flat_map (positions_for accepted.number extent) state.scan.flights
-    → scan.position ≡ state.scan.position → IsCovered (tables_of state) state.scan accepted extent life
-    → IsCovered (tables_of state) scan accepted extent life
-covered-moved state queries slots filters scan numbers accepted extent life same stands old = record {
+covered-with : (store : Store) (scan next : Scan) (accepted : Accepted) (extent : ℕ) (now : Life)
+    → flat_map (positions_for accepted.number extent) next.flights ≡ flat_map (positions_for accepted.number extent) scan.flights
+    → next.position ≡ scan.position → IsCovered store scan accepted extent now → IsCovered store next accepted extent now
+covered-with store scan next accepted extent now same stands old = record {
   folded = old.folded;
-  each_once = subst (λ positions. IsPermutation (old.folded ++ positions ++ to_come extent life) (range_with_len 0 extent)) (sym same) old.each_once;
-  next = subst (λ position. IsNext position extent life) (sym stands) old.next;
+  each_once = subst (λ positions. IsPermutation (old.folded ++ positions ++ to_come extent now) (range_with_len 0 extent)) (sym same) old.each_once;
+  next = subst (λ position. IsNext position extent now) (sym stands) old.next;
   groups = old.groups;
 }
 
-pub answer-moved : (state : State) (queries : List QueryLife) (slots : List SlotState) (filters : Filters) (scan : Scan) (numbers : Numbers)
-    (accepted : Accepted) → IsAnswer (tables_of state) accepted → IsAnswer (tables_of state) accepted
-answer-moved state queries slots filters scan numbers accepted old = record { rows = old.rows; all = old.all; groups = old.groups }
+-- what is kept does not change where the same positions are in flight, the scan stands where it stood, and what was taken stays
+pub kept-with : (store : Store) (seats others : List Seat) (scan next : Scan) → StayTaken seats others
+    → (accepted : Accepted) (extent : ℕ) (now : Life)
+    → flat_map (positions_for accepted.number extent) next.flights ≡ flat_map (positions_for accepted.number extent) scan.flights
+    → next.position ≡ scan.position → IsKept store seats scan accepted extent now → IsKept store others next accepted extent now
+kept-with store seats others scan next stay accepted extent (life.Running start left) same stands old =
+    covered-with store scan next accepted extent (life.Running start left) same stands old
+kept-with store seats others scan next stay accepted extent life.Ending same stands old =
+    covered-with store scan next accepted extent life.Ending same stands old
+kept-with store seats others scan next stay accepted extent life.Answered same stands old =
+    ⊎_elim (λ gone. inl (gone.0, stay accepted.seat accepted.number gone.1)) (λ answer. inr answer) old
+kept-with store seats others scan next stay accepted extent other same stands old = old
 
-pub kept-moved : (state : State) (queries : List QueryLife) (slots : List SlotState) (filters : Filters) (scan : Scan) (numbers : Numbers)
-    (accepted : Accepted) (extent : ℕ) (now : Life)
-    → flat_map (positions_for accepted.number extent) scan.flights ≡ flat_map (positions_for accepted.number extent) state.scan.flights
-    → scan.position ≡ state.scan.position → IsKept (tables_of state) state.seats state.scan accepted extent now
-    → IsKept (tables_of state) state.seats scan accepted extent now
-kept-moved state queries slots filters scan numbers accepted extent (life.Running start left) same stands old =
-    covered-moved state queries slots filters scan numbers accepted extent (life.Running start left) same stands old
-kept-moved state queries slots filters scan numbers accepted extent life.Ending same stands old =
-    covered-moved state queries slots filters scan numbers accepted extent life.Ending same stands old
-kept-moved state queries slots filters scan numbers accepted extent life.Answered same stands old =
-    ⊎_elim (λ none. inl none) (λ answer. inr (answer-moved state queries slots filters scan numbers accepted answer)) old
-kept-moved state queries slots filters scan numbers accepted extent other same stands old = old
-
--- an accepted query stays sound where its own life is what is asked of it
-pub query-moved : (state : State) (queries : List QueryLife) (slots : List SlotState) (filters : Filters) (scan : Scan) (numbers : Numbers)
-    (accepted : Accepted) → numbers.statement ≡ state.numbers.statement
-    → IfSome (query_in queries accepted.number)
-    (λ entry. IsKept (tables_of state) state.seats scan accepted entry.extent entry.life)
-    → IfSome (query_in queries accepted.number) (λ entry. IsTrue (is_open entry.life)
-    → (position : ℕ) → IfSome (slice_get (tables_of state).versions position)
+-- what is asked of an accepted query, with what is given of it, by its life
+abbrev pub LivesAs : Store → List Seat → Scan → Accepted → (given : Accepted) → QueryLife → Type 0
+LivesAs store seats scan accepted given entry =
+    IsKept store seats scan given entry.extent entry.life × (IsTrue (is_open entry.life)
+    → (position : ℕ) → IfSome (slice_get store.versions position)
     (λ version. (version.begin ≤ accepted.snapshot) ↔ (position < entry.extent)))
-    → IfSome (query_in queries accepted.number) (λ entry. entry.extent ≤ versions_in state)
-    → IsSoundQuery state accepted → IsSoundQuery (moved state queries slots filters scan numbers) accepted
-query-moved state queries slots filters scan numbers accepted number kept extent within old = record {
+    × (entry.extent ≤ length store.versions)
+
+-- a sound one has it
+pub lives-as : (state : State) (accepted : Accepted) → IsSoundQuery state accepted → (entry : QueryLife)
+    → query_in state.lives.queries accepted.number ≡ Some entry
+    → LivesAs (tables_of state) state.seats state.scan accepted accepted entry
+lives-as state accepted sound entry found =
+    by_entry (query_in state.lives.queries accepted.number) found sound.kept sound.extent sound.within
+  where
+    by_entry : (o : Option QueryLife) → o ≡ Some entry
+        → IfSome o (λ e. IsKept (tables_of state) state.seats state.scan accepted e.extent e.life)
+        → IfSome o (λ e. IsTrue (is_open e.life) → (position : ℕ) → IfSome (slice_get (tables_of state).versions position)
+        (λ version. (version.begin ≤ accepted.snapshot) ↔ (position < e.extent)))
+        → IfSome o (λ e. e.extent ≤ length (tables_of state).versions)
+        → LivesAs (tables_of state) state.seats state.scan accepted accepted entry
+    by_entry None is kept extent within = absurd (none-some entry is)
+    by_entry (Some e) is kept extent within =
+        subst (LivesAs (tables_of state) state.seats state.scan accepted accepted) (same_Some e entry is) (kept, extent, within)
+
+-- an accepted query is sound with other groups where its life says so
+pub query-with : (last later : ℕ) (store : Store) (queries others : List QueryLife) (seats now : List Seat) (scan next : Scan) (accepted : Accepted)
+    (groups : Option Grouped) → last ≤ later
+    → IfSome (query_in others accepted.number) (LivesAs store now next accepted (record accepted { groups = groups }))
+    → IsSoundAccepted last store queries seats scan accepted
+    → IsSoundAccepted later store others now next (record accepted { groups = groups })
+query-with last later store queries others seats now scan next accepted groups above lives old = record {
   number = let low = old.number in omega arith;
   over = old.over;
   snapshot = old.snapshot;
-  within = within;
-  kept = kept;
-  extent = extent;
+  within = IfSome_then (query_in others accepted.number) lives (λ entry all. all.2);
+  kept = IfSome_then (query_in others accepted.number) lives (λ entry all. all.0);
+  extent = IfSome_then (query_in others accepted.number) lives (λ entry all. all.1);
 }
+
+-- a query that is waited for
+abbrev pub Wanted : Life → Type 0
+Wanted now = now ≢ life.Abandoned
+
+-- a query whose reply may have been taken
+abbrev pub Told : Life → Type 0
+Told now = (now ≡ life.Answered) ⊎ (now ≡ life.Spoiled)
+
+-- what is asked and told of a number stays so
+pub record StaysAsked (accepted others : List Accepted) (queries next : List QueryLife) (number : ℕ) : Type 0 where
+  pub none : accepted_at accepted number ≡ None → accepted_at others number ≡ None
+  pub has : (query : Query) (snapshot : ℕ) → HasAccepted accepted number query snapshot → HasAccepted others number query snapshot
+  pub told : IfSome (life_in queries number) Told → IfSome (life_in next number) Told
+
+-- what holds of all that was taken and is waited for holds of what is waited for, and of what was taken
+pub awaited-there : (P : ℕ → Type 0) (front : List ℕ) (pending : List Pending) → All P (front ++ map (λ p. p.statement) pending)
+    → All (λ p. P p.statement) pending
+awaited-there P [] [] all = All-nil (λ p. P p.statement)
+awaited-there P [] (first ∷ pending) all =
+    All-cons (λ p. P p.statement) first pending (All-head P first.statement (map (λ p. p.statement) pending) all)
+    (awaited-there P [] pending (All-tail P first.statement (map (λ p. p.statement) pending) all))
+awaited-there P (x ∷ front) pending all = awaited-there P front pending (All-tail P x (front ++ map (λ p. p.statement) pending) all)
+
+taken-there : (P : ℕ → Type 0) (taken : List Taken) (rest : List ℕ) → All P (map (λ t. t.statement) taken ++ rest) → All (λ t. P t.statement) taken
+taken-there P [] rest all = All-nil (λ (t : Taken). P t.statement)
+taken-there P (first ∷ taken) rest all =
+    All-cons (λ (t : Taken). P t.statement) first taken (All-head P first.statement (map (λ t. t.statement) taken ++ rest) all)
+    (taken-there P taken rest (All-tail P first.statement (map (λ t. t.statement) taken ++ rest) all))
+
+-- the numbers that a seat took and waits for
+abbrev pub numbers_of : Seat → List ℕ
+numbers_of seat = map (λ taken. taken.statement) seat.taken ++ map (λ pending. pending.statement) seat.pending
+
+-- a seat stays sound where what was asked by its numbers stays so, and what it waits for is wanted
+pub seat-lasts : (last later : ℕ) (accepted others : List Accepted) (queries next : List QueryLife) (seat : Seat) → last ≤ later
+    → ((number : ℕ) → number ≤ last → StaysAsked accepted others queries next number)
+    → All (λ pending. pending.statement ≤ last → IfSome (life_in queries pending.statement) Wanted → IfSome (life_in next pending.statement) Wanted) seat.pending
+    → IsSoundSeat last accepted queries seat → IsSoundSeat later others next seat
+seat-lasts last later accepted others queries next seat above stays wanted old = record {
+  rising = old.rising;
+  given = All-weaker (λ s. s ≤ last) (λ s. s ≤ later) (λ s low. omega arith) seat.submitted old.given;
+  in_order = old.in_order;
+  submitted = old.submitted;
+  taken = λ k d inside. let taken = get_or seat.taken k d in
+      by_asked taken.statement
+      (taken-there (λ n. n ≤ last) seat.taken (map (λ pending. pending.statement) seat.pending) low k d inside)
+      taken.query (old.taken k d inside);
+  awaited = λ k d inside. let pending = get_or seat.pending k d in
+      let given = awaited-there (λ n. n ≤ last) (map (λ taken. taken.statement) seat.taken) seat.pending low k d inside in
+      by_awaited pending.statement given pending.awaited (wanted k d inside given) (old.awaited k d inside);
+}
+  where
+    low : All (λ n. n ≤ last) (numbers_of seat)
+    low = All-weaker (Contains seat.submitted) (λ n. n ≤ last) (λ n has. All-contains (λ s. s ≤ last) seat.submitted n old.given has)
+        (numbers_of seat) old.submitted
+
+    by_asked : (statement : ℕ) → statement ≤ last → (asked : Option (Query × ℕ)) → IsTaken accepted queries statement asked
+        → IsTaken others next statement asked
+    by_asked statement given None is = tt
+    by_asked statement given (Some asked) is =
+        let so = stays statement given in (so.has asked.0 asked.1 is.0, so.told is.1)
+
+    by_awaited : (statement : ℕ) → statement ≤ last → (awaited : Awaited)
+        → (IfSome (life_in queries statement) Wanted → IfSome (life_in next statement) Wanted)
+        → IsAwaited accepted queries statement awaited → IsAwaited others next statement awaited
+    by_awaited statement given (Replied reply) wants is = let so = stays statement given in so.none is
+    by_awaited statement given (Asked query snapshot) wants is = let so = stays statement given in (so.has query snapshot is.0, wants is.1)

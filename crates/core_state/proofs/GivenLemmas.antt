@@ -1,10 +1,10 @@
 -- A batch that a worker gives back keeps a core sound.
 use Rattle.core_state.proofs.Words.{◌+◌, ◌<◌, ◌∙◌, ◌∷◌, ◌≡◌, ◌≢◌, [], Accepted, accepted_at, AcceptsAll, after_give, All, All-contains, All-map, all_at, AllPairs, AllPairs-cons, arith, bits_left_at, Bool, Change, changes_of, cond, cons_option, Contains, empty_store, Encodes, eqb, false, Filter, find, Flight, frame_words, get_or, given_back, Hand, held_by, IfSome, is_held_by, IsMatched, IsOnRoster, IsOver, IsSettled, IsSome, IsSound, IsSoundBatch, IsSoundHand, IsSoundQuery, IsSoundRow, length, length-map-range_with_len, List, map, None, OnRoster, Option, option_map, option_map_or, passed_by, PlainVersion, refl, rows_in, slice_get, Some, State, store_of, subst, suc, tables_of, tallies_after, Tally, true, zero, ℕ}
 use Rattle.core_state.proofs.AcceptedLemmas.{find-holds, held-accepted}
-use Rattle.core_state.proofs.FlownLemmas.{Flies, KeepsPlace, entry-flown, flown, sound-flown}
+use Rattle.core_state.proofs.FlownLemmas.{Flies, KeepsPlace, flown, sound-flown}
 use Rattle.core_state.proofs.GiveLemmas.{SaysByKey, bits-given, given-bits}
 use Rattle.core_state.proofs.KeyedLemmas.{filter-there, says-by-key}
-use Rattle.core_state.proofs.TakeLemmas.{All-option, All-option_tail, batch-stays, cons-tail, hand-stays, workers}
+use Rattle.core_state.proofs.TakeLemmas.{All-option, All-option_tail, batch-stays, cons-tail, workers}
 use Rattle.core_state.proofs.TallyLemmas.{tallied-after}
 
 -- the tables of each history whose changes were taken are settled
@@ -44,15 +44,15 @@ both-some P Q R None p q all = tt
 both-some P Q R (Some x) p q all = all x p q
 
 -- a batch that has passed the version in its hand is sound
-batch-passed : Settles → (state : State) (tallies : List Tally) (change : Flight → Flight) → IsSound state → (flight : Flight) → IsSoundBatch (frame_words state) (tables_of state) state.lives state.accepted flight
+batch-passed : Settles → (state : State) → IsSound state → (flight : Flight) → IsSoundBatch (frame_words state) (tables_of state) state.lives state.accepted flight
     → (hand : Hand) → IsSoundHand (length state.seats) state.lives.filters (tables_of state) flight hand
     → IsSoundBatch (frame_words state) (tables_of state) state.lives state.accepted (record flight { rows = passed_by hand.version.filter flight.rows; hand = None })
-batch-passed settles state tallies change sound flight old hand of_hand = record {
+batch-passed settles state sound flight old hand of_hand = record {
   within = old.within;
   bits = length-map-range_with_len (bits_left_at filter flight.rows.keys flight.rows.bits) 0 (length flight.rows.bits) ∙ old.bits;
   keys = old.keys;
   room = old.room;
-  roster = λ k d low. entry-flown state tallies change (get_or flight.roster k d) (old.roster k d low);
+  roster = old.roster;
   slots = old.slots;
   rows = λ row low.
       let inside : row < length flight.rows.bits = let all = old.bits in omega arith in
@@ -80,15 +80,15 @@ batch-passed settles state tallies change sound flight old hand of_hand = record
     there = (filter-there (tables_of state).schema filter.dimension ((sound.filters.set filter.dimension).0 of_hand.is_filter)).0
 
 -- a batch is sound as it is given back, whether it was in a hand or not
-batch-given : Settles → (state : State) (tallies : List Tally) (change : Flight → Flight) → IsSound state → (flight : Flight) → IsSoundBatch (frame_words state) (tables_of state) state.lives state.accepted flight
+batch-given : Settles → (state : State) → IsSound state → (flight : Flight) → IsSoundBatch (frame_words state) (tables_of state) state.lives state.accepted flight
     → IfSome flight.hand (IsSoundHand (length state.seats) state.lives.filters (tables_of state) flight) → IsSoundBatch (frame_words state) (tables_of state) state.lives state.accepted (given_back flight)
-batch-given settles state tallies change sound flight old of_hand = by_hand flight.hand of_hand
+batch-given settles state sound flight old of_hand = by_hand flight.hand of_hand
   where
     by_hand : (o : Option Hand) → IfSome o (IsSoundHand (length state.seats) state.lives.filters (tables_of state) flight)
         → IsSoundBatch (frame_words state) (tables_of state) state.lives state.accepted
         (record flight { rows = option_map_or (λ hand. passed_by hand.version.filter flight.rows) o flight.rows; hand = None })
-    by_hand None h = batch-stays state tallies change flight None old
-    by_hand (Some hand) h = batch-passed settles state tallies change sound flight old hand h
+    by_hand None h = batch-stays (frame_words state) (tables_of state) state.lives state.accepted flight None old
+    by_hand (Some hand) h = batch-passed settles state sound flight old hand h
 
 place-given : (flight : Flight) → KeepsPlace flight (given_back flight)
 place-given flight = by_hand flight.hand
@@ -153,13 +153,13 @@ sound-given settles worker state some sound = by_found (find (is_held_by worker)
           batches = All-map (IsSoundBatch (frame_words state) (tables_of state) state.lives state.accepted) change state.scan.flights
               (λ k d low. let f = get_or state.scan.flights k d in
               by-number (IsSoundBatch (frame_words state) (tables_of state) state.lives state.accepted) flight.rows.number f
-              (batch-given settles state tallies change sound f (sound.batches k d low) (sound.hands.each k d low))
-              (batch-stays state tallies change f f.hand (sound.batches k d low)));
+              (batch-given settles state sound f (sound.batches k d low) (sound.hands.each k d low))
+              (sound.batches k d low));
           hands = record {
             each = All-map (λ f. IfSome f.hand (IsSoundHand (length state.seats) state.lives.filters (tables_of state) f)) change state.scan.flights
                 (λ k d low. let f = get_or state.scan.flights k d in
                 by-number (λ g. IfSome g.hand (IsSoundHand (length state.seats) state.lives.filters (tables_of state) g)) flight.rows.number f tt
-                (hand-stays state tallies change f (sound.hands.each k d low)));
+                (sound.hands.each k d low));
             one = one-each flight.rows.number state.scan.flights sound.hands.one;
           };
           order = record { tallies = after.1; count = after.0; order = sound.order.order };

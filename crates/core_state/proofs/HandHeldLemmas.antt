@@ -4,7 +4,6 @@ use Rattle.core_state.specs.Hands.{IsInHandAs}
 use Rattle.core_state.proofs.FoundLemmas.{some-at}
 use Rattle.core_state.proofs.GivenLemmas.{Settles}
 use Rattle.core_state.proofs.GrownBatchLemmas.{batch-grown}
-use Rattle.core_state.proofs.GrownFilterLemmas.{entered}
 use Rattle.core_state.proofs.GrownRowsLemmas.{Grows}
 use Rattle.core_state.proofs.HandTablesLemmas.{tables-grown}
 

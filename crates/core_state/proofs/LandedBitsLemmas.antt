@@ -36,7 +36,7 @@ abbrev PassedAll : Schema → (passed : ℕ) → Type 0
 PassedAll schema passed = (dimension : ℕ) → dimension < length schema.dimensions
     → list_any (references dimension) (fact_columns schema) ≡ true → Has passed dimension
 
-passed-all : (state : State) (flight : Flight) → AreSoundFilters state → IsSoundOrder state → has_passed_all state.filters flight ≡ true
+passed-all : (state : State) (flight : Flight) → AreSoundFilters state → IsSoundOrder state.filters → has_passed_all state.filters flight ≡ true
     → PassedAll (tables_of state).schema flight.rows.passed
 passed-all state flight filters order through dimension low referenced =
     let schema = (tables_of state).schema in
@@ -130,7 +130,7 @@ below-true : (position extent : ℕ) → position < extent → nat_lt position e
 below-true position extent low = grind (arith, nat_tests)
 
 -- a bit of a batch that is through says whether the query keeps the version
-pub row-agrees : (state : State) (flight : Flight) (entry : OnRoster) (extent : ℕ) → AreSoundFilters state → IsSoundOrder state
+pub row-agrees : (state : State) (flight : Flight) (entry : OnRoster) (extent : ℕ) → AreSoundFilters state → IsSoundOrder state.filters
     → (has_passed_all state.filters flight ≡ true) ⊎ (is_empty flight ≡ true) → IsSoundBatch (frame_words state) (tables_of state) state.lives state.accepted flight → Contains flight.roster entry
     → IsOver (tables_of state).schema entry.query → SeesBelow (tables_of state) entry.snapshot extent
     → (row : ℕ) → row < flight.rows.count → (version : PlainVersion) → slice_get (tables_of state).versions (flight.rows.first + row) ≡ Some version

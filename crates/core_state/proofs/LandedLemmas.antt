@@ -1,5 +1,5 @@
 -- What is kept of a query where a batch is distributed.
-use Rattle.core_state.proofs.Words.{◌++◌, ◌+◌, ◌∙◌, ◌≡◌, ◌≢◌, ◌⊎◌, [], Accepted, accepted_at, All-contains_itself, AllPairs, ap, append-nil, append_assoc, AreSoundFilters, Bool, cond, Contains, eqb, eqb-true, false, fed, filter, find, flat_map, Flight, flight_at, frame_words, gets_rows, Grouped, grouped_of, has_passed_all, inl, inr, is_empty, is_open, IsCovered, IsKept, IsOnRoster, IsOver, IsPermutation, IsPermutation-append_left, IsPermutation-append_right, IsPermutation-sym, IsPermutation-trans, IsSoundBatch, IsSoundOrder, IsTrue, Joined, kept_at, Life, life_of, List, nat_lt, None, OnRoster, Option, option_map, option_map_or, positions_for, range_with_len, refl, rows_for, Some, State, Store, subst, sym, tables_of, to_come, true, with_rows, ℕ, ⊎_elim}
+use Rattle.core_state.proofs.Words.{◌++◌, ◌+◌, ◌∙◌, ◌≡◌, ◌≢◌, ◌⊎◌, [], Accepted, accepted_at, All-contains_itself, AllPairs, ap, append-nil, append_assoc, AreSoundFilters, Bool, cond, Contains, eqb, eqb-true, false, fed, filter, find, flat_map, Flight, flight_at, frame_words, gets_rows, Grouped, grouped_of, has_passed_all, is_empty, is_open, IsCovered, IsKept, IsOnRoster, IsOver, IsPermutation, IsPermutation-append_left, IsPermutation-append_right, IsPermutation-sym, IsPermutation-trans, IsSoundBatch, IsSoundOrder, IsTrue, Joined, kept_at, Life, life_of, List, nat_lt, None, OnRoster, Option, option_map, option_map_or, positions_for, range_with_len, refl, rows_for, Some, State, Store, subst, sym, tables_of, to_come, true, with_rows, ℕ}
 use Rattle.pipeline_manager.specs.declared.life.Life.TheVariants as life
 use Rattle.core_state.proofs.AcceptedLemmas.{find-holds}
 use Rattle.core_state.proofs.AnewLemmas.{KeepsAsked, kept_anew}
@@ -128,31 +128,18 @@ pub kept-landed : FoldsOne → (state : State) (batch : ℕ) (flight : Flight) �
     → (accepted : Accepted) (extent : ℕ) (now : Life) → life_of state.lives accepted.number ≡ Some now
     → (IsTrue (gets_rows now) → Brings state flight accepted extent)
     → IsKept (tables_of state) state.seats state.scan accepted extent now → IsKept (tables_of state) state.seats (record state.scan { flights = without_flight batch state.scan.flights; free = state.scan.free + 1 }) (fed_by state flight accepted) extent now
-kept-landed folds state batch flight there apart accepted extent life.Waiting was brings kept =
-    subst (λ a. IsKept (tables_of state) state.seats (record state.scan { flights = without_flight batch state.scan.flights; free = state.scan.free + 1 }) a extent life.Waiting)
-    (sym (fed-not state flight accepted (ap (λ o. option_map_or gets_rows o false) was))) kept
-kept-landed folds state batch flight there apart accepted extent life.Building was brings kept =
-    subst (λ a. IsKept (tables_of state) state.seats (record state.scan { flights = without_flight batch state.scan.flights; free = state.scan.free + 1 }) a extent life.Building)
-    (sym (fed-not state flight accepted (ap (λ o. option_map_or gets_rows o false) was))) kept
 kept-landed folds state batch flight there apart accepted extent (life.Running start left) was brings kept =
     covered-landed folds state batch flight there apart accepted extent (life.Running start left)
     (ap (λ o. option_map_or gets_rows o false) was) (brings refl) kept
 kept-landed folds state batch flight there apart accepted extent life.Ending was brings kept =
     covered-landed folds state batch flight there apart accepted extent life.Ending
     (ap (λ o. option_map_or gets_rows o false) was) (brings refl) kept
-kept-landed folds state batch flight there apart accepted extent life.Answered was brings kept =
-    subst (λ a. IsKept (tables_of state) state.seats (record state.scan { flights = without_flight batch state.scan.flights; free = state.scan.free + 1 }) a extent life.Answered)
-    (sym (fed-not state flight accepted (ap (λ o. option_map_or gets_rows o false) was)))
-    (⊎_elim (λ gone. inl gone) (λ answer. inr (record { rows = answer.rows; all = answer.all; groups = answer.groups })) kept)
-kept-landed folds state batch flight there apart accepted extent life.Spoiled was brings kept =
-    subst (λ a. IsKept (tables_of state) state.seats (record state.scan { flights = without_flight batch state.scan.flights; free = state.scan.free + 1 }) a extent life.Spoiled)
-    (sym (fed-not state flight accepted (ap (λ o. option_map_or gets_rows o false) was))) kept
-kept-landed folds state batch flight there apart accepted extent life.Abandoned was brings kept =
-    subst (λ a. IsKept (tables_of state) state.seats (record state.scan { flights = without_flight batch state.scan.flights; free = state.scan.free + 1 }) a extent life.Abandoned)
+kept-landed folds state batch flight there apart accepted extent other was brings kept =
+    subst (λ a. IsKept (tables_of state) state.seats (record state.scan { flights = without_flight batch state.scan.flights; free = state.scan.free + 1 }) a extent other)
     (sym (fed-not state flight accepted (ap (λ o. option_map_or gets_rows o false) was))) kept
 
 -- a batch that is through brings each query on its roster what the query keeps
-pub batch-brings : (state : State) (flight : Flight) (accepted : Accepted) (extent : ℕ) → AreSoundFilters state → IsSoundOrder state
+pub batch-brings : (state : State) (flight : Flight) (accepted : Accepted) (extent : ℕ) → AreSoundFilters state → IsSoundOrder state.filters
     → (has_passed_all state.filters flight ≡ true) ⊎ (is_empty flight ≡ true) → IsSoundBatch (frame_words state) (tables_of state) state.lives state.accepted flight
     → accepted_at state.accepted accepted.number ≡ Some accepted → IsOver (tables_of state).schema accepted.query
     → SeesBelow (tables_of state) accepted.snapshot extent → Brings state flight accepted extent

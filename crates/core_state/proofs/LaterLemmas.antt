@@ -1,5 +1,5 @@
 -- No later step changes an answer.
-use Rattle.core_state.proofs.Words.{◌+◌, ◌∙◌, ◌∷◌, ◌≡◌, ◌≤◌, ◌⊎◌, [], Abandon, accepted_at, Accepts, after_change, after_outcome, after_step, after_steps, after_submitting, alone, ap, arith, Build, Change, changes_of, Clear, Cut, Dimension, DimensionDeclared, Distribute, Done, Ended, Event, Fact, FactDeclared, find, Finish, FitsTables, flight_at, Give, inl, inr, is_held_by, IsSettled, IsSound, List, Loaded, MayStepAll, None, Option, option_map_or, outcome_of, Query, refl, Release, Reorder, Replying, Reserve, slot_of, Some, Start, State, Statement, Step, Store, Submit, subst, sym, tables_by, tables_of, Take, Told, Wanting, ℕ}
+use Rattle.core_state.proofs.Words.{◌+◌, ◌∙◌, ◌∷◌, ◌≡◌, ◌≤◌, ◌⊎◌, [], Abandon, accepted_at, Accepts, after_change, after_outcome, after_step, after_steps, after_submitting, alone, ap, arith, Build, Change, changes_of, DimensionDeclared, Distribute, Done, Event, Fact, find, FitsTables, flight_at, Give, inl, inr, is_held_by, IsSettled, IsSound, List, Loaded, MayStepAll, None, Option, option_map_or, outcome_of, Query, refl, Replying, slot_of, Some, State, Statement, Step, Store, Submit, subst, sym, tables_by, tables_of, Told, Wanting, ℕ}
 use Rattle.star_statement.specs.Outcome as outcome
 use Rattle.core_state.specs.Events.{after_event, after_want}
 use Rattle.core_state.specs.Submitting.{filters_by}

@@ -1,5 +1,5 @@
 -- The deletes in the history of every core name their positions ascending.
-use Rattle.core_state.proofs.Words.{◌++◌, ◌+◌, ◌∙◌, ◌∷◌, ◌≡◌, [], Abandon, accepted_at, after_outcome, after_step, after_steps, All, All-append, All-cons, All-nil, Build, Change, changes_of, Clear, Cut, Distribute, Done, EndsAscending, Entry, Event, find, Finish, flight_at, Give, IfSome, is_held_by, List, None, Option, outcome_of, refl, Release, Reorder, Replying, Reserve, slot_of, Some, Start, State, Step, Submit, subst, sym, tables_of, Take, Told, Wanting, with_query, ℕ}
+use Rattle.core_state.proofs.Words.{◌++◌, ◌+◌, ◌∙◌, ◌∷◌, ◌≡◌, [], Abandon, accepted_at, after_outcome, after_step, after_steps, All, All-append, All-cons, All-nil, Build, Change, changes_of, Distribute, Done, EndsAscending, Entry, Event, find, flight_at, Give, IfSome, is_held_by, List, None, Option, outcome_of, refl, Replying, slot_of, Some, State, Step, Submit, subst, sym, tables_of, Told, Wanting, with_query, ℕ}
 use Rattle.star_statement.specs.Outcome as outcome
 use Rattle.core_state.specs.Events.{after_event, after_want}
 use Rattle.core_state.proofs.GrownLemmas.{changes-with}

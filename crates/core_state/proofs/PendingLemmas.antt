@@ -1,7 +1,7 @@
 -- What is found of the statements that a seat waits for.
 use Rattle.core_state.proofs.Words.{◌++◌, ◌<◌, ◌∙◌, ◌∷◌, ◌≡◌, ◌≢◌, ◌⊎◌, [], All, All-head, All-tail, All-weaker, all_pairs_head, all_pairs_tail, AllPairs, ap, arith, Awaited, Bool, cases_eq, cases_lt, cond, drop, empty_seat, eq-eqb, eqb, eqb-true, false, filter, filter_passes, find, get_or, get_or-set_other, get_or-set_same, IfSome, inl, inr, length, List, map, ne_eqb, None, not, Option, option_map, Pending, refl, Seat, set, Some, subst, sym, true, ℕ, ⊎_elim}
 use Rattle.std.proofs.lemmas.List.{set_past}
-use Rattle.core_state.proofs.SeatLemmas.{awaited-there}
+use Rattle.core_state.proofs.FrameLemmas.{awaited-there}
 
 -- what is waited for as the reply to a statement of this number
 abbrev pub waited : List Pending → (statement : ℕ) → Option Awaited

@@ -1,8 +1,8 @@
 -- A slot that is given free keeps a core sound.
 use Rattle.core_state.proofs.Words.{◌<◌, ◌∙◌, ◌≡◌, ◌≢◌, after_release, All-set, arith, bit_at-zero, CanFree, Clearing, Filter, FitsSlot, Free, get_or, get_or-set_other, get_or-set_same, Has, Held, IsSound, length, length-set, refl, set, slot_at, State, subst, sym, tables_of, ℕ}
 use Rattle.pipeline_manager.proofs.LawLemmas.{sound-after_free}
-use Rattle.core_state.proofs.HeldLemmas.{entry-set, filters-held, fits-set, queries-stay, slot-there}
-use Rattle.core_state.proofs.MovedLemmas.{Holds, order-held, sound-held}
+use Rattle.core_state.proofs.HeldLemmas.{entry-set, filters-held, fits-set, slot-there}
+use Rattle.core_state.proofs.MovedLemmas.{Holds, sound-held}
 
 -- nothing is in the set without members
 pub none-in : (i : ℕ) → Has 0 i → ⊥
@@ -23,10 +23,10 @@ sound-released slot state can old =
           (λ filter sound other low fits. fits-set state slot Free there filter (freed-fits state filter slot can (sound.slots slot there)) other fits) old.filters;
       rosters = λ k d low j e within.
           let entry = (old.batches k d low).roster j e within in
-          entry-set state state.lives.queries slot Free state.filters state.numbers.version (get_or (get_or state.scan.flights k d).roster j e)
+          entry-set state state.lives.queries slot Free (get_or (get_or state.scan.flights k d).roster j e)
           (λ same. let both : Held (get_or (get_or state.scan.flights k d).roster j e).number entry.held.0 ≡ Clearing 0 =
           sym entry.held.1 ∙ subst (λ at. slot_at state.lives at ≡ Clearing 0) (sym same) can in cc) entry.life entry;
-      queries_now = queries-stay state slots state.filters state.numbers.version old.queries;
+      queries_now = record { same = old.queries.same; each = old.queries.each };
       slots_now = record {
         lives = sound-after_free slot state.lives there can old.slots.lives;
         count = length-set state.lives.slots slot Free ∙ old.slots.count;
@@ -38,7 +38,7 @@ sound-released slot state can old =
             (sym (get_or-set_other state.lives.slots slot other Free Free apart) ∙ held);
       };
       quiet = λ none. All-set (λ at. at ≡ Free) state.lives.slots slot Free refl (old.quiet none).2;
-      order = order-held state state.lives.queries slots state.numbers.version old.order;
+      order = old.order;
       wanted = λ query. (λ h. h, λ h. h);
     } in
     sound-held state state.lives.queries slots state.filters state.numbers.version now old

@@ -4,7 +4,7 @@ use Rattle.pipeline_manager.specs.declared.life.Life.TheVariants as life
 use Rattle.pipeline_manager.proofs.CallLemmas.{sound-reserved}
 use Rattle.core_state.proofs.FoundLemmas.{life-written, no-life}
 use Rattle.core_state.proofs.HeldLemmas.{entry-set, filters-held, fits-set}
-use Rattle.core_state.proofs.MovedLemmas.{Holds, order-held, sound-held}
+use Rattle.core_state.proofs.MovedLemmas.{Holds, sound-held}
 use Rattle.core_state.proofs.ReleaseLemmas.{none-in}
 use Rattle.core_state.proofs.WrittenLemmas.{queries-written, wanted-written}
 
@@ -32,12 +32,12 @@ sound-with_reserved query slot state can old =
       rosters = λ k d low j e within.
           let entry = (old.batches k d low).roster j e within in
           let on = get_or (get_or state.scan.flights k d).roster j e in
-          entry-set state queries slot (Held query 0) state.filters state.numbers.version on
+          entry-set state queries slot (Held query 0) on
           (λ same. let both : Held on.number entry.held.0 ≡ Free =
           sym entry.held.1 ∙ subst (λ at. slot_at state.lives at ≡ Free) (sym same) can.is_free in cc)
           (life-written MayBeOnRoster query life.Waiting life.Building state.lives.queries on.number waits (λ never. never) entry.life) entry;
       queries_now = queries-written state query life.Waiting life.Building slots state.filters state.numbers.version waits
-          (λ accepted extent same sound found kept. kept) (λ wanted. refl) old.queries;
+          (λ accepted extent same found was. was.0) (λ wanted. refl) old.queries;
       slots_now = record {
         lives = sound-reserved slot query state.lives there can.is_free can.oldest old.slots.lives;
         count = length-set state.lives.slots slot (Held query 0) ∙ old.slots.count;
@@ -47,7 +47,7 @@ sound-with_reserved query slot state can old =
           let queries_none : map (λ entry. entry.query) state.lives.queries ≡ [] =
           sym old.queries.same ∙ ap (map (λ accepted. accepted.number)) (old.quiet none).0 in
           let both : None ≡ Some life.Waiting = sym (no-life state.lives.queries queries_none query) ∙ waits in cc;
-      order = order-held state queries slots state.numbers.version old.order;
+      order = old.order;
       wanted = wanted-written state query life.Waiting life.Building waits (λ h is. cc) (λ h. ⊎_elim (λ e. cc) (λ e. cc) h);
     } in
     sound-held state queries slots state.filters state.numbers.version now old

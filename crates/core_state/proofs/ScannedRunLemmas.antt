@@ -1,5 +1,5 @@
 -- A scan that has what runs in a sound core cuts where the core cuts.
-use Rattle.core_state.proofs.Words.{◌+◌, ◌<◌, ◌∙◌, ◌≡◌, ◌≤◌, Accepted, accepted_at, ap, AreTablesOf, arith, Clearing, end_at_start, end_in, entry_of, eqb, false, filter_map, first_in, first_of, Free, get_or, get_or_default, Held, holder_of, is_some, IsKept, IsLeft, IsSameRun, IsScannedAs, IsSome, IsSound, IsSoundQuery, KeyedStore, lap_start, length, length-map, life_at, life_of, List, list_any_at, Lives, MayCut, min, next_below, None, none-some, OnRoster, Option, option_and_then, option_map, option_map_or, place_in_lap, plain_version, query_in, QueryLife, range_with_len, refl, Running, running_at, RunsAs, same_Some, Scanning, slot_at, SlotState, Some, start_at, start_in, State, Store, subst, sym, tables_of, true, versions_in, ℕ}
+use Rattle.core_state.proofs.Words.{◌+◌, ◌<◌, ◌∙◌, ◌≡◌, ◌≤◌, Accepted, accepted_at, ap, AreTablesOf, arith, Clearing, end_in, entry_of, eqb, false, filter_map, first_in, first_of, Free, get_or, get_or_default, Held, holder_of, is_some, IsKept, IsLeft, IsSameRun, IsScannedAs, IsSome, IsSound, IsSoundQuery, KeyedStore, lap_start, length, length-map, life_at, life_of, List, list_any_at, Lives, MayCut, min, next_below, None, none-some, OnRoster, Option, option_and_then, option_map, option_map_or, place_in_lap, plain_version, query_in, QueryLife, range_with_len, refl, Running, running_at, RunsAs, same_Some, Scanning, slot_at, SlotState, Some, start_at, start_in, State, Store, subst, sym, tables_of, true, versions_in, ℕ}
 use Rattle.std.specs.Prelude.{fold}
 use Rattle.pipeline_manager.specs.declared.life.Life.TheVariants as life
 use Rattle.continuous_scan.specs.Calls.{AreInStep, CanCut, IsWithin, SlotInStep}

@@ -1,5 +1,5 @@
 -- A scan where a statement is submitted, a scan of an empty core, and each event that leaves a scan.
-use Rattle.core_state.proofs.Words.{◌++◌, ◌+◌, ◌<◌, ◌∙◌, ◌∷◌, ◌≡◌, ◌≢◌, [], Abandon, Accepted, accepted_at, after_outcome, ap, arith, Build, Change, Clear, Cut, DimensionDeclared, Distribute, empty_core, Ended, entry_of, eqb, eqb-true, Event, extent_in, FactDeclared, false, Finish, Free, get_or, get_or-replicate, Give, grouped_of, Held, holder_of, inl, inr, IsEnabled, IsScannedAs, IsSome, IsSound, IsSoundQuery, length, length-replicate, List, Lives, Loaded, None, OnRoster, Option, option_map, option_map_or, outcome_of, query_in-push_other, QueryLife, refl, Release, Reorder, replicate, Reserve, RunSettings, Scanning, slot_at, Some, Start, State, Submit, subst, sym, tables_of, Take, Told, true, versions_in, with_change, with_query, ℕ}
+use Rattle.core_state.proofs.Words.{◌++◌, ◌+◌, ◌<◌, ◌∙◌, ◌∷◌, ◌≡◌, ◌≢◌, [], Accepted, accepted_at, after_outcome, ap, arith, Build, Change, Clear, DimensionDeclared, Distribute, empty_core, Ended, entry_of, eqb, eqb-true, Event, extent_in, FactDeclared, false, Finish, Free, get_or, get_or-replicate, Give, grouped_of, Held, holder_of, inl, inr, IsEnabled, IsScannedAs, IsSome, IsSound, IsSoundQuery, length, length-replicate, List, Lives, Loaded, None, OnRoster, Option, option_map, option_map_or, outcome_of, query_in-push_other, QueryLife, refl, Release, Reorder, replicate, Reserve, RunSettings, Scanning, slot_at, Some, State, Submit, subst, sym, tables_of, Take, Told, true, versions_in, with_change, with_query, ℕ}
 use Rattle.star_statement.specs.Outcome as outcome
 use Rattle.pipeline_manager.specs.declared.life.Life.TheVariants as life
 use Rattle.continuous_scan.specs.Range.{new_scan}

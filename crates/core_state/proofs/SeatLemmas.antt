@@ -1,46 +1,21 @@
 -- What stays sound of seats where other groups are kept of accepted queries.
-use Rattle.core_state.proofs.Words.{◌++◌, ◌<◌, ◌∙◌, ◌∷◌, ◌≡◌, ◌≢◌, ◌≤◌, ◌⊎◌, [], Accepted, All, All-cons, All-filter, All-head, All-map, All-nil, All-tail, all_pairs_head, all_pairs_tail, AllPairs, AllPairs-cons, ap, AreSoundSeats, arith, Asked, Awaited, Bool, cases_eq, cases_lt, cond, Contains, empty_seat, false, filter, get_or, get_or-set_other, get_or-set_same, get_or_default, get_or_past, IfSome, inl, inr, IsAwaited, IsSoundSeat, IsTaken, length, Life, life_in, List, map, None, Option, option_map, Pending, Query, QueryLife, Replied, Scan, Seat, set, Some, State, subst, sym, true, ℕ, ⊎_elim}
-use Rattle.pipeline_manager.specs.declared.life.Life.TheVariants as life
+use Rattle.core_state.proofs.Words.{◌++◌, ◌<◌, ◌∙◌, ◌∷◌, ◌≡◌, ◌≢◌, ◌≤◌, ◌⊎◌, [], Accepted, All, All-cons, All-filter, All-head, All-map, All-tail, all_pairs_head, all_pairs_tail, AllPairs, AllPairs-cons, ap, AreSoundSeats, arith, Bool, cases_eq, cases_lt, cond, Contains, empty_seat, false, filter, get_or, get_or-set_other, get_or-set_same, get_or_default, get_or_past, IfSome, inl, inr, IsAwaited, IsSoundSeat, length, life_in, List, map, option_map, Pending, QueryLife, Scan, Seat, set, State, subst, sym, true, ℕ, ⊎_elim}
 use Rattle.core_state.proofs.AnewLemmas.{KeepsAsked, by-change, found-anew, has-anew, kept_anew}
-
--- a query that is waited for
-abbrev pub Wanted : Life → Type 0
-Wanted now = now ≢ life.Abandoned
-
--- a query whose reply may have been taken
-abbrev pub Told : Life → Type 0
-Told now = (now ≡ life.Answered) ⊎ (now ≡ life.Spoiled)
-
-awaited-anew : (state : State) (change : Accepted → Accepted) → KeepsAsked change → (queries : List QueryLife) (seats : List Seat) (scan : Scan) (statement : ℕ) (awaited : Awaited)
-    → (IfSome (life_in state.lives.queries statement) Wanted → IfSome (life_in queries statement) Wanted)
-    → IsAwaited state.accepted state.lives.queries statement awaited → IsAwaited (map change state.accepted) queries statement awaited
-awaited-anew state change keeps queries seats scan statement (Replied reply) wanted old =
-    found-anew change keeps statement state.accepted ∙ ap (option_map change) old
-awaited-anew state change keeps queries seats scan statement (Asked asked snapshot) wanted old =
-    (has-anew state change keeps queries seats scan statement asked snapshot old.0, wanted old.1)
-
-taken-anew : (state : State) (change : Accepted → Accepted) → KeepsAsked change → (queries : List QueryLife) (seats : List Seat) (scan : Scan) (statement : ℕ) (asked : Option (Query × ℕ))
-    → (IfSome (life_in state.lives.queries statement) Told → IfSome (life_in queries statement) Told)
-    → IsTaken state.accepted state.lives.queries statement asked → IsTaken (map change state.accepted) queries statement asked
-taken-anew state change keeps queries seats scan statement None told old = tt
-taken-anew state change keeps queries seats scan statement (Some asked) told old =
-    (has-anew state change keeps queries seats scan statement asked.0 asked.1 old.0, told old.1)
+use Rattle.core_state.proofs.FrameLemmas.{awaited-there, seat-lasts, Told, Wanted}
 
 -- a seat is as sound as it was where what it waits for is still wanted
-pub seat-anew : (state : State) (change : Accepted → Accepted) → KeepsAsked change → (queries : List QueryLife) (seats : List Seat) (scan : Scan) (seat : Seat)
+pub seat-anew : (state : State) (change : Accepted → Accepted) → KeepsAsked change → (queries : List QueryLife) (seat : Seat)
     → All (λ pending. IfSome (life_in state.lives.queries pending.statement) Wanted → IfSome (life_in queries pending.statement) Wanted) seat.pending
     → ((number : ℕ) → IfSome (life_in state.lives.queries number) Told → IfSome (life_in queries number) Told)
-    → IsSoundSeat state.numbers.statement state.accepted state.lives.queries seat → IsSoundSeat state.numbers.statement (map change state.accepted) queries seat
-seat-anew state change keeps queries seats scan seat wanted told old = record {
-  rising = old.rising;
-  given = old.given;
-  in_order = old.in_order;
-  submitted = old.submitted;
-  taken = λ k d low. let taken = get_or seat.taken k d in
-      taken-anew state change keeps queries seats scan taken.statement taken.query (told taken.statement) (old.taken k d low);
-  awaited = λ k d low. let pending = get_or seat.pending k d in
-      awaited-anew state change keeps queries seats scan pending.statement pending.awaited (wanted k d low) (old.awaited k d low);
-}
+    → IsSoundSeat state.numbers.statement state.accepted state.lives.queries seat
+    → IsSoundSeat state.numbers.statement (map change state.accepted) queries seat
+seat-anew state change keeps queries seat wanted told old =
+    seat-lasts state.numbers.statement state.numbers.statement state.accepted (map change state.accepted) state.lives.queries queries seat (omega arith)
+    (λ number given. record {
+      none = λ none. found-anew change keeps number state.accepted ∙ ap (option_map change) none;
+      has = has-anew change keeps state.accepted number;
+      told = told number;
+    }) (λ k d low given. wanted k d low) old
 
 -- a part of seats that is the same in a seat that is changed is the same in all
 pub part-stays : {X : Type 0} (part : Seat → X) (seats : List Seat) (seat : ℕ) (now : Seat) → seat < length seats
@@ -78,15 +53,6 @@ seats-anew state change keeps queries seats scan count stays each old = record {
   where
     same : (seat : ℕ) (d : Seat) → seat < length seats → (get_or seats seat d).submitted ≡ (get_or state.seats seat empty_seat).submitted
     same seat d low = ap (λ (s : Seat). s.submitted) (get_or_default seats seat d empty_seat low) ∙ stays seat
-
--- what holds of all that was taken and is waited for holds of what is waited for
-pub awaited-there : (P : ℕ → Type 0) (front : List ℕ) (pending : List Pending) → All P (front ++ map (λ p. p.statement) pending)
-    → All (λ p. P p.statement) pending
-awaited-there P [] [] all = All-nil (λ p. P p.statement)
-awaited-there P [] (first ∷ pending) all =
-    All-cons (λ p. P p.statement) first pending (All-head P first.statement (map (λ p. p.statement) pending) all)
-    (awaited-there P [] pending (All-tail P first.statement (map (λ p. p.statement) pending) all))
-awaited-there P (x ∷ front) pending all = awaited-there P front pending (All-tail P x (front ++ map (λ p. p.statement) pending) all)
 
 seat-there : (seats : List Seat) (seat number : ℕ) → Contains (get_or seats seat empty_seat).submitted number → seat < length seats
 seat-there seats seat number has = ⊎_elim (λ inside. inside)

@@ -1,5 +1,5 @@
 -- A query that begins its lap keeps a core sound.
-use Rattle.core_state.proofs.Words.{◌++◌, ◌-◌, ◌<◌, ◌∙◌, ◌∷◌, ◌≡◌, ◌≢◌, ◌≤◌, ◌⊎◌, [], Accepted, after_start, All, All-head, All-tail, ap, AreSoundBatches, arith, Bool, built_of-holder, CanRun, cases_eq, cond, drop, eqb, eqb-true, extent_in, false, filter, first_cases, first_of, flat_map, Flight, frame_words, get_or, gets_rows, grouped_of, Has, Held, IfSome, inl, inr, IsKept, IsOnRoster, IsPermutation, IsPermutation-refl, IsSound, IsSoundBatch, IsTrue, lap, lap_start, length, length-lap, Life, life_in, life_in-other, List, MayBeOnRoster, nat_lt, next_below, next_cases, None, OnRoster, Option, option_map_or, place_cases, place_in_lap, positions_for, Query, query_in, range_with_len, refl, slot_at, Some, start_cases, started, State, still_to_come, subst, sym, tables_of, true, versions_in, with_life, ℕ, ⊎_elim}
+use Rattle.core_state.proofs.Words.{◌++◌, ◌-◌, ◌<◌, ◌∙◌, ◌∷◌, ◌≡◌, ◌≢◌, ◌≤◌, ◌⊎◌, [], Accepted, after_start, All, All-head, All-tail, ap, AreSoundBatches, arith, Bool, built_of-holder, CanRun, cases_eq, cond, drop, eqb, eqb-true, extent_in, false, filter, first_cases, first_of, flat_map, Flight, frame_words, get_or, gets_rows, grouped_of, Has, Held, IfSome, inl, inr, IsKept, IsOnRoster, IsPermutation, IsPermutation-refl, IsSound, IsSoundBatch, IsTrue, lap, lap_start, length, length-lap, Life, life_in, life_in-other, List, MayBeOnRoster, nat_lt, next_below, next_cases, None, OnRoster, Option, option_map_or, place_cases, place_in_lap, positions_for, Query, range_with_len, refl, slot_at, Some, start_cases, started, State, still_to_come, subst, sym, tables_of, true, versions_in, with_life, ℕ, ⊎_elim}
 use Rattle.std.proofs.Common.{find}
 use Rattle.star_plan.specs.Joined.{kept_of}
 use Rattle.continuous_scan.proofs.LapLemmas.{lap-permutation}
@@ -7,9 +7,8 @@ use Rattle.pipeline_manager.specs.Lives.{built_of}
 use Rattle.pipeline_manager.specs.declared.life.Life.TheVariants as life
 use Rattle.pipeline_manager.proofs.CallLemmas.{sound-after_run}
 use Rattle.core_state.proofs.FoundLemmas.{find-passes, life-written, some-at}
-use Rattle.core_state.proofs.FrameLemmas.{entry-moved}
 use Rattle.core_state.proofs.HeldLemmas.{filters-held}
-use Rattle.core_state.proofs.MovedLemmas.{Holds, order-held, sound-held}
+use Rattle.core_state.proofs.MovedLemmas.{Holds, sound-held}
 use Rattle.core_state.proofs.AcceptedLemmas.{find-holds}
 use Rattle.core_state.proofs.WrittenLemmas.{queries-written, wanted-written}
 
@@ -121,24 +120,25 @@ sound-started query state can sound =
       rosters = λ k d low j e within.
           let flight = get_or state.scan.flights k d in
           let entry = (sound.batches k d low).roster j e within in
-          entry-moved state queries state.lives.slots state.filters state.scan state.numbers (get_or flight.roster j e) refl entry.held
-          (life-written MayBeOnRoster query life.Building new state.lives.queries (get_or flight.roster j e).number can.building
-          (λ never. absurd never) entry.life) entry;
+          record {
+            there = entry.there;
+            held = entry.held;
+            life = life-written MayBeOnRoster query life.Building new state.lives.queries (get_or flight.roster j e).number can.building
+                (λ never. absurd never) entry.life;
+            same = entry.same;
+          };
       queries_now = queries-written state query life.Building new state.lives.slots state.filters state.numbers.version can.building
-          (λ accepted extent same of_query found kept.
+          (λ accepted extent same found was.
           let is : extent_in state.lives.queries query ≡ extent = ap (λ o. option_map_or (λ entry. entry.extent) o 0) found in
-          let within : extent ≤ versions_in state = some-at (λ e. e.extent ≤ versions_in state) (query_in state.lives.queries accepted.number)
-          (record { query = query; extent = extent; life = life.Building })
-          (subst (λ n. query_in state.lives.queries n ≡ Some (record { query = query; extent = extent; life = life.Building })) (sym same) found) of_query.within in
           subst (λ n. IsKept (tables_of state) state.seats state.scan accepted extent (started start n)) (sym is)
-          (kept-started state query can.building sound accepted extent same within kept)) (λ wanted. refl) sound.queries;
+          (kept-started state query can.building sound accepted extent same was.2 was.0)) (λ wanted. refl) sound.queries;
       slots_now = record {
         lives = sound-after_run query start state.lives can.building sound.slots.lives;
         count = sound.slots.count;
         built = λ slot holder built low held. by_holder new slot holder built low held (cases_eq holder query);
       };
       quiet = λ none. (sound.quiet none).2;
-      order = order-held state queries state.lives.slots state.numbers.version sound.order;
+      order = sound.order;
       wanted = wanted-written state query life.Building new can.building
           (λ h. started-by (λ now. now ≢ life.Abandoned) start (extent_in state.lives.queries query) (λ is. cc) (λ is. cc))
           (λ h. absurd (⊎_elim (λ is. cc) (λ is. cc) h));

@@ -1,5 +1,5 @@
 -- What a written seat, an outcome and a reply leave of what the seats wait for, and of the last number of a statement.
-use Rattle.core_state.proofs.Words.{◌++◌, ◌+◌, ◌<◌, ◌∙◌, ◌∷◌, ◌≡◌, ◌≢◌, ◌≤◌, ◌⊎◌, [], Accepted, accepted_at, after_abandon, after_abandoning, after_outcome, after_taking, All, All-contains, All-nil, All-weaker, ap, arith, Awaited, awaited_at, awaited_by, cases_eq, cases_lt, Change, Contains, DimensionDeclared, empty_seat, Ended, FactDeclared, false, forgotten, get_or, get_or-set_other, get_or_past, inl, inr, IsSome, IsSound, length, Loaded, map, None, none-some, Option, option_map_or, Outcome, Pending, refl, Seat, seat_at, set, Some, State, subst, sym, Told, true, with_change, with_query, with_seat, with_statement, with_taken, without_pending, ℕ, ⊎_elim}
+use Rattle.core_state.proofs.Words.{◌++◌, ◌+◌, ◌<◌, ◌∙◌, ◌∷◌, ◌≡◌, ◌≢◌, ◌≤◌, ◌⊎◌, [], Accepted, accepted_at, after_abandon, after_abandoning, after_outcome, after_taking, All, All-contains, All-nil, All-weaker, ap, arith, Awaited, awaited_at, awaited_by, cases_eq, cases_lt, Change, Contains, DimensionDeclared, empty_seat, false, forgotten, get_or, get_or-set_other, get_or_past, inl, inr, IsSome, IsSound, length, map, None, none-some, Option, option_map_or, Outcome, Pending, refl, Seat, seat_at, set, Some, State, subst, sym, Told, true, with_change, with_query, with_seat, with_statement, with_taken, without_pending, ℕ, ⊎_elim}
 use Rattle.star_statement.specs.Outcome as outcome
 use Rattle.core_state.proofs.PendingLemmas.{Stays, pairs-back, stays-dropped, stays-filtered, stays-same, stays-set, waited, waited-before, waited-none}
 use Rattle.core_state.proofs.ReplyLemmas.{in-order}

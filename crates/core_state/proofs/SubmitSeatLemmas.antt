@@ -1,7 +1,7 @@
 -- A seat is sound after it submits a statement, and after another does.
-use Rattle.core_state.proofs.Words.{◌++◌, ◌<◌, ◌∙◌, ◌∷◌, ◌≡◌, ◌≢◌, ◌≤◌, ◌⊎◌, [], Accepted, accepted_at, All, All-cons, All-contains, All-head, All-nil, All-push, All-tail, All-weaker, all_pairs_push, AllPairs, ap, append_assoc, arith, Asked, Awaited, awaited_by, Contains, Contains-append_left, Contains-push, get_or, IfSome, IsAwaited, IsSomeAnd, IsSoundSeat, IsTaken, List, map, map_push, None, Option, option_map, Pending, Query, query_in, QueryLife, Replied, Seat, Some, State, subst, sym, Taken, Told, with_statement, ℕ}
-use Rattle.pipeline_manager.specs.declared.life.Life.TheVariants as life
-use Rattle.core_state.proofs.SeatLemmas.{awaited-there}
+use Rattle.core_state.proofs.FrameLemmas as frame
+use Rattle.core_state.proofs.FrameLemmas.{seat-lasts, Wanted, numbers_of}
+use Rattle.core_state.proofs.Words.{◌++◌, ◌<◌, ◌∙◌, ◌∷◌, ◌≡◌, ◌≤◌, [], Accepted, accepted_at, All, All-contains, All-push, All-weaker, all_pairs_push, AllPairs, ap, append_assoc, awaited_by, Contains, Contains-append_left, Contains-push, IfSome, IsAwaited, IsSomeAnd, IsSoundSeat, map, map_push, option_map, Pending, query_in, QueryLife, Seat, State, subst, sym, Told, with_statement, ℕ}
 
 -- what is found by the numbers that were given is as before
 pub record Still (old new : State) : Type 0 where
@@ -9,57 +9,23 @@ pub record Still (old new : State) : Type 0 where
   pub lives : (number : ℕ) → number ≤ old.numbers.statement
       → query_in new.lives.queries number ≡ query_in old.lives.queries number
 
-taken-later : (old new : State) → Still old new → (statement : ℕ) → statement ≤ old.numbers.statement → (asked : Option (Query × ℕ))
-    → IsTaken old.accepted old.lives.queries statement asked → IsTaken new.accepted new.lives.queries statement asked
-taken-later old new still statement low None is = tt
-taken-later old new still statement low (Some asked) is = (
-  subst (λ o. IsSomeAnd o (λ (accepted : Accepted). (accepted.query ≡ asked.0) × (accepted.snapshot ≡ asked.1)))
-      (sym (still.asked statement low)) is.0,
-  subst (λ o. IfSome (option_map (λ (entry : QueryLife). entry.life) o) (λ now. (now ≡ life.Answered) ⊎ (now ≡ life.Spoiled)))
-      (sym (still.lives statement low)) is.1,
-)
-
-awaited-later : (old new : State) → Still old new → (statement : ℕ) → statement ≤ old.numbers.statement → (awaited : Awaited)
-    → IsAwaited old.accepted old.lives.queries statement awaited → IsAwaited new.accepted new.lives.queries statement awaited
-awaited-later old new still statement low (Replied reply) is = still.asked statement low ∙ is
-awaited-later old new still statement low (Asked query snapshot) is = (
-  subst (λ o. IsSomeAnd o (λ (accepted : Accepted). (accepted.query ≡ query) × (accepted.snapshot ≡ snapshot)))
-      (sym (still.asked statement low)) is.0,
-  subst (λ o. IfSome (option_map (λ (entry : QueryLife). entry.life) o) (λ now. now ≢ life.Abandoned)) (sym (still.lives statement low)) is.1,
-)
-
-taken-there : (P : ℕ → Type 0) (taken : List Taken) (rest : List ℕ) → All P (map (λ t. t.statement) taken ++ rest) → All (λ t. P t.statement) taken
-taken-there P [] rest all = All-nil (λ (t : Taken). P t.statement)
-taken-there P (first ∷ taken) rest all =
-    All-cons (λ (t : Taken). P t.statement) first taken (All-head P first.statement (map (λ t. t.statement) taken ++ rest) all)
-    (taken-there P taken rest (All-tail P first.statement (map (λ t. t.statement) taken ++ rest) all))
-
--- the numbers that a seat took and waits for
-abbrev numbers_of : Seat → List ℕ
-numbers_of seat = map (λ taken. taken.statement) seat.taken ++ map (λ pending. pending.statement) seat.pending
-
 numbers-low : (state : State) (seat : Seat) → IsSoundSeat state.numbers.statement state.accepted state.lives.queries seat → All (λ n. n ≤ state.numbers.statement) (numbers_of seat)
 numbers-low state seat is =
     All-weaker (Contains seat.submitted) (λ n. n ≤ state.numbers.statement)
     (λ n has. All-contains (λ s. s ≤ state.numbers.statement) seat.submitted n is.given has) (numbers_of seat) is.submitted
 
 -- a seat that submits nothing
-pub seat-later : (old new : State) → Still old new → old.numbers.statement ≤ new.numbers.statement → (seat : Seat) → IsSoundSeat old.numbers.statement old.accepted old.lives.queries seat
-    → IsSoundSeat new.numbers.statement new.accepted new.lives.queries seat
-seat-later old new still later seat is = record {
-  rising = is.rising;
-  given = All-weaker (λ s. s ≤ old.numbers.statement) (λ s. s ≤ new.numbers.statement) (λ s low. omega arith) seat.submitted is.given;
-  in_order = is.in_order;
-  submitted = is.submitted;
-  taken = λ k d low. let taken = get_or seat.taken k d in
-      taken-later old new still taken.statement
-      (taken-there (λ n. n ≤ old.numbers.statement) seat.taken (map (λ pending. pending.statement) seat.pending) (numbers-low old seat is) k d low)
-      taken.query (is.taken k d low);
-  awaited = λ k d low. let pending = get_or seat.pending k d in
-      awaited-later old new still pending.statement
-      (awaited-there (λ n. n ≤ old.numbers.statement) (map (λ taken. taken.statement) seat.taken) seat.pending (numbers-low old seat is) k d low)
-      pending.awaited (is.awaited k d low);
-}
+pub seat-later : (old new : State) → Still old new → old.numbers.statement ≤ new.numbers.statement → (seat : Seat)
+    → IsSoundSeat old.numbers.statement old.accepted old.lives.queries seat → IsSoundSeat new.numbers.statement new.accepted new.lives.queries seat
+seat-later old new still later seat =
+    seat-lasts old.numbers.statement new.numbers.statement old.accepted new.accepted old.lives.queries new.lives.queries seat later
+    (λ number low. record {
+      none = λ none. still.asked number low ∙ none;
+      has = λ query snapshot. subst (λ o. IsSomeAnd o (λ (asked : Accepted). (asked.query ≡ query) × (asked.snapshot ≡ snapshot)))
+          (sym (still.asked number low));
+      told = subst (λ o. IfSome (option_map (λ (entry : QueryLife). entry.life) o) frame.Told) (sym (still.lives number low));
+    })
+    (λ k d inside low. subst (λ o. IfSome (option_map (λ (entry : QueryLife). entry.life) o) Wanted) (sym (still.lives _ low)))
 
 -- a seat with a statement above those before
 pub seat-with : (state : State) (statement : ℕ) (told : Told) (seat : Seat) → All (λ s. s < statement) seat.submitted

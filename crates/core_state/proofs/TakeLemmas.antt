@@ -1,10 +1,10 @@
 -- A batch that is taken into a hand keeps a core sound.
-use Rattle.core_state.proofs.Words.{◌+◌, ◌<◌, ◌∙◌, ◌∷◌, ◌≡◌, ◌≢◌, [], Accepted, accepted_at, after_take, All, All-cons, All-head, All-map, All-nil, All-tail, AllPairs, AllPairs-cons, ap, arith, Bool, cond, cons_option, Encodes, eq-eqb, eqb, eqb-true, false, Filter, filter_map, Filters, FilterVersion, find, FitsSlot, Flight, frame_words, get_or, Hand, has_passed, held_by, IfSome, IfSome_then, IsOnRoster, IsSome, IsSound, IsSoundBatch, IsSoundFilter, IsSoundHand, length, List, map, MayTake, ne_eqb, None, OnRoster, Option, option_map, option_map_or, refl, rows_in, slice_get, Some, State, subst, suc, sym, tables_of, Tally, true, version_at, zero, ℕ}
+use Rattle.core_state.proofs.Words.{◌+◌, ◌<◌, ◌∙◌, ◌∷◌, ◌≡◌, ◌≢◌, [], Accepted, accepted_at, after_take, All, All-cons, All-head, All-map, All-nil, All-tail, AllPairs, AllPairs-cons, ap, arith, Bool, cond, cons_option, Encodes, eq-eqb, eqb, eqb-true, false, Filter, filter_map, Filters, FilterVersion, find, FitsSlot, Flight, frame_words, get_or, Hand, has_passed, IfSome, IfSome_then, IsOnRoster, IsSome, IsSound, IsSoundBatch, IsSoundFilter, IsSoundHand, length, List, Lives, map, MayTake, ne_eqb, None, OnRoster, Option, option_map, option_map_or, refl, rows_in, slice_get, Some, State, Store, subst, suc, sym, tables_of, true, version_at, zero, ℕ}
 use Rattle.std.specs.Prelude.{not}
 use Rattle.std.proofs.lemmas.Option.{option_and_then_some}
 use Rattle.core_state.specs.Found as found
 use Rattle.core_state.specs.Found.{next_filter}
-use Rattle.core_state.proofs.FlownLemmas.{Flies, KeepsPlace, entry-flown, flown, sound-flown}
+use Rattle.core_state.proofs.FlownLemmas.{Flies, KeepsPlace, sound-flown}
 use Rattle.core_state.proofs.FoundLemmas.{find-passes}
 use Rattle.core_state.proofs.AcceptedLemmas.{find-holds, find-none, held-accepted}
 
@@ -74,23 +74,17 @@ hand-taken worker batch state seat sound flight of_batch = by_next (next_filter 
           encodes = λ k d low. encodes-there state sound version.filter of_filter (get_or flight.roster k d) (of_batch.roster k d low);
         })
 
--- the hand of another batch is as sound as it was
-pub hand-stays : (state : State) (tallies : List Tally) (change : Flight → Flight) (flight : Flight) → IfSome flight.hand (IsSoundHand (length state.seats) state.lives.filters (tables_of state) flight)
-    → IfSome flight.hand (IsSoundHand (length state.seats) state.lives.filters (tables_of state) flight)
-hand-stays state tallies change flight old = IfSome_then flight.hand old
-    (λ hand h. record { seat = h.seat; table = h.table; is_filter = h.is_filter; not_passed = h.not_passed; encodes = h.encodes })
-
 -- a batch is as sound as it was, whose hand it may be in
-pub batch-stays : (state : State) (tallies : List Tally) (change : Flight → Flight) (flight : Flight) (hand : Option Hand) → IsSoundBatch (frame_words state) (tables_of state) state.lives state.accepted flight
-    → IsSoundBatch (frame_words state) (tables_of state) state.lives state.accepted (record flight { hand = hand })
-batch-stays state tallies change flight hand old = record {
+pub batch-stays : (words : ℕ) (store : Store) (lives : Lives) (accepted : List Accepted) (flight : Flight) (hand : Option Hand)
+    → IsSoundBatch words store lives accepted flight → IsSoundBatch words store lives accepted (record flight { hand = hand })
+batch-stays words store lives accepted flight hand old = record {
   within = old.within;
   bits = old.bits;
   keys = old.keys;
   room = old.room;
-  roster = λ k d low. entry-flown state tallies change (get_or flight.roster k d) (old.roster k d low);
+  roster = old.roster;
   slots = old.slots;
-  rows = λ row low. IfSome_then (slice_get (tables_of state).versions (flight.rows.first + row)) (old.rows row low)
+  rows = λ row low. IfSome_then (slice_get store.versions (flight.rows.first + row)) (old.rows row low)
       (λ version r. record { keys = r.keys; bits = r.bits; others = r.others });
 }
 
@@ -201,14 +195,14 @@ sound-taken worker batch state can sound =
       batches = All-map (IsSoundBatch (frame_words state) (tables_of state) state.lives state.accepted) change flights
           (λ k d low. let flight = get_or flights k d in
           by-number (IsSoundBatch (frame_words state) (tables_of state) state.lives state.accepted) worker batch state.filters flight
-          (batch-stays state state.filters.tallies change flight (taken_by worker state.filters flight).hand (sound.batches k d low))
-          (batch-stays state state.filters.tallies change flight flight.hand (sound.batches k d low)));
+          (batch-stays (frame_words state) (tables_of state) state.lives state.accepted flight (taken_by worker state.filters flight).hand (sound.batches k d low))
+          (sound.batches k d low));
       hands = record {
         each = All-map (λ flight. IfSome flight.hand (IsSoundHand (length state.seats) state.lives.filters (tables_of state) flight)) change flights
             (λ k d low. let flight = get_or flights k d in
             by-number (λ f. IfSome f.hand (IsSoundHand (length state.seats) state.lives.filters (tables_of state) f)) worker batch state.filters flight
             (hand-taken worker batch state can.seat sound flight (sound.batches k d low))
-            (hand-stays state state.filters.tallies change flight (sound.hands.each k d low)));
+            (sound.hands.each k d low));
         one = one-each worker batch state.filters flights (find-none (found.is_held_by worker) flights can.empty) sound.numbers.apart sound.hands.one;
       };
       order = record { tallies = sound.order.tallies; count = sound.order.count; order = sound.order.order };

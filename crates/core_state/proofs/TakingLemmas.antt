@@ -1,11 +1,12 @@
 -- A reply that is taken keeps a core sound.
-use Rattle.core_state.proofs.Words.{◌++◌, ◌<◌, ◌↔◌, ◌∙◌, ◌∷◌, ◌≡◌, ◌≢◌, ◌≤◌, ◌⊎◌, [], Accepted, after_taking, All, All-contains, All-head, All-push, All-tail, AllPairs, ap, append_assoc, AreSoundQueries, Asked, Awaited, cases_eq, cases_lt, cond, Contains, Contains-append_left, Contains-push, drop, empty_seat, eq-eqb, eqb, false, forgotten, get_or, get_or-set_other, get_or-set_same, get_or_past, HasTaken, IfSome, inl, inr, is_open, is_some, IsAwaited, IsKept, IsSome, IsSound, IsSoundQuery, IsSoundSeat, IsTaken, IsTrue, length, length-set, Life, life_in, List, list_any, map, map-append, ne_eqb, next_ready, None, Option, option_and_then, option_map, Pending, query_in, QueryLife, ready_by, ready_to, refl, Replied, Seat, set, slice_get, Some, State, subst, sym, tables_of, take, Taken, taken_by, true, versions_in, without_groups, ℕ, ⊎_elim}
+use Rattle.core_state.proofs.Words.{◌++◌, ◌<◌, ◌∙◌, ◌∷◌, ◌≡◌, ◌≢◌, ◌⊎◌, [], Accepted, after_taking, All, All-contains, All-head, All-push, All-tail, AllPairs, ap, append_assoc, AreSoundQueries, Asked, Awaited, cases_eq, cases_lt, cond, Contains, Contains-append_left, Contains-push, drop, empty_seat, eq-eqb, eqb, false, forgotten, get_or, get_or-set_other, get_or-set_same, get_or_past, HasTaken, IfSome, inl, inr, is_open, is_some, IsAwaited, IsKept, IsSome, IsSound, IsSoundQuery, IsSoundSeat, IsTaken, length, length-set, Life, life_in, List, list_any, map, map-append, ne_eqb, next_ready, None, Option, option_and_then, option_map, Pending, query_in, QueryLife, ready_by, ready_to, refl, Replied, Seat, set, slice_get, Some, State, subst, sym, tables_of, take, Taken, taken_by, true, without_groups, ℕ, ⊎_elim}
 use Rattle.pipeline_manager.specs.declared.life.Life.TheVariants as life
 use Rattle.core_state.specs.Submitting.{asked_by}
 use Rattle.core_state.proofs.AcceptedLemmas.{number-found}
 use Rattle.core_state.proofs.FoundLemmas.{life-found, some-at, some-by}
-use Rattle.core_state.proofs.AnewLemmas.{LivesAs, StayTaken, by-change, batches-anew, filters-anew, forgets, hands-anew, kept-anew, kept_anew, queries-anew}
-use Rattle.core_state.proofs.SeatLemmas.{Told, one-seat, part-stays, pending-submitted, seat-anew, seats-anew}
+use Rattle.core_state.proofs.AnewLemmas.{by-change, batches-anew, filters-anew, forgets, hands-anew, kept_anew, queries-anew}
+use Rattle.core_state.proofs.FrameLemmas.{kept-with, lives-as, LivesAs, StayTaken, Told}
+use Rattle.core_state.proofs.SeatLemmas.{one-seat, part-stays, pending-submitted, seat-anew, seats-anew}
 
 -- what is ready is no query, or one that is over
 pub ready-told : (state : State) (statement : ℕ) (awaited : Awaited) → AreSoundQueries state → IsAwaited state.accepted state.lives.queries statement awaited
@@ -72,10 +73,10 @@ sound-with_first : (seat : ℕ) (first : Pending) (rest : List Pending) (state :
 sound-with_first seat first rest state is told sound = record {
   settings = sound.settings;
   filters = filters-anew state (forgotten first.statement) (forgets first.statement) queries seats state.scan sound.filters;
-  batches = batches-anew state (forgotten first.statement) (forgets first.statement) queries seats state.scan (λ number on. on) sound.batches;
-  hands = hands-anew state (forgotten first.statement) (forgets first.statement) queries seats state.scan (length-set state.seats seat with) sound.hands;
+  batches = batches-anew state (forgotten first.statement) (forgets first.statement) queries state.scan.flights (λ number on. on) sound.batches;
+  hands = hands-anew state (forgotten first.statement) queries seats state.scan (length-set state.seats seat with) sound.hands;
   queries = queries-anew state (forgotten first.statement) (forgets first.statement) queries seats state.scan refl
-      (λ accepted among of_query. some-by (LivesAs now accepted (forgotten first.statement accepted)) (query_in queries accepted.number)
+      (λ accepted among of_query. some-by (LivesAs (tables_of state) seats state.scan accepted (forgotten first.statement accepted)) (query_in queries accepted.number)
       (λ entry found. lives accepted among of_query entry found (cases_eq accepted.number first.statement))) sound.queries;
   slots = record { lives = sound.slots.lives; count = sound.slots.count; built = sound.slots.built };
   store = sound.store;
@@ -109,12 +110,12 @@ sound-with_first seat first rest state is told sound = record {
     each k d low (inl same) =
         subst (λ n. IsSoundSeat now.numbers.statement now.accepted now.lives.queries (get_or seats n d)) (sym same)
         (subst (IsSoundSeat now.numbers.statement now.accepted now.lives.queries) (sym (get_or-set_same state.seats seat with d there))
-        (seat-anew state (forgotten first.statement) (forgets first.statement) queries seats state.scan with (λ j p inside h. h) (λ number h. h)
+        (seat-anew state (forgotten first.statement) (forgets first.statement) queries with (λ j p inside h. h) (λ number h. h)
         (seat-taken state first rest (get_or state.seats seat empty_seat) told
         (subst (λ ps. IsSoundSeat state.numbers.statement state.accepted state.lives.queries (record (get_or state.seats seat empty_seat) { pending = ps })) is (sound.seats.each seat empty_seat there)))))
     each k d low (inr apart) =
         subst (IsSoundSeat now.numbers.statement now.accepted now.lives.queries) (sym (get_or-set_other state.seats seat k with d apart))
-        (seat-anew state (forgotten first.statement) (forgets first.statement) queries seats state.scan (get_or state.seats k d) (λ j p inside h. h) (λ number h. h) (sound.seats.each k d low))
+        (seat-anew state (forgotten first.statement) (forgets first.statement) queries (get_or state.seats k d) (λ j p inside h. h) (λ number h. h) (sound.seats.each k d low))
 
     -- the number of a statement stands in one seat
     one_seat : (accepted : Accepted) → Contains state.accepted accepted → accepted.number ≡ first.statement → accepted.seat ≡ seat
@@ -150,7 +151,7 @@ sound-with_first seat first rest state is told sound = record {
 
     lives : (accepted : Accepted) → Contains state.accepted accepted → IsSoundQuery state accepted → (entry : QueryLife) → query_in queries accepted.number ≡ Some entry
         → (accepted.number ≡ first.statement) ⊎ (accepted.number ≢ first.statement)
-        → LivesAs now accepted (forgotten first.statement accepted) entry
+        → LivesAs (tables_of state) seats state.scan accepted (forgotten first.statement accepted) entry
     lives accepted among of_query entry found (inl same) =
         let over : Told entry.life = some-at Told (life_in queries first.statement) entry.life
         (subst (λ n. life_in queries n ≡ Some entry.life) same (life-found queries accepted.number entry found)) told in (
@@ -158,17 +159,15 @@ sound-with_first seat first rest state is told sound = record {
               (ap (λ t. (cond {A = Accepted} t (record accepted { groups = None }) accepted).groups) (eq-eqb accepted.number first.statement same))
               (taken accepted among same),
           λ opens. absurd (let both : true ≡ false = sym opens ∙ told-closed entry.life over in cc),
-          some-at (λ e. e.extent ≤ versions_in state) (query_in queries accepted.number) entry found of_query.within,
+          (lives-as state accepted of_query entry found).2,
         )
     lives accepted among of_query entry found (inr apart) =
-        subst (λ given. LivesAs now accepted given entry)
+        let was = lives-as state accepted of_query entry found in
+        subst (λ given. LivesAs (tables_of state) seats state.scan accepted given entry)
         (sym (ap (λ t. cond {A = Accepted} t (record accepted { groups = None }) accepted) (ne_eqb accepted.number first.statement apart))) (
-          kept-anew state (forgotten first.statement) queries seats stay accepted entry.extent entry.life
-              (some-at (λ e. IsKept (tables_of state) state.seats state.scan accepted e.extent e.life) (query_in queries accepted.number) entry found of_query.kept),
-          some-at (λ e. IsTrue (is_open e.life) → (position : ℕ) → IfSome (slice_get (tables_of state).versions position)
-              (λ version. (version.begin ≤ accepted.snapshot) ↔ (position < e.extent)))
-              (query_in queries accepted.number) entry found of_query.extent,
-          some-at (λ e. e.extent ≤ versions_in state) (query_in queries accepted.number) entry found of_query.within,
+          kept-with (tables_of state) state.seats seats state.scan state.scan stay accepted entry.extent entry.life refl refl was.0,
+          was.1,
+          was.2,
         )
 
 pub sound-replied : (seat : ℕ) (state : State) → IsSome (next_ready state seat) → IsSound state → IsSound (after_taking seat state)

@@ -1,11 +1,11 @@
 -- A core is sound after a statement by what is told of it: a reply, with a change or without one, or that it is accepted.
-use Rattle.core_state.proofs.Words.{◌+◌, ◌<◌, ◌∙◌, ◌∷◌, ◌≡◌, ◌≢◌, [], Accepted, accepted_at, All, All-head, All-push, All-tail, all_pairs_push, ap, arith, Change, cond, Contains, empty_seat, Entry, Filters, get_or, IfSome, IsOver, IsSettled, IsSome, IsSomeAnd, IsSound, IsSoundBeside, length, length-set, List, map, ne_eqb, None, Option, option_map, outcome_of, Query, query_in-push_same, QueryLife, refl, Reply, Seat, Some, State, subst, sym, tables_of, Told, versions_in, with_statement, ℕ}
+use Rattle.core_state.proofs.Words.{◌+◌, ◌<◌, ◌∙◌, ◌∷◌, ◌≡◌, ◌≢◌, [], Accepted, accepted_at, All, All-head, All-push, All-tail, all_pairs_push, ap, arith, Change, cond, Contains, empty_seat, Entry, Filters, get_or, IfSome, IsOver, IsSettled, IsSome, IsSomeAnd, IsSound, IsSoundBeside, length, length-set, List, map, ne_eqb, None, Option, option_map, Query, query_in-push_same, QueryLife, refl, Reply, Seat, Some, State, subst, sym, tables_of, Told, versions_in, with_statement, ℕ}
 use Rattle.star_statement.specs.Outcome as outcome
 use Rattle.pipeline_manager.specs.declared.life.Life.TheVariants as life
-use Rattle.core_state.proofs.AnewLemmas.{StayTaken}
 use Rattle.core_state.proofs.AskLemmas.{accepted-push_same, accepted_as, asked_now, beside-asked, of-numbers, still-asked}
 use Rattle.core_state.proofs.BesideLemmas.{beside-seated, later}
 use Rattle.core_state.proofs.DeclareLemmas.{declared_now}
+use Rattle.core_state.proofs.FrameLemmas.{StayTaken}
 use Rattle.core_state.proofs.SeatLemmas.{part-stays}
 use Rattle.core_state.proofs.SubmitSeatsLemmas.{seats-submitted, seats_by, stands, stands-low, stands-new}
 

@@ -3,8 +3,8 @@ use Rattle.core_state.proofs.Words.{◌<◌, ◌↔◌, ◌∙◌, ◌∷◌, �
 use Rattle.dimension_filter.specs.Filter as table
 use Rattle.dimension_filter.specs.Filter.{AreAscending, is_stored}
 use Rattle.pipeline_manager.specs.Sound as managed
-use Rattle.core_state.proofs.FrameLemmas.{filter-moved}
-use Rattle.core_state.proofs.HeldLemmas.{entry-set, fits-set, queries-stay}
+use Rattle.core_state.proofs.FrameLemmas.{filter-with}
+use Rattle.core_state.proofs.HeldLemmas.{entry-set, fits-set}
 use Rattle.core_state.proofs.MovedLemmas.{Holds, held_now, sound-held}
 
 -- the next version of a filter of this dimension
@@ -65,10 +65,10 @@ pub record IsNextVersion (state : State) (slot : ℕ) (now : SlotState) (before 
   pub fits : FitsSlot state.accepted (tables_of state) after slot now
   pub within : (key : ℕ) → IsTrue (is_stored after key) → key < length (rows_in (tables_of state).dimensions before.dimension)
 
-next-sound : (state : State) (slot : ℕ) (now : SlotState) (filters : Filters) (version : ℕ) (before after : Filter) → slot < length state.lives.slots
+next-sound : (state : State) (slot : ℕ) (now : SlotState) (before after : Filter) → slot < length state.lives.slots
     → IsNextVersion state slot now before after → IsSoundFilter state.accepted (tables_of state) state.lives.slots state.lives.filters before
     → IsSoundFilter state.accepted (tables_of state) (set state.lives.slots slot now) state.lives.filters after
-next-sound state slot now filters version before after there next old = record {
+next-sound state slot now before after there next old = record {
   table = next.table;
   ascending = next.ascending;
   is_filter = subst (Has state.lives.filters) (sym next.beside.dimension) old.is_filter;
@@ -128,8 +128,8 @@ sound-versioned state slot dimension number version now change gives sound =
       rosters = λ k d low j e within.
           let on = (sound.batches k d low).roster j e within in
           let entry = get_or (get_or state.scan.flights k d).roster j e in
-          entry-set state state.lives.queries slot now filters version entry (gives.off entry on) on.life on;
-      queries_now = queries-stay state slots filters version sound.queries;
+          entry-set state state.lives.queries slot now entry (gives.off entry on) on.life on;
+      queries_now = record { same = sound.queries.same; each = sound.queries.each };
       slots_now = record {
         lives = gives.lives;
         count = length-set state.lives.slots slot now ∙ sound.slots.count;
@@ -158,9 +158,9 @@ sound-versioned state slot dimension number version now change gives sound =
         by_test : (t : Bool) → eqb v.filter.dimension dimension ≡ t
             → IsSoundFilter state.accepted (tables_of state) slots state.lives.filters
             (cond {A = FilterVersion} t (record { number = number; filter = change v.filter }) v).filter
-        by_test true is = next-sound state slot now filters version v.filter (change v.filter) gives.there
+        by_test true is = next-sound state slot now v.filter (change v.filter) gives.there
             (gives.next v.filter old (eqb-true v.filter.dimension dimension is)) old
-        by_test false is = filter-moved state state.lives.queries slots filters state.scan (record state.numbers { version = version }) v.filter
+        by_test false is = filter-with state.accepted state.accepted (tables_of state) state.lives.slots slots state.lives.filters v.filter
             (length-set state.lives.slots slot now)
             (λ other low fits. fits-set state slot now gives.there v.filter (gives.others v.filter old (eqb-false v.filter.dimension dimension is)) other fits) old
 

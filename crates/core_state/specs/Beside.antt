@@ -26,4 +26,4 @@ pub record IsSoundBeside (state : State) : Type 0 where
   pub store : IsSoundStore state
   pub quiet : IsQuietBefore state
   pub scan : IsSoundScan state
-  pub order : IsSoundOrder state
+  pub order : IsSoundOrder state.filters

@@ -4,9 +4,7 @@ use Rattle.std.specs.List.{list_all, list_any}
 use Rattle.std.specs.Int.{bit_at}
 use Rattle.std.specs.Option.{option_map_or, option_and_then}
 use Rattle.pipeline_manager.specs.declared.life.Life.{Life}
-use Rattle.pipeline_manager.specs.declared.life.Life.TheVariants.{Waiting, Building, Running, Ending, Answered, Spoiled, Abandoned}
-use Rattle.pipeline_manager.specs.declared.life.SlotState.{SlotState}
-use Rattle.pipeline_manager.specs.declared.life.SlotState.TheVariants.{Free, Held, Clearing}
+use Rattle.pipeline_manager.specs.declared.life.Life.TheVariants.{Running}
 use Rattle.pipeline_manager.specs.Lives.{Lives, extent_in, life_of, slot_at}
 use Rattle.core_state.specs.State.{Accepted, FilterVersion, Filters, Flight, OnRoster, State}
 pub use Rattle.core_parts.specs.Filtered.{version_at}

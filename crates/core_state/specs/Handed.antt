@@ -10,7 +10,7 @@ use Rattle.star_history.specs.Keyed.{KeyedStore}
 use Rattle.pipeline_manager.specs.Lives.{Lives, life_of, slot_at, slot_of}
 use Rattle.aggregations.specs.Grouped.{Grouped}
 use Rattle.core_state.specs.declared.event.Event.{Event}
-use Rattle.core_state.specs.declared.event.Event.TheVariants.{Submit, Reserve, Build, Start, Cut, Take, Give, Distribute, Finish, Clear, Release, Reorder, Abandon}
+use Rattle.core_state.specs.declared.event.Event.TheVariants.{Start, Distribute, Finish, Abandon}
 use Rattle.core_state.specs.Cutting.{gets_rows}
 use Rattle.core_state.specs.Found.{holder_of}
 use Rattle.core_state.specs.Scanned.{AreTablesOf}

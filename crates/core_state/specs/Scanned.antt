@@ -1,15 +1,14 @@
 -- A scan and tables as the code has them, where they are those of the core.
 use Rattle.std.specs.Prelude.{◌≡◌, ℕ, ◌<◌, List, length, slice_index_or, Option, Some, None}
-use Rattle.std.specs.Option.{option_and_then, option_map_or}
+use Rattle.std.specs.Option.{option_and_then}
 use Rattle.star_plan.specs.Test.{query_of}
 use Rattle.star_history.specs.Keyed.{IsKeyed, KeyedStore, plain}
 use Rattle.pipeline_manager.specs.declared.life.Life.{Life}
 use Rattle.pipeline_manager.specs.declared.life.Life.TheVariants as life
-use Rattle.pipeline_manager.specs.Lives.{Lives, life_of, slot_at, slot_of}
-use Rattle.continuous_scan.specs.Range.{after_stop}
+use Rattle.pipeline_manager.specs.Lives.{Lives, life_of, slot_at}
 use Rattle.continuous_scan.specs.Scanning.{Running, Scanning}
 use Rattle.core_state.specs.declared.event.Event.{Event}
-use Rattle.core_state.specs.declared.event.Event.TheVariants.{Submit, Reserve, Build, Start, Cut, Take, Give, Distribute, Finish, Clear, Release, Reorder, Abandon}
+use Rattle.core_state.specs.declared.event.Event.TheVariants.{Start, Cut, Abandon}
 use Rattle.core_state.specs.Found.{holder_of, running_at}
 use Rattle.core_state.specs.State.{OnRoster, State}
 use Rattle.core_state.specs.Tables.{tables_of}

@@ -25,7 +25,7 @@ use Rattle.core_state.specs.Flown.{IsSoundBatch, IsSoundFilter, IsSoundHand}
 use Rattle.core_state.specs.Found.{accepted_at}
 use Rattle.core_state.specs.Numbered.{last_number}
 use Rattle.core_state.specs.Settings.{AreWithin, frames_of}
-use Rattle.core_state.specs.State.{Accepted, Asked, Awaited, Flight, Replied, Scan, Seat, State}
+use Rattle.core_state.specs.State.{Accepted, Asked, Awaited, Filters, Flight, Replied, Scan, Seat, State}
 use Rattle.core_state.specs.Submitting.{empty_seat, seat_at}
 use Rattle.core_state.specs.declared.settings.RunSettings.{RunSettings}
 use Rattle.core_state.specs.Tables.{changes_of, filter_dimensions, tables_of, versions_in}
@@ -111,16 +111,22 @@ IsKept store seats scan accepted extent life.Abandoned = accepted.groups ≡ Non
 
 -- an accepted query: it has its life, it is one over the schema, its snapshot is a commit so far, its extent is within the
 -- table, and what is kept is what its life says; while it is unfinished its extent is the versions that came by its snapshot
-pub record IsSoundQuery (state : State) (accepted : Accepted) : Type 0 where
-  pub number : accepted.number ≤ state.numbers.statement
-  pub over : IsOver (tables_of state).schema accepted.query
-  pub snapshot : accepted.snapshot ≤ (tables_of state).commits
-  pub within : IfSome (query_in state.lives.queries accepted.number) (λ entry. entry.extent ≤ versions_in state)
-  pub kept : IfSome (query_in state.lives.queries accepted.number)
-      (λ entry. IsKept (tables_of state) state.seats state.scan accepted entry.extent entry.life)
-  pub extent : IfSome (query_in state.lives.queries accepted.number) (λ entry. IsTrue (is_open entry.life) →
-      (position : ℕ) → IfSome (slice_get (tables_of state).versions position)
+pub record IsSoundAccepted (last : ℕ) (store : Store) (queries : List QueryLife) (seats : List Seat) (scan : Scan)
+    (accepted : Accepted) : Type 0 where
+  pub number : accepted.number ≤ last
+  pub over : IsOver store.schema accepted.query
+  pub snapshot : accepted.snapshot ≤ store.commits
+  pub within : IfSome (query_in queries accepted.number) (λ entry. entry.extent ≤ length store.versions)
+  pub kept : IfSome (query_in queries accepted.number)
+      (λ entry. IsKept store seats scan accepted entry.extent entry.life)
+  pub extent : IfSome (query_in queries accepted.number) (λ entry. IsTrue (is_open entry.life) →
+      (position : ℕ) → IfSome (slice_get store.versions position)
       (λ version. (version.begin ≤ accepted.snapshot) ↔ (position < entry.extent)))
+
+-- an accepted query of a core
+abbrev pub IsSoundQuery : State → Accepted → Type 0
+IsSoundQuery state =
+    IsSoundAccepted state.numbers.statement (tables_of state) state.lives.queries state.seats state.scan
 
 -- the accepted queries: they are those that have lives, in the same order
 pub record AreSoundQueries (state : State) : Type 0 where
@@ -155,10 +161,10 @@ pub record IsSoundScan (state : State) : Type 0 where
   pub position : state.scan.position ≤ versions_in state
 
 -- each tally has at most as many drops as probes, and the order has each filter once
-pub record IsSoundOrder (state : State) : Type 0 where
-  pub tallies : All (λ tally. tally.drops ≤ tally.probes) state.filters.tallies
-  pub count : length state.filters.tallies ≡ length state.filters.versions
-  pub order : IsPermutation (map (λ version. version.filter.dimension) state.filters.versions) state.filters.order
+pub record IsSoundOrder (filters : Filters) : Type 0 where
+  pub tallies : All (λ tally. tally.drops ≤ tally.probes) filters.tallies
+  pub count : length filters.tallies ≡ length filters.versions
+  pub order : IsPermutation (map (λ version. version.filter.dimension) filters.versions) filters.order
 
 -- a query of the core has this number, and is this query at this snapshot
 abbrev pub HasAccepted : List Accepted → (number : ℕ) → Query → (snapshot : ℕ) → Type 0
@@ -213,7 +219,7 @@ pub record IsSound (state : State) : Type 0 where
   pub quiet : IsQuietBefore state
   pub numbers : AreSoundNumbers state
   pub scan : IsSoundScan state
-  pub order : IsSoundOrder state
+  pub order : IsSoundOrder state.filters
   pub seats : AreSoundSeats state
 
 -- a core before its first event

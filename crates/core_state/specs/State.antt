@@ -2,11 +2,7 @@
 use Rattle.std.specs.Prelude.{ℕ, List, Option}
 use Rattle.star_plan.specs.Test.{Query}
 use Rattle.star_history.specs.History.{Change}
-use Rattle.reply_text.specs.declared.reply.Reply.{Reply}
-use Rattle.batch_flow.specs.Rows.{Rows}
-use Rattle.filter_order.specs.declared.tally.Tally.{Tally}
 use Rattle.pipeline_manager.specs.Lives.{Lives}
-use Rattle.dimension_filter.specs.Filter.{Filter}
 use Rattle.aggregations.specs.Grouped.{Grouped}
 use Rattle.core_state.specs.declared.settings.RunSettings.{RunSettings}
 -- the parts, which are defined where their code is

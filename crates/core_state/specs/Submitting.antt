@@ -1,9 +1,8 @@
 -- What becomes of the core where a statement is submitted, its reply is taken, or its query is abandoned.
-use Rattle.std.specs.Prelude.{ℕ, ◌+◌, ◌==◌, not, List, [], ◌∷◌, ◌++◌, length, map, filter, fold, take, drop, slice_get, replicate, slice_set, slice_index_or, Option, Some, None, option_map, if◌then◌else◌}
+use Rattle.std.specs.Prelude.{ℕ, ◌+◌, ◌==◌, List, [], ◌∷◌, ◌++◌, length, map, fold, take, slice_get, replicate, slice_set, slice_index_or, Option, Some, None, option_map, if◌then◌else◌}
 use Rattle.std.specs.Option.{option_and_then, option_map_or}
 use Rattle.script_reader.specs.declared.statement.Statement.{Statement}
-use Rattle.star_plan.specs.Test.{Query}
-use Rattle.star_history.specs.History.{Change, DimensionDeclared, FactDeclared, Loaded, Ended}
+use Rattle.star_history.specs.History.{Change, FactDeclared}
 use Rattle.star_statement.specs.Outcome as outcome
 use Rattle.star_statement.specs.Outcome.{Told, outcome_of}
 use Rattle.reply_text.specs.declared.reply.Reply.{Reply}
@@ -16,7 +15,7 @@ use Rattle.bit_words.specs.Sets.{with_number}
 use Rattle.aggregations.specs.Grouped.{Grouped, grouped_of}
 use Rattle.core_state.specs.Found.{accepted_at}
 use Rattle.core_state.specs.Numbered.{counted}
-use Rattle.core_state.specs.State.{Accepted, Asked, Awaited, FilterVersion, Pending, Replied, Seat, State, Taken}
+use Rattle.core_state.specs.State.{Accepted, Asked, Awaited, Pending, Replied, Seat, State}
 use Rattle.core_state.specs.Tables.{filter_dimensions, tables_of, versions_in}
 pub use Rattle.core_parts.specs.Seated.{asked_by, empty_seat, taken_by, with_taken, without_pending}
 pub use Rattle.core_parts.specs.Filtered.{first_version, first_versions}

@@ -1,10 +1,7 @@
 -- The tables of the core, by its history, and the key numbers of fact rows.
-use Rattle.std.specs.Prelude.{ℕ, List, filter, length, map}
-use Rattle.std.specs.List.{list_any, range_with_len}
+use Rattle.std.specs.Prelude.{ℕ, List, length, map}
+use Rattle.std.specs.List.{range_with_len}
 use Rattle.star_values.specs.declared.value.Value as cell
-use Rattle.star_plan.specs.declared.schema.Schema.{Schema}
-use Rattle.star_plan.specs.Columns.{fact_columns}
-use Rattle.star_schema.specs.Declaration.{references}
 use Rattle.batch_flow.specs.declared.batch.TheConstants.{KEYS_IN_A_ROW}
 use Rattle.star_history.specs.History.{Change, store_of}
 use Rattle.star_history.specs.Keyed.{number_by_key}

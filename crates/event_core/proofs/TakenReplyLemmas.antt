@@ -2,7 +2,7 @@
 use Rattle.event_core.proofs.Words.{◌∙◌, ◌∷◌, ◌≡◌, [], Accepted, after_taking, ap, attached_for, attached_to, Becomes, false, first_of, forgotten, forgotten_at, gets, gets_rows, IfSome, IsCore, IsScannedAs, IsSome, IsSound, Known, known_in, Life, life_of, List, map, map-set, next_ready, None, none-some, Option, option_and_then, option_map_or, Parts, Pending, reaches_in, ready_to, refl, same_Some, Scanning, Seat, seat_as, seat_at, set, slice_get, Some, State, state_of, statements_at, Submitted, subst, sym, take, with_taken, ℕ, ⊎_elim}
 use Rattle.core_state.specs.Steps.{Replying}
 use Rattle.core_state.specs.Submitting.{without_groups}
-use Rattle.core_state.proofs.SeatLemmas.{Told}
+use Rattle.core_state.proofs.FrameLemmas.{Told}
 use Rattle.core_state.proofs.TakingLemmas.{ready-told}
 use Rattle.event_core.proofs.AskedKeptLemmas.{LeavesOthers, accepted-forgotten, beside-kept}
 use Rattle.event_core.proofs.CoreAtLemmas.{KeepSound, becomes-of}
