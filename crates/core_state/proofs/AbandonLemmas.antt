@@ -6,7 +6,7 @@ use Rattle.pipeline_manager.proofs.CallLemmas.{sound-after_abandon, sound-after_
 use Rattle.core_state.proofs.AcceptedLemmas.{find-holds}
 use Rattle.core_state.proofs.FoundLemmas.{find-passes, life-written, with_life-found, with_life-numbers}
 use Rattle.core_state.proofs.AnewLemmas.{batches-anew, filters-anew, forgets, hands-anew, kept_anew, queries-anew}
-use Rattle.core_state.proofs.FrameLemmas.{awaited-there, kept-with, lives-as, LivesAs, StayTaken, Told, Wanted}
+use Rattle.core_state.proofs.FrameLemmas.{at-set, awaited-there, kept-with, lives-as, LivesAs, StayTaken, Told, Wanted}
 use Rattle.core_state.proofs.SeatLemmas.{part-stays, seat-anew, seat-fewer, seats-anew}
 
 -- the life of a query that has no answer
@@ -118,7 +118,7 @@ sound-unpending query seat old state was opens submits sound =
     (sym (part-stays (λ (s : Seat). s.taken) state.seats seat without there refl other)))
     (seats-anew state (forgotten query) (forgets query) queries seats state.scan (length-set state.seats seat without)
     (part-stays (λ (s : Seat). s.submitted) state.seats seat without there refl)
-    (λ k d low. each k d (subst (λ n. k < n) (length-set state.seats seat without) low) (cases_eq k seat)) sound.seats) sound
+    (λ k d low. each k d (subst (λ n. k < n) (length-set state.seats seat without) low)) sound.seats) sound
   where
     queries : List QueryLife
     queries = with_life query life.Abandoned state.lives.queries
@@ -144,28 +144,24 @@ sound-unpending query seat old state was opens submits sound =
         ⊎_elim (λ before. sound.seats.apart k seat d before there query has submits_so)
         (λ after. sound.seats.apart seat k d (omega arith) low query submits_so has) (cases_lt k seat)
 
-    each : (k : ℕ) (d : Seat) → k < length state.seats → (k ≡ seat) ⊎ (k ≢ seat)
+    each : (k : ℕ) (d : Seat) → k < length state.seats
         → IsSoundSeat state.numbers.statement (map (forgotten query) state.accepted) queries (get_or seats k d)
-    each k d low (inl same) =
-        subst (λ n. IsSoundSeat state.numbers.statement (map (forgotten query) state.accepted) queries (get_or seats n d)) (sym same)
-        (subst (IsSoundSeat state.numbers.statement (map (forgotten query) state.accepted) queries) (sym (get_or-set_same state.seats seat without d there))
-        (seat-anew state (forgotten query) (forgets query) queries without
+    each k d low = at-set (IsSoundSeat state.numbers.statement (map (forgotten query) state.accepted) queries) state.seats seat k without d low
+        (λ same. seat-anew state (forgotten query) (forgets query) queries without
         (All-weaker (λ pending. not (eqb pending.statement query) ≡ true)
         (λ pending. IfSome (life_in state.lives.queries pending.statement) Wanted → IfSome (life_in queries pending.statement) Wanted)
         (λ pending other. still pending.statement
-        (λ same. let both : false ≡ true = sym (ap not (eq-eqb pending.statement query same)) ∙ other in cc))
+        (λ is. let both : false ≡ true = sym (ap not (eq-eqb pending.statement query is)) ∙ other in cc))
         without.pending (filter_passes (λ pending. not (eqb pending.statement query)) (get_or state.seats seat empty_seat).pending))
         (told-open query old life.Abandoned state was opens)
-        (seat-fewer state (λ pending. not (eqb pending.statement query)) (get_or state.seats seat empty_seat) (sound.seats.each seat empty_seat there))))
-    each k d low (inr apart) =
+        (seat-fewer state (λ pending. not (eqb pending.statement query)) (get_or state.seats seat empty_seat) (sound.seats.each seat empty_seat there)))
+        (λ apart.
         let here = get_or state.seats k d in
         let of_seat : IsSoundSeat state.numbers.statement state.accepted state.lives.queries here = sound.seats.each k d low in
-        subst (IsSoundSeat state.numbers.statement (map (forgotten query) state.accepted) queries) (sym (get_or-set_other state.seats seat k without d apart))
-        (seat-anew state (forgotten query) (forgets query) queries here
+        seat-anew state (forgotten query) (forgets query) queries here
         (All-weaker (λ pending. Contains here.submitted pending.statement)
         (λ pending. IfSome (life_in state.lives.queries pending.statement) Wanted → IfSome (life_in queries pending.statement) Wanted)
-        (λ pending has. still pending.statement
-        (λ same. others k d low apart (subst (Contains here.submitted) same has)))
+        (λ pending has. still pending.statement (λ same. others k d low apart (subst (Contains here.submitted) same has)))
         here.pending (awaited-there (Contains here.submitted) (map (λ taken. taken.statement) here.taken) here.pending of_seat.submitted))
         (told-open query old life.Abandoned state was opens) of_seat)
 

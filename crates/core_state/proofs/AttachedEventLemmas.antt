@@ -9,10 +9,10 @@ use Rattle.core_state.specs.Handed.{LeavesAttached}
 use Rattle.core_state.proofs.AskLemmas.{accepted-push}
 use Rattle.core_state.proofs.AttachedFrameLemmas.{attached-held, attached-same, gets-written, kept-none, slot-same}
 use Rattle.core_state.proofs.CutLifeLemmas.{cut-cases}
+use Rattle.core_state.proofs.FrameLemmas.{at-set}
 use Rattle.core_state.proofs.HandedAfterLemmas.{kept_by}
 use Rattle.core_state.proofs.HandedSlotLemmas.{gets}
 use Rattle.core_state.proofs.ScannedEventLemmas.{holder-less, holder-more}
-use Rattle.core_state.proofs.ScannedFrameLemmas.{slot-written}
 use Rattle.core_state.proofs.ScannedSubmitLemmas.{NoneHolds, next-free}
 use Rattle.core_state.proofs.WholeFrameLemmas.{by-option}
 use Rattle.core_state.proofs.WholeToldLemmas.{seated}
@@ -35,7 +35,7 @@ slot-kept state later slot new accepted lives holder =
     holders-stay state later accepted (ap (λ (l : Lives). l.queries) lives)
     (ap (λ (l : Lives). length l.slots) lives ∙ length-set state.lives.slots slot new)
     (λ at low. ap (λ (l : Lives). holder_of (slot_at l at)) lives
-    ∙ slot-written (λ s. holder_of s ≡ holder_of (slot_at state.lives at)) state.lives.slots slot at new low
+    ∙ at-set (λ s. holder_of s ≡ holder_of (slot_at state.lives at)) state.lives.slots slot at new Free low
     (λ is. holder ∙ ap (λ n. holder_of (slot_at state.lives n)) (sym is)) (λ apart. refl))
 
 -- a query that is given a slot gets no rows yet

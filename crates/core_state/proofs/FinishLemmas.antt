@@ -6,6 +6,7 @@ use Rattle.pipeline_manager.specs.Sound as managed
 use Rattle.pipeline_manager.specs.declared.life.Life.TheVariants as life
 use Rattle.pipeline_manager.proofs.EndLemmas.{sound-ended}
 use Rattle.core_state.proofs.FoundLemmas.{find-passes}
+use Rattle.core_state.proofs.FrameLemmas.{at-set}
 use Rattle.core_state.proofs.HeldLemmas.{entry-set, filters-held, fits-set, slot-there}
 use Rattle.core_state.proofs.MovedLemmas.{Holds, StaysWanted, held_now, sound-held}
 use Rattle.core_state.proofs.RowsLemmas.{whole-extent}
@@ -86,8 +87,8 @@ sound-given_up slot query built state queries there holds landed lives_now queri
     let slots = set state.lives.slots slot (Clearing built) in
     let now : Holds state queries slots state.filters state.numbers.version = record {
       filters_now = filters-held state queries slots state.numbers.version state.filters.order (length-set state.lives.slots slot (Clearing built))
-          (λ filter of_filter other low fits. fits-set state slot (Clearing built) there filter
-          (subst (FitsSlot state.accepted (tables_of state) filter slot) holds (of_filter.slots slot there)).1 other fits) sound.filters;
+          (λ filter of_filter other low fits. fits-set state slot (Clearing built) filter other
+          (subst (FitsSlot state.accepted (tables_of state) filter slot) holds (of_filter.slots slot there)).1 low fits) sound.filters;
       rosters = λ k d low j e within.
           let flight = get_or state.scan.flights k d in
           let entry = get_or flight.roster j e in
@@ -103,13 +104,12 @@ sound-given_up slot query built state queries there holds landed lives_now queri
         count = length-set state.lives.slots slot (Clearing built) ∙ sound.slots.count;
         built = λ other holder more low held.
             let inside : other < length state.lives.slots = subst (λ n. other < n) (length-set state.lives.slots slot (Clearing built)) low in
-            let apart : other ≢ slot = (λ same.
-            let both : Clearing built ≡ Held holder more = sym (get_or-set_same state.lives.slots slot (Clearing built) Free there)
-            ∙ subst (λ at. get_or slots at Free ≡ Held holder more) same held in cc) in
-            let old : slot_at state.lives other ≡ Held holder more = sym (get_or-set_other state.lives.slots slot other (Clearing built) Free apart) ∙ held in
-            subst (λ o. IfSome o (λ now. IsTrue (gets_rows now) → (dimension : ℕ) → Has state.lives.filters dimension → Has more dimension))
-            (sym (others holder (λ same. apart (one-slot state slot other query built more sound there inside holds (old ∙ ap (λ n. Held n more) same)))))
-            (sound.slots.built other holder more inside old);
+            at-set (λ s. s ≡ Held holder more → IfSome (life_in queries holder)
+            (λ now. IsTrue (gets_rows now) → (dimension : ℕ) → Has state.lives.filters dimension → Has more dimension))
+            state.lives.slots slot other (Clearing built) Free inside (λ same is. cc)
+            (λ apart is. subst (λ o. IfSome o (λ now. IsTrue (gets_rows now) → (dimension : ℕ) → Has state.lives.filters dimension → Has more dimension))
+            (sym (others holder (λ same. apart (one-slot state slot other query built more sound there inside holds (is ∙ ap (λ n. Held n more) same)))))
+            (sound.slots.built other holder more inside is)) held;
       };
       quiet = λ none.
           let free : slot_at state.lives slot ≡ Free = (sound.quiet none).2 slot Free there in

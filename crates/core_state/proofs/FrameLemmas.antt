@@ -1,5 +1,5 @@
 -- What stays sound of each part of a core where what it reads changes: one lemma a part.
-use Rattle.core_state.proofs.Words.{◌++◌, ◌<◌, ◌↔◌, ◌∷◌, ◌≡◌, ◌≢◌, ◌≤◌, ◌⊎◌, [], Accepted, accepted_at, All, All-cons, All-contains, All-head, All-nil, All-tail, All-weaker, arith, Asked, Awaited, Contains, empty_seat, Filter, Filters, FitsSlot, flat_map, Flight, Free, get_or, Grouped, HasAccepted, IfSome, IfSome_then, inl, inr, is_open, IsAwaited, IsCovered, IsKept, IsNext, IsOnRoster, IsPermutation, IsSoundAccepted, IsSoundBatch, IsSoundFilter, IsSoundQuery, IsSoundSeat, IsTaken, IsTrue, length, Life, life_in, List, Lives, map, None, none-some, Numbers, Option, Pending, positions_for, Query, query_in, QueryLife, range_with_len, Replied, same_Some, Scan, Seat, slice_get, SlotState, Some, State, Store, subst, sym, tables_of, Taken, to_come, ℕ, ⊎_elim}
+use Rattle.core_state.proofs.Words.{◌++◌, ◌<◌, ◌↔◌, ◌∙◌, ◌∷◌, ◌≡◌, ◌≢◌, ◌≤◌, ◌⊎◌, [], Accepted, accepted_at, All, All-cons, All-contains, All-head, All-nil, All-tail, All-weaker, ap, arith, Asked, Awaited, cases_eq, Contains, empty_seat, Filter, Filters, FitsSlot, flat_map, Flight, Free, get_or, get_or-set_other, get_or-set_same, Grouped, HasAccepted, IfSome, IfSome_then, inl, inr, is_open, IsAwaited, IsCovered, IsKept, IsNext, IsOnRoster, IsPermutation, IsSoundAccepted, IsSoundBatch, IsSoundFilter, IsSoundQuery, IsSoundSeat, IsTaken, IsTrue, length, Life, life_in, List, Lives, map, None, none-some, Numbers, Option, Pending, positions_for, Query, query_in, QueryLife, range_with_len, Replied, same_Some, Scan, Seat, set, slice_get, SlotState, Some, State, Store, subst, sym, tables_of, Taken, to_come, ℕ, ⊎_elim}
 use Rattle.pipeline_manager.specs.declared.life.Life.TheVariants as life
 
 -- the core with other lives of the same filters, other filters, another scan and other numbers
@@ -10,6 +10,14 @@ moved state queries slots filters scan numbers = record state {
   scan = scan;
   numbers = numbers;
 }
+
+-- an element that is written over, and the others
+pub at-set : {X : Type 0} (P : X → Type 0) (xs : List X) (place at : ℕ) (new d : X) → at < length xs
+    → (at ≡ place → P new) → (at ≢ place → P (get_or xs at d)) → P (get_or (set xs place new) at d)
+at-set P xs place at new d low here others = ⊎_elim
+    (λ is. subst P (sym (ap (λ n. get_or (set xs place new) n d) is ∙ get_or-set_same xs place new d (subst (λ n. n < length xs) is low))) (here is))
+    (λ apart. subst P (sym (get_or-set_other xs place at new d apart)) (others apart))
+    (cases_eq at place)
 
 -- batches stay sound where their rosters do
 pub batches-with : (words : ℕ) (store : Store) (lives : Lives) (queries : List QueryLife) (slots : List SlotState) (accepted others : List Accepted)

@@ -1,6 +1,6 @@
 -- What stays sound of slots, queries and filters where one slot or one life is written.
 use Rattle.core_state.proofs.Words.{◌<◌, ◌∙◌, ◌≡◌, ◌≢◌, Accepted, AreSoundFilters, AreSoundQueries, arith, cases_eq, cases_lt, Filter, Filters, FitsSlot, Free, get_or, get_or-set_other, get_or-set_same, get_or_past, IfSome, IsOnRoster, IsSoundFilter, IsSoundQuery, length, length-set, life_in, List, map, MayBeOnRoster, Numbers, OnRoster, query_in, QueryLife, Scan, set, slot_at, SlotState, State, subst, sym, tables_of, ℕ, ⊎_elim}
-use Rattle.core_state.proofs.FrameLemmas.{filter-with, LivesAs, query-with, moved}
+use Rattle.core_state.proofs.FrameLemmas.{at-set, filter-with, LivesAs, moved, query-with}
 use Rattle.core_state.proofs.MovedLemmas.{held_now}
 
 -- a slot that is not Free is there
@@ -8,14 +8,12 @@ pub slot-there : (slots : List SlotState) (slot : ℕ) → get_or slots slot Fre
 slot-there slots slot used = ⊎_elim (λ low. low) (λ past. absurd (used (get_or_past slots slot Free past))) (cases_lt slot (length slots))
 
 -- each slot has what it asks for where the written one has
-pub fits-set : (state : State) (slot : ℕ) (now : SlotState) → slot < length state.lives.slots → (filter : Filter) → FitsSlot state.accepted (tables_of state) filter slot now
-    → (other : ℕ) → FitsSlot state.accepted (tables_of state) filter other (slot_at state.lives other)
+pub fits-set : (state : State) (slot : ℕ) (now : SlotState) (filter : Filter) (other : ℕ) → FitsSlot state.accepted (tables_of state) filter slot now
+    → other < length state.lives.slots → FitsSlot state.accepted (tables_of state) filter other (slot_at state.lives other)
     → FitsSlot state.accepted (tables_of state) filter other (get_or (set state.lives.slots slot now) other Free)
-fits-set state slot now there filter fits other old = ⊎_elim
-    (λ same. subst (λ at. FitsSlot state.accepted (tables_of state) filter at (get_or (set state.lives.slots slot now) at Free)) (sym same)
-    (subst (FitsSlot state.accepted (tables_of state) filter slot) (sym (get_or-set_same state.lives.slots slot now Free there)) fits))
-    (λ apart. subst (FitsSlot state.accepted (tables_of state) filter other) (sym (get_or-set_other state.lives.slots slot other now Free apart)) old)
-    (cases_eq other slot)
+fits-set state slot now filter other fits low old =
+    at-set (FitsSlot state.accepted (tables_of state) filter other) state.lives.slots slot other now Free low
+    (λ same. subst (λ at. FitsSlot state.accepted (tables_of state) filter at now) (sym same) fits) (λ apart. old)
 
 -- the filters are sound where each slot has what it asks for
 pub filters-held : (state : State) (queries : List QueryLife) (slots : List SlotState) (version : ℕ) (order : List ℕ) → length slots ≡ length state.lives.slots

@@ -1,6 +1,7 @@
 -- A slot that is given free keeps a core sound.
-use Rattle.core_state.proofs.Words.{◌<◌, ◌∙◌, ◌≡◌, ◌≢◌, after_release, All-set, arith, bit_at-zero, CanFree, Clearing, Filter, FitsSlot, Free, get_or, get_or-set_other, get_or-set_same, Has, Held, IsSound, length, length-set, refl, set, slot_at, State, subst, sym, tables_of, ℕ}
+use Rattle.core_state.proofs.Words.{◌<◌, ◌∙◌, ◌≡◌, ◌≢◌, after_release, All-set, arith, bit_at-zero, CanFree, Clearing, Filter, FitsSlot, Free, get_or, get_or-set_other, get_or-set_same, gets_rows, Has, Held, IfSome, IsSound, IsTrue, length, length-set, life_in, refl, set, slot_at, State, subst, sym, tables_of, ℕ}
 use Rattle.pipeline_manager.proofs.LawLemmas.{sound-after_free}
+use Rattle.core_state.proofs.FrameLemmas.{at-set}
 use Rattle.core_state.proofs.HeldLemmas.{entry-set, filters-held, fits-set, slot-there}
 use Rattle.core_state.proofs.MovedLemmas.{Holds, sound-held}
 
@@ -20,7 +21,7 @@ sound-released slot state can old =
     let slots = set state.lives.slots slot Free in
     let now : Holds state state.lives.queries slots state.filters state.numbers.version = record {
       filters_now = filters-held state state.lives.queries slots state.numbers.version state.filters.order (length-set state.lives.slots slot Free)
-          (λ filter sound other low fits. fits-set state slot Free there filter (freed-fits state filter slot can (sound.slots slot there)) other fits) old.filters;
+          (λ filter sound other low fits. fits-set state slot Free filter other (freed-fits state filter slot can (sound.slots slot there)) low fits) old.filters;
       rosters = λ k d low j e within.
           let entry = (old.batches k d low).roster j e within in
           entry-set state state.lives.queries slot Free (get_or (get_or state.scan.flights k d).roster j e)
@@ -31,11 +32,10 @@ sound-released slot state can old =
         lives = sound-after_free slot state.lives there can old.slots.lives;
         count = length-set state.lives.slots slot Free ∙ old.slots.count;
         built = λ other query built low held.
-            let apart : other ≢ slot = (λ same.
-            let both : Free ≡ Held query built = sym (get_or-set_same state.lives.slots slot Free Free there)
-            ∙ subst (λ at. get_or slots at Free ≡ Held query built) same held in cc) in
-            old.slots.built other query built (subst (λ n. other < n) (length-set state.lives.slots slot Free) low)
-            (sym (get_or-set_other state.lives.slots slot other Free Free apart) ∙ held);
+            let inside : other < length state.lives.slots = subst (λ n. other < n) (length-set state.lives.slots slot Free) low in
+            at-set (λ s. s ≡ Held query built → IfSome (life_in state.lives.queries query)
+            (λ now. IsTrue (gets_rows now) → (dimension : ℕ) → Has state.lives.filters dimension → Has built dimension))
+            state.lives.slots slot other Free Free inside (λ same is. cc) (λ apart. old.slots.built other query built inside) held;
       };
       quiet = λ none. All-set (λ at. at ≡ Free) state.lives.slots slot Free refl (old.quiet none).2;
       order = old.order;

@@ -1,8 +1,9 @@
 -- A reservation keeps a core sound.
-use Rattle.core_state.proofs.Words.{◌<◌, ◌∙◌, ◌≡◌, ◌≢◌, ◌⊎◌, [], after_reserving, ap, cases_eq, Filter, FitsSlot, Free, get_or, get_or-set_other, get_or-set_same, gets_rows, Has, Held, IfSome, inl, inr, IsSound, IsTrue, length, length-set, Life, life_in, map, MayBeOnRoster, MayReserve, None, oldest-waits, option_map_or, refl, set, slot_at, Some, State, subst, sym, tables_of, with_life, ℕ, ⊎_elim}
+use Rattle.core_state.proofs.Words.{◌<◌, ◌∙◌, ◌≡◌, ◌≢◌, ◌⊎◌, [], after_reserving, ap, cases_eq, Filter, FitsSlot, Free, get_or, get_or-set_other, get_or-set_same, gets_rows, Has, Held, IfSome, inl, inr, IsSound, IsTrue, length, length-set, Life, life_in, life_in-same, map, MayBeOnRoster, MayReserve, None, oldest-waits, option_map, option_map_or, refl, set, slot_at, Some, State, subst, sym, tables_of, with_life, ℕ, ⊎_elim}
 use Rattle.pipeline_manager.specs.declared.life.Life.TheVariants as life
 use Rattle.pipeline_manager.proofs.CallLemmas.{sound-reserved}
 use Rattle.core_state.proofs.FoundLemmas.{life-written, no-life}
+use Rattle.core_state.proofs.FrameLemmas.{at-set}
 use Rattle.core_state.proofs.HeldLemmas.{entry-set, filters-held, fits-set}
 use Rattle.core_state.proofs.MovedLemmas.{Holds, sound-held}
 use Rattle.core_state.proofs.ReleaseLemmas.{none-in}
@@ -28,7 +29,7 @@ sound-with_reserved query slot state can old =
     let waits : life_in state.lives.queries query ≡ Some life.Waiting = oldest-waits state.lives.queries query old.slots.lives.rising can.oldest in
     let now : Holds state queries slots state.filters state.numbers.version = record {
       filters_now = filters-held state queries slots state.numbers.version state.filters.order (length-set state.lives.slots slot (Held query 0))
-          (λ filter sound other low fits. fits-set state slot (Held query 0) there filter (reserved-fits state filter slot query can.is_free (sound.slots slot there)) other fits) old.filters;
+          (λ filter sound other low fits. fits-set state slot (Held query 0) filter other (reserved-fits state filter slot query can.is_free (sound.slots slot there)) low fits) old.filters;
       rosters = λ k d low j e within.
           let entry = (old.batches k d low).roster j e within in
           let on = get_or (get_or state.scan.flights k d).roster j e in
@@ -41,7 +42,14 @@ sound-with_reserved query slot state can old =
       slots_now = record {
         lives = sound-reserved slot query state.lives there can.is_free can.oldest old.slots.lives;
         count = length-set state.lives.slots slot (Held query 0) ∙ old.slots.count;
-        built = λ other holder built low held. by_slot other holder built low held (cases_eq other slot);
+        built = λ other holder built low.
+            let inside : other < length state.lives.slots = subst (λ n. other < n) (length-set state.lives.slots slot (Held query 0)) low in
+            at-set (λ s. s ≡ Held holder built → IfSome (life_in queries holder) (Built built)) state.lives.slots slot other (Held query 0) Free inside
+            (λ same is. let number : query ≡ holder = cc in
+            subst (λ o. IfSome o (Built built)) (sym (ap (life_in queries) (sym number) ∙ life_in-same state.lives.queries query life.Building
+            ∙ ap (option_map (λ (before : Life). life.Building)) waits)) (λ gets dimension has. cc))
+            (λ apart is. life-written (Built built) query life.Waiting life.Building state.lives.queries holder waits (λ h gets dimension has. cc)
+            (old.slots.built other holder built inside is));
       };
       quiet = λ none.
           let queries_none : map (λ entry. entry.query) state.lives.queries ≡ [] =
@@ -54,25 +62,6 @@ sound-with_reserved query slot state can old =
   where
     Built : (built : ℕ) → Life → Type 0
     Built built now = IsTrue (gets_rows now) → (dimension : ℕ) → Has state.lives.filters dimension → Has built dimension
-
-    by_slot : (other holder built : ℕ) → other < length (set state.lives.slots slot (Held query 0))
-        → get_or (set state.lives.slots slot (Held query 0)) other Free ≡ Held holder built → (other ≡ slot) ⊎ (other ≢ slot)
-        → IfSome (life_in (with_life query life.Building state.lives.queries) holder) (Built built)
-    by_slot other holder built low held (inl same) =
-        let both : Held query 0 ≡ Held holder built =
-        sym (get_or-set_same state.lives.slots slot (Held query 0) Free can.there)
-        ∙ subst (λ at. get_or (set state.lives.slots slot (Held query 0)) at Free ≡ Held holder built) same held in
-        let is : query ≡ holder = cc in
-        let was : life_in state.lives.queries holder ≡ Some life.Waiting =
-        subst (λ number. life_in state.lives.queries number ≡ Some life.Waiting) is (oldest-waits state.lives.queries query old.slots.lives.rising can.oldest) in
-        life-written (Built built) query life.Waiting life.Building state.lives.queries holder
-        (oldest-waits state.lives.queries query old.slots.lives.rising can.oldest) (λ h gets dimension has. cc)
-        (subst (λ o. IfSome o (Built built)) (sym was) (λ gets dimension has. cc))
-    by_slot other holder built low held (inr apart) =
-        life-written (Built built) query life.Waiting life.Building state.lives.queries holder
-        (oldest-waits state.lives.queries query old.slots.lives.rising can.oldest) (λ h gets dimension has. cc)
-        (old.slots.built other holder built (subst (λ n. other < n) (length-set state.lives.slots slot (Held query 0)) low)
-        (sym (get_or-set_other state.lives.slots slot other (Held query 0) Free apart) ∙ held))
 
 pub sound-after_reserving : (query slot : ℕ) (state : State) → MayReserve query slot state → IsSound state → IsSound (after_reserving slot state)
 sound-after_reserving query slot state can old =

@@ -4,7 +4,8 @@ use Rattle.std.proofs.Common.{find}
 use Rattle.pipeline_manager.specs.Conditions.{IsOver, gives_up}
 use Rattle.pipeline_manager.specs.declared.life.Life.TheVariants as life
 use Rattle.core_state.proofs.AnewLemmas.{forgets}
-use Rattle.core_state.proofs.ScannedFrameLemmas.{StaysBy, found-kept, held-stays, scanned-stays, slot-written, start_by, written-rests, written-stays}
+use Rattle.core_state.proofs.FrameLemmas.{at-set}
+use Rattle.core_state.proofs.ScannedFrameLemmas.{StaysBy, found-kept, held-stays, scanned-stays, start_by, written-rests, written-stays}
 use Rattle.core_state.proofs.ScannedRunLemmas.{found_by}
 use Rattle.core_state.proofs.WholeFrameLemmas.{by-option}
 
@@ -22,7 +23,7 @@ slot-kept state later scan slot new position accepted lives holder =
     scanned-stays state later scan position (ap (λ (l : Lives). length l.slots) lives ∙ length-set state.lives.slots slot new)
     (λ at low. held-stays state later at (ap (λ (l : Lives). l.queries) lives) accepted
     (ap (λ (l : Lives). holder_of (slot_at l at)) lives
-    ∙ slot-written (λ s. holder_of s ≡ holder_of (slot_at state.lives at)) state.lives.slots slot at new low
+    ∙ at-set (λ s. holder_of s ≡ holder_of (slot_at state.lives at)) state.lives.slots slot at new Free low
     (λ is. holder ∙ ap (λ n. holder_of (slot_at state.lives n)) (sym is)) (λ apart. refl)))
 
 pub holder-more : (dimension : ℕ) (now : SlotState) → holder_of (with_dimension dimension now) ≡ holder_of now
@@ -40,9 +41,9 @@ pub scanned-reserve : (state : State) (scan : Scanning) (query slot : ℕ) → I
 scanned-reserve state scan query slot sound may same =
     subst (λ o. IsScannedAs (record state { lives = option_map_or reserved o state.lives }) scan) (sym may.oldest)
     (scanned-stays state (record state { lives = reserved query }) scan refl (length-set state.lives.slots slot (Held query 0))
-    (λ at low. slot-written
+    (λ at low. at-set
     (λ s. StaysBy state.accepted state.accepted state.lives (reserved query) at (holder_of (slot_at state.lives at)) (holder_of s))
-    state.lives.slots slot at (Held query 0) low
+    state.lives.slots slot at (Held query 0) Free low
     (λ is. inl (
       ap (λ n. start_by state.lives (holder_of (slot_at state.lives n))) is ∙ ap (λ s. start_by state.lives (holder_of s)) may.is_free,
       written-rests state.lives query life.Building refl,
@@ -122,19 +123,19 @@ scanned-finish state scan slot may same = by_slot (slot_at state.lives slot) ref
     by_test query built is rests true =
         scanned-stays state (ended query built (with_life query life.Answered state.lives.queries)) scan refl
         (length-set state.lives.slots slot (Clearing built))
-        (λ at low. slot-written
+        (λ at low. at-set
         (λ s. StaysBy state.accepted state.accepted state.lives (ended query built (with_life query life.Answered state.lives.queries)).lives at
         (holder_of (slot_at state.lives at)) (holder_of s))
-        state.lives.slots slot at (Clearing built) low
+        state.lives.slots slot at (Clearing built) Free low
         (λ here. inl (ap (λ n. start_by state.lives (holder_of (slot_at state.lives n))) here ∙ ap (λ s. start_by state.lives (holder_of s)) is ∙ rests, refl))
         (λ apart. written-stays state.accepted state.lives at (holder_of (slot_at state.lives at)) query life.Answered rests refl)) same
     by_test query built is rests false =
         scanned-stays state (ended query built state.lives.queries) scan refl
         (length-set state.lives.slots slot (Clearing built))
-        (λ at low. slot-written
+        (λ at low. at-set
         (λ s. StaysBy state.accepted state.accepted state.lives (ended query built state.lives.queries).lives at
         (holder_of (slot_at state.lives at)) (holder_of s))
-        state.lives.slots slot at (Clearing built) low
+        state.lives.slots slot at (Clearing built) Free low
         (λ here. inl (ap (λ n. start_by state.lives (holder_of (slot_at state.lives n))) here ∙ ap (λ s. start_by state.lives (holder_of s)) is ∙ rests, refl))
         (λ apart. inr (refl, refl))) same
 

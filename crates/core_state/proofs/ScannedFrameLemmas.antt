@@ -97,12 +97,3 @@ written-stays accepted lives slot (Some holder) query new rests quiet = ⊎_elim
     ))
     (λ apart. inr (life_in-other lives.queries query holder new apart, found-written accepted lives slot (Some holder) query new))
     (cases_eq holder query)
-
--- a slot that is written over, and the others
-pub slot-written : (P : SlotState → Type 0) (slots : List SlotState) (slot at : ℕ) (new : SlotState) → at < length slots
-    → (at ≡ slot → P new) → (at ≢ slot → P (get_or slots at Free)) → P (get_or (set slots slot new) at Free)
-slot-written P slots slot at new low here others = ⊎_elim
-    (λ is. subst P (sym (ap (λ n. get_or (set slots slot new) n Free) is ∙ get_or-set_same slots slot new Free (subst (λ n. n < length slots) is low)))
-    (here is))
-    (λ apart. subst P (sym (get_or-set_other slots slot at new Free apart)) (others apart))
-    (cases_eq at slot)

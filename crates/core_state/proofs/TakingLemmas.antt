@@ -5,7 +5,7 @@ use Rattle.core_state.specs.Submitting.{asked_by}
 use Rattle.core_state.proofs.AcceptedLemmas.{number-found}
 use Rattle.core_state.proofs.FoundLemmas.{life-found, some-at, some-by}
 use Rattle.core_state.proofs.AnewLemmas.{by-change, batches-anew, filters-anew, forgets, hands-anew, kept_anew, queries-anew}
-use Rattle.core_state.proofs.FrameLemmas.{kept-with, lives-as, LivesAs, StayTaken, Told}
+use Rattle.core_state.proofs.FrameLemmas.{at-set, kept-with, lives-as, LivesAs, StayTaken, Told}
 use Rattle.core_state.proofs.SeatLemmas.{one-seat, part-stays, pending-submitted, seat-anew, seats-anew}
 
 -- what is ready is no query, or one that is over
@@ -86,7 +86,7 @@ sound-with_first seat first rest state is told sound = record {
   order = record { tallies = sound.order.tallies; count = sound.order.count; order = sound.order.order };
   seats = seats-anew state (forgotten first.statement) (forgets first.statement) queries seats state.scan (length-set state.seats seat with)
       (part-stays (λ (s : Seat). s.submitted) state.seats seat with there refl)
-      (λ k d low. each k d (subst (λ n. k < n) (length-set state.seats seat with) low) (cases_eq k seat)) sound.seats;
+      (λ k d low. each k d (subst (λ n. k < n) (length-set state.seats seat with) low)) sound.seats;
 }
   where
     queries : List QueryLife
@@ -106,16 +106,14 @@ sound-with_first seat first rest state is told sound = record {
         (λ past. let both : [] ≡ first ∷ rest = sym (ap (λ (s : Seat). s.pending) (get_or_past state.seats seat empty_seat past)) ∙ is in cc)
         (cases_lt seat (length state.seats))
 
-    each : (k : ℕ) (d : Seat) → k < length state.seats → (k ≡ seat) ⊎ (k ≢ seat) → IsSoundSeat now.numbers.statement now.accepted now.lives.queries (get_or seats k d)
-    each k d low (inl same) =
-        subst (λ n. IsSoundSeat now.numbers.statement now.accepted now.lives.queries (get_or seats n d)) (sym same)
-        (subst (IsSoundSeat now.numbers.statement now.accepted now.lives.queries) (sym (get_or-set_same state.seats seat with d there))
-        (seat-anew state (forgotten first.statement) (forgets first.statement) queries with (λ j p inside h. h) (λ number h. h)
+    each : (k : ℕ) (d : Seat) → k < length state.seats → IsSoundSeat now.numbers.statement now.accepted now.lives.queries (get_or seats k d)
+    each k d low = at-set (IsSoundSeat now.numbers.statement now.accepted now.lives.queries) state.seats seat k with d low
+        (λ same. seat-anew state (forgotten first.statement) (forgets first.statement) queries with (λ j p inside h. h) (λ number h. h)
         (seat-taken state first rest (get_or state.seats seat empty_seat) told
-        (subst (λ ps. IsSoundSeat state.numbers.statement state.accepted state.lives.queries (record (get_or state.seats seat empty_seat) { pending = ps })) is (sound.seats.each seat empty_seat there)))))
-    each k d low (inr apart) =
-        subst (IsSoundSeat now.numbers.statement now.accepted now.lives.queries) (sym (get_or-set_other state.seats seat k with d apart))
-        (seat-anew state (forgotten first.statement) (forgets first.statement) queries (get_or state.seats k d) (λ j p inside h. h) (λ number h. h) (sound.seats.each k d low))
+        (subst (λ ps. IsSoundSeat state.numbers.statement state.accepted state.lives.queries (record (get_or state.seats seat empty_seat) { pending = ps }))
+        is (sound.seats.each seat empty_seat there))))
+        (λ apart. seat-anew state (forgotten first.statement) (forgets first.statement) queries (get_or state.seats k d) (λ j p inside h. h) (λ number h. h)
+        (sound.seats.each k d low))
 
     -- the number of a statement stands in one seat
     one_seat : (accepted : Accepted) → Contains state.accepted accepted → accepted.number ≡ first.statement → accepted.seat ≡ seat

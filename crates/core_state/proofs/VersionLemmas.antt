@@ -3,7 +3,7 @@ use Rattle.core_state.proofs.Words.{◌<◌, ◌↔◌, ◌∙◌, ◌∷◌, �
 use Rattle.dimension_filter.specs.Filter as table
 use Rattle.dimension_filter.specs.Filter.{AreAscending, is_stored}
 use Rattle.pipeline_manager.specs.Sound as managed
-use Rattle.core_state.proofs.FrameLemmas.{filter-with}
+use Rattle.core_state.proofs.FrameLemmas.{at-set, filter-with}
 use Rattle.core_state.proofs.HeldLemmas.{entry-set, fits-set}
 use Rattle.core_state.proofs.MovedLemmas.{Holds, held_now, sound-held}
 
@@ -72,21 +72,16 @@ next-sound state slot now before after there next old = record {
   table = next.table;
   ascending = next.ascending;
   is_filter = subst (Has state.lives.filters) (sym next.beside.dimension) old.is_filter;
-  slots = λ other low. by_slot other (subst (λ n. other < n) (length-set state.lives.slots slot now) low) (cases_eq other slot);
+  slots = λ other low.
+      let inside : other < length state.lives.slots = subst (λ n. other < n) (length-set state.lives.slots slot now) low in
+      at-set (FitsSlot state.accepted (tables_of state) after other) state.lives.slots slot other now Free inside
+      (λ same. subst (λ at. FitsSlot state.accepted (tables_of state) after at now) (sym same) next.fits)
+      (λ apart. fits-beside state slot other before after next.beside apart (slot_at state.lives other) (old.slots other inside));
   beyond = λ other past.
       let outside : length state.lives.slots ≤ other = subst (λ n. n ≤ other) (length-set state.lives.slots slot now) past in
       clear-beside slot other before after next.beside (λ same. absurd (omega arith)) (old.beyond other outside);
   within = λ key stored. subst (λ d. key < length (rows_in (tables_of state).dimensions d)) (sym next.beside.dimension) (next.within key stored);
 }
-  where
-    by_slot : (other : ℕ) → other < length state.lives.slots → (other ≡ slot) ⊎ (other ≢ slot)
-        → FitsSlot state.accepted (tables_of state) after other (get_or (set state.lives.slots slot now) other Free)
-    by_slot other low (inl same) =
-        subst (λ at. FitsSlot state.accepted (tables_of state) after at (get_or (set state.lives.slots slot now) at Free)) (sym same)
-        (subst (FitsSlot state.accepted (tables_of state) after slot) (sym (get_or-set_same state.lives.slots slot now Free there)) next.fits)
-    by_slot other low (inr apart) =
-        subst (FitsSlot state.accepted (tables_of state) after other) (sym (get_or-set_other state.lives.slots slot other now Free apart))
-        (fits-beside state slot other before after next.beside apart (slot_at state.lives other) (old.slots other low))
 
 -- what the change of a slot and of a filter has to give
 pub record Versions (state : State) (slot dimension : ℕ) (now : SlotState) (change : Filter → Filter) : Type 0 where
@@ -133,7 +128,11 @@ sound-versioned state slot dimension number version now change gives sound =
       slots_now = record {
         lives = gives.lives;
         count = length-set state.lives.slots slot now ∙ sound.slots.count;
-        built = λ other holder built low held. by_slot other holder built (subst (λ n. other < n) (length-set state.lives.slots slot now) low) held (cases_eq other slot);
+        built = λ other holder built low.
+            let inside : other < length state.lives.slots = subst (λ n. other < n) (length-set state.lives.slots slot now) low in
+            at-set (λ s. s ≡ Held holder built → IfSome (life_in state.lives.queries holder)
+            (λ life. IsTrue (gets_rows life) → (d : ℕ) → Has state.lives.filters d → Has built d)) state.lives.slots slot other now Free inside
+            (λ same. gives.built holder built) (λ apart. sound.slots.built other holder built inside);
       };
       quiet = λ none. absurd (gives.used ((sound.quiet none).2 slot Free gives.there));
       order = record {
@@ -162,12 +161,4 @@ sound-versioned state slot dimension number version now change gives sound =
             (gives.next v.filter old (eqb-true v.filter.dimension dimension is)) old
         by_test false is = filter-with state.accepted state.accepted (tables_of state) state.lives.slots slots state.lives.filters v.filter
             (length-set state.lives.slots slot now)
-            (λ other low fits. fits-set state slot now gives.there v.filter (gives.others v.filter old (eqb-false v.filter.dimension dimension is)) other fits) old
-
-    by_slot : (other holder built : ℕ) → other < length state.lives.slots → get_or slots other Free ≡ Held holder built → (other ≡ slot) ⊎ (other ≢ slot)
-        → IfSome (life_in state.lives.queries holder) (λ life. IsTrue (gets_rows life) → (d : ℕ) → Has state.lives.filters d → Has built d)
-    by_slot other holder built low held (inl same) =
-        gives.built holder built (sym (get_or-set_same state.lives.slots slot now Free gives.there)
-        ∙ subst (λ at. get_or slots at Free ≡ Held holder built) same held)
-    by_slot other holder built low held (inr apart) =
-        sound.slots.built other holder built low (sym (get_or-set_other state.lives.slots slot other now Free apart) ∙ held)
+            (λ other low fits. fits-set state slot now v.filter other (gives.others v.filter old (eqb-false v.filter.dimension dimension is)) low fits) old
