@@ -1,12 +1,13 @@
 -- No later step changes an answer.
-use Rattle.core_state.proofs.Words.{◌+◌, ◌∙◌, ◌∷◌, ◌≡◌, ◌≤◌, ◌⊎◌, [], Abandon, accepted_at, Accepts, after_change, after_outcome, after_step, after_steps, after_submitting, alone, ap, arith, Build, Change, changes_of, DimensionDeclared, Distribute, Done, Event, Fact, find, FitsTables, flight_at, Give, inl, inr, is_held_by, IsSettled, IsSound, List, Loaded, MayStepAll, None, Option, option_map_or, outcome_of, Query, refl, Replying, slot_of, Some, State, Statement, Step, Store, Submit, subst, sym, tables_by, tables_of, Told, Wanting, ℕ}
+use Rattle.core_state.proofs.Words.{◌+◌, ◌∙◌, ◌∷◌, ◌≡◌, ◌≤◌, ◌⊎◌, [], accepted_at, Accepts, after_change, after_outcome, after_step, after_steps, after_submitting, alone, ap, arith, Change, changes_of, DimensionDeclared, Fact, FitsTables, inl, inr, IsSettled, IsSound, List, Loaded, MayStep, MayStepAll, None, Option, outcome_of, Query, refl, Some, State, Statement, Step, Store, subst, sym, tables_by, tables_of, Told, ℕ}
 use Rattle.star_statement.specs.Outcome as outcome
-use Rattle.core_state.specs.Events.{after_event, after_want}
 use Rattle.core_state.specs.Submitting.{filters_by}
 use Rattle.core_state.proofs.GivenLemmas.{Settles}
 use Rattle.core_state.proofs.GrownLemmas.{tables-with}
 use Rattle.core_state.proofs.StepLemmas.{StepsKeep}
 use Rattle.core_state.proofs.SubmitLemmas.{Outcomes}
+use Rattle.core_state.proofs.WholeFrameLemmas.{by-option}
+use Rattle.core_state.proofs.WholeStepLemmas.{step-cases}
 
 -- a change that comes after a snapshot changes no answer
 abbrev pub AnswersStay : Type 0
@@ -45,36 +46,14 @@ submit-tables outcomes seat statement state settled =
     )
     by_outcome (Some change) (outcome.Accepted query snapshot) follows = absurd follows
 
--- what hangs on an option leaves the entries where each of its cases does
-pub by-option : {A : Type 0} (f : A → State) (state : State) (o : Option A) → ((a : A) → (f a).entries ≡ state.entries)
-    → (option_map_or f o state).entries ≡ state.entries
-by-option f state None each = refl
-by-option f state (Some a) each = each a
-
--- an event makes one change of the tables, or none
-event-tables : Outcomes → (event : Event) (state : State) → IsSettled (tables_of state) → NextTables (tables_of state) (tables_of (after_event event state))
-unfolding after_event
-event-tables outcomes (Submit seat statement) state settled = submit-tables outcomes seat statement state settled
-event-tables outcomes (Build query dimension) state settled =
-    inl (ap tables_by (by-option _ state (slot_of state.lives query) (λ slot. by-option _ state (accepted_at state.accepted query) (λ accepted. refl))))
-event-tables outcomes (Give worker) state settled =
-    inl (ap tables_by (by-option _ state (find (is_held_by worker) state.scan.flights) (λ flight. refl)))
-event-tables outcomes (Distribute batch) state settled =
-    inl (ap tables_by (by-option _ state (flight_at state.scan.flights batch) (λ flight. refl)))
-event-tables outcomes (Abandon query) state settled =
-    inl (ap tables_by (by-option _ state (accepted_at state.accepted query) (λ accepted. refl)))
-event-tables outcomes other state settled = inl refl
-
--- where memory is wanted the tables stay
-want-tables : (event : Event) (spoiled : List ℕ) (state : State) → tables_of (after_want event spoiled state) ≡ tables_of state
-unfolding after_want
-want-tables (Distribute batch) spoiled state = ap tables_by (by-option _ state (flight_at state.scan.flights batch) (λ flight. refl))
-want-tables other spoiled state = refl
-
-step-tables : Outcomes → (step : Step) (state : State) → IsSettled (tables_of state) → NextTables (tables_of state) (tables_of (after_step step state))
-step-tables outcomes (Done event) state settled = event-tables outcomes event state settled
-step-tables outcomes (Wanting event spoiled) state settled = inl (want-tables event spoiled state)
-step-tables outcomes (Replying seat) state settled = inl refl
+-- a step makes one change of the tables, or none
+step-tables : Outcomes → (step : Step) (state : State) → MayStep state step → IsSound state → IsSettled (tables_of state)
+    → NextTables (tables_of state) (tables_of (after_step step state))
+step-tables outcomes step state may sound settled =
+    step-cases (λ now. NextTables (tables_of state) (tables_of now)) step state may sound (λ new frame. inl (ap tables_by frame.entries))
+    (λ seat statement is. submit-tables outcomes seat statement state settled)
+    (λ query can. by-option (λ now. NextTables (tables_of state) (tables_of now)) (accepted_at state.accepted query) _ state (inl refl) (λ accepted is. inl refl))
+    (λ seat. inl refl)
 
 -- an answer at a snapshot so far is that after the next step, and the snapshot is still one so far
 one-later : AnswersStay → (query : Query) (snapshot : ℕ) (store next : Store) → IsSettled store → snapshot ≤ store.commits → NextTables store next
@@ -94,5 +73,5 @@ answers-later stays settles outcomes keep [] state query snapshot may sound low 
 answers-later stays settles outcomes keep (step ∷ steps) state query snapshot may sound low =
     let settled : IsSettled (tables_of state) = settles (changes_of state.entries) sound.store in
     let next = one-later stays query snapshot (tables_of state) (tables_of (after_step step state)) settled low
-    (step-tables outcomes step state settled) in
+    (step-tables outcomes step state may.0 sound settled) in
     answers-later stays settles outcomes keep steps (after_step step state) query snapshot may.1 (keep step state may.0 sound) next.0 ∙ next.1

@@ -3,8 +3,9 @@ use Rattle.core_state.proofs.Words.{◌++◌, ◌+◌, ◌∙◌, ◌∷◌, ◌
 use Rattle.star_statement.specs.Outcome as outcome
 use Rattle.core_state.specs.Events.{after_event, after_want}
 use Rattle.core_state.proofs.GrownLemmas.{changes-with}
-use Rattle.core_state.proofs.LaterLemmas.{by-option, entries-by}
+use Rattle.core_state.proofs.LaterLemmas.{entries-by}
 use Rattle.core_state.proofs.LoggedDeleteLemmas.{outcome-ascends}
+use Rattle.core_state.proofs.WholeFrameLemmas.{by-option}
 
 -- the deletes among entries name their positions ascending
 abbrev Ascending : List Entry → Type 0
@@ -33,21 +34,20 @@ ascending-event (Submit seat statement) state ascending =
     let found = outcome_of (tables_of state) statement in
     ascending-outcome seat found.change found.told state (outcome-ascends (tables_of state) statement) ascending
 ascending-event (Build query dimension) state ascending =
-    subst Ascending
-    (sym (by-option _ state (slot_of state.lives query) (λ slot. by-option _ state (accepted_at state.accepted query) (λ accepted. refl))))
-    ascending
+    by-option (λ s. Ascending s.entries) (slot_of state.lives query) _ state ascending
+    (λ slot is. by-option (λ s. Ascending s.entries) (accepted_at state.accepted query) _ state ascending (λ accepted found. ascending))
 ascending-event (Give worker) state ascending =
-    subst Ascending (sym (by-option _ state (find (is_held_by worker) state.scan.flights) (λ flight. refl))) ascending
+    by-option (λ s. Ascending s.entries) (find (is_held_by worker) state.scan.flights) _ state ascending (λ flight is. ascending)
 ascending-event (Distribute batch) state ascending =
-    subst Ascending (sym (by-option _ state (flight_at state.scan.flights batch) (λ flight. refl))) ascending
+    by-option (λ s. Ascending s.entries) (flight_at state.scan.flights batch) _ state ascending (λ flight is. ascending)
 ascending-event (Abandon query) state ascending =
-    subst Ascending (sym (by-option _ state (accepted_at state.accepted query) (λ accepted. refl))) ascending
+    by-option (λ s. Ascending s.entries) (accepted_at state.accepted query) _ state ascending (λ accepted is. ascending)
 ascending-event other state ascending = ascending
 
 ascending-want : (event : Event) (spoiled : List ℕ) (state : State) → Ascending state.entries → Ascending (after_want event spoiled state).entries
 unfolding after_want
 ascending-want (Distribute batch) spoiled state ascending =
-    subst Ascending (sym (by-option _ state (flight_at state.scan.flights batch) (λ flight. refl))) ascending
+    by-option (λ s. Ascending s.entries) (flight_at state.scan.flights batch) _ state ascending (λ flight is. ascending)
 ascending-want other spoiled state ascending = ascending
 
 ascending-step : (step : Step) (state : State) → Ascending state.entries → Ascending (after_step step state).entries

@@ -1,5 +1,5 @@
 -- A slot that is given free keeps a core sound.
-use Rattle.core_state.proofs.Words.{◌<◌, ◌∙◌, ◌≡◌, ◌≢◌, after_release, All-set, arith, bit_at-zero, CanFree, Clearing, Filter, FitsSlot, Free, get_or, get_or-set_other, get_or-set_same, gets_rows, Has, Held, IfSome, IsSound, IsTrue, length, length-set, life_in, refl, set, slot_at, State, subst, sym, tables_of, ℕ}
+use Rattle.core_state.proofs.Words.{◌<◌, ◌∙◌, ◌≡◌, after_release, All-set, arith, bit_at-zero, CanFree, Clearing, Filter, FitsSlot, Free, get_or, gets_rows, Has, Held, IfSome, IsSound, IsTrue, length, length-set, life_in, refl, set, slot_at, State, subst, sym, tables_of, ℕ}
 use Rattle.pipeline_manager.proofs.LawLemmas.{sound-after_free}
 use Rattle.core_state.proofs.FrameLemmas.{at-set}
 use Rattle.core_state.proofs.HeldLemmas.{entry-set, filters-held, fits-set, slot-there}

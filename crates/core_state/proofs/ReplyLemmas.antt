@@ -1,11 +1,8 @@
 -- A seat takes its replies in the order of its statements.
 use Rattle.core_state.proofs.Words.{◌++◌, ◌<◌, ◌∙◌, ◌∷◌, ◌≡◌, [], after_taking, AllPairs, ap, arith, cases_lt, drop, empty_seat, false, get_or, get_or-set_same, get_or_past, IsSome, IsSound, length, List, map, next_ready, option_and_then, Pending, ready_to, refl, Seat, seat_at, set, slice_get, Some, State, subst, sym, take, taken_by, true, with_taken, ℕ, ⊎_elim}
+use Rattle.core_state.proofs.FrameLemmas.{numbers_of}
 
--- the numbers that a seat took and waits for
-abbrev numbers_of : Seat → List ℕ
-numbers_of seat = map (λ taken. taken.statement) seat.taken ++ map (λ pending. pending.statement) seat.pending
-
--- they rise
+-- the numbers that a seat took and waits for rise
 pub in-order : (state : State) (seat : ℕ) → IsSound state → AllPairs (λ statement later. statement < later) (numbers_of (seat_at state seat))
 in-order state seat sound = ⊎_elim
     (λ low. (sound.seats.each seat empty_seat low).in_order)

@@ -1,5 +1,5 @@
 -- A reservation keeps a core sound.
-use Rattle.core_state.proofs.Words.{◌<◌, ◌∙◌, ◌≡◌, ◌≢◌, ◌⊎◌, [], after_reserving, ap, cases_eq, Filter, FitsSlot, Free, get_or, get_or-set_other, get_or-set_same, gets_rows, Has, Held, IfSome, inl, inr, IsSound, IsTrue, length, length-set, Life, life_in, life_in-same, map, MayBeOnRoster, MayReserve, None, oldest-waits, option_map, option_map_or, refl, set, slot_at, Some, State, subst, sym, tables_of, with_life, ℕ, ⊎_elim}
+use Rattle.core_state.proofs.Words.{◌<◌, ◌∙◌, ◌≡◌, [], after_reserving, ap, Filter, FitsSlot, Free, get_or, gets_rows, Has, Held, IfSome, IsSound, IsTrue, length, length-set, Life, life_in, life_in-same, map, MayBeOnRoster, MayReserve, None, oldest-waits, option_map, option_map_or, refl, set, slot_at, Some, State, subst, sym, tables_of, with_life, ℕ, ⊎_elim}
 use Rattle.pipeline_manager.specs.declared.life.Life.TheVariants as life
 use Rattle.pipeline_manager.proofs.CallLemmas.{sound-reserved}
 use Rattle.core_state.proofs.FoundLemmas.{life-written, no-life}

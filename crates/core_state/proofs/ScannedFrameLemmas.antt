@@ -1,5 +1,5 @@
 -- What leaves a scan as it is: in each slot the same runs as before, or nothing runs before and after.
-use Rattle.core_state.proofs.Words.{◌<◌, ◌∙◌, ◌≡◌, ◌≢◌, ◌⊎◌, Accepted, accepted_at, ap, arith, cases_eq, entry_of, Free, get_or, get_or-set_other, get_or-set_same, holder_of, inl, inr, IsScannedAs, length, Life, life_in, life_in-other, life_in-same, life_of, List, Lives, map, None, Option, option_and_then, option_map, refl, Running, RunsAs, Scanning, set, slot_at, SlotState, Some, start_in, State, subst, sym, ℕ, ⊎_elim}
+use Rattle.core_state.proofs.Words.{◌<◌, ◌∙◌, ◌≡◌, ◌⊎◌, Accepted, accepted_at, ap, arith, cases_eq, entry_of, get_or, holder_of, inl, inr, IsScannedAs, length, Life, life_in, life_in-other, life_in-same, life_of, List, Lives, map, None, Option, option_and_then, option_map, refl, Running, RunsAs, Scanning, slot_at, Some, start_in, State, subst, sym, ℕ, ⊎_elim}
 use Rattle.core_state.proofs.AnewLemmas.{KeepsAsked, by-change, found-anew}
 use Rattle.core_state.proofs.ScannedCutLemmas.{RunsBy}
 use Rattle.core_state.proofs.ScannedLifeLemmas.{found-written, lives_with}

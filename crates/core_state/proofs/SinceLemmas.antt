@@ -11,7 +11,7 @@ stays-all : StepsKeep → (steps : List Step) (state : State) (seat statement : 
     → statement ≤ state.numbers.statement → Stays (awaited_at state seat statement) (awaited_at (after_steps steps state) seat statement)
 stays-all keeps [] state seat statement may sound low = stays-itself (awaited_at state seat statement)
 stays-all keeps (step ∷ steps) state seat statement may sound low =
-    let tells = tells-step step state sound in
+    let tells = tells-step step state may.0 sound in
     let number = tells.number in
     stays-then (awaited_at state seat statement) (awaited_at (after_step step state) seat statement)
     (awaited_at (after_steps steps (after_step step state)) seat statement)

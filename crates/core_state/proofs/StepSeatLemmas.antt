@@ -1,9 +1,9 @@
 -- What a written seat, an outcome and a reply leave of what the seats wait for, and of the last number of a statement.
-use Rattle.core_state.proofs.Words.{◌++◌, ◌+◌, ◌<◌, ◌∙◌, ◌∷◌, ◌≡◌, ◌≢◌, ◌≤◌, ◌⊎◌, [], Accepted, accepted_at, after_abandon, after_abandoning, after_outcome, after_taking, All, All-contains, All-nil, All-weaker, ap, arith, Awaited, awaited_at, awaited_by, cases_eq, cases_lt, Change, Contains, DimensionDeclared, empty_seat, false, forgotten, get_or, get_or-set_other, get_or_past, inl, inr, IsSome, IsSound, length, map, None, none-some, Option, option_map_or, Outcome, Pending, refl, Seat, seat_at, set, Some, State, subst, sym, Told, true, with_change, with_query, with_seat, with_statement, with_taken, without_pending, ℕ, ⊎_elim}
-use Rattle.star_statement.specs.Outcome as outcome
+use Rattle.core_state.proofs.Words.{◌++◌, ◌+◌, ◌<◌, ◌∙◌, ◌∷◌, ◌≡◌, ◌≢◌, ◌≤◌, ◌⊎◌, [], Accepted, accepted_at, after_abandon, after_abandoning, after_outcome, after_taking, All, All-contains, All-nil, All-weaker, ap, arith, Awaited, awaited_at, awaited_by, cases_eq, cases_lt, Contains, empty_seat, false, forgotten, get_or, get_or-set_other, get_or_past, inl, inr, IsSome, IsSound, length, map, None, none-some, Option, option_map_or, Outcome, Pending, refl, Seat, seat_at, set, Some, State, subst, sym, true, with_seat, with_statement, with_taken, without_pending, ℕ, ⊎_elim}
 use Rattle.core_state.proofs.PendingLemmas.{Stays, pairs-back, stays-dropped, stays-filtered, stays-same, stays-set, waited, waited-before, waited-none}
 use Rattle.core_state.proofs.ReplyLemmas.{in-order}
 use Rattle.core_state.proofs.SeatLemmas.{pending-submitted}
+use Rattle.core_state.proofs.WholeToldLemmas.{leaves-outcome, seated}
 
 -- the seats and the last number of a statement stay
 pub record IsAside (before after : State) : Type 0 where
@@ -62,32 +62,11 @@ tells-written adds before after seat now sound seats number stays =
     (λ other statement. subst (λ ss. Stays (awaited_at before other statement) (waited (get_or ss other empty_seat).pending statement)) (sym seats)
     (stays-set before.seats seat now statement (stays statement) other))
 
--- what an outcome changes beside the seats, and beside the last number
-aside-query : (seat statement : ℕ) (told : Told) (state : State) → IsAside state (with_query seat statement told state)
-aside-query seat statement (outcome.Replied reply) state = record { seats = refl; number = refl }
-aside-query seat statement (outcome.Accepted query snapshot) state = record { seats = refl; number = refl }
-
-aside-change : (seat statement : ℕ) (change : Option Change) (state : State)
-    → IsAside state (option_map_or (λ change. with_change seat statement change state) change state)
-aside-change seat statement (Some (DimensionDeclared table)) state = record { seats = refl; number = refl }
-aside-change seat statement other state = record { seats = refl; number = refl }
-
--- the core in which the seat has the statement, before its outcome changes anything
-abbrev submitted_to : (seat : ℕ) → Told → State → State
-submitted_to seat told state = record state {
-  seats = set state.seats seat (with_statement (state.numbers.statement + 1) told (get_or state.seats seat empty_seat));
-  numbers = record state.numbers { statement = state.numbers.statement + 1 };
-}
-
 -- a submission writes its seat and its number alone
-pub aside-outcome : (seat : ℕ) (found : Outcome) (state : State) → IsAside (submitted_to seat found.told state) (after_outcome seat found state)
+pub aside-outcome : (seat : ℕ) (found : Outcome) (state : State) → IsAside (seated seat found.told state) (after_outcome seat found state)
 aside-outcome seat found state =
-    let number = state.numbers.statement + 1 in
-    let first = aside-change seat number found.change (submitted_to seat found.told state) in
-    let changed : State =
-    option_map_or (λ change. with_change seat number change (submitted_to seat found.told state)) found.change (submitted_to seat found.told state) in
-    let second = aside-query seat number found.told changed in
-    record { seats = second.seats ∙ first.seats; number = second.number ∙ first.number }
+    let told = leaves-outcome seat (state.numbers.statement + 1) found (seated seat found.told state) in
+    record { seats = told.seats; number = told.number }
 
 -- what is waited for by another number stays, and by its own number in another seat
 stays-outcome : (seat : ℕ) (found : Outcome) (state : State) (other statement : ℕ)

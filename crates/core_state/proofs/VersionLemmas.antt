@@ -1,5 +1,5 @@
 -- A core in which a filter has a next version, and a slot another state.
-use Rattle.core_state.proofs.Words.{◌<◌, ◌↔◌, ◌∙◌, ◌∷◌, ◌≡◌, ◌≢◌, ◌≤◌, ◌⊎◌, [], accepted_at, All-map, ap, arith, Bool, cases_eq, Clearing, cond, DimensionRow, Encodes, eqb, eqb-false, eqb-true, false, Filter, Filters, FilterVersion, FitsSlot, Free, get_or, get_or-set_other, get_or-set_same, gets_rows, Has, Held, IfSome, IfSome_then, inl, inr, IsClearOf, IsOnRoster, IsPermutation, IsSound, IsSoundFilter, IsTrue, length, length-map, length-set, life_in, List, map, None, OnRoster, Option, Query, refl, rows_in, selection_in, set, slice_get, slot_at, SlotState, Some, State, subst, sym, tables_of, takes, true, vector_of, ℕ}
+use Rattle.core_state.proofs.Words.{◌<◌, ◌↔◌, ◌∙◌, ◌∷◌, ◌≡◌, ◌≢◌, ◌≤◌, [], accepted_at, All-map, ap, arith, Bool, Clearing, cond, DimensionRow, Encodes, eqb, eqb-false, eqb-true, false, Filter, Filters, FilterVersion, FitsSlot, Free, get_or, gets_rows, Has, Held, IfSome, IfSome_then, IsClearOf, IsOnRoster, IsPermutation, IsSound, IsSoundFilter, IsTrue, length, length-map, length-set, life_in, List, map, None, OnRoster, Option, Query, refl, rows_in, selection_in, set, slice_get, slot_at, SlotState, Some, State, subst, sym, tables_of, takes, true, vector_of, ℕ}
 use Rattle.dimension_filter.specs.Filter as table
 use Rattle.dimension_filter.specs.Filter.{AreAscending, is_stored}
 use Rattle.pipeline_manager.specs.Sound as managed

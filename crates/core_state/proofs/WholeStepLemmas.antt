@@ -1,49 +1,55 @@
 -- No step loses a statement, takes one back, or changes what is asked.
-use Rattle.core_state.proofs.Words.{◌+◌, ◌∷◌, ◌≡◌, [], Abandon, Accepted, accepted_at, after_abandon, after_abandoning, after_outcome, after_step, after_taking, All-nil, arith, Build, CanAbandon, cases_eq, cases_lt, Clear, Contains, Contains-append_left, Cut, Distribute, Done, empty_seat, Event, false, Finish, forgotten, get_or, get_or-set_other, get_or-set_same, get_or_past, Give, HasAccepted, is_open, IsEnabled, IsFed, IsSound, length, Life, life_in, List, LosesNone, map, MaySpoil, MayStep, None, Option, option_map_or, outcome_of, Pending, Query, refl, Release, Reorder, Replying, Reserve, Seat, seat_at, set, Some, Start, State, Step, Submit, subst, sym, tables_of, Take, take, true, Wanting, with_seat, with_statement, with_taken, without_groups, without_pending, ℕ, ⊎_elim}
+use Rattle.core_state.proofs.Words.{◌+◌, ◌∷◌, ◌≡◌, [], Abandon, Accepted, accepted_at, after_abandon, after_abandoning, after_clear, after_outcome, after_release, after_reorder, after_step, after_submitting, after_take, after_taking, All-nil, ap, arith, Build, CanAbandon, cases_eq, cases_lt, Clear, Contains, Contains-append_left, Cut, Distribute, Done, empty_seat, Event, false, Finish, forgotten, get_or, get_or-set_other, get_or-set_same, get_or_past, Give, HasAccepted, is_open, IsEnabled, IsFed, IsSound, length, Life, life_in, List, LosesNone, map, MaySpoil, MayStep, None, Option, option_map_or, outcome_of, Pending, Query, refl, Release, Reorder, Replying, Reserve, Seat, seat_at, set, Some, Start, State, Statement, Step, Submit, subst, sym, tables_of, Take, take, true, Wanting, with_seat, with_statement, with_taken, without_groups, without_pending, ℕ, ⊎_elim}
 use Rattle.star_statement.specs.Outcome as outcome
 use Rattle.core_state.specs.Events.{after_event, after_want}
 use Rattle.core_state.proofs.AnewLemmas.{forgets}
-use Rattle.core_state.proofs.WholeFrameLemmas.{Leaves, StayAsked, asked-anew, by-option, leaves-all, leaves-build, leaves-clear, leaves-cutting, leaves-distribute, leaves-finish, leaves-give, leaves-release, leaves-reorder, leaves-reserving, leaves-start, leaves-take, leaves-wanting}
+use Rattle.core_state.proofs.WholeFrameLemmas.{asked-anew, by-option, Frame, frame-all, Leaves, frame-build, frame-cutting, frame-distribute, frame-finish, frame-give, frame-same, frame-reserving, frame-start, frame-wanting, StayAsked}
 use Rattle.core_state.proofs.WholeLivesLemmas.{StayLost, lost-more, lost-now}
 use Rattle.core_state.proofs.WholeSeatsLemmas.{none-lost, none-lost_but, none-lost_submitted, seat-found, seat-still, seat-told, seat-unwaiting}
 use Rattle.core_state.proofs.WholeToldLemmas.{leaves-outcome, seated}
 
 -- what holds after each event that no seat sees, after an outcome of a statement, and where a query is abandoned
 event-cases : (P : State → Type 0) (event : Event) (state : State) → IsEnabled state event → IsSound state
-    → ((new : State) → Leaves state new → P new) → ((seat : ℕ) (found : outcome.Outcome) → P (after_outcome seat found state))
+    → ((new : State) → Frame state new → P new)
+    → ((seat : ℕ) (statement : Statement) → event ≡ Submit seat statement → P (after_submitting seat statement state))
     → ((query : ℕ) → CanAbandon query state.lives → P (after_abandoning query state)) → P (after_event event state)
 unfolding after_event
-event-cases P (Submit seat statement) state may sound leaves tells abandons = tells seat (outcome_of (tables_of state) statement)
-event-cases P (Reserve query slot) state may sound leaves tells abandons = leaves _ (leaves-reserving query slot state may sound)
-event-cases P (Build query dimension) state may sound leaves tells abandons = leaves _ (leaves-build query dimension state)
-event-cases P (Start query) state may sound leaves tells abandons = leaves _ (leaves-start query state may)
-event-cases P Cut state may sound leaves tells abandons = leaves _ (leaves-cutting state)
-event-cases P (Take worker batch) state may sound leaves tells abandons = leaves _ (leaves-take worker batch state)
-event-cases P (Give worker) state may sound leaves tells abandons = leaves _ (leaves-give worker state)
+event-cases P (Submit seat statement) state may sound leaves tells abandons = tells seat statement refl
+event-cases P (Reserve query slot) state may sound leaves tells abandons = leaves _ (frame-reserving query slot state may sound)
+event-cases P (Build query dimension) state may sound leaves tells abandons = leaves _ (frame-build query dimension state)
+event-cases P (Start query) state may sound leaves tells abandons = leaves _ (frame-start query state may)
+event-cases P Cut state may sound leaves tells abandons = leaves _ (frame-cutting state)
+event-cases P (Take worker batch) state may sound leaves tells abandons =
+    leaves _ (frame-same state (after_take worker batch state) refl refl refl refl refl)
+event-cases P (Give worker) state may sound leaves tells abandons = leaves _ (frame-give worker state)
 event-cases P (Distribute batch) state may sound leaves tells abandons =
-    leaves _ (leaves-distribute batch [] state (All-nil (λ query. IsFed batch query state)))
-event-cases P (Finish slot) state may sound leaves tells abandons = leaves _ (leaves-finish slot state)
-event-cases P (Clear slot dimension) state may sound leaves tells abandons = leaves _ (leaves-clear slot dimension state)
-event-cases P (Release slot) state may sound leaves tells abandons = leaves _ (leaves-release slot state)
-event-cases P Reorder state may sound leaves tells abandons = leaves _ (leaves-reorder state)
+    leaves _ (frame-distribute batch [] state (All-nil (λ query. IsFed batch query state)))
+event-cases P (Finish slot) state may sound leaves tells abandons = leaves _ (frame-finish slot state)
+event-cases P (Clear slot dimension) state may sound leaves tells abandons =
+    leaves _ (frame-same state (after_clear slot dimension state) refl refl refl refl refl)
+event-cases P (Release slot) state may sound leaves tells abandons =
+    leaves _ (frame-same state (after_release slot state) refl refl refl refl refl)
+event-cases P Reorder state may sound leaves tells abandons = leaves _ (frame-same state (after_reorder state) refl refl refl refl refl)
 event-cases P (Abandon query) state may sound leaves tells abandons = abandons query may
 
 -- where memory is wanted, no seat sees it
-leaves-want : (event : Event) (spoiled : List ℕ) (state : State) → IsEnabled state event → MaySpoil state event spoiled
-    → Leaves state (after_want event spoiled state)
+frame-want : (event : Event) (spoiled : List ℕ) (state : State) → IsEnabled state event → MaySpoil state event spoiled
+    → Frame state (after_want event spoiled state)
 unfolding after_want
-leaves-want (Build query dimension) spoiled state may can = leaves-wanting query dimension state may
-leaves-want (Distribute batch) spoiled state may can = leaves-distribute batch spoiled state can.each
-leaves-want other spoiled state may can = leaves-all state
+frame-want (Build query dimension) spoiled state may can = frame-wanting query dimension state may
+frame-want (Distribute batch) spoiled state may can = frame-distribute batch spoiled state can.each
+frame-want other spoiled state may can = frame-all state
 
 -- what holds after each step
 pub step-cases : (P : State → Type 0) (step : Step) (state : State) → MayStep state step → IsSound state
-    → ((new : State) → Leaves state new → P new) → ((seat : ℕ) (found : outcome.Outcome) → P (after_outcome seat found state))
+    → ((new : State) → Frame state new → P new)
+    → ((seat : ℕ) (statement : Statement) → step ≡ Done (Submit seat statement) → P (after_submitting seat statement state))
     → ((query : ℕ) → CanAbandon query state.lives → P (after_abandoning query state)) → ((seat : ℕ) → P (after_taking seat state))
     → P (after_step step state)
-step-cases P (Done event) state may sound leaves tells abandons takes = event-cases P event state may sound leaves tells abandons
+step-cases P (Done event) state may sound leaves tells abandons takes =
+    event-cases P event state may sound leaves (λ seat statement is. tells seat statement (ap Done is)) abandons
 step-cases P (Wanting event spoiled) state may sound leaves tells abandons takes =
-    leaves (after_want event spoiled state) (leaves-want event spoiled state may.0 may.1)
+    leaves (after_want event spoiled state) (frame-want event spoiled state may.0 may.1)
 step-cases P (Replying seat) state may sound leaves tells abandons takes = takes seat
 
 leaves-none : (old new : State) → Leaves old new → LosesNone old → LosesNone new
@@ -84,7 +90,8 @@ loses-taking seat state all =
 
 pub step-loses : (step : Step) (state : State) → MayStep state step → IsSound state → LosesNone state → LosesNone (after_step step state)
 step-loses step state may sound all =
-    step-cases LosesNone step state may sound (λ new leaves. leaves-none state new leaves all) (λ seat found. loses-outcome seat found state all)
+    step-cases LosesNone step state may sound (λ new frame. leaves-none state new frame.leaves all)
+    (λ seat statement is. loses-outcome seat (outcome_of (tables_of state) statement) state all)
     (λ query can. loses-abandoning query state can all) (λ seat. loses-taking seat state all)
 
 asked-outcome : (seat : ℕ) (found : outcome.Outcome) (state : State) → StayAsked state.accepted (after_outcome seat found state).accepted
@@ -108,8 +115,8 @@ asked-without (first ∷ pending) accepted number query snapshot has =
 pub step-asked : (step : Step) (state : State) (number : ℕ) (query : Query) (snapshot : ℕ) → MayStep state step → IsSound state
     → HasAccepted state.accepted number query snapshot → HasAccepted (after_step step state).accepted number query snapshot
 step-asked step state number query snapshot may sound =
-    step-cases (λ now. StayAsked state.accepted now.accepted) step state may sound (λ new leaves. leaves.asked)
-    (λ seat found. asked-outcome seat found state) (λ asked can. asked-abandoning asked state) (λ seat. asked-without (take 1 (seat_at state seat).pending) state.accepted)
+    step-cases (λ now. StayAsked state.accepted now.accepted) step state may sound (λ new frame. frame.leaves.asked)
+    (λ seat statement is. asked-outcome seat (outcome_of (tables_of state) statement) state) (λ asked can. asked-abandoning asked state) (λ seat. asked-without (take 1 (seat_at state seat).pending) state.accepted)
     number query snapshot
 
 -- what was submitted stays so where one seat is another that submitted as much
@@ -155,7 +162,7 @@ pub step-submitted : (step : Step) (state : State) (seat statement : ℕ) → Ma
     → Contains (seat_at state seat).submitted statement → Contains (seat_at (after_step step state) seat).submitted statement
 step-submitted step state seat statement may sound =
     step-cases (StaySubmitted state) step state may sound
-    (λ new leaves other number. subst (λ seats. Contains (get_or seats other empty_seat).submitted number) (sym leaves.seats))
-    (λ other found. submitted-outcome other found state) (λ query can. submitted-abandoning query state)
+    (λ new frame other number. subst (λ seats. Contains (get_or seats other empty_seat).submitted number) (sym frame.leaves.seats))
+    (λ other text is. submitted-outcome other (outcome_of (tables_of state) text) state) (λ query can. submitted-abandoning query state)
     (λ other. submitted-set state.seats other (with_taken (seat_at state other)) (λ n among. among))
     seat statement

@@ -10,6 +10,7 @@ use Rattle.core_state.proofs.WholeLivesLemmas.{lost-behind}
 leaves-then : (old middle new : State) → Leaves old middle → Leaves middle new → Leaves old new
 leaves-then old middle new first second = record {
   seats = second.seats ∙ first.seats;
+  number = second.number ∙ first.number;
   lost = λ number was. second.lost number (first.lost number was);
   asked = λ number query snapshot has. second.asked number query snapshot (first.asked number query snapshot has);
 }
@@ -17,15 +18,16 @@ leaves-then old middle new first second = record {
 -- the change of a statement
 leaves-change : (seat statement : ℕ) (change : Change) (state : State) → Leaves state (with_change seat statement change state)
 leaves-change seat statement (DimensionDeclared table) state =
-    record { seats = refl; lost = λ number was. was; asked = λ number asked snapshot has. has }
+    record { seats = refl; number = refl; lost = λ number was. was; asked = λ number asked snapshot has. has }
 leaves-change seat statement other state =
-    record { seats = refl; lost = λ number was. was; asked = λ number asked snapshot has. has }
+    record { seats = refl; number = refl; lost = λ number was. was; asked = λ number asked snapshot has. has }
 
 -- the query of a statement
 leaves-query : (seat statement : ℕ) (told : Told) (state : State) → Leaves state (with_query seat statement told state)
 leaves-query seat statement (outcome.Replied reply) state = leaves-all state
 leaves-query seat statement (outcome.Accepted query snapshot) state = record {
   seats = refl;
+  number = refl;
   lost = lost-behind state.lives.queries (record { query = statement; extent = versions_in state; life = life.Waiting });
   asked = asked-behind state.accepted
       (record { number = statement; seat = seat; query = query; snapshot = snapshot; groups = Some (grouped_of query []) });
