@@ -88,6 +88,7 @@ pub mod ScannedTestLemmas
 pub mod ScannedFrameLemmas
 pub mod ScannedEventLemmas
 pub mod ScannedOverLemmas
+pub mod ViewLemmas
 pub mod ScannedSubmitLemmas
 pub mod HandedListLemmas
 pub mod HandedKeyLemmas

@@ -5,36 +5,9 @@ use Rattle.pipeline_manager.specs.Conditions.{IsOver, gives_up}
 use Rattle.pipeline_manager.specs.declared.life.Life.TheVariants as life
 use Rattle.core_state.proofs.AnewLemmas.{forgets}
 use Rattle.core_state.proofs.FrameLemmas.{at-set}
-use Rattle.core_state.proofs.ScannedFrameLemmas.{StaysBy, found-kept, held-stays, scanned-stays, start_by, written-rests, written-stays}
+use Rattle.core_state.proofs.ScannedFrameLemmas.{StaysBy, found-kept, scanned-stays, start_by, written-rests, written-stays}
 use Rattle.core_state.proofs.ScannedRunLemmas.{found_by}
 use Rattle.core_state.proofs.WholeFrameLemmas.{by-option}
-
--- the same lives and queries, and the same position
-pub same-core : (state later : State) (scan : Scanning) → later.scan.position ≡ state.scan.position → later.accepted ≡ state.accepted
-    → later.lives ≡ state.lives → IsScannedAs state scan → IsScannedAs later scan
-same-core state later scan position accepted lives = scanned-stays state later scan position (ap (λ (l : Lives). length l.slots) lives)
-    (λ slot low. held-stays state later slot (ap (λ (l : Lives). l.queries) lives) accepted (ap (λ (l : Lives). holder_of (slot_at l slot)) lives))
-
--- a slot that is written over has the holder that it had
-slot-kept : (state later : State) (scan : Scanning) (slot : ℕ) (new : SlotState) → later.scan.position ≡ state.scan.position
-    → later.accepted ≡ state.accepted → later.lives ≡ with_slot slot new state.lives → holder_of new ≡ holder_of (slot_at state.lives slot)
-    → IsScannedAs state scan → IsScannedAs later scan
-slot-kept state later scan slot new position accepted lives holder =
-    scanned-stays state later scan position (ap (λ (l : Lives). length l.slots) lives ∙ length-set state.lives.slots slot new)
-    (λ at low. held-stays state later at (ap (λ (l : Lives). l.queries) lives) accepted
-    (ap (λ (l : Lives). holder_of (slot_at l at)) lives
-    ∙ at-set (λ s. holder_of s ≡ holder_of (slot_at state.lives at)) state.lives.slots slot at new Free low
-    (λ is. holder ∙ ap (λ n. holder_of (slot_at state.lives n)) (sym is)) (λ apart. refl)))
-
-pub holder-more : (dimension : ℕ) (now : SlotState) → holder_of (with_dimension dimension now) ≡ holder_of now
-holder-more dimension Free = refl
-holder-more dimension (Held query built) = refl
-holder-more dimension (Clearing left) = refl
-
-pub holder-less : (dimension : ℕ) (now : SlotState) → holder_of (without_dimension dimension now) ≡ holder_of now
-holder-less dimension Free = refl
-holder-less dimension (Held query built) = refl
-holder-less dimension (Clearing left) = refl
 
 pub scanned-reserve : (state : State) (scan : Scanning) (query slot : ℕ) → IsSound state → MayReserve query slot state → IsScannedAs state scan
     → IsScannedAs (after_reserving slot state) scan
@@ -56,53 +29,6 @@ scanned-reserve state scan query slot sound may same =
       queries = with_life number life.Building state.lives.queries;
       slots = set state.lives.slots slot (Held number 0);
     }
-
-pub scanned-build : (state : State) (scan : Scanning) (query dimension : ℕ) → IsScannedAs state scan
-    → IsScannedAs (after_build query dimension state) scan
-scanned-build state scan query dimension same = by_slot (slot_of state.lives query)
-  where
-    built_for : ℕ → Accepted → State
-    built_for slot accepted = with_version dimension
-        (filter_with slot (selection_in accepted.query dimension) (rows_in (tables_of state).dimensions dimension)) state
-
-    built_in : ℕ → State
-    built_in slot = option_map_or (built_for slot) (accepted_at state.accepted query) state
-
-    position : (with_built query dimension state).scan.position ≡ state.scan.position
-    position = by-option (λ s. s.scan.position ≡ state.scan.position) (slot_of state.lives query) built_in state refl
-        (λ slot is. by-option (λ s. s.scan.position ≡ state.scan.position) (accepted_at state.accepted query) (built_for slot) state refl (λ a found. refl))
-
-    accepted : (with_built query dimension state).accepted ≡ state.accepted
-    accepted = by-option (λ s. s.accepted ≡ state.accepted) (slot_of state.lives query) built_in state refl
-        (λ slot is. by-option (λ s. s.accepted ≡ state.accepted) (accepted_at state.accepted query) (built_for slot) state refl (λ a found. refl))
-
-    by_slot : (o : Option ℕ) → IsScannedAs (record (with_built query dimension state) {
-      lives = option_map_or (λ slot. with_slot slot (with_dimension dimension (slot_at state.lives slot)) state.lives) o state.lives;
-    }) scan
-    by_slot None = same-core state (record (with_built query dimension state) { lives = state.lives }) scan position accepted refl same
-    by_slot (Some slot) = slot-kept state
-        (record (with_built query dimension state) { lives = with_slot slot (with_dimension dimension (slot_at state.lives slot)) state.lives }) scan
-        slot (with_dimension dimension (slot_at state.lives slot)) position accepted refl (holder-more dimension (slot_at state.lives slot)) same
-
-pub scanned-give : (state : State) (scan : Scanning) (worker : ℕ) → IsScannedAs state scan → IsScannedAs (after_give worker state) scan
-scanned-give state scan worker same =
-    by-option (λ s. IsScannedAs s scan) (find (is_held_by worker) state.scan.flights) given state same
-    (λ flight is. same-core state (given flight) scan refl refl refl same)
-  where
-    given : Flight → State
-    given flight = record state {
-      filters = record state.filters { tallies = tallies_after flight state.filters.versions state.filters.tallies };
-      scan = record state.scan { flights = with_flight flight.rows.number given_back state.scan.flights };
-    }
-
-pub scanned-clear : (state : State) (scan : Scanning) (slot dimension : ℕ) → IsScannedAs state scan
-    → IsScannedAs (after_clear slot dimension state) scan
-scanned-clear state scan slot dimension = slot-kept state (after_clear slot dimension state) scan slot
-    (without_dimension dimension (slot_at state.lives slot)) refl refl refl (holder-less dimension (slot_at state.lives slot))
-
-pub scanned-release : (state : State) (scan : Scanning) (slot : ℕ) → CanFree slot state.lives → IsScannedAs state scan
-    → IsScannedAs (after_release slot state) scan
-scanned-release state scan slot can = slot-kept state (after_release slot state) scan slot Free refl refl refl (sym (ap holder_of can))
 
 -- a query that gives up does not run
 over-rests : (o : Option Life) → option_map_or gives_up o false ≡ true → option_and_then start_in o ≡ None

@@ -64,17 +64,6 @@ found-kept change keeps accepted lives slot (Some query) =
     by_accepted (Some a) =
         by-change (λ b. Some (entry_of lives slot b) ≡ Some (entry_of lives slot a)) change keeps a (λ groups. refl)
 
--- a slot whose holder stays
-pub held-stays : (state later : State) (slot : ℕ) → later.lives.queries ≡ state.lives.queries → later.accepted ≡ state.accepted
-    → holder_of (slot_at later.lives slot) ≡ holder_of (slot_at state.lives slot) → StaysIn state later slot
-held-stays state later slot queries accepted holder = inr (
-  ap (λ h. option_and_then (life_of later.lives) h) holder
-      ∙ ap (λ q. option_and_then (life_in q) (holder_of (slot_at state.lives slot))) queries,
-  ap (λ h. found_by later.accepted later.lives slot h) holder
-      ∙ ap (λ a. found_by a later.lives slot (holder_of (slot_at state.lives slot))) accepted
-      ∙ ap (λ q. found_by state.accepted (record later.lives { queries = q }) slot (holder_of (slot_at state.lives slot))) queries,
-)
-
 -- a query does not run by a life in which none does
 pub written-rests : (lives : Lives) (query : ℕ) (new : Life) → start_in new ≡ None
     → option_and_then start_in (life_of (lives_with query new lives) query) ≡ None
