@@ -7,7 +7,7 @@ use Rattle.core_state.proofs.AcceptedLemmas.{find-holds}
 use Rattle.core_state.proofs.FoundLemmas.{find-passes, life-written, with_life-found, with_life-numbers}
 use Rattle.core_state.proofs.AnewLemmas.{batches-anew, filters-anew, forgets, hands-anew, kept_anew, queries-anew}
 use Rattle.core_state.proofs.FrameLemmas.{at-set, awaited-there, kept-with, lives-as, LivesAs, StayTaken, Told, Wanted}
-use Rattle.core_state.proofs.SeatLemmas.{part-stays, seat-anew, seat-fewer, seats-anew}
+use Rattle.core_state.proofs.SeatLemmas.{part-stays, seat-anew, seat-fewer, seat-there, seats-anew}
 
 -- the life of a query that has no answer
 record IsLost (lost : Life) : Type 0 where
@@ -130,9 +130,7 @@ sound-unpending query seat old state was opens submits sound =
     seats = set state.seats seat without
 
     there : seat < length state.seats
-    there = ⊎_elim (λ low. low)
-        (λ past. absurd (let none : Contains [] query = subst (λ (s : Seat). Contains s.submitted query) (get_or_past state.seats seat empty_seat past) submits in
-        let low = none.1 in omega arith)) (cases_lt seat (length state.seats))
+    there = seat-there state.seats seat query submits
 
     still : (number : ℕ) → number ≢ query → IfSome (life_in state.lives.queries number) Wanted → IfSome (life_in queries number) Wanted
     still number apart = subst (λ o. IfSome o Wanted) (sym (life_in-other state.lives.queries query number life.Abandoned apart))

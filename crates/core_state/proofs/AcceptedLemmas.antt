@@ -1,5 +1,5 @@
 -- Who holds a slot has a life, and was accepted.
-use Rattle.core_state.proofs.Words.{◌<◌, ◌∙◌, ◌∷◌, ◌≡◌, ◌≤◌, [], accepted_at, All, All-cons, All-head, All-nil, All-tail, ap, arith, Bool, cond, eq-eqb, eqb, false, find, Free, get_or-le-sum_by, Held, is_some, IsSome, IsSound, length, List, list_any, Lives, map, None, none-some, Option, option_map, query_in, QueryLife, refl, slot_at, SlotState, Some, State, subst, sym, true, ℕ}
+use Rattle.core_state.proofs.Words.{◌<◌, ◌∙◌, ◌∷◌, ◌≡◌, ◌≤◌, [], Accepted, accepted_at, All, All-cons, All-head, All-nil, All-tail, ap, arith, Bool, cond, eq-eqb, eqb, false, find, Free, get_or-le-sum_by, Held, IfSome, is_some, IsOnRoster, IsSome, IsSound, length, List, list_any, Lives, map, None, none-some, OnRoster, Option, option_map, query_in, QueryLife, refl, slot_at, SlotState, Some, State, subst, sym, true, ℕ}
 use Rattle.std.specs.Prelude.{◌||◌}
 use Rattle.pipeline_manager.specs.Lives.{is_held_by}
 use Rattle.pipeline_manager.specs.Sound as managed
@@ -58,3 +58,16 @@ held-accepted state slot query built sound there holds =
     ∙ ap (list_any (λ n. eqb n query)) sound.queries.same
     ∙ sym (number-found (λ entry. entry.query) state.lives.queries query)
     ∙ held-life state.lives slot query built sound.slots.lives there holds
+
+-- a query on a roster was accepted, with its query and its snapshot
+pub accepted-on : (state : State) → IsSound state → (entry : OnRoster) → IsOnRoster state.lives state.accepted entry
+    → (asked : Accepted) × (accepted_at state.accepted entry.number ≡ Some asked) × (asked.query ≡ entry.query) × (asked.snapshot ≡ entry.snapshot)
+accepted-on state sound entry on =
+    by_accepted (accepted_at state.accepted entry.number) refl
+    (held-accepted state entry.slot entry.number on.held.0 sound on.there on.held.1) on.same
+  where
+    by_accepted : (o : Option Accepted) → accepted_at state.accepted entry.number ≡ o → IsSome o
+        → IfSome o (λ asked. (asked.query ≡ entry.query) × (asked.snapshot ≡ entry.snapshot))
+        → (asked : Accepted) × (accepted_at state.accepted entry.number ≡ Some asked) × (asked.query ≡ entry.query) × (asked.snapshot ≡ entry.snapshot)
+    by_accepted None is some same = absurd (let both : false ≡ true = some in cc)
+    by_accepted (Some asked) is some same = (asked, is, same.0, same.1)

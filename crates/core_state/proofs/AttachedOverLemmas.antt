@@ -11,6 +11,7 @@ use Rattle.core_state.proofs.HandedAfterLemmas.{kept_by}
 use Rattle.core_state.proofs.HandedSlotLemmas.{gets}
 use Rattle.core_state.proofs.ScannedLifeLemmas.{holds-slot, lives_with, other-holder}
 use Rattle.core_state.proofs.ScannedOverLemmas.{life-accepted}
+use Rattle.core_state.proofs.SeatLemmas.{pending-there}
 use Rattle.core_state.proofs.TakingLemmas.{ready-told}
 
 -- what is kept of a query of another number stays where one is let go
@@ -112,11 +113,6 @@ attached-taking state seat sound ready = by_pending here.pending refl ready
     here : Seat
     here = get_or state.seats seat empty_seat
 
-    there : (first : Pending) (rest : List Pending) → here.pending ≡ first ∷ rest → seat < length state.seats
-    there first rest is = ⊎_elim (λ low. low)
-        (λ past. let both : [] ≡ first ∷ rest = sym (ap (λ (s : Seat). s.pending) (get_or_past state.seats seat empty_seat past)) ∙ is in cc)
-        (cases_lt seat (length state.seats))
-
     kept : List Pending → State
     kept pending = record state { accepted = without_groups (take 1 pending) state.accepted }
 
@@ -128,7 +124,7 @@ attached-taking state seat sound ready = by_pending here.pending refl ready
         let told = ready-told state first.statement first.awaited sound.queries
         (All-head (λ pending. IsAwaited state.accepted state.lives.queries pending.statement pending.awaited) first rest
         (subst (All (λ pending. IsAwaited state.accepted state.lives.queries pending.statement pending.awaited)) is
-        (sound.seats.each seat empty_seat (there first rest is)).awaited)) some in
+        (sound.seats.each seat empty_seat (pending-there state.seats seat first rest is)).awaited)) some in
         let none : gets state.lives first.statement ≡ false = told-none (life_in state.lives.queries first.statement) told in
         attached-held state (kept (first ∷ rest)) refl (λ slot low. refl) (λ number. (
           refl,

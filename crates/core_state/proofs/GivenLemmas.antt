@@ -1,6 +1,6 @@
 -- A batch that a worker gives back keeps a core sound.
 use Rattle.core_state.proofs.Words.{◌+◌, ◌<◌, ◌∙◌, ◌∷◌, ◌≡◌, ◌≢◌, [], Accepted, accepted_at, AcceptsAll, after_give, All, All-contains, All-map, all_at, AllPairs, AllPairs-cons, arith, bits_left_at, Bool, Change, changes_of, cond, cons_option, Contains, empty_store, Encodes, eqb, false, Filter, find, Flight, frame_words, get_or, given_back, Hand, held_by, IfSome, is_held_by, IsMatched, IsOnRoster, IsOver, IsSettled, IsSome, IsSound, IsSoundBatch, IsSoundHand, IsSoundQuery, IsSoundRow, length, length-map-range_with_len, List, map, None, OnRoster, Option, option_map, option_map_or, passed_by, PlainVersion, refl, rows_in, slice_get, Some, State, store_of, subst, suc, tables_of, tallies_after, Tally, true, zero, ℕ}
-use Rattle.core_state.proofs.AcceptedLemmas.{find-holds, held-accepted}
+use Rattle.core_state.proofs.AcceptedLemmas.{accepted-on, find-holds, held-accepted}
 use Rattle.core_state.proofs.FlownLemmas.{Flies, KeepsPlace, flown, sound-flown}
 use Rattle.core_state.proofs.GiveLemmas.{SaysByKey, bits-given, given-bits}
 use Rattle.core_state.proofs.KeyedLemmas.{filter-there, says-by-key}
@@ -14,17 +14,10 @@ Settles = (history : List Change) → AcceptsAll empty_store history → IsSettl
 -- a query on a roster is one over the schema
 pub entry-over : (state : State) → IsSound state → (entry : OnRoster) → IsOnRoster state.lives state.accepted entry → IsOver (tables_of state).schema entry.query
 entry-over state sound entry on =
-    by_accepted (accepted_at state.accepted entry.number) refl
-    (held-accepted state entry.slot entry.number on.held.0 sound on.there on.held.1) on.same
-  where
-    by_accepted : (o : Option Accepted) → accepted_at state.accepted entry.number ≡ o → IsSome o
-        → IfSome o (λ accepted. (accepted.query ≡ entry.query) × (accepted.snapshot ≡ entry.snapshot))
-        → IsOver (tables_of state).schema entry.query
-    by_accepted None is some same = absurd (let both : false ≡ true = some in cc)
-    by_accepted (Some accepted) is some same =
-        let of_query : IsSoundQuery state accepted =
-        find-holds (IsSoundQuery state) (λ a. eqb a.number entry.number) state.accepted accepted is sound.queries.each in
-        subst (IsOver (tables_of state).schema) same.0 of_query.over
+    let is = accepted-on state sound entry on in
+    let of_query : IsSoundQuery state is.0 =
+    find-holds (IsSoundQuery state) (λ a. eqb a.number entry.number) state.accepted is.0 is.1 sound.queries.each in
+    subst (IsOver (tables_of state).schema) is.2 of_query.over
 
 -- the vectors of a filter in a hand say what the queries of the batch take
 hand-says : Settles → (state : State) → IsSound state → (flight : Flight) → IsSoundBatch (frame_words state) (tables_of state) state.lives state.accepted flight → (hand : Hand) → IsSoundHand (length state.seats) state.lives.filters (tables_of state) flight hand

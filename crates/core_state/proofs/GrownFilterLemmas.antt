@@ -1,6 +1,6 @@
 -- Filters and hands stay sound where the tables grow.
 use Rattle.core_state.proofs.Words.{◌<◌, ◌↔◌, ◌∙◌, ◌≡◌, ◌≤◌, Accepted, accepted_at, ap, AreSoundFilters, AreSoundHands, arith, Clearing, Contains, DimensionRow, Encodes, Entry, eqb, false, Filter, filter_dimensions, FitsSlot, Flight, Free, get_or, Hand, Has, Held, IfSome, IfSome_then, IsOnRoster, IsSome, IsSound, IsSoundFilter, IsSoundHand, IsSoundQuery, IsTrue, length, length-append, List, None, OnRoster, Option, Query, refl, rows_in, selection_in, slot_at, SlotState, Some, State, Store, subst, sym, tables_by, tables_of, takes, true, vector_of, ℕ}
-use Rattle.core_state.proofs.AcceptedLemmas.{find-holds, held-accepted}
+use Rattle.core_state.proofs.AcceptedLemmas.{accepted-on, find-holds, held-accepted}
 use Rattle.core_state.proofs.FoundLemmas.{some-at, some-by}
 use Rattle.core_state.proofs.GrownRowsLemmas.{Behind, Grows, some-behind}
 
@@ -19,15 +19,8 @@ snapshot-found state sound number accepted found =
 -- a query on a roster has a snapshot so far
 pub snapshot-on : (state : State) → IsSound state → (entry : OnRoster) → IsOnRoster state.lives state.accepted entry → entry.snapshot ≤ (tables_of state).commits
 snapshot-on state sound entry on =
-    by_accepted (accepted_at state.accepted entry.number) refl
-    (held-accepted state entry.slot entry.number on.held.0 sound on.there on.held.1) on.same
-  where
-    by_accepted : (o : Option Accepted) → accepted_at state.accepted entry.number ≡ o → IsSome o
-        → IfSome o (λ accepted. (accepted.query ≡ entry.query) × (accepted.snapshot ≡ entry.snapshot))
-        → entry.snapshot ≤ (tables_of state).commits
-    by_accepted None is some same = absurd (let both : false ≡ true = some in cc)
-    by_accepted (Some accepted) is some same =
-        subst (λ snapshot. snapshot ≤ (tables_of state).commits) same.1 (snapshot-found state sound entry.number accepted is)
+    let is = accepted-on state sound entry on in
+    subst (λ snapshot. snapshot ≤ (tables_of state).commits) is.3 (snapshot-found state sound entry.number is.0 is.1)
 
 -- a filter has a query in a slot also where rows came that the query does not see
 encodes-behind : (commits : ℕ) (filter : Filter) (slot : ℕ) (query : Query) (snapshot : ℕ) (rows others : List DimensionRow)

@@ -1,6 +1,7 @@
 -- A seat takes its replies in the order of its statements.
 use Rattle.core_state.proofs.Words.{◌++◌, ◌<◌, ◌∙◌, ◌∷◌, ◌≡◌, [], after_taking, AllPairs, ap, arith, cases_lt, drop, empty_seat, false, get_or, get_or-set_same, get_or_past, IsSome, IsSound, length, List, map, next_ready, option_and_then, Pending, ready_to, refl, Seat, seat_at, set, slice_get, Some, State, subst, sym, take, taken_by, true, with_taken, ℕ, ⊎_elim}
 use Rattle.core_state.proofs.FrameLemmas.{numbers_of}
+use Rattle.core_state.proofs.SeatLemmas.{pending-there}
 
 -- the numbers that a seat took and waits for rise
 pub in-order : (state : State) (seat : ℕ) → IsSound state → AllPairs (λ statement later. statement < later) (numbers_of (seat_at state seat))
@@ -20,11 +21,6 @@ next-first state seat sound ready = by_pending here.pending refl ready
     here : Seat
     here = get_or state.seats seat empty_seat
 
-    there : (first : Pending) (rest : List Pending) → here.pending ≡ first ∷ rest → seat < length state.seats
-    there first rest is = ⊎_elim (λ low. low)
-        (λ past. let both : [] ≡ first ∷ rest = sym (ap (λ (s : Seat). s.pending) (get_or_past state.seats seat empty_seat past)) ∙ is in cc)
-        (cases_lt seat (length state.seats))
-
     by_pending : (pending : List Pending) → here.pending ≡ pending
         → IsSome (option_and_then (λ first. ready_to state first.statement first.awaited) (slice_get pending 0))
         → (first : Pending) × (slice_get here.pending 0 ≡ Some first)
@@ -33,7 +29,7 @@ next-first state seat sound ready = by_pending here.pending refl ready
     by_pending [] is some = absurd (let both : false ≡ true = some in cc)
     by_pending (first ∷ rest) is some =
         let at : get_or (set state.seats seat (with_taken here)) seat empty_seat ≡ with_taken here =
-        get_or-set_same state.seats seat (with_taken here) empty_seat (there first rest is) in (
+        get_or-set_same state.seats seat (with_taken here) empty_seat (pending-there state.seats seat first rest is) in (
           first,
           ap (λ ps. slice_get ps 0) is,
           ap (λ (s : Seat). s.taken) at ∙ ap (λ ps. here.taken ++ map taken_by (take 1 ps)) is,

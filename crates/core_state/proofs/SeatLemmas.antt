@@ -54,11 +54,18 @@ seats-anew state change keeps queries seats scan count stays each old = record {
     same : (seat : ℕ) (d : Seat) → seat < length seats → (get_or seats seat d).submitted ≡ (get_or state.seats seat empty_seat).submitted
     same seat d low = ap (λ (s : Seat). s.submitted) (get_or_default seats seat d empty_seat low) ∙ stays seat
 
-seat-there : (seats : List Seat) (seat number : ℕ) → Contains (get_or seats seat empty_seat).submitted number → seat < length seats
+pub seat-there : (seats : List Seat) (seat number : ℕ) → Contains (get_or seats seat empty_seat).submitted number → seat < length seats
 seat-there seats seat number has = ⊎_elim (λ inside. inside)
     (λ past. absurd (let none : Contains [] number =
     subst (λ (s : Seat). Contains s.submitted number) (get_or_past seats seat empty_seat past) has in
     let less = none.1 in omega arith)) (cases_lt seat (length seats))
+
+-- a seat that waits for something is there
+pub pending-there : (seats : List Seat) (seat : ℕ) (first : Pending) (rest : List Pending) → (get_or seats seat empty_seat).pending ≡ first ∷ rest
+    → seat < length seats
+pending-there seats seat first rest is = ⊎_elim (λ low. low)
+    (λ past. let both : [] ≡ first ∷ rest = sym (ap (λ (s : Seat). s.pending) (get_or_past seats seat empty_seat past)) ∙ is in cc)
+    (cases_lt seat (length seats))
 
 -- a number stands in one seat
 pub one-seat : (state : State) → AreSoundSeats state → (seat other number : ℕ) → Contains (get_or state.seats seat empty_seat).submitted number

@@ -1,30 +1,26 @@
 -- A batch that is taken into a hand keeps a core sound.
-use Rattle.core_state.proofs.Words.{◌+◌, ◌<◌, ◌∙◌, ◌∷◌, ◌≡◌, ◌≢◌, [], Accepted, accepted_at, after_take, All, All-cons, All-head, All-map, All-nil, All-tail, AllPairs, AllPairs-cons, ap, arith, Bool, cond, cons_option, Encodes, eq-eqb, eqb, eqb-true, false, Filter, filter_map, Filters, FilterVersion, find, FitsSlot, Flight, frame_words, get_or, Hand, has_passed, IfSome, IfSome_then, IsOnRoster, IsSome, IsSound, IsSoundBatch, IsSoundFilter, IsSoundHand, length, List, Lives, map, MayTake, ne_eqb, None, OnRoster, Option, option_map, option_map_or, refl, rows_in, slice_get, Some, State, Store, subst, suc, sym, tables_of, true, version_at, zero, ℕ}
+use Rattle.core_state.proofs.Words.{◌+◌, ◌<◌, ◌∙◌, ◌∷◌, ◌≡◌, ◌≢◌, [], Accepted, accepted_at, after_take, All, All-cons, All-head, All-map, All-nil, All-tail, AllPairs, AllPairs-cons, ap, arith, Bool, cond, cons_option, DimensionRow, Encodes, eq-eqb, eqb, eqb-true, false, Filter, filter_map, Filters, FilterVersion, find, FitsSlot, Flight, frame_words, get_or, Hand, has_passed, IfSome, IfSome_then, IsOnRoster, IsSome, IsSound, IsSoundBatch, IsSoundFilter, IsSoundHand, length, List, Lives, map, MayTake, ne_eqb, None, OnRoster, Option, option_map, option_map_or, refl, rows_in, slice_get, Some, State, Store, subst, suc, sym, tables_of, true, version_at, zero, ℕ}
 use Rattle.std.specs.Prelude.{not}
 use Rattle.std.proofs.lemmas.Option.{option_and_then_some}
 use Rattle.core_state.specs.Found as found
 use Rattle.core_state.specs.Found.{next_filter}
 use Rattle.core_state.proofs.FlownLemmas.{Flies, KeepsPlace, sound-flown}
-use Rattle.core_state.proofs.FoundLemmas.{find-passes}
-use Rattle.core_state.proofs.AcceptedLemmas.{find-holds, find-none, held-accepted}
+use Rattle.core_state.proofs.FoundLemmas.{find-passes, some-at}
+use Rattle.core_state.proofs.AcceptedLemmas.{accepted-on, find-holds, find-none, held-accepted}
 
 -- the present version of a filter has the queries of a roster
 pub encodes-there : (state : State) → IsSound state → (filter : Filter) → IsSoundFilter state.accepted (tables_of state) state.lives.slots state.lives.filters filter → (entry : OnRoster) → IsOnRoster state.lives state.accepted entry
     → Encodes filter entry.slot entry.query entry.snapshot (rows_in (tables_of state).dimensions filter.dimension)
 encodes-there state sound filter of_filter entry on =
-    by_accepted (accepted_at state.accepted entry.number)
-    (held-accepted state entry.slot entry.number on.held.0 sound on.there on.held.1)
-    ((subst (FitsSlot state.accepted (tables_of state) filter entry.slot) on.held.1 (of_filter.slots entry.slot on.there)).0 (on.held.2 filter.dimension of_filter.is_filter))
-    on.same
+    let is = accepted-on state sound entry on in
+    subst (λ query. Encodes filter entry.slot query entry.snapshot rows) is.2
+    (subst (λ snapshot. Encodes filter entry.slot is.0.query snapshot rows) is.3
+    (some-at (λ asked. Encodes filter entry.slot asked.query asked.snapshot rows) (accepted_at state.accepted entry.number) is.0 is.1
+    ((subst (FitsSlot state.accepted (tables_of state) filter entry.slot) on.held.1 (of_filter.slots entry.slot on.there)).0
+    (on.held.2 filter.dimension of_filter.is_filter))))
   where
-    by_accepted : (o : Option Accepted) → IsSome o
-        → IfSome o (λ accepted. Encodes filter entry.slot accepted.query accepted.snapshot (rows_in (tables_of state).dimensions filter.dimension))
-        → IfSome o (λ accepted. (accepted.query ≡ entry.query) × (accepted.snapshot ≡ entry.snapshot))
-        → Encodes filter entry.slot entry.query entry.snapshot (rows_in (tables_of state).dimensions filter.dimension)
-    by_accepted None some encodes same = cc
-    by_accepted (Some accepted) some encodes same =
-        subst (λ query. Encodes filter entry.slot query entry.snapshot (rows_in (tables_of state).dimensions filter.dimension)) same.0
-        (subst (λ snapshot. Encodes filter entry.slot accepted.query snapshot (rows_in (tables_of state).dimensions filter.dimension)) same.1 encodes)
+    rows : List DimensionRow
+    rows = rows_in (tables_of state).dimensions filter.dimension
 
 not-true : (b : Bool) → not b ≡ true → b ≡ false
 not-true true e = cc

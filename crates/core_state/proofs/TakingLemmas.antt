@@ -6,7 +6,7 @@ use Rattle.core_state.proofs.AcceptedLemmas.{number-found}
 use Rattle.core_state.proofs.FoundLemmas.{life-found, some-at, some-by}
 use Rattle.core_state.proofs.AnewLemmas.{by-change, batches-anew, filters-anew, forgets, hands-anew, kept_anew, queries-anew}
 use Rattle.core_state.proofs.FrameLemmas.{at-set, kept-with, lives-as, LivesAs, StayTaken, Told}
-use Rattle.core_state.proofs.SeatLemmas.{one-seat, part-stays, pending-submitted, seat-anew, seats-anew}
+use Rattle.core_state.proofs.SeatLemmas.{one-seat, part-stays, pending-submitted, pending-there, seat-anew, seats-anew}
 
 -- what is ready is no query, or one that is over
 pub ready-told : (state : State) (statement : ℕ) (awaited : Awaited) → AreSoundQueries state → IsAwaited state.accepted state.lives.queries statement awaited
@@ -102,9 +102,7 @@ sound-with_first seat first rest state is told sound = record {
     now = kept_anew state (forgotten first.statement) queries seats state.scan
 
     there : seat < length state.seats
-    there = ⊎_elim (λ low. low)
-        (λ past. let both : [] ≡ first ∷ rest = sym (ap (λ (s : Seat). s.pending) (get_or_past state.seats seat empty_seat past)) ∙ is in cc)
-        (cases_lt seat (length state.seats))
+    there = pending-there state.seats seat first rest is
 
     each : (k : ℕ) (d : Seat) → k < length state.seats → IsSoundSeat now.numbers.statement now.accepted now.lives.queries (get_or seats k d)
     each k d low = at-set (IsSoundSeat now.numbers.statement now.accepted now.lives.queries) state.seats seat k with d low
@@ -174,11 +172,6 @@ sound-replied seat state ready sound = by_pending here.pending refl ready
     here : Seat
     here = get_or state.seats seat empty_seat
 
-    there : (first : Pending) (rest : List Pending) → here.pending ≡ first ∷ rest → seat < length state.seats
-    there first rest is = ⊎_elim (λ low. low)
-        (λ past. let both : [] ≡ first ∷ rest = sym (ap (λ (s : Seat). s.pending) (get_or_past state.seats seat empty_seat past)) ∙ is in cc)
-        (cases_lt seat (length state.seats))
-
     by_pending : (pending : List Pending) → here.pending ≡ pending
         → IsSome (option_and_then (λ first. ready_to state first.statement first.awaited) (slice_get pending 0))
         → IsSound (record state {
@@ -191,4 +184,4 @@ sound-replied seat state ready sound = by_pending here.pending refl ready
         (ready-told state first.statement first.awaited sound.queries
         (All-head (λ pending. IsAwaited state.accepted state.lives.queries pending.statement pending.awaited) first rest
         (subst (All (λ pending. IsAwaited state.accepted state.lives.queries pending.statement pending.awaited)) is
-        (sound.seats.each seat empty_seat (there first rest is)).awaited)) some) sound
+        (sound.seats.each seat empty_seat (pending-there state.seats seat first rest is)).awaited)) some) sound

@@ -1,6 +1,6 @@
 -- What events leave of what each slot shows: who holds it, with its life, and what it asked; a scan and a distributor have
 -- what they had where it stays.
-use Rattle.core_state.proofs.Words.{◌+◌, ◌<◌, ◌∙◌, ◌≡◌, ◌≢◌, [], Accepted, accepted_at, after_build, after_clear, after_give, after_outcome, after_release, ap, arith, attached_to, CanFree, Change, Clearing, DimensionDeclared, entry_of, eqb, eqb-true, false, filter_with, Free, gets_rows, grouped_of, Held, holder_of, inr, is_held_by, IsScannedAs, IsSome, IsSound, IsSoundQuery, length, length-set, life_of, Lives, None, OnRoster, Option, option_and_then, option_map, option_map_or, query_in, query_in-push_other, QueryLife, refl, rows_in, Scanning, selection_in, slot_at, slot_of, SlotState, Some, State, subst, sym, tables_of, true, versions_in, with_built, with_change, with_dimension, with_query, with_slot, with_version, without_dimension, ℕ}
+use Rattle.core_state.proofs.Words.{◌+◌, ◌<◌, ◌∙◌, ◌≡◌, ◌≢◌, [], Accepted, accepted_at, after_build, after_clear, after_give, after_outcome, after_release, ap, arith, attached_to, CanFree, Change, Clearing, DimensionDeclared, entry_of, eqb, eqb-true, false, Filter, filter_with, Free, gets_rows, grouped_of, Held, holder_of, inr, is_held_by, IsScannedAs, IsSome, IsSound, IsSoundQuery, length, length-set, life_of, Lives, None, OnRoster, Option, option_and_then, option_map, option_map_or, query_in, query_in-push_other, QueryLife, refl, rows_in, Scanning, selection_in, slot_at, slot_of, SlotState, Some, State, subst, sym, tables_of, true, versions_in, with_built, with_change, with_dimension, with_query, with_slot, with_version, without_dimension, ℕ}
 use Rattle.std.proofs.Common.{find}
 use Rattle.star_statement.specs.Outcome as outcome
 use Rattle.pipeline_manager.specs.declared.life.Life.TheVariants as life
@@ -12,7 +12,7 @@ use Rattle.core_state.proofs.FrameLemmas.{at-set}
 use Rattle.core_state.proofs.ScannedFrameLemmas.{scanned-stays, StaysIn}
 use Rattle.core_state.proofs.ScannedLifeLemmas.{holder-held}
 use Rattle.core_state.proofs.ScannedRunLemmas.{found_by}
-use Rattle.core_state.proofs.WholeFrameLemmas.{by-option}
+use Rattle.core_state.proofs.WholeFrameLemmas.{by-built, by-option}
 use Rattle.core_state.proofs.WholeToldLemmas.{seated}
 
 -- a slot shows what it showed
@@ -118,24 +118,16 @@ holder-less dimension (Clearing left) = refl
 pub views-build : (state : State) (query dimension : ℕ) → SameViews state (after_build query dimension state)
 views-build state query dimension = by_slot (slot_of state.lives query)
   where
-    built_for : ℕ → Accepted → State
-    built_for slot accepted = with_version dimension
-        (filter_with slot (selection_in accepted.query dimension) (rows_in (tables_of state).dimensions dimension)) state
-
-    built_in : ℕ → State
-    built_in slot = option_map_or (built_for slot) (accepted_at state.accepted query) state
-
-    same : {X : Type 0} (part : State → X) → ((slot : ℕ) (accepted : Accepted) → part (built_for slot accepted) ≡ part state)
+    same : {X : Type 0} (part : State → X) → ((change : Filter → Filter) → part (with_version dimension change state) ≡ part state)
         → part (with_built query dimension state) ≡ part state
-    same part each = by-option (λ s. part s ≡ part state) (slot_of state.lives query) built_in state refl
-        (λ slot is. by-option (λ s. part s ≡ part state) (accepted_at state.accepted query) (built_for slot) state refl (λ a found. each slot a))
+    same part each = by-built (λ s. part s ≡ part state) query dimension state refl each
 
     by_slot : (o : Option ℕ) → SameViews state (record (with_built query dimension state) {
       lives = option_map_or (λ slot. with_slot slot (with_dimension dimension (slot_at state.lives slot)) state.lives) o state.lives;
     })
-    by_slot None = views-all state _ (same (λ s. s.scan.position) (λ slot a. refl)) (same (λ s. s.accepted) (λ slot a. refl)) refl
+    by_slot None = views-all state _ (same (λ s. s.scan.position) (λ change. refl)) (same (λ s. s.accepted) (λ change. refl)) refl
     by_slot (Some slot) = views-slot state _ slot (with_dimension dimension (slot_at state.lives slot))
-        (same (λ s. s.scan.position) (λ at a. refl)) (same (λ s. s.accepted) (λ at a. refl)) refl (holder-more dimension (slot_at state.lives slot))
+        (same (λ s. s.scan.position) (λ change. refl)) (same (λ s. s.accepted) (λ change. refl)) refl (holder-more dimension (slot_at state.lives slot))
 
 pub views-give : (state : State) (worker : ℕ) → SameViews state (after_give worker state)
 views-give state worker =

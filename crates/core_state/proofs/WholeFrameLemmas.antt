@@ -1,5 +1,5 @@
 -- What each event leaves that no seat sees: all but the lives, the filters, the scan and what is kept.
-use Rattle.core_state.proofs.Words.{◌++◌, ◌+◌, ◌-◌, ◌∙◌, ◌∷◌, ◌≡◌, [], Accepted, accepted_at, after_build, after_build_wants, after_cutting, after_distribute, after_finish, after_give, after_reserving, after_spoil, after_start, All, All-weaker, ap, Bool, CanBuild, CanRun, cond, end_in, eqb, extent_in, false, fed, filter, filter_with, first_in, first_of, flight_at, fold, forgotten, gets_rows, given_back, HasAccepted, Held, is_held_by, IsFed, IsSomeAnd, IsSound, Life, life_in, List, list_any, map, MayReserve, None, not, oldest-waits, Option, option_map_or, Query, QueryLife, refl, rows_in, selection_in, set, slot_at, slot_of, Some, started, State, subst, sym, tables_of, tallies_after, true, unkept, versions_in, with_built, with_dimension, with_flight, with_life, with_slot, with_version, ℕ}
+use Rattle.core_state.proofs.Words.{◌++◌, ◌+◌, ◌-◌, ◌∙◌, ◌∷◌, ◌≡◌, [], Accepted, accepted_at, after_build, after_build_wants, after_cutting, after_distribute, after_finish, after_give, after_reserving, after_spoil, after_start, All, All-weaker, ap, Bool, CanBuild, CanRun, cond, end_in, eqb, extent_in, false, fed, Filter, filter, filter_with, first_in, first_of, flight_at, fold, forgotten, gets_rows, given_back, HasAccepted, Held, is_held_by, IsFed, IsSomeAnd, IsSound, Life, life_in, List, list_any, map, MayReserve, None, not, oldest-waits, Option, option_map_or, Query, QueryLife, refl, rows_in, selection_in, set, slot_at, slot_of, Some, started, State, subst, sym, tables_of, tallies_after, true, unkept, versions_in, with_built, with_dimension, with_flight, with_life, with_slot, with_version, ℕ}
 use Rattle.std.proofs.Common.{find}
 use Rattle.pipeline_manager.specs.declared.life.Life.TheVariants as life
 use Rattle.core_state.proofs.AnewLemmas.{forgets, has-anew, KeepsAsked}
@@ -82,6 +82,13 @@ pub by-option : {X : Type 0} (P : State → Type 0) (o : Option X) (f : X → St
 by-option P None f state none some = none
 by-option P (Some x) f state none some = some x refl
 
+-- what holds of a core and of one with the next version of a filter holds where a filter is built
+pub by-built : (P : State → Type 0) (query dimension : ℕ) (state : State) → P state
+    → ((change : Filter → Filter) → P (with_version dimension change state)) → P (with_built query dimension state)
+by-built P query dimension state none some =
+    by-option P (slot_of state.lives query) _ state none
+    (λ slot is. by-option P (accepted_at state.accepted query) _ state none (λ accepted found. some _))
+
 -- a life that is written over is not that of one who was abandoned
 never-by : (queries : List QueryLife) (query : ℕ) (now : Life) → life_in queries query ≡ Some now → (now ≡ life.Abandoned → ⊥)
     → life_in queries query ≡ Some life.Abandoned → ⊥
@@ -103,15 +110,8 @@ frame-build query dimension state =
     frame-lives state (after_build query dimension state) built.entries built.leaves.seats built.leaves.number
     (by_slot (slot_of state.lives query)) built.leaves.asked
   where
-    built_for : ℕ → Accepted → State
-    built_for slot accepted = with_version dimension
-        (filter_with slot (selection_in accepted.query dimension) (rows_in (tables_of state).dimensions dimension)) state
-
     built : Frame state (with_built query dimension state)
-    built = by-option (Frame state) (slot_of state.lives query) (λ slot. option_map_or (built_for slot) (accepted_at state.accepted query) state)
-        state (frame-all state)
-        (λ slot is. by-option (Frame state) (accepted_at state.accepted query) (built_for slot) state (frame-all state)
-        (λ accepted found. frame-same state (built_for slot accepted) refl refl refl refl refl))
+    built = by-built (Frame state) query dimension state (frame-all state) (λ filter. frame-same state (with_version dimension filter state) refl refl refl refl refl)
 
     by_slot : (o : Option ℕ) → StayLost state.lives.queries
         (option_map_or (λ slot. with_slot slot (with_dimension dimension (slot_at state.lives slot)) state.lives) o state.lives).queries
