@@ -5,7 +5,7 @@ use Rattle.pipeline_manager.specs.declared.life.Life.TheVariants as life
 use Rattle.pipeline_manager.proofs.CallLemmas.{sound-after_abandon, sound-after_spoil}
 use Rattle.core_state.proofs.AcceptedLemmas.{find-holds}
 use Rattle.core_state.proofs.FoundLemmas.{find-passes, life-written, with_life-found, with_life-numbers}
-use Rattle.core_state.proofs.AnewLemmas.{batches-anew, filters-anew, forgets, hands-anew, kept_anew, queries-anew}
+use Rattle.core_state.proofs.AnewLemmas.{batches-anew, filters-anew, forgets, hands-anew, kept_anew, queries-anew, sound-anew}
 use Rattle.core_state.proofs.FrameLemmas.{at-set, awaited-there, kept-with, lives-as, LivesAs, StayTaken, Told, Wanted}
 use Rattle.core_state.proofs.SeatLemmas.{part-stays, seat-anew, seat-fewer, seat-there, seats-anew}
 
@@ -28,44 +28,34 @@ sound-lost : (query : ℕ) (old lost : Life) (state : State) (seats : List Seat)
     → StayTaken state.seats seats
     → AreSoundSeats (kept_anew state (forgotten query) (with_life query lost state.lives.queries) seats state.scan) → IsSound state
     → IsSound (kept_anew state (forgotten query) (with_life query lost state.lives.queries) seats state.scan)
-sound-lost query old lost state seats is_lost was lives count stay sound_seats sound = record {
-  settings = sound.settings;
-  filters = filters-anew state (forgotten query) (forgets query) queries seats state.scan sound.filters;
-  batches = batches-anew state (forgotten query) (forgets query) queries state.scan.flights
-      (λ number on. life-written MayBeOnRoster query old lost state.lives.queries number was (λ h. is_lost.rostered) on) sound.batches;
-  hands = hands-anew state (forgotten query) queries seats state.scan count sound.hands;
-  queries = queries-anew state (forgotten query) (forgets query) queries seats state.scan (with_life-numbers query lost state.lives.queries)
-      (λ accepted there of_query. with_life-found (LivesAs (tables_of state) seats state.scan accepted (forgotten query accepted)) query lost
-      state.lives.queries accepted.number
-      (λ entry found same. (
-        is_lost.kept (kept_anew state (forgotten query) queries seats state.scan) (forgotten query accepted) entry.extent
-            (ap (λ t. (cond {A = Accepted} t (record accepted { groups = None }) accepted).groups) (eq-eqb accepted.number query same)),
-        λ opens. absurd (let both : true ≡ false = sym opens ∙ is_lost.closed in cc),
-        (lives-as state accepted of_query entry found).2,
-      ))
-      (λ entry found apart.
-      subst (λ given. LivesAs (tables_of state) seats state.scan accepted given entry)
-      (sym (ap (λ t. cond {A = Accepted} t (record accepted { groups = None }) accepted) (ne_eqb accepted.number query apart))) (
-        kept-with (tables_of state) state.seats seats state.scan state.scan stay accepted entry.extent entry.life refl refl
-            (lives-as state accepted of_query entry found).0,
-        (lives-as state accepted of_query entry found).1,
-        (lives-as state accepted of_query entry found).2,
-      ))) sound.queries;
-  slots = record {
-    lives = lives;
-    count = sound.slots.count;
-    built = λ slot holder built low held.
-        life-written (λ now. IsTrue (gets_rows now) → (dimension : ℕ) → Has state.lives.filters dimension → Has built dimension)
-        query old lost state.lives.queries holder was
-        (λ h gets. absurd (let both : true ≡ false = sym gets ∙ is_lost.gets in cc)) (sound.slots.built slot holder built low held);
-  };
-  store = sound.store;
-  quiet = λ none. (ap (map (forgotten query)) (sound.quiet none).0, (sound.quiet none).1, (sound.quiet none).2);
-  numbers = record { apart = sound.numbers.apart; given = sound.numbers.given };
-  scan = record { frames = sound.scan.frames; position = sound.scan.position };
-  order = record { tallies = sound.order.tallies; count = sound.order.count; order = sound.order.order };
-  seats = sound_seats;
-}
+sound-lost query old lost state seats is_lost was lives count stay sound_seats sound =
+    sound-anew state (forgotten query) (forgets query) queries seats
+    (λ number on. life-written MayBeOnRoster query old lost state.lives.queries number was (λ h. is_lost.rostered) on) count
+    (queries-anew state (forgotten query) (forgets query) queries seats state.scan (with_life-numbers query lost state.lives.queries)
+    (λ accepted there of_query. with_life-found (LivesAs (tables_of state) seats state.scan accepted (forgotten query accepted)) query lost
+    state.lives.queries accepted.number
+    (λ entry found same. (
+      is_lost.kept (kept_anew state (forgotten query) queries seats state.scan) (forgotten query accepted) entry.extent
+          (ap (λ t. (cond {A = Accepted} t (record accepted { groups = None }) accepted).groups) (eq-eqb accepted.number query same)),
+      λ opens. absurd (let both : true ≡ false = sym opens ∙ is_lost.closed in cc),
+      (lives-as state accepted of_query entry found).2,
+    ))
+    (λ entry found apart.
+    subst (λ given. LivesAs (tables_of state) seats state.scan accepted given entry)
+    (sym (ap (λ t. cond {A = Accepted} t (record accepted { groups = None }) accepted) (ne_eqb accepted.number query apart))) (
+      kept-with (tables_of state) state.seats seats state.scan state.scan stay accepted entry.extent entry.life refl refl
+          (lives-as state accepted of_query entry found).0,
+      (lives-as state accepted of_query entry found).1,
+      (lives-as state accepted of_query entry found).2,
+    ))) sound.queries)
+    (record {
+      lives = lives;
+      count = sound.slots.count;
+      built = λ slot holder built low held.
+          life-written (λ now. IsTrue (gets_rows now) → (dimension : ℕ) → Has state.lives.filters dimension → Has built dimension)
+          query old lost state.lives.queries holder was
+          (λ h gets. absurd (let both : true ≡ false = sym gets ∙ is_lost.gets in cc)) (sound.slots.built slot holder built low held);
+    }) sound_seats sound
   where
     queries : List QueryLife
     queries = with_life query lost state.lives.queries

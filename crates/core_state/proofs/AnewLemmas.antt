@@ -1,5 +1,5 @@
 -- What stays sound where other groups are kept of accepted queries, and lives and seats are others.
-use Rattle.core_state.proofs.Words.{◌∙◌, ◌∷◌, ◌≡◌, [], Accepted, accepted_at, All, All-map, ap, AreSoundFilters, AreSoundHands, AreSoundQueries, arith, Bool, cond, Contains, Contains-get_or, Encodes, eqb, false, Filter, FitsSlot, Flight, forgotten, frame_words, get_or, Grouped, HasAccepted, Held, IfSome, IsSomeAnd, IsSoundAccepted, IsSoundBatch, IsSoundHand, IsSoundQuery, length, life_in, List, map, MayBeOnRoster, None, Option, option_map, Query, query_in, QueryLife, refl, rows_in, Scan, Seat, slot_at, SlotState, Some, State, Store, subst, sym, tables_of, true, ℕ}
+use Rattle.core_state.proofs.Words.{◌∙◌, ◌∷◌, ◌≡◌, [], Accepted, accepted_at, All, All-map, ap, AreSoundFilters, AreSoundHands, AreSoundQueries, AreSoundSeats, AreSoundSlots, arith, Bool, cond, Contains, Contains-get_or, Encodes, eqb, false, Filter, FitsSlot, Flight, forgotten, frame_words, get_or, Grouped, HasAccepted, Held, IfSome, IsSomeAnd, IsSound, IsSoundAccepted, IsSoundBatch, IsSoundHand, IsSoundQuery, length, life_in, List, map, MayBeOnRoster, None, Option, option_map, Query, query_in, QueryLife, refl, rows_in, Scan, Seat, slot_at, SlotState, Some, State, Store, subst, sym, tables_of, true, ℕ}
 use Rattle.core_state.proofs.FrameLemmas.{batches-with, filter-with, LivesAs, query-with}
 
 -- a change of what is kept of accepted queries, and of nothing else of them
@@ -134,3 +134,24 @@ queries-anew state change keeps queries seats scan same each old = record {
   where
     Sound : Accepted → Type 0
     Sound = IsSoundAccepted state.numbers.statement (tables_of state) queries seats scan
+
+-- a core is sound with other lives, other seats and other groups where its queries, slots and seats are
+pub sound-anew : (state : State) (change : Accepted → Accepted) → KeepsAsked change → (queries : List QueryLife) (seats : List Seat)
+    → ((number : ℕ) → IfSome (life_in state.lives.queries number) MayBeOnRoster → IfSome (life_in queries number) MayBeOnRoster)
+    → length seats ≡ length state.seats → AreSoundQueries (kept_anew state change queries seats state.scan)
+    → AreSoundSlots (kept_anew state change queries seats state.scan) → AreSoundSeats (kept_anew state change queries seats state.scan)
+    → IsSound state → IsSound (kept_anew state change queries seats state.scan)
+sound-anew state change keeps queries seats stays count sound_queries slots sound_seats sound = record {
+  settings = sound.settings;
+  filters = filters-anew state change keeps queries seats state.scan sound.filters;
+  batches = batches-anew state change keeps queries state.scan.flights stays sound.batches;
+  hands = hands-anew state change queries seats state.scan count (record { each = sound.hands.each; one = sound.hands.one });
+  queries = sound_queries;
+  slots = slots;
+  store = sound.store;
+  quiet = λ none. (ap (map change) (sound.quiet none).0, (sound.quiet none).1, (sound.quiet none).2);
+  numbers = record { apart = sound.numbers.apart; given = sound.numbers.given };
+  scan = record { frames = sound.scan.frames; position = sound.scan.position };
+  order = sound.order;
+  seats = sound_seats;
+}

@@ -95,7 +95,7 @@ beside-later state seats statement accepted queries count still sound_queries li
   store = old.store;
   quiet = quiet;
   scan = record { frames = old.scan.frames; position = old.scan.position };
-  order = record { tallies = old.order.tallies; count = old.order.count; order = old.order.order };
+  order = old.order;
 }
   where
     low : (slot query built : ℕ) → slot < length state.lives.slots → slot_at state.lives slot ≡ Held query built → query ≤ state.numbers.statement

@@ -130,7 +130,7 @@ sound-cut settles state can sound = record {
     frames = let some = can.frame in let old = sound.scan.frames in let more = length_push state.scan.flights (cut_flight state) in omega arith;
     position = range.last;
   };
-  order = record { tallies = sound.order.tallies; count = sound.order.count; order = sound.order.order };
+  order = sound.order;
   seats = seats-held state (queries_after state) state.lives.slots state.filters (scan_after state) (numbers_after state) refl (wanted-cut state) sound.seats;
 }
   where

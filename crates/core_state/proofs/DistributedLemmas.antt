@@ -119,7 +119,7 @@ sound-landed folds batch flight state there of_batch through sound = record {
         omega arith;
     position = sound.scan.position;
   };
-  order = record { tallies = sound.order.tallies; count = sound.order.count; order = sound.order.order };
+  order = sound.order;
   seats = seats-anew state change keeps queries state.seats scan refl (λ seat. refl)
       (λ k d low. seat-anew state change keeps queries (get_or state.seats k d) (λ j p inside h. h) (λ number h. h)
       (sound.seats.each k d low)) sound.seats;

@@ -85,3 +85,8 @@ same-life queries query number old entry was found same =
 pub no-life : (queries : List QueryLife) → map (λ entry. entry.query) queries ≡ [] → (query : ℕ) → life_in queries query ≡ None
 no-life [] none query = refl
 no-life (entry ∷ queries) none query = cc
+
+-- what two facts of an element give
+pub both-some : {X : Type 0} (P Q R : X → Type 0) (o : Option X) → ((x : X) → P x → Q x → R x) → IfSome o P → IfSome o Q → IfSome o R
+both-some P Q R None all p q = tt
+both-some P Q R (Some x) all p q = all x p q

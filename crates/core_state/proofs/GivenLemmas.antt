@@ -2,6 +2,7 @@
 use Rattle.core_state.proofs.Words.{◌+◌, ◌<◌, ◌∙◌, ◌∷◌, ◌≡◌, ◌≢◌, [], Accepted, accepted_at, AcceptsAll, after_give, All, All-contains, All-map, all_at, AllPairs, AllPairs-cons, arith, bits_left_at, Bool, Change, changes_of, cond, cons_option, Contains, empty_store, Encodes, eqb, false, Filter, find, Flight, frame_words, get_or, given_back, Hand, held_by, IfSome, is_held_by, IsMatched, IsOnRoster, IsOver, IsSettled, IsSome, IsSound, IsSoundBatch, IsSoundHand, IsSoundQuery, IsSoundRow, length, length-map-range_with_len, List, map, None, OnRoster, Option, option_map, option_map_or, passed_by, PlainVersion, refl, rows_in, slice_get, Some, State, store_of, subst, suc, tables_of, tallies_after, Tally, true, zero, ℕ}
 use Rattle.core_state.proofs.AcceptedLemmas.{accepted-on, find-holds, held-accepted}
 use Rattle.core_state.proofs.FlownLemmas.{Flies, KeepsPlace, flown, sound-flown}
+use Rattle.core_state.proofs.FoundLemmas.{both-some}
 use Rattle.core_state.proofs.GiveLemmas.{SaysByKey, bits-given, given-bits}
 use Rattle.core_state.proofs.KeyedLemmas.{filter-there, says-by-key}
 use Rattle.core_state.proofs.TakeLemmas.{All-option, All-option_tail, batch-stays, cons-tail, workers}
@@ -32,10 +33,6 @@ hand-says settles state sound flight of_batch hand of_hand entry on version matc
     (rows_in (tables_of state).dimensions hand.version.filter.dimension)) flight.roster entry of_hand.encodes on)
     over.choices ((sound.filters.set hand.version.filter.dimension).0 of_hand.is_filter) matched
 
-both-some : {X : Type 0} (P Q R : X → Type 0) (o : Option X) → IfSome o P → IfSome o Q → ((x : X) → P x → Q x → R x) → IfSome o R
-both-some P Q R None p q all = tt
-both-some P Q R (Some x) p q all = all x p q
-
 -- a batch that has passed the version in its hand is sound
 batch-passed : Settles → (state : State) → IsSound state → (flight : Flight) → IsSoundBatch (frame_words state) (tables_of state) state.lives state.accepted flight
     → (hand : Hand) → IsSoundHand (length state.seats) state.lives.filters (tables_of state) flight hand
@@ -52,15 +49,15 @@ batch-passed settles state sound flight old hand of_hand = record {
       both-some (IsSoundRow state.lives.filters (tables_of state) flight row)
       (λ version. IsMatched (tables_of state).schema (tables_of state).dimensions version.row version.begin)
       (IsSoundRow state.lives.filters (tables_of state) (record flight { rows = passed_by filter flight.rows; hand = None }) row)
-      (slice_get (tables_of state).versions (flight.rows.first + row)) (old.rows row low)
-      (all_at (λ version. IsMatched (tables_of state).schema (tables_of state).dimensions version.row version.begin) (tables_of state).versions
-      (flight.rows.first + row) settled.versions.matched)
+      (slice_get (tables_of state).versions (flight.rows.first + row))
       (λ version of_row matched. record {
         keys = of_row.keys;
         bits = λ entry on. bits-given state flight filter row version entry inside there of_hand.is_filter on
             (hand-says settles state sound flight old hand of_hand entry on version matched) of_row;
         others = λ slot has. of_row.others slot ((given-bits filter flight.rows.keys flight.rows.bits row slot inside).0 has).0;
-      });
+      }) (old.rows row low)
+      (all_at (λ version. IsMatched (tables_of state).schema (tables_of state).dimensions version.row version.begin) (tables_of state).versions
+      (flight.rows.first + row) settled.versions.matched);
 }
   where
     filter : Filter

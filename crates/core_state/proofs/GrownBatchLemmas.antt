@@ -39,9 +39,7 @@ batch-grown state entries sound settled grows flight old = record {
   bits = old.bits;
   keys = old.keys;
   room = old.room;
-  roster = λ k d low.
-      let on = old.roster k d low in
-      record { there = on.there; held = on.held; life = on.life; same = on.same };
+  roster = old.roster;
   slots = old.slots;
   rows = λ row low.
       let position = flight.rows.first + row in

@@ -44,7 +44,6 @@ encodes-grown before after filter slot query snapshot grows low =
 
 fits-grown : (state : State) (entries : List Entry) → IsSound state → Grows (tables_of state) (tables_by entries) → (filter : Filter) (slot : ℕ)
     (holder : SlotState) → FitsSlot state.accepted (tables_of state) filter slot holder → FitsSlot state.accepted (tables_by entries) filter slot holder
-fits-grown state entries sound grows filter slot Free fits = fits
 fits-grown state entries sound grows filter slot (Held query built) fits = (
   λ has. some-by
       (λ accepted. Encodes filter slot accepted.query accepted.snapshot (rows_in (tables_by entries).dimensions filter.dimension))
@@ -55,7 +54,7 @@ fits-grown state entries sound grows filter slot (Held query built) fits = (
       (accepted_at state.accepted query) accepted found (fits.0 has))),
   fits.1,
 )
-fits-grown state entries sound grows filter slot (Clearing left) fits = fits
+fits-grown state entries sound grows filter slot other fits = fits
 
 filter-grown : (state : State) (entries : List Entry) → IsSound state → Grows (tables_of state) (tables_by entries) → (filter : Filter)
     → IsSoundFilter state.accepted (tables_of state) state.lives.slots state.lives.filters filter → IsSoundFilter state.accepted (tables_by entries) state.lives.slots state.lives.filters filter

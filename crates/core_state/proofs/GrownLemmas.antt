@@ -38,7 +38,7 @@ sound-grown settles not_seen seat statement change state of_rows accepted sound 
       (accepts-more empty_store (changes_of state.entries) change sound.store accepted);
   quiet = λ none. sound.quiet (ap (λ schema. schema.fact) (sym grows.schema) ∙ none);
   scan = record { frames = sound.scan.frames; position = let low = sound.scan.position in let longer = grows.longer in omega arith };
-  order = record { tallies = sound.order.tallies; count = sound.order.count; order = sound.order.order };
+  order = sound.order;
 }
   where
     entry : Entry

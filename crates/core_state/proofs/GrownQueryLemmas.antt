@@ -3,6 +3,7 @@ use Rattle.core_state.proofs.Words.{◌++◌, ◌<◌, ◌↔◌, ◌∙◌, ◌
 use Rattle.star_plan.specs.Joined.{kept_of}
 use Rattle.pipeline_manager.specs.declared.life.Life.TheVariants as life
 use Rattle.star_history.proofs.LoadedLemmas.{all_front}
+use Rattle.core_state.proofs.FoundLemmas.{both-some}
 use Rattle.core_state.proofs.GrownFilterLemmas.{entered}
 use Rattle.core_state.proofs.GrownKeyLemmas.{version-joined}
 use Rattle.core_state.proofs.GrownRowsLemmas.{Grows, StaysThere}
@@ -130,10 +131,6 @@ came-grown before after snapshot extent grows low within came position = ⊎_eli
     (λ past. IfSome_then (slice_get after.versions position) (grows.new position past)
     (λ version later. (λ early. absurd (omega arith), λ inside. absurd (omega arith))))
     (cases_lt position (length before.versions))
-
-both-some : {X : Type 0} (P Q R : X → Type 0) (o : Option X) → ((x : X) → P x → Q x → R x) → IfSome o P → IfSome o Q → IfSome o R
-both-some P Q R None all p q = tt
-both-some P Q R (Some x) all p q = all x p q
 
 query-grown : (state : State) (entries : List Entry) → Grows (tables_of state) (tables_by entries) → KeepsKept (tables_of state) (tables_by entries)
     → (accepted : Accepted) → IsSoundQuery state accepted → IsSoundQuery (entered state entries) accepted

@@ -201,6 +201,6 @@ sound-taken worker batch state can sound =
             (sound.hands.each k d low));
         one = one-each worker batch state.filters flights (find-none (found.is_held_by worker) flights can.empty) sound.numbers.apart sound.hands.one;
       };
-      order = record { tallies = sound.order.tallies; count = sound.order.count; order = sound.order.order };
+      order = sound.order;
     } in
     sound-flown state state.filters.tallies change flies sound

@@ -4,7 +4,7 @@ use Rattle.pipeline_manager.specs.declared.life.Life.TheVariants as life
 use Rattle.core_state.specs.Submitting.{asked_by}
 use Rattle.core_state.proofs.AcceptedLemmas.{number-found}
 use Rattle.core_state.proofs.FoundLemmas.{life-found, some-at, some-by}
-use Rattle.core_state.proofs.AnewLemmas.{by-change, batches-anew, filters-anew, forgets, hands-anew, kept_anew, queries-anew}
+use Rattle.core_state.proofs.AnewLemmas.{batches-anew, by-change, filters-anew, forgets, hands-anew, kept_anew, queries-anew, sound-anew}
 use Rattle.core_state.proofs.FrameLemmas.{at-set, kept-with, lives-as, LivesAs, StayTaken, Told}
 use Rattle.core_state.proofs.SeatLemmas.{one-seat, part-stays, pending-submitted, pending-there, seat-anew, seats-anew}
 
@@ -70,24 +70,15 @@ sound-with_first : (seat : ℕ) (first : Pending) (rest : List Pending) (state :
     → (get_or state.seats seat empty_seat).pending ≡ first ∷ rest → IfSome (life_in state.lives.queries first.statement) Told → IsSound state
     → IsSound (kept_anew state (forgotten first.statement) state.lives.queries
     (set state.seats seat (with_first first rest (get_or state.seats seat empty_seat))) state.scan)
-sound-with_first seat first rest state is told sound = record {
-  settings = sound.settings;
-  filters = filters-anew state (forgotten first.statement) (forgets first.statement) queries seats state.scan sound.filters;
-  batches = batches-anew state (forgotten first.statement) (forgets first.statement) queries state.scan.flights (λ number on. on) sound.batches;
-  hands = hands-anew state (forgotten first.statement) queries seats state.scan (length-set state.seats seat with) sound.hands;
-  queries = queries-anew state (forgotten first.statement) (forgets first.statement) queries seats state.scan refl
-      (λ accepted among of_query. some-by (LivesAs (tables_of state) seats state.scan accepted (forgotten first.statement accepted)) (query_in queries accepted.number)
-      (λ entry found. lives accepted among of_query entry found (cases_eq accepted.number first.statement))) sound.queries;
-  slots = record { lives = sound.slots.lives; count = sound.slots.count; built = sound.slots.built };
-  store = sound.store;
-  quiet = λ none. (ap (map (forgotten first.statement)) (sound.quiet none).0, (sound.quiet none).1, (sound.quiet none).2);
-  numbers = record { apart = sound.numbers.apart; given = sound.numbers.given };
-  scan = record { frames = sound.scan.frames; position = sound.scan.position };
-  order = record { tallies = sound.order.tallies; count = sound.order.count; order = sound.order.order };
-  seats = seats-anew state (forgotten first.statement) (forgets first.statement) queries seats state.scan (length-set state.seats seat with)
-      (part-stays (λ (s : Seat). s.submitted) state.seats seat with there refl)
-      (λ k d low. each k d (subst (λ n. k < n) (length-set state.seats seat with) low)) sound.seats;
-}
+sound-with_first seat first rest state is told sound =
+    sound-anew state (forgotten first.statement) (forgets first.statement) queries seats (λ number on. on) (length-set state.seats seat with)
+    (queries-anew state (forgotten first.statement) (forgets first.statement) queries seats state.scan refl
+    (λ accepted among of_query. some-by (LivesAs (tables_of state) seats state.scan accepted (forgotten first.statement accepted)) (query_in queries accepted.number)
+    (λ entry found. lives accepted among of_query entry found (cases_eq accepted.number first.statement))) sound.queries)
+    (record { lives = sound.slots.lives; count = sound.slots.count; built = sound.slots.built })
+    (seats-anew state (forgotten first.statement) (forgets first.statement) queries seats state.scan (length-set state.seats seat with)
+    (part-stays (λ (s : Seat). s.submitted) state.seats seat with there refl)
+    (λ k d low. each k d (subst (λ n. k < n) (length-set state.seats seat with) low)) sound.seats) sound
   where
     queries : List QueryLife
     queries = state.lives.queries
