@@ -1,11 +1,11 @@
 -- A query that loses its answer keeps a core sound.
-use Rattle.core_state.proofs.Words.{◌<◌, ◌∙◌, ◌≡◌, ◌≢◌, [], Accepted, accepted_at, after_abandoning, after_build_wants, All-weaker, ap, AreSoundSeats, arith, CanAbandon, CanSpoil, cases_lt, cond, Contains, empty_seat, eq-eqb, eqb, eqb-true, false, filter_passes, forgotten, get_or, get_or_default, get_or_past, gets_rows, Has, IfSome, is_begun, is_open, IsKept, IsSound, IsSoundSeat, IsTrue, length, length-set, Life, life_in, life_in-other, List, map, MayBeOnRoster, ne_eqb, None, not, Option, option_map_or, QueryLife, refl, Seat, seat_at, set, Some, State, subst, sym, tables_of, true, with_life, without_pending, ℕ, ⊎_elim}
+use Rattle.core_state.proofs.Words.{◌<◌, ◌∙◌, ◌≡◌, ◌≢◌, Accepted, accepted_at, after_abandoning, after_build_wants, All-weaker, ap, AreSoundSeats, arith, CanAbandon, CanSpoil, cases_lt, cond, Contains, empty_seat, eq-eqb, eqb, eqb-true, false, filter_passes, forgotten, get_or, get_or_default, gets_rows, Has, IfSome, is_begun, is_open, IsKept, IsSound, IsSoundSeat, IsTrue, length, length-set, Life, life_in, life_in-other, List, map, MayBeOnRoster, ne_eqb, None, not, Option, option_map_or, QueryLife, refl, Seat, seat_at, set, Some, State, subst, sym, tables_of, true, with_life, without_pending, ℕ, ⊎_elim}
 use Rattle.pipeline_manager.specs.Sound as managed
 use Rattle.pipeline_manager.specs.declared.life.Life.TheVariants as life
 use Rattle.pipeline_manager.proofs.CallLemmas.{sound-after_abandon, sound-after_spoil}
 use Rattle.core_state.proofs.AcceptedLemmas.{find-holds}
 use Rattle.core_state.proofs.FoundLemmas.{find-passes, life-written, with_life-found, with_life-numbers}
-use Rattle.core_state.proofs.AnewLemmas.{batches-anew, filters-anew, forgets, hands-anew, kept_anew, queries-anew, sound-anew}
+use Rattle.core_state.proofs.AnewLemmas.{forgets, kept_anew, queries-anew, sound-anew}
 use Rattle.core_state.proofs.FrameLemmas.{at-set, awaited-there, kept-with, lives-as, LivesAs, StayTaken, Told, Wanted}
 use Rattle.core_state.proofs.SeatLemmas.{part-stays, seat-anew, seat-fewer, seat-there, seats-anew}
 

@@ -1,20 +1,14 @@
 -- The other events leave as it is what a distributor has.
-use Rattle.core_state.proofs.Words.{◌+◌, ◌-◌, ◌<◌, ◌∙◌, ◌≡◌, ◌≢◌, [], Accepted, accepted_at, after_build, after_clear, after_cutting, after_give, after_outcome, after_release, after_reserving, ap, attached_to, Build, cases_eq, Change, Clear, covered, Cut, cut_life, DimensionDeclared, end_in, Event, false, filter_with, first_in, Flight, Free, get_or-set_other, get_or-set_same, gets_rows, Give, given_back, grouped_of, Held, holder_of, is_held_by, IsEnabled, IsSound, length, length-set, life_in-cut, Lives, MayReserve, None, oldest-waits, Option, option_map, option_map_or, outcome_of, query_in, query_in-push_other, QueryLife, refl, Release, Reorder, Reserve, rows_in, selection_in, set, slot_at, slot_of, SlotState, Some, State, Submit, subst, sym, tables_of, Take, tallies_after, Told, versions_in, with_built, with_change, with_dimension, with_flight, with_life, with_query, with_slot, with_version, without_dimension, ℕ, ⊎_elim}
-use Rattle.std.proofs.Common.{find}
-use Rattle.star_statement.specs.Outcome as outcome
+use Rattle.core_state.proofs.Words.{◌-◌, ◌∙◌, ◌≡◌, after_cutting, after_reserving, ap, attached_to, Build, cases_eq, Clear, covered, Cut, cut_life, end_in, Event, false, first_in, Free, get_or-set_other, get_or-set_same, gets_rows, Give, Held, holder_of, IsEnabled, IsSound, length-set, life_in-cut, Lives, MayReserve, None, oldest-waits, Option, option_map, option_map_or, outcome_of, query_in, QueryLife, refl, Release, Reorder, Reserve, set, slot_at, Some, State, Submit, subst, sym, tables_of, Take, with_life, ℕ, ⊎_elim}
 use Rattle.pipeline_manager.specs.Changes.{after_cut}
 use Rattle.pipeline_manager.specs.declared.life.Life.TheVariants as life
 use Rattle.core_state.specs.Events.{after_event}
 use Rattle.core_state.specs.Handed.{LeavesAttached}
-use Rattle.core_state.proofs.AskLemmas.{accepted-push}
 use Rattle.core_state.proofs.AttachedFrameLemmas.{attached-held, attached-same, gets-written, kept-none, slot-same}
 use Rattle.core_state.proofs.CutLifeLemmas.{cut-cases}
-use Rattle.core_state.proofs.FrameLemmas.{at-set}
 use Rattle.core_state.proofs.HandedAfterLemmas.{kept_by}
 use Rattle.core_state.proofs.HandedSlotLemmas.{gets}
 use Rattle.core_state.proofs.ViewLemmas.{attached-views, views-build, views-clear, views-give, views-outcome, views-release}
-use Rattle.core_state.proofs.WholeFrameLemmas.{by-option}
-use Rattle.core_state.proofs.WholeToldLemmas.{seated}
 
 -- a query that is given a slot gets no rows yet
 attached-reserve : (state : State) (query slot : ℕ) → IsSound state → MayReserve query slot state

@@ -1,6 +1,6 @@
 -- A batch that a worker gives back keeps a core sound.
-use Rattle.core_state.proofs.Words.{◌+◌, ◌<◌, ◌∙◌, ◌∷◌, ◌≡◌, ◌≢◌, [], Accepted, accepted_at, AcceptsAll, after_give, All, All-contains, All-map, all_at, AllPairs, AllPairs-cons, arith, bits_left_at, Bool, Change, changes_of, cond, cons_option, Contains, empty_store, Encodes, eqb, false, Filter, find, Flight, frame_words, get_or, given_back, Hand, held_by, IfSome, is_held_by, IsMatched, IsOnRoster, IsOver, IsSettled, IsSome, IsSound, IsSoundBatch, IsSoundHand, IsSoundQuery, IsSoundRow, length, length-map-range_with_len, List, map, None, OnRoster, Option, option_map, option_map_or, passed_by, PlainVersion, refl, rows_in, slice_get, Some, State, store_of, subst, suc, tables_of, tallies_after, Tally, true, zero, ℕ}
-use Rattle.core_state.proofs.AcceptedLemmas.{accepted-on, find-holds, held-accepted}
+use Rattle.core_state.proofs.Words.{◌+◌, ◌<◌, ◌∙◌, ◌∷◌, ◌≡◌, ◌≢◌, [], AcceptsAll, after_give, All, All-contains, All-map, all_at, AllPairs, AllPairs-cons, arith, bits_left_at, Bool, Change, changes_of, cond, cons_option, Contains, empty_store, Encodes, eqb, false, Filter, find, Flight, frame_words, get_or, given_back, Hand, held_by, IfSome, is_held_by, IsMatched, IsOnRoster, IsOver, IsSettled, IsSome, IsSound, IsSoundBatch, IsSoundHand, IsSoundQuery, IsSoundRow, length, length-map-range_with_len, List, map, None, OnRoster, Option, option_map, option_map_or, passed_by, PlainVersion, refl, rows_in, slice_get, Some, State, store_of, subst, suc, tables_of, tallies_after, Tally, true, zero, ℕ}
+use Rattle.core_state.proofs.AcceptedLemmas.{accepted-on, find-holds}
 use Rattle.core_state.proofs.FlownLemmas.{Flies, KeepsPlace, flown, sound-flown}
 use Rattle.core_state.proofs.FoundLemmas.{both-some}
 use Rattle.core_state.proofs.GiveLemmas.{SaysByKey, bits-given, given-bits}

@@ -1,6 +1,6 @@
 -- Filters and hands stay sound where the tables grow.
-use Rattle.core_state.proofs.Words.{◌<◌, ◌↔◌, ◌∙◌, ◌≡◌, ◌≤◌, Accepted, accepted_at, ap, AreSoundFilters, AreSoundHands, arith, Clearing, Contains, DimensionRow, Encodes, Entry, eqb, false, Filter, filter_dimensions, FitsSlot, Flight, Free, get_or, Hand, Has, Held, IfSome, IfSome_then, IsOnRoster, IsSome, IsSound, IsSoundFilter, IsSoundHand, IsSoundQuery, IsTrue, length, length-append, List, None, OnRoster, Option, Query, refl, rows_in, selection_in, slot_at, SlotState, Some, State, Store, subst, sym, tables_by, tables_of, takes, true, vector_of, ℕ}
-use Rattle.core_state.proofs.AcceptedLemmas.{accepted-on, find-holds, held-accepted}
+use Rattle.core_state.proofs.Words.{◌<◌, ◌↔◌, ◌∙◌, ◌≡◌, ◌≤◌, Accepted, accepted_at, ap, AreSoundFilters, AreSoundHands, arith, Contains, DimensionRow, Encodes, Entry, eqb, Filter, filter_dimensions, FitsSlot, Flight, get_or, Hand, Has, Held, IfSome_then, IsOnRoster, IsSound, IsSoundFilter, IsSoundHand, IsSoundQuery, IsTrue, length, length-append, List, OnRoster, Query, rows_in, selection_in, slot_at, SlotState, Some, State, Store, subst, sym, tables_by, tables_of, takes, vector_of, ℕ}
+use Rattle.core_state.proofs.AcceptedLemmas.{accepted-on, find-holds}
 use Rattle.core_state.proofs.FoundLemmas.{some-at, some-by}
 use Rattle.core_state.proofs.GrownRowsLemmas.{Behind, Grows, some-behind}
 

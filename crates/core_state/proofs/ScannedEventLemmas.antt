@@ -1,13 +1,11 @@
 -- Events that leave a scan as it is.
-use Rattle.core_state.proofs.Words.{◌∙◌, ◌∷◌, ◌≡◌, [], Accepted, accepted_at, after_build, after_clear, after_finish, after_give, after_release, after_reserving, after_taking, ap, Bool, CanFree, Clearing, cond, false, filter_with, Flight, forgotten, Free, given_back, given_up, Held, holder_of, inl, inr, is_ending, is_held_by, IsScannedAs, IsSound, length, length-set, Life, life_in, life_of, List, Lives, map, MayFinish, MayReserve, None, oldest-waits, Option, option_and_then, option_map_or, Pending, QueryLife, refl, rows_in, Scanning, seat_at, selection_in, set, slot_at, slot_of, SlotState, Some, start_in, State, subst, sym, tables_of, take, tallies_after, true, with_built, with_dimension, with_flight, with_life, with_slot, with_version, without_dimension, without_groups, ℕ}
-use Rattle.std.proofs.Common.{find}
+use Rattle.core_state.proofs.Words.{◌∙◌, ◌∷◌, ◌≡◌, [], Accepted, after_finish, after_reserving, after_taking, ap, Bool, Clearing, cond, false, forgotten, Free, given_up, Held, holder_of, inl, inr, is_ending, IsScannedAs, IsSound, length-set, Life, life_in, life_of, List, Lives, map, MayFinish, MayReserve, None, oldest-waits, Option, option_and_then, option_map_or, Pending, QueryLife, refl, Scanning, seat_at, set, slot_at, SlotState, Some, start_in, State, subst, sym, take, true, with_life, without_groups, ℕ}
 use Rattle.pipeline_manager.specs.Conditions.{IsOver, gives_up}
 use Rattle.pipeline_manager.specs.declared.life.Life.TheVariants as life
 use Rattle.core_state.proofs.AnewLemmas.{forgets}
 use Rattle.core_state.proofs.FrameLemmas.{at-set}
 use Rattle.core_state.proofs.ScannedFrameLemmas.{StaysBy, found-kept, scanned-stays, start_by, written-rests, written-stays}
 use Rattle.core_state.proofs.ScannedRunLemmas.{found_by}
-use Rattle.core_state.proofs.WholeFrameLemmas.{by-option}
 
 pub scanned-reserve : (state : State) (scan : Scanning) (query slot : ℕ) → IsSound state → MayReserve query slot state → IsScannedAs state scan
     → IsScannedAs (after_reserving slot state) scan

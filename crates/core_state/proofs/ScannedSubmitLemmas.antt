@@ -1,20 +1,12 @@
 -- A scan of an empty core, and each event that leaves a scan.
-use Rattle.core_state.proofs.Words.{◌++◌, ◌+◌, ◌<◌, ◌∙◌, ◌∷◌, ◌≡◌, ◌≢◌, [], Accepted, accepted_at, after_outcome, after_reorder, after_take, ap, arith, Build, Change, Clear, DimensionDeclared, Distribute, empty_core, Ended, entry_of, eqb, eqb-true, Event, extent_in, FactDeclared, false, Finish, Free, get_or, get_or-replicate, Give, grouped_of, Held, holder_of, inl, inr, IsEnabled, IsScannedAs, IsSome, IsSound, IsSoundQuery, length, length-replicate, List, Lives, Loaded, None, OnRoster, Option, option_map, option_map_or, outcome_of, query_in-push_other, QueryLife, refl, Release, Reorder, replicate, Reserve, RunSettings, Scanning, slot_at, Some, State, Submit, subst, sym, tables_of, Take, Told, true, versions_in, with_change, with_query, ℕ}
-use Rattle.star_statement.specs.Outcome as outcome
-use Rattle.pipeline_manager.specs.declared.life.Life.TheVariants as life
+use Rattle.core_state.proofs.Words.{◌<◌, ◌∙◌, ◌≡◌, [], after_reorder, after_take, arith, Build, Clear, Distribute, empty_core, Event, Finish, Free, get_or, get_or-replicate, Give, holder_of, IsEnabled, IsScannedAs, IsSound, length, length-replicate, None, outcome_of, refl, Release, Reorder, replicate, Reserve, RunSettings, Scanning, State, Submit, subst, sym, tables_of, Take}
 use Rattle.continuous_scan.specs.Range.{new_scan}
 use Rattle.core_state.specs.Events.{after_event}
 use Rattle.core_state.specs.Scanned.{LeavesScan}
-use Rattle.core_state.proofs.AcceptedLemmas.{find-holds, held-accepted}
-use Rattle.core_state.proofs.AskLemmas.{accepted-push}
-use Rattle.core_state.proofs.FoundLemmas.{find-passes}
 use Rattle.core_state.proofs.ScannedCutLemmas.{RunsBy}
 use Rattle.core_state.proofs.ScannedEventLemmas.{scanned-finish, scanned-reserve}
-use Rattle.core_state.proofs.ScannedFrameLemmas.{StaysBy, scanned-stays}
-use Rattle.core_state.proofs.ScannedLifeLemmas.{holder-held}
 use Rattle.core_state.proofs.ScannedOverLemmas.{scanned-distribute}
 use Rattle.core_state.proofs.ViewLemmas.{scanned-views, views-all, views-build, views-clear, views-give, views-outcome, views-release}
-use Rattle.core_state.proofs.WholeToldLemmas.{seated}
 
 -- each event that leaves a scan
 pub scanned-event : (state : State) (scan : Scanning) (event : Event) → IsSound state → IsEnabled state event → LeavesScan event

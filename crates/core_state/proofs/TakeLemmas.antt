@@ -1,12 +1,12 @@
 -- A batch that is taken into a hand keeps a core sound.
-use Rattle.core_state.proofs.Words.{◌+◌, ◌<◌, ◌∙◌, ◌∷◌, ◌≡◌, ◌≢◌, [], Accepted, accepted_at, after_take, All, All-cons, All-head, All-map, All-nil, All-tail, AllPairs, AllPairs-cons, ap, arith, Bool, cond, cons_option, DimensionRow, Encodes, eq-eqb, eqb, eqb-true, false, Filter, filter_map, Filters, FilterVersion, find, FitsSlot, Flight, frame_words, get_or, Hand, has_passed, IfSome, IfSome_then, IsOnRoster, IsSome, IsSound, IsSoundBatch, IsSoundFilter, IsSoundHand, length, List, Lives, map, MayTake, ne_eqb, None, OnRoster, Option, option_map, option_map_or, refl, rows_in, slice_get, Some, State, Store, subst, suc, sym, tables_of, true, version_at, zero, ℕ}
+use Rattle.core_state.proofs.Words.{◌+◌, ◌<◌, ◌∙◌, ◌∷◌, ◌≡◌, ◌≢◌, [], Accepted, accepted_at, after_take, All, All-cons, All-head, All-map, All-nil, All-tail, AllPairs, AllPairs-cons, ap, arith, Bool, cond, cons_option, DimensionRow, Encodes, eq-eqb, eqb, eqb-true, false, Filter, filter_map, Filters, FilterVersion, find, FitsSlot, Flight, frame_words, get_or, Hand, has_passed, IfSome, IfSome_then, IsOnRoster, IsSound, IsSoundBatch, IsSoundFilter, IsSoundHand, length, List, Lives, map, MayTake, ne_eqb, None, OnRoster, Option, option_map, option_map_or, refl, rows_in, slice_get, Some, State, Store, subst, suc, sym, tables_of, true, version_at, zero, ℕ}
 use Rattle.std.specs.Prelude.{not}
 use Rattle.std.proofs.lemmas.Option.{option_and_then_some}
 use Rattle.core_state.specs.Found as found
 use Rattle.core_state.specs.Found.{next_filter}
 use Rattle.core_state.proofs.FlownLemmas.{Flies, KeepsPlace, sound-flown}
 use Rattle.core_state.proofs.FoundLemmas.{find-passes, some-at}
-use Rattle.core_state.proofs.AcceptedLemmas.{accepted-on, find-holds, find-none, held-accepted}
+use Rattle.core_state.proofs.AcceptedLemmas.{accepted-on, find-holds, find-none}
 
 -- the present version of a filter has the queries of a roster
 pub encodes-there : (state : State) → IsSound state → (filter : Filter) → IsSoundFilter state.accepted (tables_of state) state.lives.slots state.lives.filters filter → (entry : OnRoster) → IsOnRoster state.lives state.accepted entry

@@ -1,10 +1,10 @@
 -- A reply that is taken keeps a core sound.
-use Rattle.core_state.proofs.Words.{◌++◌, ◌<◌, ◌∙◌, ◌∷◌, ◌≡◌, ◌≢◌, ◌⊎◌, [], Accepted, after_taking, All, All-contains, All-head, All-push, All-tail, AllPairs, ap, append_assoc, AreSoundQueries, Asked, Awaited, cases_eq, cases_lt, cond, Contains, Contains-append_left, Contains-push, drop, empty_seat, eq-eqb, eqb, false, forgotten, get_or, get_or-set_other, get_or-set_same, get_or_past, HasTaken, IfSome, inl, inr, is_open, is_some, IsAwaited, IsKept, IsSome, IsSound, IsSoundQuery, IsSoundSeat, IsTaken, length, length-set, Life, life_in, List, list_any, map, map-append, ne_eqb, next_ready, None, Option, option_and_then, option_map, Pending, query_in, QueryLife, ready_by, ready_to, refl, Replied, Seat, set, slice_get, Some, State, subst, sym, tables_of, take, Taken, taken_by, true, without_groups, ℕ, ⊎_elim}
+use Rattle.core_state.proofs.Words.{◌++◌, ◌<◌, ◌∙◌, ◌∷◌, ◌≡◌, ◌≢◌, ◌⊎◌, [], Accepted, after_taking, All, All-contains, All-head, All-push, All-tail, AllPairs, ap, append_assoc, AreSoundQueries, Asked, Awaited, cases_eq, cond, Contains, Contains-append_left, Contains-push, drop, empty_seat, eq-eqb, eqb, false, forgotten, get_or, get_or-set_other, get_or-set_same, HasTaken, IfSome, inl, inr, is_open, is_some, IsAwaited, IsKept, IsSome, IsSound, IsSoundQuery, IsSoundSeat, IsTaken, length, length-set, Life, life_in, List, list_any, map, map-append, ne_eqb, next_ready, None, Option, option_and_then, option_map, Pending, query_in, QueryLife, ready_by, ready_to, refl, Replied, Seat, set, slice_get, Some, State, subst, sym, tables_of, take, Taken, taken_by, true, without_groups, ℕ, ⊎_elim}
 use Rattle.pipeline_manager.specs.declared.life.Life.TheVariants as life
 use Rattle.core_state.specs.Submitting.{asked_by}
 use Rattle.core_state.proofs.AcceptedLemmas.{number-found}
 use Rattle.core_state.proofs.FoundLemmas.{life-found, some-at, some-by}
-use Rattle.core_state.proofs.AnewLemmas.{batches-anew, by-change, filters-anew, forgets, hands-anew, kept_anew, queries-anew, sound-anew}
+use Rattle.core_state.proofs.AnewLemmas.{by-change, forgets, kept_anew, queries-anew, sound-anew}
 use Rattle.core_state.proofs.FrameLemmas.{at-set, kept-with, lives-as, LivesAs, StayTaken, Told}
 use Rattle.core_state.proofs.SeatLemmas.{one-seat, part-stays, pending-submitted, pending-there, seat-anew, seats-anew}
 

@@ -1,6 +1,6 @@
 -- What events leave of what each slot shows: who holds it, with its life, and what it asked; a scan and a distributor have
 -- what they had where it stays.
-use Rattle.core_state.proofs.Words.{◌+◌, ◌<◌, ◌∙◌, ◌≡◌, ◌≢◌, [], Accepted, accepted_at, after_build, after_clear, after_give, after_outcome, after_release, ap, arith, attached_to, CanFree, Change, Clearing, DimensionDeclared, entry_of, eqb, eqb-true, false, Filter, filter_with, Free, gets_rows, grouped_of, Held, holder_of, inr, is_held_by, IsScannedAs, IsSome, IsSound, IsSoundQuery, length, length-set, life_of, Lives, None, OnRoster, Option, option_and_then, option_map, option_map_or, query_in, query_in-push_other, QueryLife, refl, rows_in, Scanning, selection_in, slot_at, slot_of, SlotState, Some, State, subst, sym, tables_of, true, versions_in, with_built, with_change, with_dimension, with_query, with_slot, with_version, without_dimension, ℕ}
+use Rattle.core_state.proofs.Words.{◌+◌, ◌<◌, ◌∙◌, ◌≡◌, ◌≢◌, [], Accepted, accepted_at, after_build, after_clear, after_give, after_outcome, after_release, ap, arith, attached_to, CanFree, Change, Clearing, DimensionDeclared, entry_of, eqb, eqb-true, false, Filter, Free, gets_rows, grouped_of, Held, holder_of, inr, is_held_by, IsScannedAs, IsSome, IsSound, IsSoundQuery, length, length-set, life_of, Lives, None, OnRoster, Option, option_and_then, option_map, option_map_or, query_in, query_in-push_other, QueryLife, refl, Scanning, slot_at, slot_of, SlotState, Some, State, subst, sym, true, versions_in, with_built, with_change, with_dimension, with_query, with_slot, with_version, without_dimension, ℕ}
 use Rattle.std.proofs.Common.{find}
 use Rattle.star_statement.specs.Outcome as outcome
 use Rattle.pipeline_manager.specs.declared.life.Life.TheVariants as life

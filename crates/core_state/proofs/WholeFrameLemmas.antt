@@ -1,5 +1,5 @@
 -- What each event leaves that no seat sees: all but the lives, the filters, the scan and what is kept.
-use Rattle.core_state.proofs.Words.{◌++◌, ◌+◌, ◌-◌, ◌∙◌, ◌∷◌, ◌≡◌, [], Accepted, accepted_at, after_build, after_build_wants, after_cutting, after_distribute, after_finish, after_give, after_reserving, after_spoil, after_start, All, All-weaker, ap, Bool, CanBuild, CanRun, cond, end_in, eqb, extent_in, false, fed, Filter, filter, filter_with, first_in, first_of, flight_at, fold, forgotten, gets_rows, given_back, HasAccepted, Held, is_held_by, IsFed, IsSomeAnd, IsSound, Life, life_in, List, list_any, map, MayReserve, None, not, oldest-waits, Option, option_map_or, Query, QueryLife, refl, rows_in, selection_in, set, slot_at, slot_of, Some, started, State, subst, sym, tables_of, tallies_after, true, unkept, versions_in, with_built, with_dimension, with_flight, with_life, with_slot, with_version, ℕ}
+use Rattle.core_state.proofs.Words.{◌++◌, ◌+◌, ◌-◌, ◌∙◌, ◌∷◌, ◌≡◌, [], Accepted, accepted_at, after_build, after_build_wants, after_cutting, after_distribute, after_finish, after_give, after_reserving, after_spoil, after_start, All, All-weaker, ap, Bool, CanBuild, CanRun, cond, end_in, eqb, extent_in, false, fed, Filter, filter, first_in, first_of, flight_at, fold, forgotten, gets_rows, given_back, HasAccepted, Held, is_held_by, IsFed, IsSomeAnd, IsSound, Life, life_in, List, list_any, map, MayReserve, None, not, oldest-waits, Option, option_map_or, Query, QueryLife, refl, set, slot_at, slot_of, Some, started, State, subst, sym, tables_of, tallies_after, true, unkept, versions_in, with_built, with_dimension, with_flight, with_life, with_slot, with_version, ℕ}
 use Rattle.std.proofs.Common.{find}
 use Rattle.pipeline_manager.specs.declared.life.Life.TheVariants as life
 use Rattle.core_state.proofs.AnewLemmas.{forgets, has-anew, KeepsAsked}
