@@ -1,6 +1,9 @@
 -- When an event may come, by what the code asks of the batches in flight.
-use Rattle.event_core.proofs.Words.{◌<◌, ◌||◌, ◌∙◌, ◌∷◌, ◌≡◌, ◌≤◌, [], All, All-head, All-tail, ap, arith, bit_at, Bool, CanEnd, cond, eqb, false, find, find_position, Flight, flight_as, flight_at, flights_as, get_or, held_by, IfSome, IsCore, IsSome, IsThrough, IsWanting, Known, known_in, length, length-map, List, list_any, list_any_none, map, MayDistribute, MayFinish, MayTake, None, not, not-true, Option, option_map, option_map_or, Parts, position, Reach, reaches_in, refl, Roomy, slots_of, Some, some-at, state_of, Submitted, subst, sym, Through, true, Wants, ℕ}
-use Rattle.std.proofs.Common.{◌↔◌, is_some, IsTrue}
+use Rattle.event_core.proofs.Words.{◌<◌, ◌||◌, ◌∙◌, ◌∷◌, ◌≡◌, ◌≤◌, [], All, All-head, All-tail, ap, arith, bit_at, Bool, CanEnd, cond, eqb, false, find, find_position, Flight, flight_as, flight_at, flights_as, get_or, held_by, IfSome, IsCore, IsSome, IsThrough, IsWanting, Known, known_in, length, length-map, List, list_any, list_any_none, map, MayCut, MayDistribute, MayFinish, MayTake, None, not, not-true, Option, option_map, option_map_or, Parts, position, Reach, reaches_in, refl, Roomy, slots_of, Some, some-at, state_of, Submitted, subst, sym, Through, true, Wants, ℕ}
+use Rattle.std.proofs.Common.{◌↔◌, is_some, IsTrue, nat_lt}
+use Rattle.std.specs.Prelude.{Any}
+use Rattle.pipeline_manager.specs.Conditions.{IsRunning}
+use Rattle.std.proofs.lemmas.Bool.{lt-ltb, ltb-true}
 use Rattle.std.proofs.lemmas.List.Folds.{find_at}
 use Rattle.std.proofs.lemmas.Option.{slice_get_past}
 use Rattle.core_state.specs.Found.{is_on_roster}
@@ -258,3 +261,21 @@ given-held parts worker flights held same test =
 pub seats-seen : (parts : Parts) (seats : List (Roomy Submitted)) (count : ℕ) → map (λ seat. seat.items) seats ≡ parts.seats
     → count ≡ length seats → count ≡ length parts.seats
 seats-seen parts seats count same is = is ∙ sym (length-map seats (λ (seat : Roomy Submitted). seat.items)) ∙ ap length same
+
+-- where a query runs, a cut may come as far as a frame is free
+pub cut-seen : (parts now : Parts) (free : ℕ) (runs : Bool) → parts ≡ now
+    → IsTrue runs ↔ Any (λ entry. IsRunning entry.life) parts.lives.queries → runs ≡ true → free ≡ length parts.pool.inside
+    → IsTrue (nat_lt 0 free) ↔ MayCut (state_of now)
+cut-seen parts now free runs same exact run counted = subst (λ (one : Parts). IsTrue (nat_lt 0 free) ↔ MayCut (state_of one)) same (
+  λ some. record {
+    running = exact.0 (subst IsTrue (sym run) refl);
+    frame = subst (λ n. 0 < n) counted (ltb-true 0 free some);
+  },
+  λ may. lt-ltb 0 free (subst (λ n. 0 < n) (sym counted) may.frame),
+)
+
+-- where no query runs, none may come
+pub uncut-seen : (parts now : Parts) (runs : Bool) → parts ≡ now
+    → IsTrue runs ↔ Any (λ entry. IsRunning entry.life) parts.lives.queries → runs ≡ false → IsTrue runs ↔ MayCut (state_of now)
+uncut-seen parts now runs same exact idle =
+    subst (λ (one : Parts). IsTrue runs ↔ MayCut (state_of one)) same (λ run. absurd (let never : true ≡ false = sym run ∙ idle in cc), λ may. exact.1 may.running)

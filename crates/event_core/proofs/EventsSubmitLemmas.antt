@@ -1,5 +1,7 @@
 -- What the code makes of a statement that is submitted is what the law says.
 use Rattle.event_core.proofs.Words.{◌++◌, ◌+◌, ◌<◌, ◌∙◌, ◌∷◌, ◌≡◌, [], accepted, after_change, after_submit, after_submitting, All, ap, arith, AskedQuery, attached_to, Becomes, Change, Changed, changed, ChangeKind, changes_of, EndsAscending, entries_as, filter_dimensions, fold, Follows, get_or, get_or-map, grouped_of, IsAsked, IsCore, IsKeyed, IsScannedAs, IsSound, KeyedStore, kind_of_change, known_in, length, length-map, length-set, List, Lives, Logged, logged, map, map-set, None, Ok, Option, option_map, option_map_or, Outcome, outcome_of, Parts, plain, query_of, refill, refill-all, refl, Reply, Roomy, Schema, seat_as, set, Some, Standing, StarQuery, State, state_of, Statement, statements_at, Store, Submitted, submitted, subst, sym, tables_of, Told, Waits, with_filters_for, with_first_filters, with_number, ℕ}
+use Rattle.std.proofs.Common.{Err, Result}
+use Rattle.std.specs.Result.{OnErr}
 use Rattle.std.proofs.Math.Seq.{map-set_same}
 use Rattle.star_statement.specs.Outcome as outcome
 use Rattle.star_statement.specs.declared.applied.Applied.TheVariants.{Replied, Accepted}
@@ -346,3 +348,19 @@ accepts law old seat number statement query snapshot extent tables lives one log
     tells : outcome_of (tables_of (state_of old)) statement ≡ outcome.only_tells (outcome.Accepted (query_of query) snapshot)
     tells = ap (λ store. outcome_of store statement) (sym core.tables.same)
         ∙ outcome-is found None (outcome.Accepted (query_of query) snapshot) (no-change found.change follows.1) follows.0
+
+-- parts whose tables, log, statements, queries and lives are as they were are the same parts
+pub same-parts : (parts : Parts) (tables : KeyedStore) (log : List Logged) (seats : List (List Submitted)) (asked : List AskedQuery)
+    (lives : Lives) → tables ≡ parts.tables → log ≡ parts.log → seats ≡ parts.seats → asked ≡ parts.asked → lives ≡ parts.lives
+    → record parts { tables = tables; log = log; seats = seats; asked = asked; lives = lives } ≡ parts
+same-parts parts tables log seats asked lives same_tables same_log same_seats same_asked same_lives =
+    ap (λ tables. record parts { tables = tables; log = log; seats = seats; asked = asked; lives = lives }) same_tables
+    ∙ ap (λ log. record parts { log = log; seats = seats; asked = asked; lives = lives }) same_log
+    ∙ ap (λ seats. record parts { seats = seats; asked = asked; lives = lives }) same_seats
+    ∙ ap (λ asked. record parts { asked = asked; lives = lives }) same_asked
+    ∙ ap (λ lives. record parts { lives = lives }) same_lives
+
+-- what holds anyhow holds of an error
+pub on-error : {T E P : Type 0} (result : Result T E) → P → OnErr result P
+on-error (Ok done) holds = tt
+on-error (Err none) holds = holds

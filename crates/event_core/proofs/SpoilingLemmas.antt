@@ -1,6 +1,6 @@
 -- How the holders of the slots are gone through, one after the other.
-use Rattle.event_core.proofs.Words.{◌++◌, ◌+◌, ◌<◌, ◌∙◌, ◌∷◌, ◌≡◌, [], after_spoil, after_stop, All, All-contains, All-head, All-nil, All-tail, ap, arith, bit_at, Bool, CanSpoil, cases_eq, cond, cons_option, eqb, false, filter_map, filter_map-append, fold-append, Free, get_or, get_or-range_with_len, get_or-set_other, get_or-set_same, Held, holder_of, holders_in, IfSome, is_begun, is_held_by, IsTrue, length, length-range_with_len, length-set, life_of, List, list_any, list_any_none, Lives, ne_eqb, None, one-slot, Option, option_map_or, others-stay, position, range_parts, range_with_len, refl, Scanning, set, slot_at, slot_of, slot_of-holder, Some, some-by, stopped_for, subst, sym, true, ℕ, ⊎_elim}
-use Rattle.std.proofs.Common.{unwrap_or}
+use Rattle.event_core.proofs.Words.{◌++◌, ◌+◌, ◌<◌, ◌∙◌, ◌∷◌, ◌≡◌, [], after_spoil, after_stop, All, All-contains, All-head, All-nil, All-tail, ap, arith, bit_at, Bool, CanSpoil, cases_eq, cond, cons_option, eqb, false, filter_map, filter_map-append, fold-append, Free, get_or, get_or-range_with_len, get_or-set_other, get_or-set_same, Has, Held, holder_of, holders_in, IfSome, is_begun, is_held_by, IsTrue, length, length-range_with_len, length-set, life_of, List, list_any, list_any_none, Lives, ne_eqb, None, one-slot, Option, option_map_or, others-stay, position, range_parts, range_with_len, refl, Scanning, set, slot_at, slot_of, slot_of-holder, Some, some-by, stopped_for, subst, sym, true, ℕ, ⊎_elim}
+use Rattle.std.proofs.Common.{◌↔◌, unwrap_or}
 use Rattle.std.specs.List.{fold}
 use Rattle.pipeline_manager.specs.Sound as managed
 use Rattle.core_state.proofs.CutFoundLemmas.{found-below}
@@ -145,3 +145,17 @@ same-below lives scan slots slot now later left last is at so_far = record { spo
 pub number-or : (o : Option ℕ) → unwrap_or o 0 ≡ option_map_or (λ number. number) o 0
 number-or None = refl
 number-or (Some number) = refl
+
+-- the holder of a slot of the set is found
+pub held-in : (slots slot : ℕ) (holder found : Option ℕ) (is : Bool) → IsTrue is ↔ Has slots slot → is ≡ true → found ≡ holder
+    → found ≡ cond {A = Option ℕ} (eqb (bit_at slots slot) 1) holder None
+held-in slots slot holder found is exact in_set same =
+    same ∙ ap (λ (test : Bool). cond {A = Option ℕ} test holder None)
+    (sym (ap (λ bit. eqb bit 1) (exact.0 (subst IsTrue (sym in_set) refl))))
+
+-- none is found of a slot that is not of the set
+pub none-out : (slots slot : ℕ) (holder : Option ℕ) (is : Bool) → IsTrue is ↔ Has slots slot → is ≡ false
+    → None ≡ cond {A = Option ℕ} (eqb (bit_at slots slot) 1) holder None
+none-out slots slot holder is exact out =
+    sym (ap (λ (test : Bool). cond {A = Option ℕ} test holder None)
+    (ne_eqb (bit_at slots slot) 1 (λ has. absurd (let never : true ≡ false = sym (exact.1 has) ∙ out in cc))))

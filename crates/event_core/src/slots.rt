@@ -1,5 +1,5 @@
 //! How a query gets a slot, begins its lap, and leaves its slot.
-ghost use Rattle.std.specs.Prelude.{◌≡◌, ◌≢◌, ◌<◌, List, length, map, slice_set, AllPairs, Some, None, IfSome, OnOk, OnErr};
+ghost use Rattle.std.specs.Prelude.{◌≡◌, ◌≢◌, ◌↔◌, ◌<◌, List, length, map, slice_set, AllPairs, Some, None, IfSome, IsTrue, OnOk, OnErr};
 ghost use Rattle.std.specs.Arc.{arc_value};
 ghost use Rattle.std.specs.Option.{option_map_or};
 ghost use Rattle.pipeline_manager.specs.Conditions.{CanAbandon, CanFree, CanRun};
@@ -145,9 +145,16 @@ fn keep_ending(
     ensures ending { life ≡ Some Ending → asked.new ≡ record asked.old { items = with_kept_at query groups asked.old.items } }
     ensures others { life ≢ Some Ending → asked.new ≡ asked.old }
 {
-    if matches!(life, Some(Life::Ending)) {
+    if is_ending(life) {
         queries::keep(asked, query, groups);
     }
+}
+
+/// Whether a query with this life is to be answered.
+fn is_ending(life: Option<Life>) -> bool
+    ensures { IsTrue result ↔ (life ≡ Some Ending) }
+{
+    matches!(life, Some(Life::Ending))
 }
 
 /// The seat of this number does not wait for a query any more.

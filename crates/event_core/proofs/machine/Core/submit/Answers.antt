@@ -1,7 +1,7 @@
-use Rattle.event_core.proofs.Words.{◌+◌, ◌<◌, ◌∙◌, ◌≡◌, after_submitting, ap, arith, AskedQuery, Becomes, Changed, Follows, get_or, length, Ok, outcome_of, Parts, plain, state_of, subst, sym, the_view}
+use Rattle.event_core.proofs.Words.{◌+◌, ◌<◌, ◌∙◌, ◌≡◌, after_submitting, ap, arith, AskedQuery, Becomes, Changed, Follows, get_or, IsCore, length, Ok, outcome_of, Parts, plain, refl, Roomy, state_of, subst, sym, the_view}
 use Rattle.star_statement.specs.declared.applied.Applied.{Applied}
 use Rattle.star_statement.specs.declared.applied.Applied.TheVariants.{Replied, Accepted}
-use Rattle.event_core.proofs.EventsSubmitLemmas.{IsChange, accepts, changes, replies, seat-there, some-change, statements_in}
+use Rattle.event_core.proofs.EventsSubmitLemmas.{IsChange, accepts, changes, on-error, replies, same-parts, seat-there, some-change, statements_in}
 use Rattle.event_core.proofs.machine.Core.submit.Goals as goal
 
 -- the parts are those after a statement that is told a reply
@@ -122,3 +122,89 @@ invariant_of-self-in-Changed c = ((changed c).core, c.self.invariant.1)
 pub returns-in-Changed-clause-ok : goal.returns-in-Changed-clause-ok
 returns-in-Changed-clause-ok c =
     (changed c).state ∙ ap (λ (parts : Parts). after_submitting c.args.seat c.args.statement.now (state_of parts)) c.self.view_is
+
+pub invariant_of-self : goal.invariant_of-self
+invariant_of-self c =
+    let same = same-parts (the_view c.self.inside) c.self.inside.store c.make_room.new.log.items (statements_in c.make_room.new.seats)
+    c.make_room.new.asked.items c.self.inside.manager refl c.make_room.ensures.changes c.make_room.ensures.statements
+    c.make_room.ensures.queries refl in
+    (subst IsCore (sym same) c.self.invariant.0, c.self.invariant.1)
+
+pub returns-in_err-make_room-clause-err : goal.returns-in_err-make_room-clause-err
+returns-in_err-make_room-clause-err c =
+    let same = same-parts (the_view c.self.inside) c.self.inside.store c.make_room.new.log.items (statements_in c.make_room.new.seats)
+    c.make_room.new.asked.items c.self.inside.manager refl c.make_room.ensures.changes c.make_room.ensures.statements
+    c.make_room.ensures.queries refl in
+    on-error c.from_residual.result (same ∙ c.self.view_is)
+
+pub invariant_of-self-in_err-all : goal.invariant_of-self-in_err-all
+invariant_of-self-in_err-all c =
+    let same = same-parts (the_view c.self.inside) c.self.inside.store c.make_room.new.log.items (statements_in c.make_room.new.seats)
+    c.make_room.new.asked.items c.self.inside.manager refl c.make_room.ensures.changes c.make_room.ensures.statements
+    c.make_room.ensures.queries refl in
+    (subst IsCore (sym same) c.self.invariant.0, c.self.invariant.1)
+
+pub returns-in_err-all-clause-err : goal.returns-in_err-all-clause-err
+returns-in_err-all-clause-err c =
+    let same = same-parts (the_view c.self.inside) c.self.inside.store c.make_room.new.log.items (statements_in c.make_room.new.seats)
+    c.make_room.new.asked.items c.self.inside.manager refl c.make_room.ensures.changes c.make_room.ensures.statements
+    c.make_room.ensures.queries refl in
+    on-error c.from_residual-in_err-all.result (same ∙ c.self.view_is)
+
+pub invariant_of-self-in_err-reply : goal.invariant_of-self-in_err-reply
+invariant_of-self-in_err-reply c =
+    let same = same-parts (the_view c.self.inside) c.apply_to.new.store c.make_room.new.log.items (statements_in c.make_room.new.seats)
+    c.make_room.new.asked.items c.self.inside.manager c.in_err-reply.ensures.follows c.make_room.ensures.changes c.make_room.ensures.statements
+    c.make_room.ensures.queries refl in
+    (subst IsCore (sym same) c.self.invariant.0, c.self.invariant.1)
+
+pub returns-in_err-reply-clause-err : goal.returns-in_err-reply-clause-err
+returns-in_err-reply-clause-err c =
+    let same = same-parts (the_view c.self.inside) c.apply_to.new.store c.make_room.new.log.items (statements_in c.make_room.new.seats)
+    c.make_room.new.asked.items c.self.inside.manager c.in_err-reply.ensures.follows c.make_room.ensures.changes c.make_room.ensures.statements
+    c.make_room.ensures.queries refl in
+    on-error c.from_residual-in_err-reply.result (same ∙ c.self.view_is)
+
+pub invariant_of-self-in_err-asked-in-Accepted : goal.invariant_of-self-in_err-asked-in-Accepted
+invariant_of-self-in_err-asked-in-Accepted c =
+    let follows : Follows c.self.inside.store c.apply_to.new.store (Ok (Accepted c.in-Accepted.query c.in-Accepted.snapshot))
+    (outcome_of (plain c.self.inside.store) c.args.statement.now) =
+    subst (λ (applied : Applied). Follows c.self.inside.store c.apply_to.new.store (Ok applied)
+    (outcome_of (plain c.self.inside.store) c.args.statement.now)) c.in-Accepted.is c.in_ok-reply.ensures.follows in
+    let same = same-parts (the_view c.self.inside) c.apply_to.new.store c.make_room.new.log.items (statements_in c.make_room.new.seats)
+    c.make_room.new.asked.items c.self.inside.manager follows.3.1 c.make_room.ensures.changes c.make_room.ensures.statements
+    c.make_room.ensures.queries refl in
+    (subst IsCore (sym same) c.self.invariant.0, c.self.invariant.1)
+
+pub returns-in_err-asked-in-Accepted-clause-err : goal.returns-in_err-asked-in-Accepted-clause-err
+returns-in_err-asked-in-Accepted-clause-err c =
+    let follows : Follows c.self.inside.store c.apply_to.new.store (Ok (Accepted c.in-Accepted.query c.in-Accepted.snapshot))
+    (outcome_of (plain c.self.inside.store) c.args.statement.now) =
+    subst (λ (applied : Applied). Follows c.self.inside.store c.apply_to.new.store (Ok applied)
+    (outcome_of (plain c.self.inside.store) c.args.statement.now)) c.in-Accepted.is c.in_ok-reply.ensures.follows in
+    let same = same-parts (the_view c.self.inside) c.apply_to.new.store c.make_room.new.log.items (statements_in c.make_room.new.seats)
+    c.make_room.new.asked.items c.self.inside.manager follows.3.1 c.make_room.ensures.changes c.make_room.ensures.statements
+    c.make_room.ensures.queries refl in
+    on-error c.from_residual-in_err-asked-in-Accepted.result (same ∙ c.self.view_is)
+
+pub invariant_of-self-in_err-accept-in-Accepted : goal.invariant_of-self-in_err-accept-in-Accepted
+invariant_of-self-in_err-accept-in-Accepted c =
+    let follows : Follows c.self.inside.store c.apply_to.new.store (Ok (Accepted c.in-Accepted.query c.in-Accepted.snapshot))
+    (outcome_of (plain c.self.inside.store) c.args.statement.now) =
+    subst (λ (applied : Applied). Follows c.self.inside.store c.apply_to.new.store (Ok applied)
+    (outcome_of (plain c.self.inside.store) c.args.statement.now)) c.in-Accepted.is c.in_ok-reply.ensures.follows in
+    let same = same-parts (the_view c.self.inside) c.apply_to.new.store c.make_room.new.log.items (statements_in c.make_room.new.seats)
+    c.accept.new.asked.items c.accept.new.manager follows.3.1 c.make_room.ensures.changes c.make_room.ensures.statements
+    (ap (λ (list : Roomy AskedQuery). list.items) c.in_err-accept-in-Accepted.ensures.err_queries ∙ c.make_room.ensures.queries) c.in_err-accept-in-Accepted.ensures.err_lives in
+    (subst IsCore (sym same) c.self.invariant.0, c.self.invariant.1)
+
+pub returns-in_err-accept-in-Accepted-clause-err : goal.returns-in_err-accept-in-Accepted-clause-err
+returns-in_err-accept-in-Accepted-clause-err c =
+    let follows : Follows c.self.inside.store c.apply_to.new.store (Ok (Accepted c.in-Accepted.query c.in-Accepted.snapshot))
+    (outcome_of (plain c.self.inside.store) c.args.statement.now) =
+    subst (λ (applied : Applied). Follows c.self.inside.store c.apply_to.new.store (Ok applied)
+    (outcome_of (plain c.self.inside.store) c.args.statement.now)) c.in-Accepted.is c.in_ok-reply.ensures.follows in
+    let same = same-parts (the_view c.self.inside) c.apply_to.new.store c.make_room.new.log.items (statements_in c.make_room.new.seats)
+    c.accept.new.asked.items c.accept.new.manager follows.3.1 c.make_room.ensures.changes c.make_room.ensures.statements
+    (ap (λ (list : Roomy AskedQuery). list.items) c.in_err-accept-in-Accepted.ensures.err_queries ∙ c.make_room.ensures.queries) c.in_err-accept-in-Accepted.ensures.err_lives in
+    on-error c.from_residual-in_err-accept-in-Accepted.result (same ∙ c.self.view_is)
