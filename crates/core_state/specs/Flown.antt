@@ -43,21 +43,24 @@ abbrev pub FitsSlot : List Accepted → Store → Filter → (slot : ℕ) → Sl
 FitsSlot accepted store filter slot Free = IsClearOf filter slot
 FitsSlot accepted store filter slot (Held query built) =
     (Has built filter.dimension → IfSome (accepted_at accepted query)
-    (λ asked. Encodes filter slot asked.query asked.snapshot (rows_in store.dimensions filter.dimension)))
+    (λ asked. Encodes filter slot asked.query asked.snapshot
+    (rows_in store.dimensions filter.dimension)))
     × (¬ (Has built filter.dimension) → IsClearOf filter slot)
-FitsSlot accepted store filter slot (Clearing left) = ¬ (Has left filter.dimension) → IsClearOf filter slot
+FitsSlot accepted store filter slot (Clearing left) =
+    ¬ (Has left filter.dimension) → IsClearOf filter slot
 
 -- the present version of a filter: it is one, its rows are stored ascending, it has what each slot asks for, nothing at
 -- other slots, and stores rows of its dimension alone
-pub record IsSoundFilter (accepted : List Accepted) (store : Store) (holders : List SlotState) (filters : ℕ)
-    (filter : Filter) : Type 0 where
+pub record IsSoundFilter (accepted : List Accepted) (store : Store) (holders : List SlotState)
+    (filters : ℕ) (filter : Filter) : Type 0 where
   pub table : table.IsSound filter
   pub ascending : AreAscending filter.stored
   pub is_filter : Has filters filter.dimension
   pub slots : (slot : ℕ) → slot < length holders
       → FitsSlot accepted store filter slot (slice_index_or holders slot Free)
   pub beyond : (slot : ℕ) → length holders ≤ slot → IsClearOf filter slot
-  pub within : (key : ℕ) → IsTrue (is_stored filter key) → key < length (rows_in store.dimensions filter.dimension)
+  pub within : (key : ℕ) → IsTrue (is_stored filter key)
+      → key < length (rows_in store.dimensions filter.dimension)
 
 -- a query that is on a roster has no later life than these
 abbrev pub MayBeOnRoster : Life → Type 0
@@ -85,11 +88,14 @@ keeps_so_far store flight entry version =
     (range_with_len 0 (length store.schema.dimensions)))
 
 -- the bits and keys of a row of a batch are what the queries on its roster say of its version
-pub record IsSoundRow (filters : ℕ) (store : Store) (flight : Flight) (row : ℕ) (version : PlainVersion) : Type 0 where
+pub record IsSoundRow (filters : ℕ) (store : Store) (flight : Flight) (row : ℕ)
+    (version : PlainVersion) : Type 0 where
   pub keys : (dimension : ℕ) → Has filters dimension
-      → slice_index_or flight.rows.keys (key_place row dimension) 0 ≡ key_number store version.row dimension
+      → slice_index_or flight.rows.keys (key_place row dimension) 0
+      ≡ key_number store version.row dimension
   pub bits : (entry : OnRoster) → Contains flight.roster entry →
-      Has (slice_index_or flight.rows.bits row 0) entry.slot ↔ IsTrue (keeps_so_far store flight entry version)
+      Has (slice_index_or flight.rows.bits row 0) entry.slot
+      ↔ IsTrue (keeps_so_far store flight entry version)
   pub others : (slot : ℕ) → Has (slice_index_or flight.rows.bits row 0) slot → IsTrue (is_on_roster slot flight)
 
 -- a batch in flight: its positions are in the table, its roster is that of its slots, and its rows are sound
@@ -102,11 +108,13 @@ pub record IsSoundBatch (words : ℕ) (store : Store) (lives : Lives) (accepted 
   pub roster : All (IsOnRoster lives accepted) flight.roster
   pub slots : flight.rows.roster ≡ slots_of flight.roster
   pub rows : (row : ℕ) → row < flight.rows.count →
-      IfSome (slice_get store.versions (flight.rows.first + row)) (IsSoundRow lives.filters store flight row)
+      IfSome (slice_get store.versions (flight.rows.first + row))
+      (IsSoundRow lives.filters store flight row)
 
 -- what a worker holds: a batch that did not pass this filter, whose version has every query on the batch's roster,
 -- whatever became of the filter since
-pub record IsSoundHand (seats filters : ℕ) (store : Store) (flight : Flight) (hand : Hand) : Type 0 where
+pub record IsSoundHand (seats filters : ℕ) (store : Store) (flight : Flight)
+    (hand : Hand) : Type 0 where
   pub seat : hand.worker < seats
   pub table : table.IsSound hand.version.filter
   pub is_filter : Has filters hand.version.filter.dimension

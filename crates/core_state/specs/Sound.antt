@@ -32,20 +32,22 @@ use Rattle.core_state.specs.Tables.{changes_of, filter_dimensions, tables_of, ve
 
 -- the filters: one for each dimension that the fact table references, ascending, each sound
 pub record AreSoundFilters (state : State) : Type 0 where
-  pub each : All (λ version. IsSoundFilter state.accepted (tables_of state) state.lives.slots state.lives.filters version.filter)
-      state.filters.versions
+  pub each : All (λ version. IsSoundFilter state.accepted (tables_of state) state.lives.slots
+      state.lives.filters version.filter) state.filters.versions
   pub dimensions : map (λ version. version.filter.dimension) state.filters.versions ≡ filter_dimensions (tables_of state).schema
   pub set : (dimension : ℕ) → Has state.lives.filters dimension ↔ Contains (filter_dimensions (tables_of state).schema) dimension
 
 -- the batches in flight
 abbrev pub AreSoundBatches : State → Type 0
 AreSoundBatches state =
-    All (IsSoundBatch (frame_words state) (tables_of state) state.lives state.accepted) state.scan.flights
+    All (IsSoundBatch (frame_words state) (tables_of state) state.lives state.accepted)
+    state.scan.flights
 
 -- what is in hands; no worker has two batches
 pub record AreSoundHands (state : State) : Type 0 where
   pub each : All (λ flight. IfSome flight.hand
-      (IsSoundHand (length state.seats) state.lives.filters (tables_of state) flight)) state.scan.flights
+      (IsSoundHand (length state.seats) state.lives.filters (tables_of state) flight))
+      state.scan.flights
   pub one : AllPairs (λ worker other. worker ≢ other) (filter_map (λ flight. option_map (λ hand. hand.worker) flight.hand) state.scan.flights)
 
 -- the versions at some positions, in their order
@@ -78,10 +80,12 @@ IsNext position extent other = Unit {0}
 
 -- a query that runs or is ending: each position of its extent was folded, or is in one batch in flight, or is still to
 -- come, each once; what is kept is what the folded positions give
-pub record IsCovered (store : Store) (scan : Scan) (accepted : Accepted) (extent : ℕ) (life : Life) : Type 0 where
+pub record IsCovered (store : Store) (scan : Scan) (accepted : Accepted) (extent : ℕ)
+    (life : Life) : Type 0 where
   pub folded : List ℕ
   pub each_once : IsPermutation
-      (folded ++ flat_map (positions_for accepted.number extent) scan.flights ++ to_come extent life)
+      (folded ++ flat_map (positions_for accepted.number extent) scan.flights
+      ++ to_come extent life)
       (range_with_len 0 extent)
   pub next : IsNext scan.position extent life
   pub groups : accepted.groups
@@ -96,27 +100,34 @@ pub record IsAnswer (store : Store) (accepted : Accepted) : Type 0 where
 -- the seat of an accepted query took the reply to it
 abbrev pub HasTaken : List Seat → Accepted → Type 0
 HasTaken seats accepted =
-    Contains (map (λ taken. taken.statement) (slice_index_or seats accepted.seat empty_seat).taken) accepted.number
+    Contains (map (λ taken. taken.statement) (slice_index_or seats accepted.seat empty_seat).taken)
+    accepted.number
 
 -- what is kept for an accepted query with this life: nothing folded before it starts, what is folded of its lap, the whole
 -- of it once it is answered until its seat took the reply, and nothing where it has no answer
 abbrev pub IsKept : Store → List Seat → Scan → Accepted → (extent : ℕ) → Life → Type 0
-IsKept store seats scan accepted extent life.Waiting = accepted.groups ≡ Some (grouped_of accepted.query [])
-IsKept store seats scan accepted extent life.Building = accepted.groups ≡ Some (grouped_of accepted.query [])
-IsKept store seats scan accepted extent (life.Running start left) = IsCovered store scan accepted extent (life.Running start left)
-IsKept store seats scan accepted extent life.Ending = IsCovered store scan accepted extent life.Ending
-IsKept store seats scan accepted extent life.Answered = ((accepted.groups ≡ None) × HasTaken seats accepted) ⊎ IsAnswer store accepted
+IsKept store seats scan accepted extent life.Waiting =
+    accepted.groups ≡ Some (grouped_of accepted.query [])
+IsKept store seats scan accepted extent life.Building =
+    accepted.groups ≡ Some (grouped_of accepted.query [])
+IsKept store seats scan accepted extent (life.Running start left) =
+    IsCovered store scan accepted extent (life.Running start left)
+IsKept store seats scan accepted extent life.Ending =
+    IsCovered store scan accepted extent life.Ending
+IsKept store seats scan accepted extent life.Answered =
+    ((accepted.groups ≡ None) × HasTaken seats accepted) ⊎ IsAnswer store accepted
 IsKept store seats scan accepted extent life.Spoiled = accepted.groups ≡ None
 IsKept store seats scan accepted extent life.Abandoned = accepted.groups ≡ None
 
 -- an accepted query: it has its life, it is one over the schema, its snapshot is a commit so far, its extent is within the
 -- table, and what is kept is what its life says; while it is unfinished its extent is the versions that came by its snapshot
-pub record IsSoundAccepted (last : ℕ) (store : Store) (queries : List QueryLife) (seats : List Seat) (scan : Scan)
-    (accepted : Accepted) : Type 0 where
+pub record IsSoundAccepted (last : ℕ) (store : Store) (queries : List QueryLife)
+    (seats : List Seat) (scan : Scan) (accepted : Accepted) : Type 0 where
   pub number : accepted.number ≤ last
   pub over : IsOver store.schema accepted.query
   pub snapshot : accepted.snapshot ≤ store.commits
-  pub within : IfSome (query_in queries accepted.number) (λ entry. entry.extent ≤ length store.versions)
+  pub within : IfSome (query_in queries accepted.number)
+      (λ entry. entry.extent ≤ length store.versions)
   pub kept : IfSome (query_in queries accepted.number)
       (λ entry. IsKept store seats scan accepted entry.extent entry.life)
   pub extent : IfSome (query_in queries accepted.number) (λ entry. IsTrue (is_open entry.life) →
@@ -126,7 +137,8 @@ pub record IsSoundAccepted (last : ℕ) (store : Store) (queries : List QueryLif
 -- an accepted query of a core
 abbrev pub IsSoundQuery : State → Accepted → Type 0
 IsSoundQuery state =
-    IsSoundAccepted state.numbers.statement (tables_of state) state.lives.queries state.seats state.scan
+    IsSoundAccepted state.numbers.statement (tables_of state) state.lives.queries state.seats
+    state.scan
 
 -- the accepted queries: they are those that have lives, in the same order
 pub record AreSoundQueries (state : State) : Type 0 where
@@ -164,19 +176,22 @@ pub record IsSoundScan (state : State) : Type 0 where
 pub record IsSoundOrder (filters : Filters) : Type 0 where
   pub tallies : All (λ tally. tally.drops ≤ tally.probes) filters.tallies
   pub count : length filters.tallies ≡ length filters.versions
-  pub order : IsPermutation (map (λ version. version.filter.dimension) filters.versions) filters.order
+  pub order : IsPermutation (map (λ version. version.filter.dimension) filters.versions)
+      filters.order
 
 -- a query of the core has this number, and is this query at this snapshot
 abbrev pub HasAccepted : List Accepted → (number : ℕ) → Query → (snapshot : ℕ) → Type 0
 HasAccepted accepted number query snapshot =
-    IsSomeAnd (accepted_at accepted number) (λ asked. (asked.query ≡ query) × (asked.snapshot ≡ snapshot))
+    IsSomeAnd (accepted_at accepted number)
+    (λ asked. (asked.query ≡ query) × (asked.snapshot ≡ snapshot))
 
 -- a statement that a seat waits for: a query is one of the core with its query and its snapshot, and not abandoned; what is
 -- no query has no number of one
 abbrev pub IsAwaited : List Accepted → List QueryLife → (statement : ℕ) → Awaited → Type 0
 IsAwaited accepted queries statement (Replied reply) = accepted_at accepted statement ≡ None
 IsAwaited accepted queries statement (Asked query snapshot) =
-    HasAccepted accepted statement query snapshot × IfSome (life_in queries statement) (λ now. now ≢ life.Abandoned)
+    HasAccepted accepted statement query snapshot
+    × IfSome (life_in queries statement) (λ now. now ≢ life.Abandoned)
 
 -- a statement whose reply a seat took: a query is one of the core with its query and its snapshot, and was answered or
 -- replied that it found no memory
@@ -187,7 +202,8 @@ IsTaken accepted queries statement (Some asked) =
     × IfSome (life_in queries statement) (λ now. (now ≡ life.Answered) ⊎ (now ≡ life.Spoiled))
 
 -- a seat: the numbers that it submitted rise, and those that it took and waits for are among them, in the same order
-pub record IsSoundSeat (last : ℕ) (accepted : List Accepted) (queries : List QueryLife) (seat : Seat) : Type 0 where
+pub record IsSoundSeat (last : ℕ) (accepted : List Accepted) (queries : List QueryLife)
+    (seat : Seat) : Type 0 where
   pub rising : AllPairs (λ statement later. statement < later) seat.submitted
   pub given : All (λ statement. statement ≤ last) seat.submitted
   pub in_order : AllPairs (λ statement later. statement < later)
@@ -195,13 +211,15 @@ pub record IsSoundSeat (last : ℕ) (accepted : List Accepted) (queries : List Q
   pub submitted : All (Contains seat.submitted)
       (map (λ taken. taken.statement) seat.taken ++ map (λ pending. pending.statement) seat.pending)
   pub taken : All (λ taken. IsTaken accepted queries taken.statement taken.query) seat.taken
-  pub awaited : All (λ pending. IsAwaited accepted queries pending.statement pending.awaited) seat.pending
+  pub awaited : All (λ pending. IsAwaited accepted queries pending.statement pending.awaited)
+      seat.pending
 
 -- the seats and the entries: numbers of statements rise along the entries, each stands in its seat, and no number stands
 -- in two seats
 pub record AreSoundSeats (state : State) : Type 0 where
   pub count : length state.seats ≡ state.settings.seats
-  pub each : All (IsSoundSeat state.numbers.statement state.accepted state.lives.queries) state.seats
+  pub each : All (IsSoundSeat state.numbers.statement state.accepted state.lives.queries)
+      state.seats
   pub apart : AllPairs (λ seat other. (statement : ℕ) → Contains seat.submitted statement → ¬ (Contains other.submitted statement)) state.seats
   pub rising : AllPairs (λ entry later. entry.statement < later.statement) state.entries
   pub entries : All (λ entry. Contains (seat_at state entry.seat).submitted entry.statement) state.entries
