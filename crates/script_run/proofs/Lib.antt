@@ -23,6 +23,8 @@ pub mod ToldPlayLemmas
 pub mod ToldLemmas
 mod ToldScriptLemmas
 mod FrontCountLemmas
+mod FrontNewLemmas
+mod FrontGiveLemmas
 mod FrontWaitingLemmas
 mod FrontRunLemmas
 mod FrontHaltLemmas

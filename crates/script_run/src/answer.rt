@@ -54,9 +54,12 @@ fn answer_next(
     let Next::Got(statement) = reader.next_statement()? else {
         return Ok(None);
     };
-    let reply = reply_to(alloc, store, &statement)?;
+    let reply = reply_to(alloc, store, statement)?;
+    let refused = is_refusal(&reply);
+    let text = text_of(alloc, &reply);
+    drop(reply);
     Ok(Some(Answered {
-        text: text_of(alloc, &reply)?,
-        refused: is_refusal(&reply),
+        text: text?,
+        refused,
     }))
 }

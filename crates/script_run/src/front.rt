@@ -12,6 +12,7 @@ ghost use Rattle.event_core.specs.Replies.{first_open};
 ghost use Rattle.event_core.specs.Seen.{state_of};
 ghost use Rattle.script_run.specs.Answer.{CountsHalt};
 ghost use Rattle.pipeline_manager.specs.Conditions.{is_open};
+ghost use Rattle.pipeline_manager.specs.declared.life.Life.TheVariants.{Waiting};
 ghost use Rattle.script_run.specs.Front.{IsRun, PlaysIn, PlaysOn};
 ghost use Rattle.script_run.specs.Counted.{Beside, CountsOne, GoesRound, IsCalm, IsCounted, IsKnown, open_in};
 ghost use Rattle.script_run.specs.Home.{IsAtHome};
@@ -139,13 +140,11 @@ impl Front {
         let Some(number) = self.submitted.checked_add(1) else {
             return false;
         };
-        if submit(&mut self.core, statement).is_err() {
+        let Ok(()) = submit(&mut self.core, statement) else {
             return false;
-        }
+        };
         self.submitted = number;
-        if matches!(self.core.life(number), Some(Life::Waiting)) {
-            self.unfinished += 1;
-        }
+        self.unfinished += one_if_waiting(self.core.life(number));
         true
     }
 
@@ -212,6 +211,18 @@ impl Front {
     }
 }
 
+/// One for a query that waits for a slot, and none for what is no query.
+fn one_if_waiting(life: Option<Life>) -> u32
+    ensures waits { life ≡ Some Waiting → result ≡ 1 }
+    ensures none { life ≡ None → result ≡ 0 }
+    ensures few { result ≤ 1 }
+{
+    match life {
+        Some(Life::Waiting) => 1,
+        _ => 0,
+    }
+}
+
 /// Gives a statement to a core as that of the front. Where no memory was left for it, nothing has changed.
 fn submit(core: &mut Core, statement: Statement) -> Result<(), StepFault>
     ensures leads { OnOk result (Leads (state_of core.old) (statement ∷ []) (state_of core.new) []) }
@@ -259,7 +270,10 @@ fn write_ready<K: Sink>(alloc: Global, core: &mut Core, sink: &mut K) -> Result<
     a_reply_that_may_be_taken_is_right();
     let mut refused = false;
     'replies: while let Some(ready) = core.take_reply(0) {
-        refused |= write_reply(alloc, &ready.into_reply(), sink)?;
+        let reply = ready.into_reply();
+        let written = write_reply(alloc, &reply, sink);
+        drop(reply);
+        refused |= written?;
     }
     Ok(refused)
 }

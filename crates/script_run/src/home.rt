@@ -94,5 +94,7 @@ fn drop_ready(core: &mut Core)
     // Both are called for what they ensure.
     a_reply_that_may_be_taken_is_right();
     every_core_is_sound(core);
-    'replies: while let Some(_reply) = core.take_reply(0) {}
+    'replies: while let Some(reply) = core.take_reply(0) {
+        drop(reply);
+    }
 }

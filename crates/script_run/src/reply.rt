@@ -21,12 +21,14 @@ use std::alloc::Global;
 pub(crate) fn reply_to(
     alloc: Global,
     store: &mut Store,
-    statement: &Statement,
+    statement: Statement,
 ) -> Result<Reply, NoMemory>
-    ensures reply { IfOk result (λ reply. reply ≡ (effect_of (plain store.old) statement.now).reply) }
-    ensures tables { OnOk result (plain store.new ≡ store_after (plain store.old) statement.now) }
+    ensures reply { IfOk result (λ reply. reply ≡ (effect_of (plain store.old) statement).reply) }
+    ensures tables { OnOk result (plain store.new ≡ store_after (plain store.old) statement) }
 {
-    match apply(alloc, store, statement)? {
+    let applied = apply(alloc, store, &statement);
+    drop(statement);
+    match applied? {
         Applied::Replied(reply) | Applied::Changed { reply, .. } => Ok(reply),
         Applied::Accepted { query, snapshot } => reply_to_query(alloc, store, &query, snapshot),
     }

@@ -75,9 +75,13 @@ fn core_of(run_end: RunEnd, front: Front) -> Option<Core>
     ensures none { IsNone result ↔ (run_end ≡ end.NoMemory) }
     ensures own { IfSome result (λ core. core ≡ front.core) }
 {
+    let core = front.core;
     match run_end {
-        RunEnd::NoMemory => None,
-        _ => Some(front.core),
+        RunEnd::NoMemory => {
+            drop(core);
+            None
+        }
+        _ => Some(core),
     }
 }
 

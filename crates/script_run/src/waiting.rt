@@ -26,7 +26,11 @@ fn is_wait_line(alloc: Global, line: &str) -> Result<bool, NoMemory>
     ensures { (block : Block) → IfOk result (λ waits. waits ≡ means_wait (parsed_meaning (length line.now) block (parsed_of line.now))) }
 {
     match parse(alloc, line) {
-        Ok(ast) => Ok(matches!(ast, Ast::Wait)),
+        Ok(ast) => {
+            let waits = matches!(ast, Ast::Wait);
+            drop(ast);
+            Ok(waits)
+        }
         Err(ParseFault::Limit | ParseFault::Syntax(_)) => Ok(false),
         Err(ParseFault::Memory) => Err(NoMemory),
     }

@@ -15,8 +15,8 @@ returns-clause-gives c =
     let first = rw c.in-Got.is at c.in_ok-statement.ensures.answers in
     record {
       reply = c.in_ok-reply.reply;
-      text = c.in_ok-text_of.ensures;
-      refused = c.is_refusal.ensures;
+      text = c.in_ok-text.ensures;
+      refused = c.is_refusal-refused.ensures;
       replies = λ more last comes. reply_first store c.args.reader.now waits statement first more last comes
           ∙ ap (λ reply. reply ∷ replies_left (store_after store statement) last (waits.waiting ++ more)) (sym c.in_ok-reply.ensures.reply)
           ∙ ap (λ tables. c.in_ok-reply.reply ∷ replies_left tables last (waits.waiting ++ more)) (sym c.in_ok-reply.ensures.tables);

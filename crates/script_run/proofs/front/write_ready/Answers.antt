@@ -1,6 +1,7 @@
 use Rattle.script_run.proofs.Words.{◌∙◌, ap, err_from_is_err_and, refl, state_of}
 use Rattle.script_run.proofs.FrontReadyLemmas.{halts-writing, ready-some, starts-writing, takes-reply, writes-more, wrote-idle}
 use Rattle.script_run.proofs.FrontRunLemmas.{run-taken, run-then}
+use Rattle.script_run.proofs.HomeLetLemmas.{drops-less}
 use Rattle.script_run.proofs.front.write_ready.Goals as goal
 
 pub replies-init : goal.replies-init
@@ -10,41 +11,21 @@ replies-init g c = record {
   apart = refl;
 }
 
-pub replies-preserved-in_ok-refused : goal.replies-preserved-in_ok-refused
-replies-preserved-in_ok-refused g c =
-    record {
-      writing = writes-more _ _ _ _ _ _ _ _ c.in-Some.ready c.into_reply.result c.replies.invariant.writing
-          (takes-reply _ _ c.in-Some.ready c.into_reply.result c.in-Some.ensures.ready (c.in-Some.ensures.taken refl) c.in-Some.ensures.right c.into_reply.ensures)
-          c.in_ok-refused.ensures.ok c.in_ok-refused.ensures.refused;
-      unfailed = c.in_ok-refused.ensures.faults ∙ c.replies.invariant.unfailed;
-      apart = c.write_reply.ensures.apart ∙ c.replies.invariant.apart;
-    }
-
-pub replies-preserved-in_ok-refused-2 : goal.replies-preserved-in_ok-refused-2
-replies-preserved-in_ok-refused-2 g c =
-    record {
-      writing = writes-more _ _ _ _ _ _ _ _ c.in-Some.ready c.into_reply.result c.replies.invariant.writing
-          (takes-reply _ _ c.in-Some.ready c.into_reply.result c.in-Some.ensures.ready (c.in-Some.ensures.taken refl) c.in-Some.ensures.right c.into_reply.ensures)
-          c.in_ok-refused.ensures.ok c.in_ok-refused.ensures.refused;
-      unfailed = c.in_ok-refused.ensures.faults ∙ c.replies.invariant.unfailed;
-      apart = c.write_reply.ensures.apart ∙ c.replies.invariant.apart;
-    }
-
 pub replies-preserved : goal.replies-preserved
 replies-preserved g c =
     record {
-      writing = writes-more _ _ _ _ _ _ _ _ c.in-Some.ready c.into_reply.result c.replies.invariant.writing
-          (takes-reply _ _ c.in-Some.ready c.into_reply.result c.in-Some.ensures.ready (c.in-Some.ensures.taken refl) c.in-Some.ensures.right c.into_reply.ensures)
+      writing = writes-more _ _ _ _ _ _ _ _ c.in-Some.ready c.into_reply-reply.result c.replies.invariant.writing
+          (takes-reply _ _ c.in-Some.ready c.into_reply-reply.result c.in-Some.ensures.ready (c.in-Some.ensures.taken refl) c.in-Some.ensures.right c.into_reply-reply.ensures)
           c.in_ok-refused.ensures.ok c.in_ok-refused.ensures.refused;
       unfailed = c.in_ok-refused.ensures.faults ∙ c.replies.invariant.unfailed;
-      apart = c.write_reply.ensures.apart ∙ c.replies.invariant.apart;
+      apart = c.write_reply-written.ensures.apart ∙ c.replies.invariant.apart;
     }
 
 pub returns-in_err-refused-clause-plays : goal.returns-in_err-refused-clause-plays
 returns-in_err-refused-clause-plays g c =
     let failed = err_from_is_err_and c.from_residual.result c.from_residual.ensures.1 in
-    rw failed.1 (halts-writing _ _ _ _ _ _ _ c.in-Some.ready c.into_reply.result failed.0 c.replies.invariant.writing
-    (takes-reply _ _ c.in-Some.ready c.into_reply.result c.in-Some.ensures.ready (c.in-Some.ensures.taken refl) c.in-Some.ensures.right c.into_reply.ensures)
+    rw failed.1 (halts-writing _ _ _ _ _ _ _ c.in-Some.ready c.into_reply-reply.result failed.0 c.replies.invariant.writing
+    (takes-reply _ _ c.in-Some.ready c.into_reply-reply.result c.in-Some.ensures.ready (c.in-Some.ensures.taken refl) c.in-Some.ensures.right c.into_reply-reply.ensures)
     c.in_err-refused.ensures.err)
 
 pub returns-in_err-refused-clause-run : goal.returns-in_err-refused-clause-run
@@ -56,3 +37,7 @@ pub returns-clause-all : goal.returns-clause-all
 returns-clause-all g c =
     wrote-idle c.a_reply_that_may_be_taken_is_right.ensures.waits _ (state_of c.replies.core) (state_of c.take_reply.new.self) _ _ _ c.replies.invariant.writing
     (ap state_of (c.in_default.ensures.none refl)) c.in_default.ensures.ready c.in_default.ensures.sound
+
+pub replies-smaller : goal.replies-smaller
+replies-smaller g c =
+    drops-less (state_of c.replies.core) (state_of c.take_reply.new.self) _ c.in-Some.ensures.ready (c.in-Some.ensures.taken refl)
