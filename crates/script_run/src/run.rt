@@ -1,6 +1,8 @@
 //! A run of a script in which each query is answered by itself: each statement is replied to as soon as it is whole, before
 //! more is read.
 ghost use Rattle.std.specs.Prelude.{◌≡◌};
+ghost use Rattle.star_history.specs.Keyed.{plain};
+ghost use Rattle.script_run.specs.Anew.{IsAnew};
 ghost use Rattle.script_run.specs.Run.{AnswersAlone, CountsFaults};
 ghost use Rattle.script_run.specs.End.{end_of_all, end_of_halt};
 
@@ -29,17 +31,36 @@ pub fn run_alone<S: Source, K: Sink>(alloc: Global, source: &mut S, sink: &mut K
         (S.read_faults source.old) (S.read_faults source.new) (S.read_failed source.new)
         (K.write_faults sink.old) (K.write_faults sink.new) (K.write_failed sink.new) }
 {
-    replies_follow_from_the_tables();
-    let mut piece = [0u8; PIECE_BYTES];
     let mut store = Store::new(alloc);
     let mut reader = ScriptReader::new(alloc);
+    answer_script(alloc, &mut store, &mut reader, source, sink)
+}
+
+/// Reads a script to its end by a reader that was fed with nothing, and answers its statements, where no table is there yet.
+fn answer_script<S: Source, K: Sink>(
+    alloc: Global,
+    store: &mut Store,
+    reader: &mut ScriptReader,
+    source: &mut S,
+    sink: &mut K,
+) -> RunEnd
+    requires { IsAnew (plain store.old) reader.old }
+    ensures answers { AnswersAlone result (S.ended source.old) (S.ended source.new)
+        (S.read_faults source.old) (S.read_faults source.new)
+        (S.left source.old) (S.left source.new) (K.taken sink.old) (K.taken sink.new) }
+    ensures faults { CountsFaults result
+        (S.read_faults source.old) (S.read_faults source.new) (S.read_failed source.new)
+        (K.write_faults sink.old) (K.write_faults sink.new) (K.write_failed sink.new) }
+{
+    replies_follow_from_the_tables();
+    let mut piece = [0u8; PIECE_BYTES];
     let mut refused = false;
     'pieces: loop {
-        match answer_whole(alloc, &mut store, &mut reader, sink) {
+        match answer_whole(alloc, store, reader, sink) {
             Ok(some) => refused |= some,
             Err(halt) => return end_of_halt(halt),
         }
-        match read_piece(source, &mut piece, &mut reader) {
+        match read_piece(source, &mut piece, reader) {
             Piece::Fed => {}
             Piece::Ended => break 'pieces,
             Piece::Fault => return RunEnd::ReadFault,
@@ -48,7 +69,7 @@ pub fn run_alone<S: Source, K: Sink>(alloc: Global, source: &mut S, sink: &mut K
         }
     }
     reader.finish();
-    match answer_whole(alloc, &mut store, &mut reader, sink) {
+    match answer_whole(alloc, store, reader, sink) {
         Ok(some) => end_of_all(refused | some),
         Err(halt) => end_of_halt(halt),
     }

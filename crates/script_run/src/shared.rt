@@ -3,7 +3,7 @@ ghost use Rattle.std.specs.Prelude.{◌≡◌, ◌↔◌, ◌<◌, IfSome, IsNon
 ghost use Rattle.core_state.specs.Settings.{AreWithin};
 ghost use Rattle.core_state.specs.Sound.{empty_core};
 ghost use Rattle.event_core.specs.Seen.{state_of};
-ghost use Rattle.script_reader.specs.Reading.{StaysFed};
+ghost use Rattle.script_reader.specs.Reading.{StaysFed, no_reading};
 ghost use Rattle.star_io.specs.declared.run_end.RunEnd.TheVariants as end;
 ghost use Rattle.script_run.specs.Answer.{CountsHalt};
 ghost use Rattle.script_run.specs.End.{end_behind, end_of_rest};
@@ -63,7 +63,8 @@ pub fn run_script<R: Threads + Sync, S: Source, K: Sink>(
             core: None,
         };
     };
-    let end = play_script(rt, alloc, &mut front, source, sink);
+    let mut reader = ScriptReader::new(alloc);
+    let end = play_script(rt, &mut front, &mut reader, source, sink);
     RunDone {
         end,
         core: core_of(end, front),
@@ -85,17 +86,18 @@ fn core_of(run_end: RunEnd, front: Front) -> Option<Core>
     }
 }
 
-/// Reads a script to its end, and gives its statements to an empty core.
+/// Reads a script to its end by a reader that was fed with nothing, and gives its statements to an empty core.
 fn play_script<R: Threads + Sync, S: Source, K: Sink>(
     rt: &R,
-    alloc: Global,
     front: &mut Front,
+    reader: &mut ScriptReader,
     source: &mut S,
     sink: &mut K,
 ) -> RunEnd
     requires empty { state_of front.old.core ≡ empty_core front.old.settings }
     requires counted { IsCounted front.old }
     requires free { front.old.unfinished ≡ 0 }
+    requires reader { reader.old ≡ no_reading }
     ensures answers { AnswersBy front.old.settings.slots (state_of front.new.core) result (S.ended source.old) (S.ended source.new)
         (S.read_faults source.old) (S.read_faults source.new)
         (S.left source.old) (S.left source.new) (K.taken sink.old) (K.taken sink.new) }
@@ -106,14 +108,13 @@ fn play_script<R: Threads + Sync, S: Source, K: Sink>(
     ensures run { IsRun (state_of front.old.core) (state_of front.new.core) }
 {
     let mut piece = [0u8; PIECE_BYTES];
-    let mut reader = ScriptReader::new(alloc);
     let mut refused = false;
     'pieces: loop {
-        match play_whole(rt, front, &mut reader, sink) {
+        match play_whole(rt, front, reader, sink) {
             Ok(some) => refused |= some,
             Err(halt) => return end_of_halt(halt),
         }
-        match read_piece(source, &mut piece, &mut reader) {
+        match read_piece(source, &mut piece, reader) {
             Piece::Fed => {}
             Piece::Ended => break 'pieces,
             Piece::Fault => return end_behind(front.play_out(rt, sink), RunEnd::ReadFault),
@@ -122,7 +123,7 @@ fn play_script<R: Threads + Sync, S: Source, K: Sink>(
         }
     }
     reader.finish();
-    match play_whole(rt, front, &mut reader, sink) {
+    match play_whole(rt, front, reader, sink) {
         Ok(some) => end_of_rest(refused | some, front.play_out(rt, sink)),
         Err(halt) => end_of_halt(halt),
     }

@@ -8,7 +8,7 @@ use Rattle.script_run.proofs.shared.play_script.Goals as goal
 
 pub pieces-init : goal.pieces-init
 pieces-init g c = record {
-  run = starts-shared _ _ _ _ _ c.requires.empty c.new-reader.ensures;
+  run = starts-shared _ _ _ _ _ c.requires.empty c.requires.reader;
   steps = run-itself _;
   counted = c.requires.counted;
   free = subst (λ n. n < c.args.front.now.settings.slots) (sym c.requires.free) c.requires.counted.some;
@@ -91,8 +91,8 @@ pub returns-in-Ok-play_whole-clause-run : goal.returns-in-Ok-play_whole-clause-r
 returns-in-Ok-play_whole-clause-run g c =
     run-then _ _ _ (run-then _ _ _ (run-then _ _ _ c.pieces.invariant.steps c.in-Ok.ensures.run) c.in-Ok-play_whole.ensures.run) c.play_out-in-Ok-play_whole.ensures.run
 
-pub returns-clause-answers : goal.returns-clause-answers
-returns-clause-answers g c =
+pub returns-in-Err-play_whole-clause-answers : goal.returns-in-Err-play_whole-clause-answers
+returns-in-Err-play_whole-clause-answers g c =
     let run = whole-shared _ _ _ _ _ _ _ _ _ _ _ _ c.pieces.invariant.run c.in-Ok.ensures.plays c.in-Ok.ensures.stays in
     let takes = c.in-Ended.ensures.takes in
     let plays = rw (c.finish.ensures, takes.2.0) at c.in-Err-play_whole.ensures.plays in
@@ -100,5 +100,5 @@ returns-clause-answers g c =
     (ended-halted c.in-Err-play_whole.halt _ _ (state_of c.play_whole-2.new.front.core) _ c.play_whole-2.new.reader _ _ _ _ _ _ _ _ _ _ _ takes.0 run takes.1 takes.2.1
     c.in-Ended.ensures.end plays))
 
-pub returns-clause-run : goal.returns-clause-run
-returns-clause-run g c = run-then _ _ _ (run-then _ _ _ c.pieces.invariant.steps c.in-Ok.ensures.run) c.in-Err-play_whole.ensures.run
+pub returns-in-Err-play_whole-clause-run : goal.returns-in-Err-play_whole-clause-run
+returns-in-Err-play_whole-clause-run g c = run-then _ _ _ (run-then _ _ _ c.pieces.invariant.steps c.in-Ok.ensures.run) c.in-Err-play_whole.ensures.run

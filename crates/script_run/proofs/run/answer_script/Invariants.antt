@@ -1,6 +1,6 @@
 use Rattle.script_run.proofs.Words.{◌-◌, ◌≡◌, plain, SCRIPT_LIMIT}
 use Rattle.script_run.proofs.RunLemmas.{IsRunning}
-use Rattle.script_run.proofs.run.run_alone.Given as goal
+use Rattle.script_run.proofs.run.answer_script.Given as goal
 
 -- every read and write so far was as the run tells it, and none failed
 abbrev pub invariant-pieces : goal.invariant-pieces
