@@ -1,5 +1,5 @@
 -- A statement that was given is counted, and a query that waits for a slot is one more that is open.
-use Rattle.script_run.proofs.Words.{◌+◌, ◌<◌, ◌∙◌, ◌≡◌, ◌≤◌, ap, arith, awaited_by, Bool, CountsOne, false, Front, is_query, IsCounted, life_of, Life, None, one_if, Option, queries_awaited, RunSettings, Some, State, state_of, Statement, subst, sym, told_of, true, Waiting, if◌then◌else◌, ℕ}
+use Rattle.script_run.proofs.Words.{◌+◌, ◌<◌, ◌∙◌, ◌≡◌, ◌≤◌, ap, arith, awaited_by, Bool, CountsOne, false, Front, is_query, IsCounted, life_of, Life, None, one_if, Option, queries_awaited, RunSettings, Some, state_of, Statement, subst, sym, told_of, true, Waiting, if◌then◌else◌, ℕ}
 use Rattle.event_core.specs.Chosen.{AreIdle}
 use Rattle.script_run.specs.Counted.{open_in}
 use Rattle.script_run.proofs.LapSubmitLemmas.{awaited-submitted}

@@ -1,5 +1,5 @@
 -- The steps that a run makes: none, some and others behind them, a statement, a reply that is taken, and events of the driver.
-use Rattle.script_run.proofs.Words.{◌++◌, ◌+◌, ◌<◌, ◌∙◌, ◌∷◌, ◌≡◌, [], Abandon, after_step, after_steps, after_submitting, after_taking, All, All-append, All-cons, All-head, All-nil, All-tail, ap, AreIdle, Build, Change, Clear, Cut, DimensionDeclared, Distribute, Done, Ended, Event, FactDeclared, Finish, fold-append, Give, IsDriven, IsLed, IsOfRun, IsRun, IsSome, LeavesSeats, length, List, Loaded, MayStep, MayStepAll, next_ready, None, Option, option_map_or, outcome_of, refl, Release, Reorder, Replying, Reserve, Scan, Some, Start, State, Statement, Step, Submit, subst, sym, tables_of, Take, Told, TookAll, Wanting, with_change, with_query, with_seat, with_statement, ℕ}
+use Rattle.script_run.proofs.Words.{◌++◌, ◌+◌, ◌<◌, ◌∙◌, ◌∷◌, ◌≡◌, [], Abandon, after_step, after_steps, after_submitting, after_taking, All, All-append, All-cons, All-head, All-nil, All-tail, ap, AreIdle, Change, DimensionDeclared, Done, Event, fold-append, IsDriven, IsLed, IsOfRun, IsRun, IsSome, LeavesSeats, length, List, MayStep, MayStepAll, next_ready, None, Option, option_map_or, outcome_of, refl, Replying, Scan, Some, State, Statement, Step, Submit, subst, sym, tables_of, Told, TookAll, Wanting, with_change, with_query, with_seat, with_statement, ℕ}
 use Rattle.star_statement.specs.Outcome as outcome
 use Rattle.core_state.specs.Events.{after_event}
 use Rattle.event_core.specs.Took.{AreOf, IsOf, StepsFor}

@@ -1,5 +1,5 @@
 -- What the steps of a session leave, one after the other, and that the front knows its core behind them.
-use Rattle.script_run.proofs.Words.{◌++◌, ◌∙◌, ◌∷◌, ◌≡◌, [], Abandon, after_step, after_steps, All, All-append, All-cons, All-head, All-nil, All-tail, All-weaker, ap, append-nil, append_assoc, Build, Clear, Cut, Distribute, Done, Entry, Finish, fold-append, Front, Give, IsHeld, IsKnown, IsOfRun, IsOfSession, IsRun, IsSound, List, MayStep, MayStepAll, refl, Release, Reorder, Replying, Reserve, seat_at, Start, State, state_of, Step, StepsKeep, StepsLoseNone, Submit, subst, sym, Take, Wanting}
+use Rattle.script_run.proofs.Words.{◌++◌, ◌∙◌, ◌∷◌, ◌≡◌, [], after_step, after_steps, All, All-append, All-cons, All-head, All-nil, All-tail, All-weaker, ap, append-nil, append_assoc, Done, Entry, fold-append, Front, IsHeld, IsKnown, IsOfRun, IsOfSession, IsRun, IsSound, List, MayStep, MayStepAll, refl, Replying, seat_at, State, state_of, Step, StepsKeep, StepsLoseNone, Submit, subst, sym}
 use Rattle.core_state.specs.Whole.{LosesNone}
 use Rattle.core_state.proofs.WholeRunLemmas.{steps-lose}
 use Rattle.script_run.specs.Home.{IsServed}

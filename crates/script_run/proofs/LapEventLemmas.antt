@@ -1,5 +1,5 @@
 -- Events of the driver leave the settings, the history and the number of the last statement; what the scan goes on by them.
-use Rattle.script_run.proofs.Words.{◌∙◌, ◌∷◌, ◌≡◌, ◌≤◌, [], Abandon, Abandoned, accepted_at, after_build, after_distribute, after_give, All, All-cons, All-head, All-nil, All-tail, All-weaker, Answered, ap, arith, Bool, Build, Building, by-option, Clear, count-cons, count_by, Cut, Distribute, Entry, Event, false, find, Finish, flight_at, Give, GoesRound, is_held_by, is_open, IsDriven, IsLed, IsOverOrWaits, IsSound, IsSpoilt, LeavesSeats, length, Life, List, one_if, QueryLife, refl, Release, Reorder, Reserve, slot_of, Spoiled, Start, State, Submit, subst, sym, tables_by, Take, Took, TookAll, true, versions_in, Waiting, with_built, ℕ, ⊎_elim}
+use Rattle.script_run.proofs.Words.{◌∙◌, ◌∷◌, ◌≡◌, ◌≤◌, [], Abandon, Abandoned, accepted_at, after_build, after_distribute, after_give, All, All-cons, All-head, All-nil, All-tail, All-weaker, Answered, ap, arith, Bool, Build, Building, by-option, count-cons, count_by, Distribute, Entry, Event, false, find, flight_at, Give, GoesRound, is_held_by, is_open, IsDriven, IsLed, IsOverOrWaits, IsSound, IsSpoilt, LeavesSeats, length, Life, List, one_if, QueryLife, refl, slot_of, Spoiled, State, Submit, subst, sym, tables_by, Took, TookAll, true, versions_in, with_built, ℕ, ⊎_elim}
 use Rattle.pipeline_manager.specs.Conditions.{IsRunning}
 use Rattle.pipeline_manager.specs.declared.life.Life.TheVariants.{Running, Ending}
 use Rattle.core_state.specs.Events.{after_event, after_want}

@@ -1,5 +1,5 @@
 -- Replies in rows of places: how many places they take at least, and how many rows these fill.
-use Rattle.script_run.proofs.Words.{◌*◌, ◌+◌, ◌-◌, ◌/◌, ◌<◌, ◌∙◌, ◌∷◌, ◌≡◌, ◌≤◌, [], Answer, answer_reply, arith, Asked, Awaited, ComesTo, ComeTo, Commit, count-cons, count_by, is_query, List, Memory, one_if, Overflow, Pending, placed, places_played, Played, Refused, Replied, Reply, rows_of, Store, subst, sym, Table, Waited, ℕ, ⊎_elim}
+use Rattle.script_run.proofs.Words.{◌*◌, ◌+◌, ◌-◌, ◌/◌, ◌<◌, ◌∙◌, ◌∷◌, ◌≡◌, ◌≤◌, [], answer_reply, arith, Asked, Awaited, ComesTo, ComeTo, count-cons, count_by, is_query, List, Memory, one_if, Pending, placed, places_played, Played, Replied, Reply, rows_of, Store, subst, sym, Waited, ℕ, ⊎_elim}
 use Rattle.std.proofs.Math.Nat.{lt-mul-div-succ, le-div_iff_mul-le, mul-div_left, mul_comm, div-mul-le_self}
 use Rattle.star_plan.specs.declared.answer.Answer as answers
 use Rattle.star_plan.specs.declared.answer.Answer.TheVariants as answer

@@ -1,5 +1,5 @@
 -- A statement that is given to a core: what it leaves, and what it counts.
-use Rattle.script_run.proofs.Words.{◌+◌, ◌<◌, ◌∙◌, ◌∷◌, ◌≡◌, ◌≤◌, [], Accepted, after_change, after_submitting, All, All-append, All-cons, All-head, All-map, All-nil, All-tail, All-weaker, ap, arith, awaited_by, Bool, Change, cond, count_by, CountsOne, DimensionDeclared, Ended, eq-eqb, eqb, FactDeclared, false, if◌then◌else◌, is_open, is_query, IsOverOrWaits, IsSound, IsSoundQuery, length, length-append, life_in, List, Loaded, map, ne_eqb, None, one_if, Option, option_map, option_map_or, Outcome, outcome_of, Pending, queries_awaited, QueryLife, refl, Seat, seat_at, Some, State, Statement, Store, subst, sym, tables_of, Told, told_of, versions_in, Waiting, with_change, with_query, with_seat, with_statement, ℕ}
+use Rattle.script_run.proofs.Words.{◌+◌, ◌<◌, ◌∙◌, ◌∷◌, ◌≡◌, ◌≤◌, [], Accepted, after_change, after_submitting, All, All-append, All-cons, All-head, All-map, All-nil, All-tail, All-weaker, ap, arith, awaited_by, Bool, Change, cond, count_by, CountsOne, DimensionDeclared, Ended, eq-eqb, eqb, false, if◌then◌else◌, is_open, is_query, IsOverOrWaits, IsSound, IsSoundQuery, length, length-append, life_in, List, Loaded, map, ne_eqb, None, one_if, Option, option_map, option_map_or, Outcome, outcome_of, Pending, queries_awaited, QueryLife, refl, Seat, seat_at, Some, State, Statement, Store, subst, sym, tables_of, Told, told_of, versions_in, Waiting, with_change, with_query, with_seat, with_statement, ℕ}
 use Rattle.std.proofs.Common.{find}
 use Rattle.std.specs.Option.{option_or}
 use Rattle.std.proofs.lemmas.List.Folds.{find-append}

@@ -1,5 +1,5 @@
 -- Events by which no statement is submitted and no query abandoned leave the history, the seats and what is asked, and so what may be played.
-use Rattle.script_run.proofs.Words.{◌-◌, ◌∙◌, ◌∷◌, ◌≡◌, [], Abandon, accepted_at, accepted_by, after_build, after_distribute, after_give, All, All-head, All-nil, All-tail, All-weaker, Answered, ap, append-nil, AreRising, Build, Building, by-option, changes_of, Clear, ComeTo, Cut, Distribute, empty_seat, Entry, Event, false, find, Finish, flight_at, forgets, forgotten, get_or, Give, given_in, is_held_by, IsDriven, IsEnabled, IsLed, IsReplyOf, IsSpoilt, IsTakenAs, Leads, LeavesSeats, life_in, List, map, option_map_or, Plays, Ready, ready_of, refl, Release, Reorder, Reply, Reserve, Seat, slot_of, Some, Spoiled, Start, State, Submit, subst, sym, tables_by, tables_of, Take, Took, TookAll, true, versions_in, with_built, ℕ, ⊎_elim}
+use Rattle.script_run.proofs.Words.{◌-◌, ◌∙◌, ◌∷◌, ◌≡◌, [], Abandon, accepted_at, accepted_by, after_build, after_distribute, after_give, All, All-head, All-nil, All-tail, All-weaker, Answered, ap, append-nil, AreRising, Build, Building, by-option, changes_of, ComeTo, Cut, Distribute, empty_seat, Entry, Event, false, find, Finish, flight_at, forgets, forgotten, get_or, Give, given_in, is_held_by, IsDriven, IsEnabled, IsLed, IsReplyOf, IsSpoilt, IsTakenAs, Leads, LeavesSeats, life_in, List, map, option_map_or, Plays, Ready, ready_of, refl, Reply, Reserve, Seat, slot_of, Some, Spoiled, Start, State, Submit, subst, sym, tables_by, tables_of, Took, TookAll, true, versions_in, with_built, ℕ, ⊎_elim}
 use Rattle.continuous_scan.specs.Range.{first_of}
 use Rattle.pipeline_manager.specs.Changes.{started}
 use Rattle.pipeline_manager.specs.Lives.{extent_in}

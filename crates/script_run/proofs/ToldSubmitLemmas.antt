@@ -1,5 +1,5 @@
 -- What a core tells where the front gives it a statement.
-use Rattle.script_run.proofs.Words.{◌++◌, ◌+◌, ◌<◌, ◌∙◌, ◌∷◌, ◌≡◌, [], accepted_by, after_submitting, All, All-weaker, ap, append-nil, append_assoc, AreRising, arith, awaited_by, Change, DimensionDeclared, Ended, FactDeclared, Follows, given_in, IsListedBehind, IsSound, IsSoundQuery, List, Loaded, map, map-append, None, of-numbers, Option, option_map_or, outcome_of, Pending, queries_among, Query, QueryLife, refl, Seat, seat_at, Some, State, Statement, subst, sym, tables_of, Taken, taken_by, Told, versions_in, Waiting, with_change, with_query, with_seat, with_statement, ℕ}
+use Rattle.script_run.proofs.Words.{◌++◌, ◌+◌, ◌<◌, ◌∙◌, ◌∷◌, ◌≡◌, [], accepted_by, after_submitting, All, All-weaker, ap, append-nil, append_assoc, AreRising, arith, awaited_by, Change, DimensionDeclared, Follows, given_in, IsListedBehind, IsSound, IsSoundQuery, List, map, map-append, of-numbers, Option, option_map_or, outcome_of, Pending, queries_among, Query, QueryLife, refl, Seat, seat_at, Some, State, Statement, subst, sym, tables_of, Taken, taken_by, Told, versions_in, Waiting, with_change, with_query, with_seat, with_statement, ℕ}
 use Rattle.std.proofs.lemmas.List.Elements.{filter_map-append}
 use Rattle.std.proofs.lemmas.List.Quantifiers.{all_pairs_push}
 use Rattle.star_statement.specs.Outcome as outcome

@@ -1,5 +1,5 @@
 -- All statements that are whole: what was written, and what is still to come.
-use Rattle.script_run.proofs.Words.{◌++◌, ◌<◌, ◌||◌, ◌∙◌, ◌∷◌, ◌≡◌, ◌≢◌, [], Answer, ap, append-nil, append_assoc, Appends, Appends-trans, AppendsFront, arith, Bool, Commit, drop, false, HaltsBehind, is_refusal, length, length-append, length-drop, List, list_any, MayCome, Memory, NoMemory, Option, Overflow, Reading, refl, Refused, refused_left, Replies, replies_left, RepliesInPart, Reply, StaysFed, Store, sym, Table, take, take-append-drop, text_left, text_of, text_of_all, true, Waited, WriteFault, ℕ}
+use Rattle.script_run.proofs.Words.{◌++◌, ◌<◌, ◌||◌, ◌∙◌, ◌∷◌, ◌≡◌, ◌≢◌, [], ap, append-nil, append_assoc, Appends, Appends-trans, AppendsFront, arith, Bool, drop, false, HaltsBehind, is_refusal, length, length-append, length-drop, List, list_any, MayCome, NoMemory, Option, Reading, refl, refused_left, Replies, replies_left, RepliesInPart, Reply, StaysFed, Store, sym, Table, take, take-append-drop, text_left, text_of, text_of_all, true, WriteFault, ℕ}
 use Rattle.script_run.specs.Answer.{RepliesFirst, RepliesFront}
 use Rattle.script_run.specs.declared.answer.Answered.{Answered}
 

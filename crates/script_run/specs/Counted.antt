@@ -8,7 +8,7 @@ use Rattle.star_statement.specs.Outcome.{Told, outcome_of}
 use Rattle.pipeline_manager.specs.Lives.{life_of}
 use Rattle.pipeline_manager.specs.Conditions.{is_open}
 use Rattle.pipeline_manager.specs.declared.life.Life.{Life}
-use Rattle.pipeline_manager.specs.declared.life.Life.TheVariants.{Waiting, Building, Running, Ending, Answered, Spoiled, Abandoned}
+use Rattle.pipeline_manager.specs.declared.life.Life.TheVariants.{Waiting, Building, Running, Ending}
 use Rattle.event_core.specs.Chosen.{AreIdle}
 use Rattle.event_core.specs.Seen.{state_of}
 use Rattle.script_run.specs.Laps.{places_of}

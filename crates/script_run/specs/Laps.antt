@@ -1,7 +1,7 @@
 -- How many laps the replies of a run take.
 use Rattle.std.specs.Prelude.{ℕ, ◌+◌, ◌-◌, ◌*◌, ◌/◌, List, fold}
 use Rattle.reply_text.specs.declared.reply.Reply.{Reply}
-use Rattle.reply_text.specs.declared.reply.Reply.TheVariants.{Table, Commit, Answer, Overflow, Memory, Refused, Waited}
+use Rattle.reply_text.specs.declared.reply.Reply.TheVariants.{Answer, Overflow, Memory, Waited}
 
 -- how many rows of so many places hold these
 abbrev pub rows_of : (slots places : ℕ) → ℕ

@@ -21,7 +21,7 @@ use Rattle.core_state.specs.State.{Accepted, Asked, Awaited, Pending, Seat, Stat
 use Rattle.core_state.specs.Submitting.{Grouping, Ready, Whole, asked_by, awaited_by, seat_at, taken_by}
 use Rattle.core_state.specs.Tables.{changes_of, tables_of}
 use Rattle.core_state.specs.declared.event.Event.{Event}
-use Rattle.core_state.specs.declared.event.Event.TheVariants.{Submit, Reserve, Build, Start, Cut, Take, Give, Distribute, Finish, Clear, Release, Reorder, Abandon}
+use Rattle.core_state.specs.declared.event.Event.TheVariants.{Submit, Abandon}
 
 -- what became of a statement: its reply, whether the core has it, and the query that it asks with its snapshot, where the core accepted one
 pub record Played : Type 0 where

@@ -1,5 +1,5 @@
-use Rattle.script_run.proofs.Words.{Front, refl}
-use Rattle.script_run.proofs.FrontNewLemmas.{IsNew, new-counted, new-home}
+use Rattle.script_run.proofs.Words.{refl}
+use Rattle.script_run.proofs.FrontNewLemmas.{new-counted, new-home}
 use Rattle.script_run.proofs.front.Front.new.Goals as goal
 
 pub returns-clause-counted : goal.returns-clause-counted
