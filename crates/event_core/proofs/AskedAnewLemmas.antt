@@ -1,5 +1,5 @@
 -- A query that is accepted stands behind the others, and changes nothing of what is known of them.
-use Rattle.event_core.proofs.Words.{◌++◌, ◌+◌, ◌<◌, ◌∙◌, ◌∷◌, ◌≡◌, ◌≢◌, ◌≤◌, [], Accepted, accepted, accepted_as, accepted_in, after_outcome, after_submit, after_submitting, All, All-push, ap, arith, Asked, AskedQuery, attached_for, attached_or, Awaited, Becomes, cond, false, flights_as, Free, get_or, Grouped, grouped_of, is_held_by, IsAsked, IsCore, IsNew, IsSome, Known, known_at, known_in, length, length-map, life_in, List, Lives, map, map_push, None, of-numbers, Option, option_and_then, option_map, option_map_or, Outcome, outcome_of, Parts, plain_version, position-Some, query_of, QueryLife, Reach, reach_at, reaches_in, refl, Replied, Seat, seat_as, slot_of, SlotState, Some, StarQuery, State, state_of, Statement, statements_at, Store, subst, sym, tables_of, Told, true, versions_in, ℕ}
+use Rattle.event_core.proofs.Words.{◌++◌, ◌+◌, ◌<◌, ◌∙◌, ◌∷◌, ◌≡◌, ◌≢◌, ◌≤◌, [], Accepted, accepted, accepted_as, accepted_in, after_outcome, after_submit, after_submitting, All, All-push, ap, arith, Asked, AskedQuery, attached_for, attached_or, Becomes, cond, false, flights_as, Free, get_or, Grouped, grouped_of, is_held_by, IsAsked, IsCore, IsNew, IsSome, Known, known_at, known_in, length, length-map, life_in, List, Lives, map, map_push, None, of-numbers, Option, option_and_then, option_map, option_map_or, Outcome, outcome_of, Parts, plain_version, position-Some, query_of, QueryLife, Reach, reach_at, reaches_in, refl, Replied, Seat, seat_as, slot_of, SlotState, Some, StarQuery, State, state_of, Statement, statements_at, Store, subst, sym, tables_of, Told, true, versions_in, ℕ}
 use Rattle.std.proofs.lemmas.List.Elements.{All-weaker}
 use Rattle.std.proofs.lemmas.List.Sums.{get_or-le-sum_by}
 use Rattle.reply_text.specs.declared.reply.Reply.TheVariants as reply

@@ -1,5 +1,5 @@
 -- No event of a kind may come where the parts of a core offer none, and one that they offer may.
-use Rattle.event_core.proofs.Words.{◌∙◌, ◌∷◌, ◌≡◌, ◌≢◌, [], Abandon, All, All-head, All-map, All-tail, AllPairs, ap, arith, bit_at, Bool, Build, CanBuild, CanClear, CanEnd, CanFree, CanRun, Clear, cond, Cut, Distribute, eqb, false, find, Finish, Flight, flight_as, flight_at, flights_as, get_or, get_or-map, Give, IfSome, IsCore, IsSome, IsSomeAnd, IsThrough, IsWanting, Known, known_in, length, length-map, List, list_any, MayCut, MayDistribute, MayFinish, MayReserve, None, NoneMayCome, not-true, Option, option_map, Parts, Reach, reaches_in, refl, Release, Reorder, Reserve, Some, Start, State, state_of, Submit, subst, sym, Take, Through, true, Wants, ℕ}
+use Rattle.event_core.proofs.Words.{◌∙◌, ◌∷◌, ◌≡◌, ◌≢◌, [], All, All-head, All-map, All-tail, AllPairs, ap, arith, bit_at, Bool, Build, CanBuild, CanClear, CanEnd, CanFree, CanRun, Clear, cond, Cut, Distribute, eqb, false, find, Finish, Flight, flight_as, flight_at, flights_as, get_or, get_or-map, IfSome, IsCore, IsSome, IsSomeAnd, IsThrough, IsWanting, Known, known_in, length, length-map, List, list_any, MayCut, MayDistribute, MayFinish, MayReserve, None, NoneMayCome, not-true, Option, option_map, Parts, Reach, reaches_in, refl, Release, Reserve, Some, Start, State, state_of, subst, sym, Through, true, Wants, ℕ}
 use Rattle.std.proofs.lemmas.Bool.{not_from_false}
 use Rattle.core_state.specs.State as state
 use Rattle.event_core.specs.declared.choosing.EventKind.{EventKind}

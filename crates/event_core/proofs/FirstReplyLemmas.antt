@@ -1,5 +1,5 @@
 -- The first statement that a seat of a core waits for, and what may be taken as the reply to it.
-use Rattle.event_core.proofs.Words.{◌<◌, ◌∙◌, ◌≡◌, [], Accepted, accepted_as, accepted_at, accepted_in, ap, Asked, asked_at, AskedQuery, attached-get, attached_for, attached_or, Awaited, awaited_as, cases_lt, empty_seat, false, find-passes, first_of, get_or, get_or_from_slice_get, get_or_past, gets, gets_rows, Grouped, holder_of, holds-slot, is_open, IsAbandoned, IsAnswered, IsAsked, IsCore, IsSome, IsSomeAnd, IsSound, IsTaken, IsTrue, kept-none, kept_by, kept_for, Known, known_in, length, Life, life-accepted, life_of, List, next_ready, None, none-some, Option, option_and_then, option_map, option_map_or, Parts, Pending, pending_as, Query, query_in, query_of, QueryLife, Ready, ready_to, ready_with, refl, Replied, Reply, Seat, seat_as, seat_at, slice_get, slice_get_within, slot_of, snapshot_for, Some, Standing, State, state_of, statements_at, Submitted, subst, sym, true, Waits, ℕ, ⊎_elim}
+use Rattle.event_core.proofs.Words.{◌<◌, ◌∙◌, ◌≡◌, [], Accepted, accepted_as, accepted_at, accepted_in, ap, Asked, asked_at, AskedQuery, attached-get, attached_for, attached_or, Awaited, awaited_as, cases_lt, empty_seat, false, find-passes, first_of, get_or, get_or_from_slice_get, get_or_past, gets, gets_rows, Grouped, holder_of, holds-slot, is_open, IsAsked, IsCore, IsSome, IsSomeAnd, IsSound, IsTrue, kept-none, kept_by, kept_for, Known, known_in, length, Life, life-accepted, life_of, List, next_ready, None, none-some, Option, option_and_then, option_map, option_map_or, Parts, Pending, pending_as, Query, query_in, query_of, QueryLife, Ready, ready_to, ready_with, refl, Replied, Reply, Seat, seat_as, seat_at, slice_get, slice_get_within, slot_of, snapshot_for, Some, Standing, State, state_of, statements_at, Submitted, subst, sym, true, Waits, ℕ, ⊎_elim}
 use Rattle.std.proofs.Math.ListN as lists
 use Rattle.reply_text.specs.declared.reply.Reply.TheVariants.{Memory}
 use Rattle.pipeline_manager.specs.declared.life.Life.TheVariants as life

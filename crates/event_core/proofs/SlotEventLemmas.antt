@@ -1,7 +1,7 @@
 -- The parts of a core where a slot has been given to a query, or taken from it.
-use Rattle.event_core.proofs.Words.{◌<◌, ◌∙◌, ◌≡◌, ◌≢◌, ◌⊎◌, Abandoned, after_end, after_finish, after_reserve, after_reserving, Answered, ap, AreRising, arith, AskedQuery, Becomes, Building, cases_lt, finished, Free, get_or, get_or_past, Grouped, Held, inl, inr, IsCore, length, length-range_with_len, Life, life_of, List, Lives, MayFinish, MayReserve, None, Option, Parts, range_with_len, refl, reserved, Roomy, set, slot_at, Some, Spoiled, state_of, subst, sym, unheld, with_kept_at, ℕ, ⊎_elim}
+use Rattle.event_core.proofs.Words.{◌<◌, ◌∙◌, ◌≡◌, ◌≢◌, ◌⊎◌, after_end, after_finish, after_reserve, after_reserving, ap, AreRising, arith, AskedQuery, Becomes, cases_lt, finished, Free, get_or, get_or_past, Grouped, Held, inl, inr, IsCore, length, length-range_with_len, Life, life_of, List, Lives, MayFinish, MayReserve, None, Option, Parts, range_with_len, refl, reserved, Roomy, set, slot_at, Some, state_of, subst, sym, unheld, with_kept_at, ℕ, ⊎_elim}
 use Rattle.std.proofs.Math.ListN as lists
-use Rattle.pipeline_manager.specs.declared.life.Life.TheVariants.{Waiting, Running, Ending}
+use Rattle.pipeline_manager.specs.declared.life.Life.TheVariants.{Ending}
 use Rattle.core_state.specs.Handed.{attached_at}
 use Rattle.event_core.proofs.AskedKeptLemmas.{asked-rise}
 

@@ -1,5 +1,5 @@
 -- The seats after one of them submits a statement.
-use Rattle.event_core.proofs.Words.{◌++◌, ◌<◌, ◌∙◌, ◌∷◌, ◌≡◌, [], All, All-head, All-tail, ap, append-nil, Asked, Awaited, awaited_as, cons_option, empty_seat, filter_map, filter_map-append, get_or, get_or-map, IsAbandoned, IsAnswered, IsAsked, IsTaken, Known, known_at, length, List, map, map-set, map_push, None, Option, option_map, option_map_or, Pending, pending_as, refl, Replied, Seat, seat_as, set, Some, Standing, Submitted, sym, Told, Waits, ℕ}
+use Rattle.event_core.proofs.Words.{◌++◌, ◌<◌, ◌∙◌, ◌∷◌, ◌≡◌, [], All, All-head, All-tail, ap, append-nil, Asked, Awaited, awaited_as, cons_option, empty_seat, filter_map, filter_map-append, get_or, get_or-map, IsAnswered, IsAsked, Known, known_at, length, List, map, map-set, map_push, None, Option, option_map, option_map_or, Pending, pending_as, refl, Replied, Seat, seat_as, set, Some, Standing, Submitted, sym, Told, ℕ}
 use Rattle.reply_text.specs.declared.reply.Reply.TheVariants as reply
 use Rattle.core_state.specs.State.{Taken}
 use Rattle.core_state.specs.Submitting.{awaited_by, with_statement}

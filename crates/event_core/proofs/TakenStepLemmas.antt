@@ -1,6 +1,6 @@
 -- Events that were taken are steps of the core.
 use Rattle.std.specs.Prelude.{◌≡◌, ◌⊎◌, List, [], ◌∷◌, refl}
-use Rattle.event_core.proofs.Words.{Abandon, after_event, after_step, Build, Clear, Cut, Distribute, Done, Event, Finish, Give, inl, inr, IsEnabled, MayStep, Release, Reorder, Reserve, Start, State, Step, Submit, subst, Take, TookAll, Wanting}
+use Rattle.event_core.proofs.Words.{after_event, after_step, Build, Distribute, Done, Event, inl, inr, IsEnabled, MayStep, State, Step, subst, TookAll, Wanting}
 use Rattle.event_core.specs.Took.{IsOf, IsSpoilt, StepsFor}
 
 -- a step of this event that may come and gives this state

@@ -1,7 +1,7 @@
 -- Which event is chosen where one of a kind is asked for.
 use Rattle.std.specs.Prelude.{◌≡◌, All, Option, Some, None}
 use Rattle.core_state.specs.declared.event.Event.{Event}
-use Rattle.core_state.specs.declared.event.Event.TheVariants.{Submit, Reserve, Build, Start, Cut, Take, Give, Distribute, Finish, Clear, Release, Reorder, Abandon}
+use Rattle.core_state.specs.declared.event.Event.TheVariants.{Reserve, Build, Start, Cut, Take, Give, Distribute, Finish, Clear, Release}
 use Rattle.core_state.specs.Events.{IsEnabled}
 use Rattle.core_state.specs.State.{State}
 use Rattle.event_core.specs.declared.choosing.EventKind.{EventKind}

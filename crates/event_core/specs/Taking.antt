@@ -7,7 +7,7 @@ use Rattle.pipeline_manager.specs.Conditions.{is_open}
 use Rattle.pipeline_manager.specs.Lives.{Lives, life_of}
 use Rattle.core_state.specs.Submitting.{Grouping, Ready, Whole}
 use Rattle.core_parts.specs.declared.submitted.Standing.{Standing}
-use Rattle.core_parts.specs.declared.submitted.Standing.TheVariants.{Waits, IsAsked, IsTaken, IsAnswered, IsAbandoned}
+use Rattle.core_parts.specs.declared.submitted.Standing.TheVariants.{Waits, IsAsked}
 use Rattle.core_parts.specs.declared.submitted.Submitted.{Submitted}
 use Rattle.core_parts.specs.Asked.{AskedQuery, asked_at}
 use Rattle.core_parts.specs.Seats.{is_waited}

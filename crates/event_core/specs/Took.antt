@@ -4,7 +4,7 @@ use Rattle.core_state.specs.Events.{AreFed, IsEnabled, after_event, after_want}
 use Rattle.core_state.specs.State.{State}
 use Rattle.core_state.specs.Steps.{Step, Done, Wanting, Replying, MayStepAll, after_steps}
 use Rattle.core_state.specs.declared.event.Event.{Event}
-use Rattle.core_state.specs.declared.event.Event.TheVariants.{Submit, Reserve, Build, Start, Cut, Take, Give, Distribute, Finish, Clear, Release, Reorder, Abandon}
+use Rattle.core_state.specs.declared.event.Event.TheVariants.{Submit, Build, Start, Take, Distribute, Clear}
 
 -- at an event queries found no memory: the query that is built, or some of those that get rows of the batch
 abbrev pub IsSpoilt : Event → (old new : State) → Type 0
