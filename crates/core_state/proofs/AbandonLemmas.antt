@@ -4,9 +4,9 @@ use Rattle.pipeline_manager.specs.Sound as managed
 use Rattle.pipeline_manager.specs.declared.life.Life.TheVariants as life
 use Rattle.pipeline_manager.proofs.CallLemmas.{sound-after_abandon, sound-after_spoil}
 use Rattle.core_state.proofs.AcceptedLemmas.{find-holds}
-use Rattle.core_state.proofs.FoundLemmas.{find-passes, life-written, with_life-found, with_life-numbers}
 use Rattle.core_state.proofs.AnewLemmas.{forgets, kept_anew, queries-anew, sound-anew}
-use Rattle.core_state.proofs.FrameLemmas.{at-set, awaited-there, kept-with, lives-as, LivesAs, StayTaken, Told, Wanted}
+use Rattle.core_state.proofs.FoundLemmas.{find-passes, life-written, with_life-found, with_life-numbers}
+use Rattle.core_state.proofs.FrameLemmas.{LivesAs, StayTaken, Told, Wanted, at-set, awaited-there, kept-with, lives-as}
 use Rattle.core_state.proofs.SeatLemmas.{part-stays, seat-anew, seat-fewer, seat-there, seats-anew}
 
 -- the life of a query that has no answer

@@ -42,23 +42,11 @@ were-start query state =
 
 were-give : (worker : ℕ) (state : State) → Abandons state (after_give worker state)
 were-give worker state =
-    by-option (Abandons state) (find (is_held_by worker) state.scan.flights)
-    (λ flight. record state {
-      filters = record state.filters { tallies = tallies_after flight state.filters.versions state.filters.tallies };
-      scan = record state.scan { flights = with_flight flight.rows.number given_back state.scan.flights };
-    }) state (were-all state) (λ flight found number is. is)
+    by-option (Abandons state) (find (is_held_by worker) state.scan.flights) _ state (were-all state) (λ flight found number is. is)
 
 were-distribute : (batch : ℕ) (spoiled : List ℕ) (state : State) → Abandons state (after_distribute batch spoiled state)
 were-distribute batch spoiled state =
-    by-option (Abandons state) (flight_at state.scan.flights batch)
-    (λ flight. record state {
-      accepted = map (unkept spoiled) (map (fed (tables_of state) state.lives flight.rows flight.roster) state.accepted);
-      lives = fold (λ lives query. after_spoil query lives) state.lives spoiled;
-      scan = record state.scan {
-        flights = filter (λ other. not (eqb other.rows.number batch)) state.scan.flights;
-        free = state.scan.free + 1;
-      };
-    }) state (were-all state) (λ flight found. were-spoiled spoiled state.lives)
+    by-option (Abandons state) (flight_at state.scan.flights batch) _ state (were-all state) (λ flight found. were-spoiled spoiled state.lives)
 
 -- the change of a statement
 were-change : (seat statement : ℕ) (change : Change) (state : State) → Abandons state (with_change seat statement change state)
@@ -92,11 +80,7 @@ were-abandoning : (query number : ℕ) (state : State) → life_of (after_abando
     → (life_of state.lives number ≡ Some life.Abandoned) ⊎ (query ≡ number)
 were-abandoning query number state =
     by-option (λ now. life_of now.lives number ≡ Some life.Abandoned → (life_of state.lives number ≡ Some life.Abandoned) ⊎ (query ≡ number))
-    (accepted_at state.accepted query)
-    (λ accepted. with_seat accepted.seat (without_pending query) (record state {
-      accepted = map (forgotten query) state.accepted;
-      lives = after_abandon query state.lives;
-    })) state (λ is. inl is)
+    (accepted_at state.accepted query) _ state (λ is. inl is)
     (λ accepted found is. ⊎_elim (λ same. inr (sym same))
     (λ apart. inl (were-others query state.lives.queries number apart is)) (cases_eq number query))
 

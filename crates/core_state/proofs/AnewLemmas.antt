@@ -1,6 +1,6 @@
 -- What stays sound where other groups are kept of accepted queries, and lives and seats are others.
 use Rattle.core_state.proofs.Words.{◌∙◌, ◌∷◌, ◌≡◌, [], Accepted, accepted_at, All, All-map, ap, AreSoundFilters, AreSoundHands, AreSoundQueries, AreSoundSeats, AreSoundSlots, arith, Bool, cond, Contains, Contains-get_or, Encodes, eqb, false, Filter, FitsSlot, Flight, forgotten, frame_words, get_or, Grouped, HasAccepted, Held, IfSome, IsSomeAnd, IsSound, IsSoundAccepted, IsSoundBatch, IsSoundHand, IsSoundQuery, length, life_in, List, map, MayBeOnRoster, None, Option, option_map, Query, query_in, QueryLife, refl, rows_in, Scan, Seat, slot_at, SlotState, Some, State, Store, subst, sym, tables_of, true, ℕ}
-use Rattle.core_state.proofs.FrameLemmas.{batches-with, filter-with, LivesAs, query-with}
+use Rattle.core_state.proofs.FrameLemmas.{LivesAs, batches-with, filter-with, query-with}
 
 -- a change of what is kept of accepted queries, and of nothing else of them
 abbrev pub KeepsAsked : (Accepted → Accepted) → Type 0

@@ -1,16 +1,16 @@
 -- What a distributor has where a query is abandoned, finds no memory, or its reply is taken.
 use Rattle.core_state.proofs.Words.{◌∙◌, ◌∷◌, ◌≡◌, ◌≢◌, [], Accepted, accepted_at, after_abandoning, after_build_wants, after_taking, All, All-head, ap, attached_to, CanAbandon, CanBuild, cond, empty_seat, eqb, eqb-true, false, forgotten, get_or, gets_rows, holder_of, IfSome, is_open, IsAwaited, IsSome, IsSound, Life, life_in, life_in-same, List, map, ne_eqb, next_ready, None, none-some, Option, option_and_then, option_map, option_map_or, Pending, query_in, QueryLife, ready_to, refl, Seat, set, slice_get, slot_of, Some, State, subst, sym, take, true, with_seat, without_groups, without_pending, ℕ, ⊎_elim}
-use Rattle.core_state.proofs.FrameLemmas.{Told}
 use Rattle.pipeline_manager.specs.declared.life.Life.TheVariants as life
 use Rattle.core_state.specs.Handed.{detached_for}
 use Rattle.core_state.proofs.AnewLemmas.{forgets, found-anew}
 use Rattle.core_state.proofs.AttachedFrameLemmas.{StaysKept, attached-held, attached-same, attached-set, gets-other, gets-written, kept-none, slot-same}
 use Rattle.core_state.proofs.AttachedStartLemmas.{apart-holder}
 use Rattle.core_state.proofs.FoundLemmas.{find-passes}
+use Rattle.core_state.proofs.FrameLemmas.{Told}
 use Rattle.core_state.proofs.HandedAfterLemmas.{kept_by}
 use Rattle.core_state.proofs.HandedSlotLemmas.{gets}
 use Rattle.core_state.proofs.ScannedLifeLemmas.{holds-slot, lives_with, other-holder}
-use Rattle.core_state.proofs.ScannedOverLemmas.{life-accepted}
+use Rattle.core_state.proofs.ScannedOverLemmas.{life-accepted, open-accepted}
 use Rattle.core_state.proofs.SeatLemmas.{pending-there}
 use Rattle.core_state.proofs.TakingLemmas.{ready-told}
 
@@ -70,14 +70,10 @@ attached-without state query new sound none = by_place (slot_of state.lives quer
 pub attached-abandon : (state : State) (query : ℕ) → IsSound state → CanAbandon query state.lives
     → attached_to (after_abandoning query state) ≡ detached_for state.lives query (attached_to state)
 attached-abandon state query sound can =
-    by_accepted (accepted_at state.accepted query) (life-accepted state query sound (by_life (query_in state.lives.queries query) can))
+    by_accepted (accepted_at state.accepted query) (open-accepted state query sound can)
   where
     without_it : Accepted → State
     without_it accepted = with_seat accepted.seat (without_pending query) (without query life.Abandoned state)
-
-    by_life : (o : Option QueryLife) → option_map_or is_open (option_map (λ e. e.life) o) false ≡ true → IsSome o
-    by_life None opens = absurd (let both : false ≡ true = opens in cc)
-    by_life (Some e) opens = refl
 
     by_accepted : (o : Option Accepted) → IsSome o
         → attached_to (option_map_or without_it o state) ≡ detached_for state.lives query (attached_to state)

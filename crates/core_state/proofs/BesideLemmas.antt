@@ -3,7 +3,7 @@ use Rattle.core_state.proofs.Words.{◌<◌, ◌∙◌, ◌≡◌, ◌≤◌, Ac
 use Rattle.pipeline_manager.specs.Sound as managed
 use Rattle.core_state.proofs.AcceptedLemmas.{find-holds, held-life, number-found}
 use Rattle.core_state.proofs.FoundLemmas.{find-passes, some-by}
-use Rattle.core_state.proofs.FrameLemmas.{batches-with, filter-with, kept-with, lives-as, LivesAs, query-with, StayTaken}
+use Rattle.core_state.proofs.FrameLemmas.{LivesAs, StayTaken, batches-with, filter-with, kept-with, lives-as, query-with}
 use Rattle.core_state.proofs.SubmitSeatLemmas.{Still}
 
 -- the core with other seats, another last number of a statement, other accepted queries and other lives in the same slots

@@ -7,8 +7,8 @@ use Rattle.pipeline_manager.specs.Lives.{is_held_by}
 use Rattle.pipeline_manager.specs.Sound as managed
 use Rattle.pipeline_manager.specs.declared.life.Life.TheVariants as life
 use Rattle.pipeline_manager.proofs.LawLemmas.{sound-after_built}
-use Rattle.core_state.proofs.FoundLemmas.{some-at}
 use Rattle.core_state.proofs.AcceptedLemmas.{held-accepted}
+use Rattle.core_state.proofs.FoundLemmas.{some-at}
 use Rattle.core_state.proofs.VersionLemmas.{IsNextVersion, Versions, sound-versioned}
 
 -- a filter with a query in a slot that was clear has the query there

@@ -10,7 +10,7 @@ use Rattle.core_state.proofs.CutRosterLemmas.{entry-cut, roster-each}
 use Rattle.core_state.proofs.CutRowsLemmas.{batch-cut, cut_flight}
 use Rattle.core_state.proofs.CutRunsLemmas.{Cuts, cuts}
 use Rattle.core_state.proofs.FoundLemmas.{query_in-number}
-use Rattle.core_state.proofs.FrameLemmas.{batches-with, lives-as, LivesAs, moved}
+use Rattle.core_state.proofs.FrameLemmas.{LivesAs, batches-with, lives-as, moved}
 use Rattle.core_state.proofs.GivenLemmas.{Settles}
 use Rattle.core_state.proofs.HeldLemmas.{queries-held}
 use Rattle.core_state.proofs.MovedLemmas.{StaysWanted, seats-held}

@@ -5,7 +5,7 @@ use Rattle.pipeline_manager.specs.declared.life.Life.TheVariants as life
 use Rattle.core_state.proofs.AnewLemmas.{batches-anew, filters-anew, hands-anew, queries-anew}
 use Rattle.core_state.proofs.DistributeLemmas.{FoldsOne, length-landed, without_flight}
 use Rattle.core_state.proofs.FoundLemmas.{life-found, some-by}
-use Rattle.core_state.proofs.FrameLemmas.{lives-as, LivesAs}
+use Rattle.core_state.proofs.FrameLemmas.{LivesAs, lives-as}
 use Rattle.core_state.proofs.LandedLemmas.{batch-brings, fed_by, feeds, gets-open, kept-landed, landed}
 use Rattle.core_state.proofs.SeatLemmas.{seat-anew, seats-anew}
 use Rattle.core_state.proofs.TakeLemmas.{All-option, All-option_tail, cons-tail, workers}

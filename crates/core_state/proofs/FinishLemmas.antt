@@ -5,13 +5,13 @@ use Rattle.pipeline_manager.specs.Conditions.{IsOver}
 use Rattle.pipeline_manager.specs.Sound as managed
 use Rattle.pipeline_manager.specs.declared.life.Life.TheVariants as life
 use Rattle.pipeline_manager.proofs.EndLemmas.{sound-ended}
+use Rattle.core_state.proofs.AcceptedLemmas.{find-holds}
 use Rattle.core_state.proofs.FoundLemmas.{find-passes}
 use Rattle.core_state.proofs.FrameLemmas.{at-set}
 use Rattle.core_state.proofs.HeldLemmas.{entry-set, filters-held, fits-set, slot-there}
 use Rattle.core_state.proofs.MovedLemmas.{Holds, StaysWanted, held_now, sound-held}
 use Rattle.core_state.proofs.RowsLemmas.{whole-extent}
 use Rattle.core_state.proofs.StartLemmas.{none-in-flight}
-use Rattle.core_state.proofs.AcceptedLemmas.{find-holds}
 use Rattle.core_state.proofs.WrittenLemmas.{queries-written, wanted-written}
 
 -- where no element passes, each does not

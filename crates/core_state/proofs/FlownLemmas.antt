@@ -3,7 +3,7 @@ use Rattle.core_state.proofs.Words.{◌++◌, ◌+◌, ◌<◌, ◌==◌, ◌∙
 use Rattle.std.specs.List.{find}
 use Rattle.std.specs.Prelude.{nat_lt}
 use Rattle.core_state.proofs.FoundLemmas.{some-by}
-use Rattle.core_state.proofs.FrameLemmas.{kept-with, lives-as, LivesAs, moved}
+use Rattle.core_state.proofs.FrameLemmas.{LivesAs, kept-with, lives-as, moved}
 use Rattle.core_state.proofs.HeldLemmas.{queries-held}
 use Rattle.core_state.proofs.MovedLemmas.{seats-held}
 

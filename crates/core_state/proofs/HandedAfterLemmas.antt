@@ -3,9 +3,9 @@ use Rattle.core_state.proofs.Words.{◌∙◌, ◌≡◌, Accepted, accepted_at,
 use Rattle.core_state.proofs.AcceptedLemmas.{held-accepted}
 use Rattle.core_state.proofs.AnewLemmas.{found-anew}
 use Rattle.core_state.proofs.FoundLemmas.{find-passes}
+use Rattle.core_state.proofs.HandedFoldLemmas.{FoldsTheSame, fed-as-folded}
 use Rattle.core_state.proofs.HandedLivesLemmas.{others-stay, slots-stay, spoiled-none, spoiled_all, still-kept, still-none, unkeeps}
 use Rattle.core_state.proofs.HandedSlotLemmas.{fed-among, gets, held-there, holds-fed, not-among}
-use Rattle.core_state.proofs.HandedFoldLemmas.{FoldsTheSame, fed-as-folded}
 use Rattle.core_state.proofs.LandedLemmas.{fed_by, feeds, landed}
 
 -- the core after a batch, where these queries found no memory

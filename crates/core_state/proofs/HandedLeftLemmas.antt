@@ -4,11 +4,11 @@ use Rattle.distributor.specs.Folded.{after_batch}
 use Rattle.distributor.specs.Masked.{HaveRows}
 use Rattle.core_state.specs.Handed.{HasWhatIsKept}
 use Rattle.core_state.proofs.AcceptedLemmas.{find-holds}
+use Rattle.core_state.proofs.HandedAfterLemmas.{after_flight, distributed, kept_by, slot-left}
 use Rattle.core_state.proofs.HandedBatchLemmas.{entry-of}
+use Rattle.core_state.proofs.HandedFoldLemmas.{FoldsTheSame}
 use Rattle.core_state.proofs.HandedLivesLemmas.{slots-stay}
 use Rattle.core_state.proofs.HandedSlotLemmas.{all-fed, fed-apart, fed-holds}
-use Rattle.core_state.proofs.HandedAfterLemmas.{after_flight, distributed, kept_by, slot-left}
-use Rattle.core_state.proofs.HandedFoldLemmas.{FoldsTheSame}
 
 map-same : {Y : Type 0} (f g : ℕ → Y) (xs : List ℕ) → All (λ x. f x ≡ g x) xs → map f xs ≡ map g xs
 map-same f g [] all = refl

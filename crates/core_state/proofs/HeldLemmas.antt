@@ -1,6 +1,6 @@
 -- What stays sound of slots, queries and filters where one slot or one life is written.
 use Rattle.core_state.proofs.Words.{◌<◌, ◌∙◌, ◌≡◌, ◌≢◌, Accepted, AreSoundFilters, AreSoundQueries, arith, cases_lt, Filter, Filters, FitsSlot, Free, get_or, get_or-set_other, get_or_past, IfSome, IsOnRoster, IsSoundFilter, IsSoundQuery, length, length-set, life_in, List, map, MayBeOnRoster, Numbers, OnRoster, query_in, QueryLife, Scan, set, slot_at, SlotState, State, subst, sym, tables_of, ℕ, ⊎_elim}
-use Rattle.core_state.proofs.FrameLemmas.{at-set, filter-with, LivesAs, moved, query-with}
+use Rattle.core_state.proofs.FrameLemmas.{LivesAs, at-set, filter-with, moved, query-with}
 use Rattle.core_state.proofs.MovedLemmas.{held_now}
 
 -- a slot that is not Free is there

@@ -1,6 +1,6 @@
 -- A core whose lives, filters and numbers change is sound where what these changes touch is.
 use Rattle.core_state.proofs.Words.{◌≡◌, All, AreSoundFilters, AreSoundQueries, AreSoundSeats, AreSoundSlots, arith, Filters, frame_words, Free, get_or, IfSome, IsOnRoster, IsSound, IsSoundOrder, life_in, List, None, Numbers, QueryLife, refl, Scan, SlotState, State, tables_of, ℕ}
-use Rattle.core_state.proofs.FrameLemmas.{batches-with, moved, seat-lasts, Told, Wanted}
+use Rattle.core_state.proofs.FrameLemmas.{Told, Wanted, batches-with, moved, seat-lasts}
 
 -- the core with other lives of the same filters, other filters, and another number of the last version
 abbrev pub held_now : State → List QueryLife → List SlotState → Filters → (version : ℕ) → State

@@ -1,9 +1,9 @@
 -- Filters that are ordered anew keep a core sound.
 use Rattle.core_state.proofs.Words.{after_reorder, Filters, IsSound, refl, State}
 use Rattle.core_state.specs.Cutting.{order_by}
+use Rattle.core_parts.proofs.OrderLemmas.{order_by-permutes}
 use Rattle.core_state.proofs.HeldLemmas.{filters-held}
 use Rattle.core_state.proofs.MovedLemmas.{Holds, sound-held}
-use Rattle.core_parts.proofs.OrderLemmas.{order_by-permutes}
 
 pub sound-reordered : (state : State) → IsSound state → IsSound (after_reorder state)
 sound-reordered state old =

@@ -42,26 +42,24 @@ scanned-finish state scan slot may same = by_slot (slot_at state.lives slot) ref
       lives = record state.lives { queries = queries; slots = set state.lives.slots slot (Clearing built) };
     }
 
+    stays : (query built : ℕ) → slot_at state.lives slot ≡ Held query built → option_and_then start_in (life_of state.lives query) ≡ None
+        → (queries : List QueryLife)
+        → ((at : ℕ) → StaysBy state.accepted state.accepted state.lives (ended query built queries).lives at (holder_of (slot_at state.lives at))
+        (holder_of (slot_at state.lives at)))
+        → IsScannedAs (ended query built queries) scan
+    stays query built is rests queries others =
+        scanned-stays state (ended query built queries) scan refl (length-set state.lives.slots slot (Clearing built))
+        (λ at low. at-set
+        (λ s. StaysBy state.accepted state.accepted state.lives (ended query built queries).lives at (holder_of (slot_at state.lives at)) (holder_of s))
+        state.lives.slots slot at (Clearing built) Free low
+        (λ here. inl (ap (λ n. start_by state.lives (holder_of (slot_at state.lives n))) here ∙ ap (λ s. start_by state.lives (holder_of s)) is ∙ rests, refl))
+        (λ apart. others at)) same
+
     by_test : (query built : ℕ) → slot_at state.lives slot ≡ Held query built → option_and_then start_in (life_of state.lives query) ≡ None
         → (t : Bool) → IsScannedAs (ended query built (cond {A = List QueryLife} t (with_life query life.Answered state.lives.queries) state.lives.queries)) scan
-    by_test query built is rests true =
-        scanned-stays state (ended query built (with_life query life.Answered state.lives.queries)) scan refl
-        (length-set state.lives.slots slot (Clearing built))
-        (λ at low. at-set
-        (λ s. StaysBy state.accepted state.accepted state.lives (ended query built (with_life query life.Answered state.lives.queries)).lives at
-        (holder_of (slot_at state.lives at)) (holder_of s))
-        state.lives.slots slot at (Clearing built) Free low
-        (λ here. inl (ap (λ n. start_by state.lives (holder_of (slot_at state.lives n))) here ∙ ap (λ s. start_by state.lives (holder_of s)) is ∙ rests, refl))
-        (λ apart. written-stays state.accepted state.lives at (holder_of (slot_at state.lives at)) query life.Answered rests refl)) same
-    by_test query built is rests false =
-        scanned-stays state (ended query built state.lives.queries) scan refl
-        (length-set state.lives.slots slot (Clearing built))
-        (λ at low. at-set
-        (λ s. StaysBy state.accepted state.accepted state.lives (ended query built state.lives.queries).lives at
-        (holder_of (slot_at state.lives at)) (holder_of s))
-        state.lives.slots slot at (Clearing built) Free low
-        (λ here. inl (ap (λ n. start_by state.lives (holder_of (slot_at state.lives n))) here ∙ ap (λ s. start_by state.lives (holder_of s)) is ∙ rests, refl))
-        (λ apart. inr (refl, refl))) same
+    by_test query built is rests true = stays query built is rests (with_life query life.Answered state.lives.queries)
+        (λ at. written-stays state.accepted state.lives at (holder_of (slot_at state.lives at)) query life.Answered rests refl)
+    by_test query built is rests false = stays query built is rests state.lives.queries (λ at. inr (refl, refl))
 
     by_slot : (now : SlotState) → slot_at state.lives slot ≡ now → IsOver now state.lives
         → IsScannedAs (record state { lives = given_up slot now state.lives }) scan

@@ -78,22 +78,24 @@ life-accepted state query sound there =
     ∙ sym (number-found (λ (e : QueryLife). e.query) state.lives.queries query)
     ∙ there
 
+pub open-accepted : (state : State) (query : ℕ) → IsSound state → CanAbandon query state.lives → IsSome (accepted_at state.accepted query)
+open-accepted state query sound can = life-accepted state query sound (by_life (query_in state.lives.queries query) can)
+  where
+    by_life : (o : Option QueryLife) → option_map_or is_open (option_map (λ e. e.life) o) false ≡ true → IsSome o
+    by_life None opens = absurd (let both : false ≡ true = opens in cc)
+    by_life (Some e) opens = refl
+
 -- a query that is abandoned stops
 pub scanned-abandon : (state : State) (scan : Scanning) (query : ℕ) → IsSound state → CanAbandon query state.lives → IsScannedAs state scan
     → IsScannedAs (after_abandoning query state) (stopped_for state.lives query scan)
 scanned-abandon state scan query sound can same =
-    by_accepted (accepted_at state.accepted query)
-    (life-accepted state query sound (by_life (query_in state.lives.queries query) can))
+    by_accepted (accepted_at state.accepted query) (open-accepted state query sound can)
   where
     without_it : Accepted → State
     without_it accepted = with_seat accepted.seat (without_pending query) (record state {
       accepted = map (forgotten query) state.accepted;
       lives = after_abandon query state.lives;
     })
-
-    by_life : (o : Option QueryLife) → option_map_or is_open (option_map (λ e. e.life) o) false ≡ true → IsSome o
-    by_life None opens = absurd (let both : false ≡ true = opens in cc)
-    by_life (Some e) opens = refl
 
     by_accepted : (o : Option Accepted) → IsSome o
         → IsScannedAs (option_map_or without_it o state) (stopped_for state.lives query scan)

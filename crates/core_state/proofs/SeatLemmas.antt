@@ -1,7 +1,7 @@
 -- What stays sound of seats where other groups are kept of accepted queries.
 use Rattle.core_state.proofs.Words.{◌++◌, ◌<◌, ◌∙◌, ◌∷◌, ◌≡◌, ◌≢◌, ◌≤◌, ◌⊎◌, [], Accepted, All, All-cons, All-filter, All-head, All-map, All-tail, all_pairs_head, all_pairs_tail, AllPairs, AllPairs-cons, ap, AreSoundSeats, arith, Bool, cases_eq, cases_lt, cond, Contains, empty_seat, false, filter, get_or, get_or-set_other, get_or-set_same, get_or_default, get_or_past, IfSome, inl, inr, IsAwaited, IsSoundSeat, length, life_in, List, map, option_map, Pending, QueryLife, Scan, Seat, set, State, subst, sym, true, ℕ, ⊎_elim}
 use Rattle.core_state.proofs.AnewLemmas.{KeepsAsked, by-change, found-anew, has-anew, kept_anew}
-use Rattle.core_state.proofs.FrameLemmas.{awaited-there, seat-lasts, Told, Wanted}
+use Rattle.core_state.proofs.FrameLemmas.{Told, Wanted, awaited-there, seat-lasts}
 
 -- a seat is as sound as it was where what it waits for is still wanted
 pub seat-anew : (state : State) (change : Accepted → Accepted) → KeepsAsked change → (queries : List QueryLife) (seat : Seat)

@@ -6,10 +6,10 @@ use Rattle.continuous_scan.proofs.LapLemmas.{lap-permutation}
 use Rattle.pipeline_manager.specs.Lives.{built_of}
 use Rattle.pipeline_manager.specs.declared.life.Life.TheVariants as life
 use Rattle.pipeline_manager.proofs.CallLemmas.{sound-after_run}
+use Rattle.core_state.proofs.AcceptedLemmas.{find-holds}
 use Rattle.core_state.proofs.FoundLemmas.{find-passes, life-written, some-at}
 use Rattle.core_state.proofs.HeldLemmas.{filters-held}
 use Rattle.core_state.proofs.MovedLemmas.{Holds, sound-held}
-use Rattle.core_state.proofs.AcceptedLemmas.{find-holds}
 use Rattle.core_state.proofs.WrittenLemmas.{queries-written, wanted-written}
 
 -- what holds of a life that begins

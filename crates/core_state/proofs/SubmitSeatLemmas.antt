@@ -1,7 +1,7 @@
 -- A seat is sound after it submits a statement, and after another does.
-use Rattle.core_state.proofs.FrameLemmas as frame
-use Rattle.core_state.proofs.FrameLemmas.{seat-lasts, Wanted, numbers_of}
 use Rattle.core_state.proofs.Words.{◌++◌, ◌<◌, ◌∙◌, ◌∷◌, ◌≡◌, ◌≤◌, [], Accepted, accepted_at, All, All-contains, All-push, All-weaker, all_pairs_push, AllPairs, ap, append_assoc, awaited_by, Contains, Contains-append_left, Contains-push, IfSome, IsAwaited, IsSomeAnd, IsSoundSeat, map, map_push, option_map, Pending, query_in, QueryLife, Seat, State, subst, sym, Told, with_statement, ℕ}
+use Rattle.core_state.proofs.FrameLemmas as frame
+use Rattle.core_state.proofs.FrameLemmas.{Wanted, numbers_of, seat-lasts}
 
 -- what is found by the numbers that were given is as before
 pub record Still (old new : State) : Type 0 where

@@ -1,5 +1,6 @@
 -- The seats are sound after one of them submits a statement.
 use Rattle.core_state.proofs.Words.{◌<◌, ◌∙◌, ◌∷◌, ◌≡◌, ◌≢◌, ◌≤◌, ◌⊎◌, [], All, All-contains, All-weaker, AllPairs, ap, AreSoundSeats, arith, awaited_by, cases_eq, cases_lt, Contains, Contains-append_left, Contains-push, Contains-push_cases, empty_seat, get_or, get_or-set_other, get_or-set_same, get_or_default, get_or_past, inl, inr, IsAwaited, IsSoundSeat, length, length-set, List, refl, Seat, set, State, subst, sym, Told, with_statement, ℕ, ⊎_elim}
+use Rattle.core_state.proofs.FrameLemmas.{at-set}
 use Rattle.core_state.proofs.SubmitSeatLemmas.{Still, seat-later, seat-with}
 
 -- the seats, of which one has a statement more
@@ -75,7 +76,7 @@ pub seats-submitted : (old new : State) (seat statement : ℕ) (told : Told)
     → AreSoundSeats old → AreSoundSeats (record new { seats = seats_by old seat statement told })
 seats-submitted old new seat statement told gives is = record {
   count = length-set old.seats seat (with_statement statement told (get_or old.seats seat empty_seat)) ∙ is.count ∙ sym gives.settings;
-  each = λ k d low. each k d (subst (λ n. k < n) many low) (cases_eq k seat);
+  each = λ k d low. each k d (subst (λ n. k < n) many low);
   apart = λ i j d before low number has other.
       let later : j < length old.seats = subst (λ n. j < n) many low in
       let earlier : i < length old.seats = omega arith in
@@ -95,20 +96,19 @@ seats-submitted old new seat statement told gives is = record {
     later : old.numbers.statement ≤ new.numbers.statement
     later = let above = gives.above in let number = gives.number in omega arith
 
-    each : (k : ℕ) (d : Seat) → k < length old.seats → (k ≡ seat) ⊎ (k ≢ seat)
+    each : (k : ℕ) (d : Seat) → k < length old.seats
         → IsSoundSeat now.numbers.statement now.accepted now.lives.queries (get_or (seats_by old seat statement told) k d)
-    each k d low (inl same) =
-        let was = is.each k d low in
+    each k d low = at-set (IsSoundSeat now.numbers.statement now.accepted now.lives.queries) old.seats seat k
+        (with_statement statement told (get_or old.seats seat empty_seat)) d low
+        (λ same.
+        let was = is.each seat empty_seat gives.there in
         let above = gives.above in
         let number = gives.number in
-        subst (IsSoundSeat now.numbers.statement now.accepted now.lives.queries) (sym (at-same old seat statement told gives.there k d same))
-        (seat-with now statement told (get_or old.seats k d)
-        (All-weaker (λ s. s ≤ old.numbers.statement) (λ s. s < statement) (λ s given. omega arith) (get_or old.seats k d).submitted was.given)
+        seat-with now statement told (get_or old.seats seat empty_seat)
+        (All-weaker (λ s. s ≤ old.numbers.statement) (λ s. s < statement) (λ s given. omega arith) (get_or old.seats seat empty_seat).submitted was.given)
         (omega arith) gives.awaited
-        (seat-later old now gives.still later (get_or old.seats k d) was))
-    each k d low (inr apart) =
-        subst (IsSoundSeat now.numbers.statement now.accepted now.lives.queries) (sym (at-other old seat statement told k d apart))
-        (seat-later old now gives.still later (get_or old.seats k d) (is.each k d low))
+        (seat-later old now gives.still later (get_or old.seats seat empty_seat) was))
+        (λ apart. seat-later old now gives.still later (get_or old.seats k d) (is.each k d low))
 
     below : (k : ℕ) (d : Seat) → k < length old.seats → (number : ℕ) → Contains (get_or old.seats k d).submitted number
         → number ≤ old.numbers.statement

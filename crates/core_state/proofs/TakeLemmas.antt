@@ -4,9 +4,9 @@ use Rattle.std.specs.Prelude.{not}
 use Rattle.std.proofs.lemmas.Option.{option_and_then_some}
 use Rattle.core_state.specs.Found as found
 use Rattle.core_state.specs.Found.{next_filter}
+use Rattle.core_state.proofs.AcceptedLemmas.{accepted-on, find-holds, find-none}
 use Rattle.core_state.proofs.FlownLemmas.{Flies, KeepsPlace, sound-flown}
 use Rattle.core_state.proofs.FoundLemmas.{find-passes, some-at}
-use Rattle.core_state.proofs.AcceptedLemmas.{accepted-on, find-holds, find-none}
 
 -- the present version of a filter has the queries of a roster
 pub encodes-there : (state : State) → IsSound state → (filter : Filter) → IsSoundFilter state.accepted (tables_of state) state.lives.slots state.lives.filters filter → (entry : OnRoster) → IsOnRoster state.lives state.accepted entry

@@ -3,9 +3,9 @@ use Rattle.core_state.proofs.Words.{◌++◌, ◌<◌, ◌∙◌, ◌∷◌, ◌
 use Rattle.pipeline_manager.specs.declared.life.Life.TheVariants as life
 use Rattle.core_state.specs.Submitting.{asked_by}
 use Rattle.core_state.proofs.AcceptedLemmas.{number-found}
-use Rattle.core_state.proofs.FoundLemmas.{life-found, some-at, some-by}
 use Rattle.core_state.proofs.AnewLemmas.{by-change, forgets, kept_anew, queries-anew, sound-anew}
-use Rattle.core_state.proofs.FrameLemmas.{at-set, kept-with, lives-as, LivesAs, StayTaken, Told}
+use Rattle.core_state.proofs.FoundLemmas.{life-found, some-at, some-by}
+use Rattle.core_state.proofs.FrameLemmas.{LivesAs, StayTaken, Told, at-set, kept-with, lives-as}
 use Rattle.core_state.proofs.SeatLemmas.{one-seat, part-stays, pending-submitted, pending-there, seat-anew, seats-anew}
 
 -- what is ready is no query, or one that is over

@@ -9,7 +9,7 @@ use Rattle.core_state.proofs.AskLemmas.{accepted-push}
 use Rattle.core_state.proofs.AttachedFrameLemmas.{attached-same, slot-same}
 use Rattle.core_state.proofs.FoundLemmas.{find-passes}
 use Rattle.core_state.proofs.FrameLemmas.{at-set}
-use Rattle.core_state.proofs.ScannedFrameLemmas.{scanned-stays, StaysIn}
+use Rattle.core_state.proofs.ScannedFrameLemmas.{StaysIn, scanned-stays}
 use Rattle.core_state.proofs.ScannedLifeLemmas.{holder-held}
 use Rattle.core_state.proofs.ScannedRunLemmas.{found_by}
 use Rattle.core_state.proofs.WholeFrameLemmas.{by-built, by-option}

@@ -2,7 +2,7 @@
 use Rattle.core_state.proofs.Words.{◌++◌, ◌+◌, ◌-◌, ◌∙◌, ◌∷◌, ◌≡◌, [], Accepted, accepted_at, after_build, after_build_wants, after_cutting, after_distribute, after_finish, after_give, after_reserving, after_spoil, after_start, All, All-weaker, ap, Bool, CanBuild, CanRun, cond, end_in, eqb, extent_in, false, fed, Filter, filter, first_in, first_of, flight_at, fold, forgotten, gets_rows, given_back, HasAccepted, Held, is_held_by, IsFed, IsSomeAnd, IsSound, Life, life_in, List, list_any, map, MayReserve, None, not, oldest-waits, Option, option_map_or, Query, QueryLife, refl, set, slot_at, slot_of, Some, started, State, subst, sym, tables_of, tallies_after, true, unkept, versions_in, with_built, with_dimension, with_flight, with_life, with_slot, with_version, ℕ}
 use Rattle.std.proofs.Common.{find}
 use Rattle.pipeline_manager.specs.declared.life.Life.TheVariants as life
-use Rattle.core_state.proofs.AnewLemmas.{forgets, has-anew, KeepsAsked}
+use Rattle.core_state.proofs.AnewLemmas.{KeepsAsked, forgets, has-anew}
 use Rattle.core_state.proofs.LandedLemmas.{feeds}
 use Rattle.core_state.proofs.WholeLivesLemmas.{StayLost, lost-cut, lost-ended, lost-spoiled, lost-written}
 
@@ -136,11 +136,7 @@ frame-cutting state = frame-lives state (after_cutting state) refl refl refl
 
 pub frame-give : (worker : ℕ) (state : State) → Frame state (after_give worker state)
 frame-give worker state =
-    by-option (Frame state) (find (is_held_by worker) state.scan.flights)
-    (λ flight. record state {
-      filters = record state.filters { tallies = tallies_after flight state.filters.versions state.filters.tallies };
-      scan = record state.scan { flights = with_flight flight.rows.number given_back state.scan.flights };
-    }) state (frame-all state)
+    by-option (Frame state) (find (is_held_by worker) state.scan.flights) _ state (frame-all state)
     (λ flight is. frame-same state _ refl refl refl refl refl)
 
 -- who gets rows was not abandoned
@@ -151,15 +147,7 @@ fed-never batch query state is_fed was =
 pub frame-distribute : (batch : ℕ) (spoiled : List ℕ) (state : State) → All (λ query. IsFed batch query state) spoiled
     → Frame state (after_distribute batch spoiled state)
 frame-distribute batch spoiled state each =
-    by-option (Frame state) (flight_at state.scan.flights batch)
-    (λ flight. record state {
-      accepted = map (unkept spoiled) (map (fed (tables_of state) state.lives flight.rows flight.roster) state.accepted);
-      lives = fold (λ lives query. after_spoil query lives) state.lives spoiled;
-      scan = record state.scan {
-        flights = filter (λ other. not (eqb other.rows.number batch)) state.scan.flights;
-        free = state.scan.free + 1;
-      };
-    }) state (frame-all state)
+    by-option (Frame state) (flight_at state.scan.flights batch) _ state (frame-all state)
     (λ flight is. frame-lives state _ refl refl refl
     (lost-spoiled spoiled state.lives
     (All-weaker (λ query. IsFed batch query state) (λ query. life_in state.lives.queries query ≡ Some life.Abandoned → ⊥)

@@ -3,7 +3,7 @@ use Rattle.core_state.proofs.Words.{◌+◌, ◌∷◌, ◌≡◌, [], Abandon, 
 use Rattle.star_statement.specs.Outcome as outcome
 use Rattle.core_state.specs.Events.{after_event, after_want}
 use Rattle.core_state.proofs.AnewLemmas.{forgets}
-use Rattle.core_state.proofs.WholeFrameLemmas.{asked-anew, by-option, Frame, frame-all, Leaves, frame-build, frame-cutting, frame-distribute, frame-finish, frame-give, frame-same, frame-reserving, frame-start, frame-wanting, StayAsked}
+use Rattle.core_state.proofs.WholeFrameLemmas.{Frame, Leaves, StayAsked, asked-anew, by-option, frame-all, frame-build, frame-cutting, frame-distribute, frame-finish, frame-give, frame-reserving, frame-same, frame-start, frame-wanting}
 use Rattle.core_state.proofs.WholeLivesLemmas.{StayLost, lost-more, lost-now}
 use Rattle.core_state.proofs.WholeSeatsLemmas.{none-lost, none-lost_but, none-lost_submitted, seat-found, seat-still, seat-told, seat-unwaiting}
 use Rattle.core_state.proofs.WholeToldLemmas.{leaves-outcome, seated}
@@ -99,11 +99,7 @@ asked-outcome seat found state = (leaves-outcome seat (state.numbers.statement +
 
 asked-abandoning : (query : ℕ) (state : State) → StayAsked state.accepted (after_abandoning query state).accepted
 asked-abandoning query state =
-    by-option (λ now. StayAsked state.accepted now.accepted) (accepted_at state.accepted query)
-    (λ accepted. with_seat accepted.seat (without_pending query) (record state {
-      accepted = map (forgotten query) state.accepted;
-      lives = after_abandon query state.lives;
-    })) state (λ number asked snapshot has. has)
+    by-option (λ now. StayAsked state.accepted now.accepted) (accepted_at state.accepted query) _ state (λ number asked snapshot has. has)
     (λ accepted is. asked-anew (forgotten query) (forgets query) state.accepted)
 
 asked-without : (pending : List Pending) (accepted : List Accepted) → StayAsked accepted (without_groups pending accepted)
@@ -151,11 +147,7 @@ submitted-outcome seat found state other number has =
 
 submitted-abandoning : (query : ℕ) (state : State) → StaySubmitted state (after_abandoning query state)
 submitted-abandoning query state =
-    by-option (StaySubmitted state) (accepted_at state.accepted query)
-    (λ accepted. with_seat accepted.seat (without_pending query) (record state {
-      accepted = map (forgotten query) state.accepted;
-      lives = after_abandon query state.lives;
-    })) state (λ seat number has. has)
+    by-option (StaySubmitted state) (accepted_at state.accepted query) _ state (λ seat number has. has)
     (λ accepted is. submitted-set state.seats accepted.seat (without_pending query (seat_at state accepted.seat)) (λ n among. among))
 
 pub step-submitted : (step : Step) (state : State) (seat statement : ℕ) → MayStep state step → IsSound state

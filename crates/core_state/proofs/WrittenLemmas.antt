@@ -2,7 +2,7 @@
 use Rattle.core_state.proofs.Words.{◌<◌, ◌↔◌, ◌∙◌, ◌≡◌, ◌≢◌, ◌≤◌, ◌⊎◌, Accepted, ap, AreSoundQueries, Filters, IfSome, is_open, IsKept, IsTrue, Life, life_in, List, query_in, refl, slice_get, SlotState, Some, State, subst, sym, tables_of, with_life, ℕ}
 use Rattle.pipeline_manager.specs.declared.life.Life.TheVariants as life
 use Rattle.core_state.proofs.FoundLemmas.{life-written, query_in-number, same-life, with_life-found, with_life-numbers}
-use Rattle.core_state.proofs.FrameLemmas.{lives-as, LivesAs, Told, Wanted}
+use Rattle.core_state.proofs.FrameLemmas.{LivesAs, Told, Wanted, lives-as}
 use Rattle.core_state.proofs.HeldLemmas.{queries-held}
 use Rattle.core_state.proofs.MovedLemmas.{StaysWanted, held_now}
 
