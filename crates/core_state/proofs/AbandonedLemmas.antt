@@ -1,5 +1,5 @@
 -- Every step but the event that abandons a query leaves it as it is: whoever is abandoned after it was so before.
-use Rattle.core_state.proofs.Words.{◌+◌, ◌-◌, ◌≡◌, ◌⊎◌, [], Abandon, accepted_at, after_abandon, after_abandoning, after_build, after_distribute, after_give, after_outcome, after_reserving, after_spoil, after_start, after_step, ap, Build, cases_eq, Change, Cut, DimensionDeclared, Distribute, Done, end_in, eqb, Event, extent_in, fed, filter, Finish, first_in, first_of, flight_at, fold, forgotten, Give, given_back, Held, inl, inr, is_held_by, life_of, List, map, None, not, Option, option_map_or, outcome_of, Replying, Reserve, set, slot_at, slot_of, Some, Start, started, State, Step, Submit, sym, tables_of, tallies_after, Told, unkept, versions_in, Wanting, with_change, with_dimension, with_flight, with_life, with_query, with_seat, with_slot, without_pending, ℕ, ⊎_elim}
+use Rattle.core_state.proofs.Words.{◌+◌, ◌-◌, ◌≡◌, ◌⊎◌, [], Abandon, accepted_at, after_abandoning, after_build, after_distribute, after_give, after_outcome, after_reserving, after_start, after_step, ap, Build, cases_eq, Change, Cut, DimensionDeclared, Distribute, Done, end_in, Event, extent_in, Finish, first_in, first_of, flight_at, Give, Held, inl, inr, is_held_by, life_of, List, None, Option, option_map_or, outcome_of, Replying, Reserve, set, slot_at, slot_of, Some, Start, started, State, Step, Submit, sym, tables_of, Told, versions_in, Wanting, with_change, with_dimension, with_life, with_query, with_slot, ℕ, ⊎_elim}
 use Rattle.std.proofs.Common.{find}
 use Rattle.star_statement.specs.Outcome as outcome
 use Rattle.pipeline_manager.specs.Lives.{oldest_waiting}

@@ -1,5 +1,5 @@
 -- What a distributor has where a query is abandoned, finds no memory, or its reply is taken.
-use Rattle.core_state.proofs.Words.{◌∙◌, ◌∷◌, ◌≡◌, ◌≢◌, [], Accepted, accepted_at, after_abandoning, after_build_wants, after_taking, All, All-head, ap, attached_to, CanAbandon, CanBuild, cond, empty_seat, eqb, eqb-true, false, forgotten, get_or, gets_rows, holder_of, IfSome, is_open, IsAwaited, IsSome, IsSound, Life, life_in, life_in-same, List, map, ne_eqb, next_ready, None, none-some, Option, option_and_then, option_map, option_map_or, Pending, query_in, QueryLife, ready_to, refl, Seat, set, slice_get, slot_of, Some, State, subst, sym, take, true, with_seat, without_groups, without_pending, ℕ, ⊎_elim}
+use Rattle.core_state.proofs.Words.{◌∙◌, ◌∷◌, ◌≡◌, ◌≢◌, [], Accepted, accepted_at, after_abandoning, after_build_wants, after_taking, All, All-head, ap, attached_to, CanAbandon, CanBuild, cond, empty_seat, eqb, eqb-true, false, forgotten, get_or, gets_rows, holder_of, IfSome, IsAwaited, IsSome, IsSound, Life, life_in, life_in-same, List, map, ne_eqb, next_ready, None, none-some, Option, option_and_then, option_map, option_map_or, Pending, ready_to, refl, Seat, set, slice_get, slot_of, Some, State, subst, sym, take, true, with_seat, without_groups, without_pending, ℕ, ⊎_elim}
 use Rattle.pipeline_manager.specs.declared.life.Life.TheVariants as life
 use Rattle.core_state.specs.Handed.{detached_for}
 use Rattle.core_state.proofs.AnewLemmas.{forgets, found-anew}
@@ -10,7 +10,7 @@ use Rattle.core_state.proofs.FrameLemmas.{Told}
 use Rattle.core_state.proofs.HandedAfterLemmas.{kept_by}
 use Rattle.core_state.proofs.HandedSlotLemmas.{gets}
 use Rattle.core_state.proofs.ScannedLifeLemmas.{holds-slot, lives_with, other-holder}
-use Rattle.core_state.proofs.ScannedOverLemmas.{life-accepted, open-accepted}
+use Rattle.core_state.proofs.ScannedOverLemmas.{open-accepted}
 use Rattle.core_state.proofs.SeatLemmas.{pending-there}
 use Rattle.core_state.proofs.TakingLemmas.{ready-told}
 

@@ -1,5 +1,5 @@
 -- What each event leaves that no seat sees: all but the lives, the filters, the scan and what is kept.
-use Rattle.core_state.proofs.Words.{◌++◌, ◌+◌, ◌-◌, ◌∙◌, ◌∷◌, ◌≡◌, [], Accepted, accepted_at, after_build, after_build_wants, after_cutting, after_distribute, after_finish, after_give, after_reserving, after_spoil, after_start, All, All-weaker, ap, Bool, CanBuild, CanRun, cond, end_in, eqb, extent_in, false, fed, Filter, filter, first_in, first_of, flight_at, fold, forgotten, gets_rows, given_back, HasAccepted, Held, is_held_by, IsFed, IsSomeAnd, IsSound, Life, life_in, List, list_any, map, MayReserve, None, not, oldest-waits, Option, option_map_or, Query, QueryLife, refl, set, slot_at, slot_of, Some, started, State, subst, sym, tables_of, tallies_after, true, unkept, versions_in, with_built, with_dimension, with_flight, with_life, with_slot, with_version, ℕ}
+use Rattle.core_state.proofs.Words.{◌++◌, ◌-◌, ◌∙◌, ◌∷◌, ◌≡◌, [], Accepted, accepted_at, after_build, after_build_wants, after_cutting, after_distribute, after_finish, after_give, after_reserving, after_start, All, All-weaker, ap, Bool, CanBuild, CanRun, cond, end_in, eqb, extent_in, false, fed, Filter, first_in, first_of, flight_at, forgotten, gets_rows, HasAccepted, Held, is_held_by, IsFed, IsSomeAnd, IsSound, Life, life_in, List, list_any, map, MayReserve, None, oldest-waits, Option, option_map_or, Query, QueryLife, refl, set, slot_at, slot_of, Some, started, State, subst, sym, tables_of, true, unkept, versions_in, with_built, with_dimension, with_life, with_slot, with_version, ℕ}
 use Rattle.std.proofs.Common.{find}
 use Rattle.pipeline_manager.specs.declared.life.Life.TheVariants as life
 use Rattle.core_state.proofs.AnewLemmas.{KeepsAsked, forgets, has-anew}
@@ -22,10 +22,6 @@ pub record Leaves (old new : State) : Type 0 where
 pub record Frame (old new : State) : Type 0 where
   pub entries : new.entries ≡ old.entries
   pub leaves : Leaves old new
-
--- another change of what is kept
-pub asked-anew : (change : Accepted → Accepted) → KeepsAsked change → (accepted : List Accepted) → StayAsked accepted (map change accepted)
-asked-anew change keeps accepted = has-anew change keeps accepted
 
 -- one that is accepted behind the others
 pub asked-behind : (accepted : List Accepted) (new : Accepted) → StayAsked accepted (accepted ++ new ∷ [])
@@ -122,7 +118,7 @@ frame-build query dimension state =
 pub frame-wanting : (query dimension : ℕ) (state : State) → CanBuild query dimension state.lives → Frame state (after_build_wants query state)
 frame-wanting query dimension state can = frame-lives state (after_build_wants query state) refl refl refl
     (lost-written query life.Spoiled state.lives.queries (never-by state.lives.queries query life.Building can.building (λ is. cc)))
-    (asked-anew (forgotten query) (forgets query) state.accepted)
+    (has-anew (forgotten query) (forgets query) state.accepted)
 
 pub frame-start : (query : ℕ) (state : State) → CanRun query state.lives → Frame state (after_start query state)
 frame-start query state can = frame-lives state (after_start query state) refl refl refl
@@ -153,9 +149,9 @@ frame-distribute batch spoiled state each =
     (All-weaker (λ query. IsFed batch query state) (λ query. life_in state.lives.queries query ≡ Some life.Abandoned → ⊥)
     (λ query is_fed. fed-never batch query state is_fed) spoiled each))
     (λ number query snapshot has.
-    asked-anew (unkept spoiled) (unkeeps spoiled) (map (fed (tables_of state) state.lives flight.rows flight.roster) state.accepted)
+    has-anew (unkept spoiled) (unkeeps spoiled) (map (fed (tables_of state) state.lives flight.rows flight.roster) state.accepted)
     number query snapshot
-    (asked-anew (fed (tables_of state) state.lives flight.rows flight.roster) (feeds state flight) state.accepted number query snapshot has)))
+    (has-anew (fed (tables_of state) state.lives flight.rows flight.roster) (feeds state flight) state.accepted number query snapshot has)))
 
 pub frame-finish : (slot : ℕ) (state : State) → Frame state (after_finish slot state)
 frame-finish slot state = frame-lives state (after_finish slot state) refl refl refl (lost-ended slot state.lives) (λ number asked snapshot has. has)

@@ -2,8 +2,8 @@
 use Rattle.core_state.proofs.Words.{◌+◌, ◌∷◌, ◌≡◌, [], Abandon, Accepted, accepted_at, after_abandon, after_abandoning, after_clear, after_outcome, after_release, after_reorder, after_step, after_submitting, after_take, after_taking, All-nil, ap, arith, Build, CanAbandon, cases_eq, cases_lt, Clear, Contains, Contains-append_left, Cut, Distribute, Done, empty_seat, Event, false, Finish, forgotten, get_or, get_or-set_other, get_or-set_same, get_or_past, Give, HasAccepted, is_open, IsEnabled, IsFed, IsSound, length, Life, life_in, List, LosesNone, map, MaySpoil, MayStep, None, Option, option_map_or, outcome_of, Pending, Query, refl, Release, Reorder, Replying, Reserve, Seat, seat_at, set, Some, Start, State, Statement, Step, Submit, subst, sym, tables_of, Take, take, true, Wanting, with_seat, with_statement, with_taken, without_groups, without_pending, ℕ, ⊎_elim}
 use Rattle.star_statement.specs.Outcome as outcome
 use Rattle.core_state.specs.Events.{after_event, after_want}
-use Rattle.core_state.proofs.AnewLemmas.{forgets}
-use Rattle.core_state.proofs.WholeFrameLemmas.{Frame, Leaves, StayAsked, asked-anew, by-option, frame-all, frame-build, frame-cutting, frame-distribute, frame-finish, frame-give, frame-reserving, frame-same, frame-start, frame-wanting}
+use Rattle.core_state.proofs.AnewLemmas.{forgets, has-anew}
+use Rattle.core_state.proofs.WholeFrameLemmas.{Frame, Leaves, StayAsked, by-option, frame-all, frame-build, frame-cutting, frame-distribute, frame-finish, frame-give, frame-reserving, frame-same, frame-start, frame-wanting}
 use Rattle.core_state.proofs.WholeLivesLemmas.{StayLost, lost-more, lost-now}
 use Rattle.core_state.proofs.WholeSeatsLemmas.{none-lost, none-lost_but, none-lost_submitted, seat-found, seat-still, seat-told, seat-unwaiting}
 use Rattle.core_state.proofs.WholeToldLemmas.{leaves-outcome, seated}
@@ -100,13 +100,13 @@ asked-outcome seat found state = (leaves-outcome seat (state.numbers.statement +
 asked-abandoning : (query : ℕ) (state : State) → StayAsked state.accepted (after_abandoning query state).accepted
 asked-abandoning query state =
     by-option (λ now. StayAsked state.accepted now.accepted) (accepted_at state.accepted query) _ state (λ number asked snapshot has. has)
-    (λ accepted is. asked-anew (forgotten query) (forgets query) state.accepted)
+    (λ accepted is. has-anew (forgotten query) (forgets query) state.accepted)
 
 asked-without : (pending : List Pending) (accepted : List Accepted) → StayAsked accepted (without_groups pending accepted)
 asked-without [] accepted number query snapshot has = has
 asked-without (first ∷ pending) accepted number query snapshot has =
     asked-without pending (map (forgotten first.statement) accepted) number query snapshot
-    (asked-anew (forgotten first.statement) (forgets first.statement) accepted number query snapshot has)
+    (has-anew (forgotten first.statement) (forgets first.statement) accepted number query snapshot has)
 
 pub step-asked : (step : Step) (state : State) (number : ℕ) (query : Query) (snapshot : ℕ) → MayStep state step → IsSound state
     → HasAccepted state.accepted number query snapshot → HasAccepted (after_step step state).accepted number query snapshot
