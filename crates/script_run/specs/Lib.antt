@@ -10,6 +10,5 @@ pub mod Leaving
 pub mod Waiting
 pub mod Shared
 pub mod End
-pub mod Anew
 pub mod Answer
 pub mod Pieces

@@ -1,8 +1,9 @@
 //! A run of a script in which each query is answered by itself: each statement is replied to as soon as it is whole, before
 //! more is read.
 ghost use Rattle.std.specs.Prelude.{◌≡◌};
+ghost use Rattle.script_reader.specs.Reading.{no_reading};
 ghost use Rattle.star_history.specs.Keyed.{plain};
-ghost use Rattle.script_run.specs.Anew.{IsAnew};
+ghost use Rattle.star_history.specs.Store.{empty_store};
 ghost use Rattle.script_run.specs.Run.{AnswersAlone, CountsFaults};
 ghost use Rattle.script_run.specs.End.{end_of_all, end_of_halt};
 
@@ -44,7 +45,8 @@ fn answer_script<S: Source, K: Sink>(
     source: &mut S,
     sink: &mut K,
 ) -> RunEnd
-    requires { IsAnew (plain store.old) reader.old }
+    requires store { plain store.old ≡ empty_store }
+    requires reader { reader.old ≡ no_reading }
     ensures answers { AnswersAlone result (S.ended source.old) (S.ended source.new)
         (S.read_faults source.old) (S.read_faults source.new)
         (S.left source.old) (S.left source.new) (K.taken sink.old) (K.taken sink.new) }

@@ -4,7 +4,7 @@ use Rattle.script_run.proofs.run.answer_script.Goals as goal
 
 pub pieces-init : goal.pieces-init
 pieces-init g c = record {
-  run = starts_run _ _ _ _ c.requires.none c.requires.unread;
+  run = starts_run _ _ _ _ c.requires.store c.requires.reader;
   ended = refl;
   unread = refl;
   unwritten = refl;
