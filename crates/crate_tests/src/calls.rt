@@ -80,19 +80,20 @@ fn a_filter_is_copied(rt: HostRuntime) -> Result<(), Fail> {
 
 /// The answer of groups that took a row.
 fn count_of_one(alloc: Global) -> Result<Answer, NoMemory> {
+    let items = vec![in alloc; Item::CountAll]?;
     let query = StarQuery {
         fact: None,
         choices: ChoiceList::new(alloc),
         groups: PlaceList::new(alloc),
-        items: ItemList::from(vec![in alloc; Item::CountAll]?),
+        items: ItemList::from(items),
     };
+    let mut groups = Groups::new(alloc, &query)?;
     let version = Version {
         row: Row::from(Vec::new(alloc)),
         keys: [0; KEYS_IN_A_VERSION],
         begin: 1,
         end: 0,
     };
-    let mut groups = Groups::new(alloc, &query)?;
     groups.fold(&version, &[])?;
     groups.finish()
 }

@@ -25,6 +25,19 @@ load sales
 .
 ";
 
+/// Whether a run from a source to a sink ends so, with these replies.
+fn ends_over<R: Threads + Sync>(
+    rt: &R,
+    alloc: Global,
+    mut source: PieceSource,
+    mut sink: ListSink,
+    end: RunEnd,
+    replies: &str,
+) -> bool {
+    let ended = run_script(rt, alloc, SETTINGS, &mut source, &mut sink).end;
+    ended == end && sink.bytes() == replies.as_bytes()
+}
+
 /// Whether a run ends so, with these replies: its source gives 150 bytes at once, and its sink takes 8.
 fn ends<R: Threads + Sync>(
     rt: &R,
@@ -35,10 +48,11 @@ fn ends<R: Threads + Sync>(
     replies: &str,
 ) -> Result<bool, AllocError> {
     let script = SCRIPT.as_bytes().to_vec(alloc)?;
-    let mut source = PieceSource::new(script, 150, [read_fault].to_vec(alloc)?);
-    let mut sink = ListSink::new(alloc, 8, [write_fault].to_vec(alloc)?);
-    let ended = run_script(rt, alloc, SETTINGS, &mut source, &mut sink).end;
-    Ok(ended == end && sink.bytes() == replies.as_bytes())
+    let reads = [read_fault].to_vec(alloc)?;
+    let writes = [write_fault].to_vec(alloc)?;
+    let source = PieceSource::new(script, 150, reads);
+    let sink = ListSink::new(alloc, 8, writes);
+    Ok(ends_over(rt, alloc, source, sink, end, replies))
 }
 
 #[test]

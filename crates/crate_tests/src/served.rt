@@ -31,8 +31,10 @@ pub(crate) fn link_of(
     script: &str,
     write_fault: u64,
 ) -> Result<PairLink, AllocError> {
-    let source = PieceSource::new(script.as_bytes().to_vec(alloc)?, 4096, Vec::new(alloc));
-    let sink = ListSink::new(alloc, 8, [write_fault].to_vec(alloc)?);
+    let script = script.as_bytes().to_vec(alloc)?;
+    let writes = [write_fault].to_vec(alloc)?;
+    let source = PieceSource::new(script, 4096, Vec::new(alloc));
+    let sink = ListSink::new(alloc, 8, writes);
     Ok(PairLink::new(source, sink))
 }
 
