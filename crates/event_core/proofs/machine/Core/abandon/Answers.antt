@@ -27,3 +27,12 @@ invariant_of-self c =
     c.asked_of.ensures c.seat-seat.ensures c.slot_of-slot.ensures.slot c.give_up.ensures.seat c.give_up.ensures.others
     (ap (λ (r : Roomy AskedQuery). r.items) c.keep.ensures) c.detach_at.ensures c.stop_at.ensures c.abandon.ensures in
     (becomes.core, c.self.invariant.1)
+
+pub returns : goal.returns
+returns c =
+    let becomes = abandon-becomes c.abandoned_queries_follow_the_core.ensures.done _ c.args.self.now c.args.query c.seat-seat.result
+    c.asked_of.result.now c.as_slice.result.now c.keep.new.asked.items c.slot_of-slot.result (statements_in c.give_up.new.seats)
+    c.detach_at.new.distributor c.stop_at.new.scan c.abandon.new.self c.self.view_is c.self.invariant.0 c.requires c.as_slice.ensures
+    c.asked_of.ensures c.seat-seat.ensures c.slot_of-slot.ensures.slot c.give_up.ensures.seat c.give_up.ensures.others
+    (ap (λ (r : Roomy AskedQuery). r.items) c.keep.ensures) c.detach_at.ensures c.stop_at.ensures c.abandon.ensures in
+    becomes.state

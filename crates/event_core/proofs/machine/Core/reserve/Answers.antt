@@ -6,3 +6,7 @@ invariant_of-self c = (
   (reserve-becomes c.slots_follow_the_core.ensures.reserve _ _ _ _ _ c.self.view_is c.self.invariant.0 c.requires c.reserve.ensures).core,
   c.self.invariant.1,
 )
+
+pub returns : goal.returns
+returns c =
+    (reserve-becomes c.slots_follow_the_core.ensures.reserve _ _ _ _ _ c.self.view_is c.self.invariant.0 c.requires c.reserve.ensures).state
