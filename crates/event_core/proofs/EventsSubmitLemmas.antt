@@ -364,3 +364,10 @@ same-parts parts tables log seats asked lives same_tables same_log same_seats sa
 pub on-error : {T E P : Type 0} (result : Result T E) → P → OnErr result P
 on-error (Ok done) holds = tt
 on-error (Err none) holds = holds
+
+-- a seat that is there is there where the statements of the seats are the same
+pub seat-kept : (parts : Parts) (seats : List (Roomy Submitted)) (seat : ℕ) → statements_in seats ≡ parts.seats
+    → seat < length parts.seats → seat < length seats
+seat-kept parts seats seat same there =
+    subst (λ n. seat < n) (sym (ap (λ (list : List (List Submitted)). length list) same)
+    ∙ length-map seats (λ (seat : Roomy Submitted). seat.items)) there

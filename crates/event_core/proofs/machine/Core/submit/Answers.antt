@@ -1,7 +1,7 @@
 use Rattle.event_core.proofs.Words.{◌+◌, ◌<◌, ◌∙◌, ◌≡◌, after_submitting, ap, arith, AskedQuery, Becomes, Changed, Follows, get_or, IsCore, length, Ok, outcome_of, Parts, plain, refl, Roomy, state_of, subst, sym, the_view}
 use Rattle.star_statement.specs.declared.applied.Applied.{Applied}
 use Rattle.star_statement.specs.declared.applied.Applied.TheVariants.{Replied, Accepted}
-use Rattle.event_core.proofs.EventsSubmitLemmas.{IsChange, accepts, changes, on-error, replies, same-parts, seat-there, some-change, statements_in}
+use Rattle.event_core.proofs.EventsSubmitLemmas.{IsChange, accepts, changes, on-error, replies, same-parts, seat-kept, seat-there, some-change, statements_in}
 use Rattle.event_core.proofs.machine.Core.submit.Goals as goal
 
 -- the parts are those after a statement that is told a reply
@@ -208,3 +208,42 @@ returns-in_err-accept-in-Accepted-clause-err c =
     c.accept.new.asked.items c.accept.new.manager follows.3.1 c.make_room.ensures.changes c.make_room.ensures.statements
     (ap (λ (list : Roomy AskedQuery). list.items) c.in_err-accept-in-Accepted.ensures.err_queries ∙ c.make_room.ensures.queries) c.in_err-accept-in-Accepted.ensures.err_lives in
     on-error c.from_residual-in_err-accept-in-Accepted.result (same ∙ c.self.view_is)
+
+pub make_room-requires : goal.make_room-requires
+make_room-requires c =
+    seat-kept (the_view c.self.inside) c.self.inside.seats c.args.seat refl
+    (seat-there (the_view c.self.inside) c.args.seat
+    (subst (λ (parts : Parts). c.args.seat < length (state_of parts).seats) (sym c.self.view_is) c.requires))
+
+pub stand-requires-clause-there : goal.stand-requires-clause-there
+stand-requires-clause-there c =
+    seat-kept (the_view c.self.inside) c.make_room.new.seats c.args.seat c.make_room.ensures.statements
+    (seat-there (the_view c.self.inside) c.args.seat
+    (subst (λ (parts : Parts). c.args.seat < length (state_of parts).seats) (sym c.self.view_is) c.requires))
+
+pub stand-requires-clause-room : goal.stand-requires-clause-room
+stand-requires-clause-room c = c.in_ok-make_room.ensures.for_statement
+
+pub stand-requires-in-Changed-clause-there : goal.stand-requires-in-Changed-clause-there
+stand-requires-in-Changed-clause-there c =
+    seat-kept (the_view c.self.inside) c.make_room.new.seats c.args.seat c.make_room.ensures.statements
+    (seat-there (the_view c.self.inside) c.args.seat
+    (subst (λ (parts : Parts). c.args.seat < length (state_of parts).seats) (sym c.self.view_is) c.requires))
+
+pub stand-requires-in-Changed-clause-room : goal.stand-requires-in-Changed-clause-room
+stand-requires-in-Changed-clause-room c = c.in_ok-make_room.ensures.for_statement
+
+pub stand-requires-in-Accepted-clause-there : goal.stand-requires-in-Accepted-clause-there
+stand-requires-in-Accepted-clause-there c =
+    seat-kept (the_view c.self.inside) c.make_room.new.seats c.args.seat c.make_room.ensures.statements
+    (seat-there (the_view c.self.inside) c.args.seat
+    (subst (λ (parts : Parts). c.args.seat < length (state_of parts).seats) (sym c.self.view_is) c.requires))
+
+pub stand-requires-in-Accepted-clause-room : goal.stand-requires-in-Accepted-clause-room
+stand-requires-in-Accepted-clause-room c = c.in_ok-make_room.ensures.for_statement
+
+pub push_reserved-requires : goal.push_reserved-requires
+push_reserved-requires c = c.in_ok-make_room.ensures.for_change
+
+pub accept-requires-clause-room : goal.accept-requires-clause-room
+accept-requires-clause-room c = c.in_ok-make_room.ensures.for_query
