@@ -1,6 +1,7 @@
 #!/usr/bin/env python3
 """Measures bursts of star queries: in one shared lap, each alone, and in sqlite3 and PostgreSQL where they are installed.
 
+    ./cjoin --prove                                    first, since the proved program is measured
     python3 bench/run.py                               ./cjoin over 1,000,000 sales, bursts of 1, 4, 16 and 64 queries
     python3 bench/run.py --rows 100000 --queries 1,64  smaller
     python3 bench/run.py --svg docs/speed.svg          writes the picture, too
@@ -42,6 +43,8 @@ def run(words, text, **how):
     done = subprocess.run(words, input=text.encode(), stdout=subprocess.PIPE, stderr=subprocess.PIPE, **how)
     if done.returncode != 0:
         sys.exit(f"{words[0]} ended with {done.returncode}: {done.stderr.decode()[:300]}")
+    if b"is not proved" in done.stderr:
+        sys.exit("./cjoin --prove comes first: the proved program is measured")
     return done.stdout.decode(), seconds_of_children() - before
 
 
