@@ -4,6 +4,5 @@ pub mod FlightLemmas
 pub mod NumberLemmas
 pub mod OrderLemmas
 pub mod PassingLemmas
-pub mod PlaceLemmas
 pub mod SeatLemmas
 pub mod TurnLemmas

@@ -2,7 +2,7 @@
 use Rattle.std.proofs.Common.{◌≡◌, ℕ, zero, suc, ◌<◌, ◌≤◌, Bool, true, false, not, ◌&&◌, eqb, List, [], ◌∷◌, length, get_or, set, map, slice_get, filter, Option, Some, None, refl, ap, sym, ◌∙◌, arith, eq-eqb, ◌⊎◌, inl, inr}
 use Rattle.std.specs.List.{AllPairs, filter_map, cons_option}
 use Rattle.std.specs.Option.{option_map_or}
-use Rattle.std.specs.List.Sorted.{IsNonDecreasingBy, IsPartitionPoint}
+use Rattle.std.specs.List.Sorted.{IsPartitionPoint}
 use Rattle.std.proofs.lemmas.Bool.{cases_lt, eqb-true, ne_eqb}
 use Rattle.std.proofs.lemmas.List.{get_or-map, length-map}
 use Rattle.std.proofs.lemmas.Option.{slice_get-get_or}
@@ -30,16 +30,6 @@ rise statements rising j k d before within =
 
 tail_rises : (submitted : Submitted) (statements : List Submitted) → NumbersRise (submitted ∷ statements) → NumbersRise statements
 tail_rises submitted statements rising = λ j k d low within. rising (suc j) (suc k) d (omega arith) (omega arith)
-
--- numbers that rise do not fall
-pub rising_non_decreasing : (statements : List Submitted) → NumbersRise statements → IsNonDecreasingBy (λ submitted. submitted.number) statements
-rising_non_decreasing statements rising i j d low within = by_cases (cases_lt i j)
-  where
-    by_cases : (i < j) ⊎ (j ≤ i) → (get_or statements i d).number ≤ (get_or statements j d).number
-    by_cases (inl below) = let less = rise statements rising i j d below within in omega arith
-    by_cases (inr above) =
-        let same : i ≡ j = omega arith in
-        let equal = ap (λ k. (get_or statements k d).number) same in omega arith
 
 -- a statement of another number is not waited for as that one
 other_number : (number : ℕ) (submitted : Submitted) → (submitted.number ≡ number → ⊥) → is_waited_as number submitted ≡ false

@@ -1,10 +1,18 @@
-//! That batches in flight may cross to other threads, and that filters may be shared with them.
+//! That batches in flight, seats and accepted queries may cross to other threads, and that filters may be shared with them.
+use crate::asked::Asked;
 use crate::flights::Flights;
+use crate::seat::Seat;
 use core_filters::Filters;
 
 /// Batches in flight may be sent to another thread.
 pub fn flights_may_be_sent() {
     is_sent::<Flights>();
+}
+
+/// Seats and accepted queries may be sent to another thread.
+pub fn seats_may_be_sent() {
+    is_sent::<Seat>();
+    is_sent::<Asked>();
 }
 
 /// Filters may be shared with another thread.

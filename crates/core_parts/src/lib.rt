@@ -12,7 +12,7 @@ mod submitted;
 
 pub use asked::Asked;
 pub use core_filters::{Filters, Version};
-pub use crossing::{filters_may_be_shared, flights_may_be_sent};
+pub use crossing::{filters_may_be_shared, flights_may_be_sent, seats_may_be_sent};
 pub use flight::{Flight, Hand, MAX_SLOTS};
 pub use flights::Flights;
 pub use seat::{Seat, may_be_answered};

@@ -12,7 +12,7 @@ use Rattle.pipeline_manager.specs.Conditions.{CanSpoil, is_begun}
 use Rattle.pipeline_manager.specs.Lives.{Lives, is_free, is_held_by, life_of, slot_at, slot_of}
 use Rattle.pipeline_manager.specs.Sound.{IsSound}
 use Rattle.pipeline_manager.proofs.HolderLemmas.{slot_of-begun}
-use Rattle.core_parts.proofs.PlaceLemmas.{past-from_none}
+use Rattle.star_lists.proofs.PlaceLemmas.{past-from_none}
 
 -- a slot that is there is not free where no first one is
 pub none-free : (lives : Lives) (slot : ℕ) → position is_free lives.slots ≡ None → slot < length lives.slots

@@ -17,7 +17,8 @@ use Rattle.pipeline_manager.specs.Changes.{with_life, started, covered, cut_quer
 use Rattle.pipeline_manager.specs.Conditions.{IsNew}
 use Rattle.pipeline_manager.specs.Sound.{FitsSlots, IsOfFilters, IsSound, slots_held}
 use Rattle.pipeline_manager.proofs.LifeLemmas.{query_in-map, query_in-push_same, query_in-push_other, life_in-same, life_in-other, oldest-waits}
-use Rattle.pipeline_manager.proofs.QueryLemmas.{IsMissing, query_in-missing}
+use Rattle.star_lists.proofs.RisingLemmas.{IsMissing}
+use Rattle.pipeline_manager.proofs.QueryLemmas.{query_in-missing}
 use Rattle.pipeline_manager.proofs.SoundLemmas.{IsLeftOf, rising-map, rising-with_life, fits-started, fits-cut_life, fits-one, left-started, left-cut_life, left-with_life, sound-with_life, slots_held-set}
 
 -- no query holds a slot that is Free
@@ -56,7 +57,7 @@ sound-after_submit query extent lives new sound = record {
     added : QueryLife
     added = record { query = query; extent = extent; life = Waiting }
 
-    missing : IsMissing query lives.queries
+    missing : IsMissing (λ (entry : QueryLife). entry.query) query lives.queries
     missing = λ k d within same. let below = new k d within in omega arith
 
     at_query : FitsSlots (life_in (lives.queries ++ added ∷ []) query) (slots_held query lives.slots)

@@ -7,7 +7,8 @@ use Rattle.pipeline_manager.specs.declared.life.QueryLife.{QueryLife}
 use Rattle.pipeline_manager.specs.Lives.{query_in, life_in, is_waiting}
 use Rattle.pipeline_manager.specs.Changes.{with_life, renewed, cut_life, cut_query, covered}
 use Rattle.pipeline_manager.specs.Sound.{AreRising}
-use Rattle.pipeline_manager.proofs.QueryLemmas.{IsMissing, head_is_only, tail_rises, query_in-missing}
+use Rattle.star_lists.proofs.RisingLemmas.{IsMissing, head_is_only, tail_rises}
+use Rattle.pipeline_manager.proofs.QueryLemmas.{query_in-missing}
 
 -- another life leaves the number
 pub renewed-number : (query : ℕ) (life : Life) (entry : QueryLife) → (renewed query life entry).query ≡ entry.query
@@ -65,7 +66,7 @@ life_in-other (entry ∷ queries) query other life apart =
     by_test false e rest = rw (sym e) (by_other (eqb entry.query other) rest)
 
 -- a query behind all others is found by its number, which none of them has
-pub query_in-push_same : (queries : List QueryLife) (entry : QueryLife) → IsMissing entry.query queries
+pub query_in-push_same : (queries : List QueryLife) (entry : QueryLife) → IsMissing (λ (e : QueryLife). e.query) entry.query queries
     → query_in (queries ++ entry ∷ []) entry.query ≡ Some entry
 query_in-push_same [] entry missing = rw (eq-eqb entry.query entry.query refl) refl
 query_in-push_same (first ∷ queries) entry missing =
@@ -90,7 +91,7 @@ pub oldest-waits : (queries : List QueryLife) (query : ℕ) → AreRising querie
     → life_in queries query ≡ Some Waiting
 oldest-waits [] query rising oldest = cc
 oldest-waits (entry ∷ queries) query rising oldest =
-    by_test (is_waiting entry.life) refl (oldest-waits queries query (tail_rises entry queries rising))
+    by_test (is_waiting entry.life) refl (oldest-waits queries query (tail_rises (λ (e : QueryLife). e.query) entry queries rising))
   where
     by_test : (waits : Bool) → waits ≡ is_waiting entry.life
         → (option_map (λ e. e.query) (find (λ e. is_waiting e.life) queries) ≡ Some query → life_in queries query ≡ Some Waiting)
@@ -102,7 +103,7 @@ oldest-waits (entry ∷ queries) query rising oldest =
     by_test false e behind =
         let later : life_in queries query ≡ Some Waiting = behind (rw (sym e) at oldest) in
         let apart : entry.query ≡ query → ⊥ = λ same.
-        let none = query_in-missing queries query (head_is_only entry queries query rising same) in
+        let none = query_in-missing queries query (head_is_only (λ (e : QueryLife). e.query) entry queries query rising same) in
         let nothing : life_in queries query ≡ None = ap (option_map (λ e. e.life)) none in cc in
         rw (ne_eqb entry.query query apart) later
 

@@ -1,1 +1,3 @@
--- No lemmas.
+-- What holds of any list in which a place is searched, or the member of a number.
+pub mod PlaceLemmas
+pub mod RisingLemmas

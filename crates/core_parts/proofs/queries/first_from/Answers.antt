@@ -1,7 +1,8 @@
 use Rattle.std.proofs.Common.{ltb, rules}
 use Rattle.std.proofs.lemmas.List.Sorted.{IsPartitionPoint-from_clause, IsPartitionedBy-ltb}
 use Rattle.std.proofs.lemmas.Bool.{ltb-true, ltb-false}
-use Rattle.core_parts.proofs.AskedLemmas.{rising_non_decreasing}
+use Rattle.star_lists.proofs.RisingLemmas.{rising_non_decreasing}
+use Rattle.core_parts.specs.Asked.{AskedQuery}
 use Rattle.core_parts.proofs.queries.first_from.Goals as goal
 
 pub returns-clause-halves : goal.returns-clause-halves
@@ -10,6 +11,6 @@ returns-clause-halves c =
     let point =
     IsPartitionPoint-from_clause (λ entry. ltb entry.number c.args.number) asked c.partition_point.result
     c.partition_point.ensures.partitioned
-    (IsPartitionedBy-ltb (λ entry. entry.number) asked c.args.number (rising_non_decreasing asked c.requires))
+    (IsPartitionedBy-ltb (λ entry. entry.number) asked c.args.number (rising_non_decreasing (λ (entry : AskedQuery). entry.number) asked c.requires))
     (λ a r q k. search rules) in
     (λ k d from below. ltb-true _ _ (point.0 k d from below), λ k d from below. ltb-false _ _ (point.1 k d from below))

@@ -1,14 +1,15 @@
 use Rattle.std.proofs.Common.{eqb, ap, sym, ◌∙◌, arith, slice_get}
 use Rattle.std.specs.Option.{option_and_then}
 use Rattle.std.proofs.lemmas.List.{get_or_default}
-use Rattle.core_parts.proofs.AskedLemmas.{missing_past, position-found, position-missing}
-use Rattle.core_parts.proofs.PlaceLemmas.{get-position}
+use Rattle.core_parts.specs.Asked.{AskedQuery}
+use Rattle.star_lists.proofs.PlaceLemmas.{get-position}
+use Rattle.star_lists.proofs.RisingLemmas.{missing_past, position-found, position-missing}
 use Rattle.core_parts.proofs.queries.place_of.Goals as goal
 use Rattle.core_parts.proofs.queries.place_of.Goals.{else-place-asked-via-then-place-asked+else-number, else-place-asked-via-else-place-asked}
 
 pub returns-then-number-clause-place : goal.returns-then-number-clause-place
 returns-then-number-clause-place c =
-    sym (position-found c.args.asked.now c.first_from-place.result c.args.number c.index-asked-place.result
+    sym (position-found (λ (entry : AskedQuery). entry.number) c.args.asked.now c.first_from-place.result c.args.number c.index-asked-place.result
     c.first_from-place.ensures.halves (omega arith)
     (ap (λ entry. entry.number) (sym c.index-asked-place.is) ∙ sym c.number.ensures ∙ c.if-number.true))
 
@@ -19,8 +20,8 @@ returns-then-number-clause-there c =
 
 pub returns-else-place-asked-clause-place : goal.returns-else-place-asked-clause-place
 returns-else-place-asked-clause-place c =
-    sym (position-missing c.args.asked.now c.args.number
-    (missing_past c.args.asked.now c.first_from-place.result c.args.number c.requires c.first_from-place.ensures.halves
+    sym (position-missing (λ (entry : AskedQuery). entry.number) c.args.asked.now c.args.number
+    (missing_past (λ (entry : AskedQuery). entry.number) c.args.asked.now c.first_from-place.result c.args.number c.requires c.first_from-place.ensures.halves
     (λ d within same. elim c.else-place-asked.branch [
       | else-place-asked-via-then-place-asked+else-number w ↦
           w.if-number.false (w.number.ensures

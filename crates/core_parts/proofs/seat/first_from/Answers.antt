@@ -1,7 +1,9 @@
 use Rattle.std.proofs.Common.{ltb, rules}
 use Rattle.std.proofs.lemmas.List.Sorted.{IsPartitionPoint-from_clause, IsPartitionedBy-ltb}
 use Rattle.std.proofs.lemmas.Bool.{ltb-true, ltb-false}
-use Rattle.core_parts.proofs.NumberLemmas.{rising_non_decreasing}
+use Rattle.star_lists.proofs.RisingLemmas.{rising_non_decreasing}
+use Rattle.core_parts.specs.declared.submitted.Submitted.{Submitted}
+use Rattle.core_parts.proofs.NumberLemmas.{rise}
 use Rattle.core_parts.proofs.seat.first_from.Goals as goal
 
 pub returns : goal.returns
@@ -10,6 +12,6 @@ returns c =
     let point =
     IsPartitionPoint-from_clause (λ submitted. ltb submitted.number c.args.number) statements c.partition_point.result
     c.partition_point.ensures.partitioned
-    (IsPartitionedBy-ltb (λ submitted. submitted.number) statements c.args.number (rising_non_decreasing statements c.requires))
+    (IsPartitionedBy-ltb (λ submitted. submitted.number) statements c.args.number (rising_non_decreasing (λ (submitted : Submitted). submitted.number) statements (rise statements c.requires)))
     (λ a r q k. search rules) in
     (λ k d from below. ltb-true _ _ (point.0 k d from below), λ k d from below. ltb-false _ _ (point.1 k d from below))

@@ -1,8 +1,10 @@
 -- The first place at which a test passes, what is found there, and what a list ends as that was lent to be written there.
-use Rattle.std.proofs.Common.{◌≡◌, ℕ, ◌<◌, ◌≤◌, Bool, true, false, cond, List, [], ◌∷◌, length, slice_get, Option, Some, None, refl, ap, sym, ◌∙◌, arith, ◌⊎◌, inl, inr}
-use Rattle.std.specs.List.{find, position, position_or_len, refill}
+use Rattle.std.proofs.Common.{◌≡◌, ℕ, ◌<◌, ◌≤◌, ◌||◌, Bool, true, false, cond, eqb, List, [], ◌∷◌, length, map, slice_get, Option, Some, None, refl, ap, subst, sym, ◌∙◌, arith, ◌⊎◌, inl, inr}
+use Rattle.std.specs.List.{All, find, list_any, position, position_or_len, refill}
 use Rattle.std.specs.Option.{option_and_then}
+use Rattle.std.specs.Prelude.{is_some}
 use Rattle.std.proofs.lemmas.Bool.{cases_lt, lt-ltb, le-ltb}
+use Rattle.std.proofs.lemmas.List.Elements.{All-cons, All-head, All-nil, All-tail}
 use Rattle.std.proofs.lemmas.List.Folds.{find_at}
 use Rattle.std.proofs.lemmas.Option.{none-some, slice_get_past}
 
@@ -53,3 +55,33 @@ refill-all [] [] same = refl
 refill-all [] (member ∷ members) same = absurd (omega arith)
 refill-all (entry ∷ old) [] same = absurd (omega arith)
 refill-all (entry ∷ old) (member ∷ members) same = ap (λ rest. member ∷ rest) (refill-all old members (omega arith))
+
+-- what is found is one of the list
+pub find-holds : {X : Type 0} (P : X → Type 0) (p : X → Bool) (xs : List X) (x : X) → find p xs ≡ Some x → All P xs → P x
+find-holds {X = X} P p [] x is all = absurd (none-some x is)
+find-holds {X = X} P p (y ∷ xs) x is all = by_test (p y) is (find-holds P p xs x)
+  where
+    by_test : (t : Bool) → cond {A = Option X} t (Some y) (find p xs) ≡ Some x → (find p xs ≡ Some x → All P xs → P x) → P x
+    by_test true e rest = let same : y ≡ x = cc in subst P same (All-head P y xs all)
+    by_test false e rest = rest e (All-tail P y xs all)
+
+-- where none is found, none passes
+pub find-none : {X : Type 0} (p : X → Bool) (xs : List X) → find p xs ≡ None → All (λ x. p x ≡ false) xs
+find-none {X = X} p [] is = All-nil (λ x. p x ≡ false)
+find-none {X = X} p (y ∷ xs) is = by_test (p y) refl is (find-none p xs)
+  where
+    by_test : (t : Bool) → p y ≡ t → cond {A = Option X} t (Some y) (find p xs) ≡ None → (find p xs ≡ None → All (λ x. p x ≡ false) xs) → All (λ x. p x ≡ false) (y ∷ xs)
+    by_test true q e rest = absurd (none-some y (sym e))
+    by_test false q e rest = All-cons (λ x. p x ≡ false) y xs q (rest e)
+
+-- whether a number is found does not hang on what has it
+pub number-found : {X : Type 0} (number_of : X → ℕ) (xs : List X) (number : ℕ)
+    → is_some (find (λ x. eqb (number_of x) number) xs) ≡ list_any (λ n. eqb n number) (map number_of xs)
+number-found {X = X} number_of [] number = refl
+number-found {X = X} number_of (x ∷ xs) number = by_test (eqb (number_of x) number) (number-found number_of xs number)
+  where
+    by_test : (t : Bool) → is_some (find (λ x. eqb (number_of x) number) xs) ≡ list_any (λ n. eqb n number) (map number_of xs)
+        → is_some (cond {A = Option X} t (Some x) (find (λ x. eqb (number_of x) number) xs))
+        ≡ (t || list_any (λ n. eqb n number) (map number_of xs))
+    by_test true rest = refl
+    by_test false rest = rest
