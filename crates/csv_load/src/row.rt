@@ -1,5 +1,5 @@
 //! The row of one record.
-ghost use Rattle.std.specs.Prelude.{◌≡◌, Some, None, IfOk, IsErrOf};
+ghost use Rattle.std.specs.Prelude.{◌≡◌, Some, None, IfOk, IsErrOf, IsSome};
 ghost use Rattle.csv.specs.Records.{fields_of};
 ghost use Rattle.csv_load.specs.Rows.{field_value, typed_row};
 
@@ -36,6 +36,7 @@ pub(crate) fn typed_row(
 fn field_value(alloc: Global, kind: Kind, field: &[u8]) -> Result<Value, BlockFault>
     ensures ok { IfOk result (λ value. field_value kind field.now ≡ Some value) }
     ensures bad { IsErrOf result BlockFault.BadRecord → field_value kind field.now ≡ None }
+    ensures memory { IsErrOf result BlockFault.Memory → IsSome (field_value kind field.now) }
 {
     match kind {
         Kind::Int => match read_int(field) {

@@ -3,6 +3,7 @@ ghost use Rattle.std.specs.Prelude.{◌≡◌, ◌≢◌, ◌↔◌, ℕ, List, 
 ghost use Rattle.star_values.specs.declared.value.Value.{Value};
 ghost use Rattle.dimension_rows.specs.declared.dimension_row.DimensionRow.{DimensionRow};
 ghost use Rattle.dimension_rows.specs.Keys.{AreKeyed, key_of, key_at, index_of};
+ghost use Rattle.dimension_rows.specs.declared.dimension_row.TheConstants.{MAX_DIMENSION_ROWS};
 
 /// The place of a key is the one place whose row has the key, and there is none exactly where no
 /// row has it.
@@ -26,4 +27,9 @@ pub fn a_new_row_moves_no_other()
         key_of entry.row ≢ Some key → index_of rows key ≡ None → index_of (rows ++ entry ∷ []) key ≡ None }
     ensures keyed { (rows : List DimensionRow) (entry : DimensionRow) (key : Value) →
         AreKeyed rows → key_of entry.row ≡ Some key → index_of rows key ≡ None → AreKeyed (rows ++ entry ∷ []) }
+{}
+
+/// The most rows of a dimension.
+pub fn dimensions_have_their_limit()
+    ensures { MAX_DIMENSION_ROWS ≡ 262144 }
 {}

@@ -3,6 +3,7 @@ ghost use Rattle.std.specs.Prelude.{◌≡◌, ◌≢◌, ℕ, ◌<◌, false, L
 ghost use Rattle.fact_versions.specs.declared.version.Version.{Version};
 ghost use Rattle.fact_versions.specs.Ends.{ended_by, with_end};
 ghost use Rattle.fact_versions.specs.Visible.{is_visible};
+ghost use Rattle.fact_versions.specs.declared.version.TheConstants.{MAX_VERSIONS};
 
 /// A written end changes the version at its position alone, and there the end alone.
 pub fn ends_change_one_version()
@@ -24,4 +25,9 @@ pub fn a_later_end_hides_nothing()
 /// A version that a later commit loads is not seen, whether it was ended or not.
 pub fn a_later_load_is_not_seen()
     ensures { (begin end snapshot : ℕ) → snapshot < begin → is_visible begin end snapshot ≡ false }
+{}
+
+/// The most versions of a fact table, ended ones included.
+pub fn fact_tables_have_their_limit()
+    ensures { MAX_VERSIONS ≡ 1048576 }
 {}

@@ -11,7 +11,10 @@ mod visible;
 
 pub use crossing::{fact_versions_may_be_sent, fact_versions_may_be_shared};
 pub use fact_versions::FactVersions;
-pub use laws::{a_later_end_hides_nothing, a_later_load_is_not_seen, ends_change_one_version};
+pub use laws::{
+    a_later_end_hides_nothing, a_later_load_is_not_seen, ends_change_one_version,
+    fact_tables_have_their_limit,
+};
 pub use stretch::Stretch;
 pub use version::{KEYS_IN_A_VERSION, MAX_VERSIONS, Version};
 pub use visible::is_visible;

@@ -1,6 +1,8 @@
 //! What the definitions of lines and blocks mean, said once more in other words.
+ghost use Rattle.std.specs.Prelude.{◌≡◌};
 ghost use Rattle.script_reader.specs.Steps.{StatementsComeInOrder};
 ghost use Rattle.script_reader.specs.Laws.{LinesJoinedAreTheScript, LineEndsAtItsLineFeed, BlockEndsAtTheFirstDotLine};
+ghost use Rattle.script_reader.specs.declared.reader.TheConstants.{SCRIPT_LIMIT};
 
 /// No byte of a script is lost between its lines.
 pub fn lines_joined_are_the_script()
@@ -21,4 +23,9 @@ pub fn block_ends_at_the_first_dot_line()
 /// to the limit, and what waits is behind them: it does not matter how a script was cut into pieces.
 pub fn statements_come_in_order()
     ensures { StatementsComeInOrder }
+{}
+
+/// The most bytes of a script.
+pub fn scripts_have_their_limit()
+    ensures { SCRIPT_LIMIT ≡ 67108864 }
 {}

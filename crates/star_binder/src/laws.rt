@@ -15,6 +15,7 @@ ghost use Rattle.star_binder.specs.Named.{where_conjuncts};
 ghost use Rattle.star_binder.specs.Refused.{bound_delete, bound_select, fact_alone, from_tables};
 ghost use Rattle.star_binder.specs.Select.{SelectParts, select_of};
 ghost use Rattle.star_binder.specs.Where.{IsJoinedByKeys, whole_where_holds};
+ghost use Rattle.star_binder.specs.declared.TheConstants.{MAX_ITEMS, MAX_GROUPS};
 
 use star_plan::kept_rows_meet_each_condition;
 use star_values::values_are_in_order;
@@ -51,3 +52,9 @@ pub fn bound_queries_keep_what_the_where_keeps()
     values_are_in_order();
     kept_rows_meet_each_condition();
 }
+
+/// The most items of a query, and the most columns that it groups by.
+pub fn selects_have_their_limits()
+    ensures items { MAX_ITEMS ≡ 64 }
+    ensures groups { MAX_GROUPS ≡ 16 }
+{}

@@ -18,7 +18,10 @@ mod statement;
 mod table;
 
 pub use fault::BindFault;
-pub use laws::{bound_queries_keep_to_their_schema, bound_queries_keep_what_the_where_keeps};
+pub use laws::{
+    bound_queries_keep_to_their_schema, bound_queries_keep_what_the_where_keeps,
+    selects_have_their_limits,
+};
 pub use statement::{bind, bind_delete};
 pub use table::bind_table;
 

@@ -7,6 +7,7 @@ ghost use Rattle.star_schema.specs.Declaration.{declared_dimension, declared_fac
 ghost use Rattle.star_schema.specs.Limits.{with_dimension, with_fact};
 ghost use Rattle.star_schema.specs.Repeats.{repeats};
 ghost use Rattle.star_schema.specs.Schemas.{IsDeclared, ReferencesNothing};
+ghost use Rattle.star_schema.specs.declared.TheConstants.{MAX_DIMENSIONS, MAX_COLUMNS};
 
 /// A schema without tables is one that declarations give: none.
 pub fn empty_schemas_are_declared()
@@ -27,4 +28,10 @@ pub fn accepted_tables_keep_a_schema_declared()
 pub fn repeats_are_pairs()
     ensures { (columns : List ColumnDef) → (repeats same_name columns ≡ false)
         ↔ AllPairs (λ column other. column.name ≢ other.name) columns }
+{}
+
+/// The most dimensions of a schema, and the most columns of a table.
+pub fn schemas_have_their_limits()
+    ensures dimensions { MAX_DIMENSIONS ≡ 8 }
+    ensures columns { MAX_COLUMNS ≡ 16 }
 {}

@@ -14,6 +14,7 @@ pub use fault::DeclareFault;
 pub use find::{columns_of, find_column, find_dimension, find_table, is_table_named};
 pub use laws::{
     accepted_tables_keep_a_schema_declared, empty_schemas_are_declared, repeats_are_pairs,
+    schemas_have_their_limits,
 };
 pub use repeat::sorts_to_repeat;
 

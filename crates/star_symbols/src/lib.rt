@@ -13,7 +13,7 @@ mod writing;
 
 pub use fault::LineFault;
 pub use keyword::Keyword;
-pub use limits::{MAX_DEPTH, MAX_LIST, MAX_NOTS, limits_are_tested};
+pub use limits::{MAX_DEPTH, MAX_LIST, MAX_NOTS, limits_are_tested, lines_have_their_limits};
 pub use reading::{MAX_LINE_BYTES, MAX_NAME_BYTES, read_symbols};
 pub use sign::Sign;
 pub use symbol::Symbol;

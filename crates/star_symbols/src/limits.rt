@@ -3,6 +3,8 @@
 ghost use Rattle.std.specs.Prelude.{◌≡◌, ◌↔◌, ℕ, ◌+◌, ◌<◌, ◌≤◌, List, IsTrue, count_by, take_while, length};
 ghost use Rattle.std.specs.List.{prefix_len};
 ghost use Rattle.star_symbols.specs.Limits.{is_in, is_open, is_close, is_not, is_literal, is_comma, is_listed, IsTooDeep, HasTooManyNots, HasTooLongAList, AreOverTogether, IsOverLimit, begins_too_long_a_list, is_over_limit};
+ghost use Rattle.star_symbols.specs.declared.limits.TheConstants.{MAX_DEPTH, MAX_NOTS, MAX_LIST};
+ghost use Rattle.star_symbols.specs.declared.reading.TheConstants.{MAX_LINE_BYTES, MAX_NAME_BYTES};
 
 use crate::keyword::Keyword;
 use crate::sign::Sign;
@@ -155,3 +157,12 @@ fn is_listed(symbol: &Symbol) -> bool
         _ => false,
     }
 }
+
+/// The most bytes of a line and of a name, how deep parentheses and `not` go, and how long a list in parentheses may be.
+pub fn lines_have_their_limits()
+    ensures line { MAX_LINE_BYTES ≡ 65536 }
+    ensures name { MAX_NAME_BYTES ≡ 63 }
+    ensures depth { MAX_DEPTH ≡ 64 }
+    ensures nots { MAX_NOTS ≡ 64 }
+    ensures list { MAX_LIST ≡ 256 }
+{}

@@ -21,5 +21,7 @@ pub use literal_list::LiteralList;
 pub use no_memory::NoMemory;
 pub use refusal::Refusal;
 pub use row::{Row, rows_are_in_order};
-pub use small_text::{MAX_TEXT_BYTES, SmallText, TextFault, small_text_rule_is_tested};
+pub use small_text::{
+    MAX_TEXT_BYTES, SmallText, TextFault, small_text_rule_is_tested, texts_have_their_limit,
+};
 pub use value::{Kind, Value, values_are_in_order};

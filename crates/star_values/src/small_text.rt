@@ -8,6 +8,7 @@ ghost use Rattle.std.specs.Cmp.Rules.{hashing};
 ghost use Rattle.std.proofs.Common.{rules};
 ghost use Rattle.star_values.specs.SmallText.{IsSmallText, is_small_text};
 ghost use Rattle.star_values.specs.declared.small_text.TextFault.TheVariants.{Memory};
+ghost use Rattle.star_values.specs.declared.small_text.TheConstants.{MAX_TEXT_BYTES};
 
 use crate::no_memory::NoMemory;
 use std::alloc::{AllocError, Global};
@@ -79,6 +80,7 @@ impl SmallText {
         ensures ok { IfOk result (λ text. text ≡ bytes.now) }
         ensures rule { OnOk result (IsSmallText bytes.now) }
         ensures bad { IsErrOf result TextFault.BadText ↔ ¬ (IsSmallText bytes.now) }
+        ensures memory { IsErrOf result TextFault.Memory → IsSmallText bytes.now }
     {
         if !keeps_rule(bytes) {
             return Err(TextFault::BadText);
@@ -192,3 +194,8 @@ impl Hash for SmallText {
         self.bytes.as_slice().hash(state);
     }
 }
+
+/// The most bytes of a text.
+pub fn texts_have_their_limit()
+    ensures { MAX_TEXT_BYTES ≡ 255 }
+{}
