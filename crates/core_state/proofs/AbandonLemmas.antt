@@ -1,13 +1,14 @@
 -- A query that loses its answer keeps a core sound.
-use Rattle.core_state.proofs.Words.{◌<◌, ◌∙◌, ◌≡◌, ◌≢◌, Accepted, accepted_at, after_abandoning, after_build_wants, All-weaker, ap, AreSoundSeats, arith, CanAbandon, CanSpoil, cases_lt, cond, Contains, empty_seat, eq-eqb, eqb, eqb-true, false, filter_passes, forgotten, get_or, get_or_default, gets_rows, Has, IfSome, is_begun, is_open, IsKept, IsSound, IsSoundSeat, IsTrue, length, length-set, Life, life_in, life_in-other, List, map, MayBeOnRoster, ne_eqb, None, not, Option, option_map_or, QueryLife, refl, Seat, seat_at, set, Some, State, subst, sym, tables_of, true, with_life, without_pending, ℕ, ⊎_elim}
+use Rattle.core_state.proofs.Words.{◌<◌, ◌∙◌, ◌≡◌, ◌≢◌, Accepted, accepted_at, after_abandoning, after_build_wants, All-weaker, ap, AreSoundSeats, arith, Bool, CanAbandon, CanSpoil, cases_lt, cond, Contains, empty_seat, eq-eqb, eqb, eqb-true, false, filter_passes, forgotten, get_or, get_or_default, gets_rows, Has, IfSome, is_begun, is_open, IsKept, IsSound, IsSoundSeat, IsTrue, length, length-set, Life, life_in, life_in-other, List, map, MayBeOnRoster, ne_eqb, None, not, Option, option_map_or, QueryLife, refl, same_Some, Seat, seat_at, set, Some, State, subst, sym, tables_of, true, with_life, without_pending, ℕ, ⊎_elim}
 use Rattle.pipeline_manager.specs.Sound as managed
 use Rattle.pipeline_manager.specs.declared.life.Life.TheVariants as life
 use Rattle.pipeline_manager.proofs.CallLemmas.{sound-after_abandon, sound-after_spoil}
 use Rattle.core_state.proofs.AcceptedLemmas.{find-holds}
 use Rattle.core_state.proofs.AnewLemmas.{forgets, kept_anew, queries-anew, sound-anew}
-use Rattle.core_state.proofs.FoundLemmas.{find-passes, life-written, with_life-found, with_life-numbers}
+use Rattle.core_state.proofs.FoundLemmas.{extents-written, find-passes, life-written, with_life-found, with_life-numbers}
 use Rattle.core_state.proofs.FrameLemmas.{LivesAs, StayTaken, Told, Wanted, at-set, awaited-there, kept-with, lives-as}
 use Rattle.core_state.proofs.SeatLemmas.{part-stays, seat-anew, seat-fewer, seat-there, seats-anew}
+use Rattle.core_state.proofs.WholeLivesLemmas.{lost-more, lost-now, lost-written}
 
 -- the life of a query that has no answer
 record IsLost (lost : Life) : Type 0 where
@@ -30,7 +31,10 @@ sound-lost : (query : ℕ) (old lost : Life) (state : State) (seats : List Seat)
     → IsSound (kept_anew state (forgotten query) (with_life query lost state.lives.queries) seats state.scan)
 sound-lost query old lost state seats is_lost was lives count stay sound_seats sound =
     sound-anew state (forgotten query) (forgets query) queries seats
-    (λ number on. life-written MayBeOnRoster query old lost state.lives.queries number was (λ h. is_lost.rostered) on) count
+    (λ number. (
+      life-written MayBeOnRoster query old lost state.lives.queries number was (λ h. is_lost.rostered),
+      extents-written query lost state.lives.queries number,
+    )) count
     (queries-anew state (forgotten query) (forgets query) queries seats state.scan (with_life-numbers query lost state.lives.queries)
     (λ accepted there of_query. with_life-found (LivesAs (tables_of state) seats state.scan accepted (forgotten query accepted)) query lost
     state.lives.queries accepted.number
@@ -77,6 +81,14 @@ begun-open life.Spoiled e = e
 begun-open life.Abandoned e = e
 begun-open other e = refl
 
+-- a query that has begun was not abandoned
+begun-never : (old : Life) → is_begun old ≡ true → old ≡ life.Abandoned → ⊥
+begun-never old begun is = let both : true ≡ false = sym begun ∙ ap is_begun is in cc
+
+not-passed : (t : Bool) → not t ≡ false → t ≡ true
+not-passed true is = refl
+not-passed false is = cc
+
 -- a query that finds no memory as a filter is built for it
 pub sound-wanting : (query : ℕ) (state : State) → CanSpoil query state.lives → IsSound state → IsSound (after_build_wants query state)
 sound-wanting query state can sound = by_life (life_in state.lives.queries query) refl can
@@ -94,7 +106,9 @@ sound-wanting query state can sound = by_life (life_in state.lives.queries query
         (λ k d low. seat-anew state (forgotten query) (forgets query) queries (get_or state.seats k d)
         (λ j p inside. life-written Wanted query old life.Spoiled state.lives.queries (get_or (get_or state.seats k d).pending j p).statement was
         (λ h is. cc))
-        (told-open query old life.Spoiled state was (begun-open old e)) (sound.seats.each k d low)) sound.seats) sound
+        (told-open query old life.Spoiled state was (begun-open old e))
+        (lost-written query life.Spoiled state.lives.queries (λ is. begun-never old e (same_Some old life.Abandoned (sym was ∙ is))))
+        (sound.seats.each k d low)) sound.seats) sound
 
 -- nobody waits for a query any more whose seat does not
 sound-unpending : (query seat : ℕ) (old : Life) (state : State) → life_in state.lives.queries query ≡ Some old → is_open old ≡ true
@@ -135,14 +149,16 @@ sound-unpending query seat old state was opens submits sound =
     each : (k : ℕ) (d : Seat) → k < length state.seats
         → IsSoundSeat state.numbers.statement (map (forgotten query) state.accepted) queries (get_or seats k d)
     each k d low = at-set (IsSoundSeat state.numbers.statement (map (forgotten query) state.accepted) queries) state.seats seat k without d low
-        (λ same. seat-anew state (forgotten query) (forgets query) queries without
+        (λ same. seat-fewer state (forgotten query) (forgets query) queries (λ pending. not (eqb pending.statement query)) (get_or state.seats seat empty_seat)
         (All-weaker (λ pending. not (eqb pending.statement query) ≡ true)
         (λ pending. IfSome (life_in state.lives.queries pending.statement) Wanted → IfSome (life_in queries pending.statement) Wanted)
         (λ pending other. still pending.statement
         (λ is. let both : false ≡ true = sym (ap not (eq-eqb pending.statement query is)) ∙ other in cc))
         without.pending (filter_passes (λ pending. not (eqb pending.statement query)) (get_or state.seats seat empty_seat).pending))
-        (told-open query old life.Abandoned state was opens)
-        (seat-fewer state (λ pending. not (eqb pending.statement query)) (get_or state.seats seat empty_seat) (sound.seats.each seat empty_seat there)))
+        (told-open query old life.Abandoned state was opens) (lost-more query state.lives.queries)
+        (λ pending is. subst (λ n. life_in queries n ≡ Some life.Abandoned)
+        (sym (eqb-true pending.statement query (not-passed (eqb pending.statement query) is))) (lost-now query old state.lives.queries was))
+        (sound.seats.each seat empty_seat there))
         (λ apart.
         let here = get_or state.seats k d in
         let of_seat : IsSoundSeat state.numbers.statement state.accepted state.lives.queries here = sound.seats.each k d low in
@@ -151,7 +167,7 @@ sound-unpending query seat old state was opens submits sound =
         (λ pending. IfSome (life_in state.lives.queries pending.statement) Wanted → IfSome (life_in queries pending.statement) Wanted)
         (λ pending has. still pending.statement (λ same. others k d low apart (subst (Contains here.submitted) same has)))
         here.pending (awaited-there (Contains here.submitted) (map (λ taken. taken.statement) here.taken) here.pending of_seat.submitted))
-        (told-open query old life.Abandoned state was opens) of_seat)
+        (told-open query old life.Abandoned state was opens) (lost-more query state.lives.queries) of_seat)
 
 pub sound-abandoned : (query : ℕ) (state : State) → CanAbandon query state.lives → IsSound state → IsSound (after_abandoning query state)
 sound-abandoned query state can sound = by_accepted (accepted_at state.accepted query) refl

@@ -1,12 +1,12 @@
 -- Every step but the event that abandons a query leaves it as it is: whoever is abandoned after it was so before.
-use Rattle.core_state.proofs.Words.{◌+◌, ◌-◌, ◌≡◌, ◌⊎◌, [], Abandon, accepted_at, after_abandoning, after_build, after_distribute, after_give, after_outcome, after_reserving, after_start, after_step, ap, Build, cases_eq, Change, Cut, DimensionDeclared, Distribute, Done, end_in, Event, extent_in, Finish, first_in, first_of, flight_at, Give, Held, inl, inr, is_held_by, life_of, List, None, Option, option_map_or, outcome_of, Replying, Reserve, set, slot_at, slot_of, Some, Start, started, State, Step, Submit, sym, tables_of, Told, versions_in, Wanting, with_change, with_dimension, with_life, with_query, with_slot, ℕ, ⊎_elim}
+use Rattle.core_state.proofs.Words.{◌+◌, ◌-◌, ◌≡◌, ◌⊎◌, [], Abandon, accepted_at, after_abandoning, after_distribute, after_give, after_outcome, after_start, after_step, ap, Build, cases_eq, Change, Cut, DimensionDeclared, Distribute, Done, end_in, Event, extent_in, Finish, first_in, first_of, flight_at, Give, inl, inr, is_held_by, life_in, life_of, List, option_map_or, outcome_of, Replying, Reserve, Some, Start, started, State, Step, Submit, subst, sym, tables_of, Told, versions_in, Wanting, with_change, with_query, ℕ, ⊎_elim}
 use Rattle.std.proofs.Common.{find}
 use Rattle.star_statement.specs.Outcome as outcome
-use Rattle.pipeline_manager.specs.Lives.{oldest_waiting}
 use Rattle.pipeline_manager.specs.declared.life.Life.TheVariants as life
 use Rattle.core_state.specs.Events.{after_event, after_want}
-use Rattle.core_state.proofs.AbandonedLivesLemmas.{WereLost, started-never, were-behind, were-cut, were-ended, were-others, were-spoiled, were-written}
+use Rattle.core_state.proofs.AbandonedLivesLemmas.{WereLost, started-never, were-behind, were-cut, were-ended, were-others, were-reserved, were-spoiled, were-written}
 use Rattle.core_state.proofs.WholeFrameLemmas.{by-option}
+use Rattle.core_state.proofs.WholeLivesLemmas.{built-queries}
 use Rattle.core_state.proofs.WholeToldLemmas.{seated}
 
 -- whoever is abandoned in a core was so in another
@@ -16,24 +16,6 @@ Abandons old new = WereLost old.lives.queries new.lives.queries
 -- nobody is where nothing changes
 were-all : (state : State) → Abandons state state
 were-all state number is = is
-
-were-reserving : (slot : ℕ) (state : State) → Abandons state (after_reserving slot state)
-were-reserving slot state = by_oldest (oldest_waiting state.lives)
-  where
-    by_oldest : (o : Option ℕ) → WereLost state.lives.queries (option_map_or (λ number. record state.lives {
-      queries = with_life number life.Building state.lives.queries;
-      slots = set state.lives.slots slot (Held number 0);
-    }) o state.lives).queries
-    by_oldest None = λ number is. is
-    by_oldest (Some query) = were-written query life.Building state.lives.queries (λ e. cc)
-
-were-build : (query dimension : ℕ) (state : State) → Abandons state (after_build query dimension state)
-were-build query dimension state = by_slot (slot_of state.lives query)
-  where
-    by_slot : (o : Option ℕ) → WereLost state.lives.queries
-        (option_map_or (λ slot. with_slot slot (with_dimension dimension (slot_at state.lives slot)) state.lives) o state.lives).queries
-    by_slot None = λ number is. is
-    by_slot (Some slot) = λ number is. is
 
 were-start : (query : ℕ) (state : State) → Abandons state (after_start query state)
 were-start query state =
@@ -88,8 +70,9 @@ abandons-event : (event : Event) (state : State) (number : ℕ) → life_of (aft
     → (life_of state.lives number ≡ Some life.Abandoned) ⊎ (Done event ≡ Done (Abandon number))
 unfolding after_event
 abandons-event (Submit seat statement) state number is = inl (were-outcome seat (outcome_of (tables_of state) statement) state number is)
-abandons-event (Reserve query slot) state number is = inl (were-reserving slot state number is)
-abandons-event (Build query dimension) state number is = inl (were-build query dimension state number is)
+abandons-event (Reserve query slot) state number is = inl (were-reserved slot state.lives number is)
+abandons-event (Build query dimension) state number is =
+    inl (subst (λ queries. life_in queries number ≡ Some life.Abandoned) (built-queries query dimension state.lives) is)
 abandons-event (Start query) state number is = inl (were-start query state number is)
 abandons-event Cut state number is = inl (were-cut (first_in state) (end_in state - 1) state.lives.queries number is)
 abandons-event (Give worker) state number is = inl (were-give worker state number is)

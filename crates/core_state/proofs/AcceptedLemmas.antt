@@ -1,39 +1,21 @@
 -- Who holds a slot has a life, and was accepted.
-use Rattle.core_state.proofs.Words.{◌<◌, ◌∙◌, ◌∷◌, ◌≡◌, ◌≤◌, [], Accepted, accepted_at, All, All-cons, All-head, All-nil, All-tail, ap, arith, Bool, cond, eq-eqb, eqb, false, find, Free, get_or-le-sum_by, Held, IfSome, is_some, IsOnRoster, IsSome, IsSound, length, List, list_any, Lives, map, None, none-some, OnRoster, Option, option_map, query_in, QueryLife, refl, slot_at, SlotState, Some, State, subst, sym, true, ℕ}
-use Rattle.std.specs.Prelude.{◌||◌}
+use Rattle.core_state.proofs.Words.{◌<◌, ◌∙◌, ◌≡◌, ◌≤◌, Accepted, accepted_at, ap, AreSoundQueries, arith, cond, eq-eqb, eqb, false, Free, get_or-le-sum_by, Held, is_some, IsOnRoster, IsSome, IsSound, IsSoundQuery, length, life_in, list_any, Lives, None, OnRoster, Option, option_map, query_in, QueryLife, refl, slot_at, SlotState, Some, State, sym, true, ℕ}
 use Rattle.pipeline_manager.specs.Lives.{is_held_by}
 use Rattle.pipeline_manager.specs.Sound as managed
 use Rattle.pipeline_manager.specs.Sound.{FitsSlots}
+use Rattle.core_state.proofs.FoundLemmas.{accepted-number, some-at, some-of}
+pub use Rattle.star_lists.proofs.PlaceLemmas.{find-holds, find-none, number-found}
 
--- what is found is one of the list
-pub find-holds : {X : Type 0} (P : X → Type 0) (p : X → Bool) (xs : List X) (x : X) → find p xs ≡ Some x → All P xs → P x
-find-holds {X = X} P p [] x is all = absurd (none-some x is)
-find-holds {X = X} P p (y ∷ xs) x is all = by_test (p y) is (find-holds P p xs x)
+-- what is the number of no accepted query is that of no life
+pub none-lives : (state : State) → AreSoundQueries state → (number : ℕ) → accepted_at state.accepted number ≡ None
+    → life_in state.lives.queries number ≡ None
+none-lives state queries number none = by_found (query_in state.lives.queries number)
+    (number-found (λ entry. entry.query) state.lives.queries number ∙ ap (list_any (λ n. eqb n number)) (sym queries.same)
+    ∙ sym (number-found (λ accepted. accepted.number) state.accepted number) ∙ ap is_some none)
   where
-    by_test : (t : Bool) → cond {A = Option X} t (Some y) (find p xs) ≡ Some x → (find p xs ≡ Some x → All P xs → P x) → P x
-    by_test true e rest = let same : y ≡ x = cc in subst P same (All-head P y xs all)
-    by_test false e rest = rest e (All-tail P y xs all)
-
--- where none is found, none passes
-pub find-none : {X : Type 0} (p : X → Bool) (xs : List X) → find p xs ≡ None → All (λ x. p x ≡ false) xs
-find-none {X = X} p [] is = All-nil (λ x. p x ≡ false)
-find-none {X = X} p (y ∷ xs) is = by_test (p y) refl is (find-none p xs)
-  where
-    by_test : (t : Bool) → p y ≡ t → cond {A = Option X} t (Some y) (find p xs) ≡ None → (find p xs ≡ None → All (λ x. p x ≡ false) xs) → All (λ x. p x ≡ false) (y ∷ xs)
-    by_test true q e rest = absurd (none-some y (sym e))
-    by_test false q e rest = All-cons (λ x. p x ≡ false) y xs q (rest e)
-
--- whether a number is found does not hang on what has it
-pub number-found : {X : Type 0} (number_of : X → ℕ) (xs : List X) (number : ℕ)
-    → is_some (find (λ x. eqb (number_of x) number) xs) ≡ list_any (λ n. eqb n number) (map number_of xs)
-number-found {X = X} number_of [] number = refl
-number-found {X = X} number_of (x ∷ xs) number = by_test (eqb (number_of x) number) (number-found number_of xs number)
-  where
-    by_test : (t : Bool) → is_some (find (λ x. eqb (number_of x) number) xs) ≡ list_any (λ n. eqb n number) (map number_of xs)
-        → is_some (cond {A = Option X} t (Some x) (find (λ x. eqb (number_of x) number) xs))
-        ≡ (t || list_any (λ n. eqb n number) (map number_of xs))
-    by_test true rest = refl
-    by_test false rest = rest
+    by_found : (o : Option QueryLife) → is_some o ≡ false → option_map (λ entry. entry.life) o ≡ None
+    by_found None e = refl
+    by_found (Some entry) e = absurd (let both : true ≡ false = e in cc)
 
 -- who holds a slot has a life
 pub held-life : (lives : Lives) (slot query built : ℕ) → managed.IsSound lives → slot < length lives.slots
@@ -50,24 +32,42 @@ held-life lives slot query built sound there holds = by_found (query_in lives.qu
     by_found None fits = let one = some in absurd (omega arith)
     by_found (Some e) fits = refl
 
+-- who is accepted has a life, and who has one is accepted
+pub accepted-lives : (state : State) (query : ℕ) → AreSoundQueries state
+    → is_some (accepted_at state.accepted query) ≡ is_some (query_in state.lives.queries query)
+accepted-lives state query queries =
+    number-found (λ accepted. accepted.number) state.accepted query
+    ∙ ap (list_any (λ n. eqb n query)) queries.same
+    ∙ sym (number-found (λ entry. entry.query) state.lives.queries query)
+
 -- who holds a slot was accepted
 pub held-accepted : (state : State) (slot query built : ℕ) → IsSound state → slot < length state.lives.slots
     → slot_at state.lives slot ≡ Held query built → IsSome (accepted_at state.accepted query)
 held-accepted state slot query built sound there holds =
-    number-found (λ accepted. accepted.number) state.accepted query
-    ∙ ap (list_any (λ n. eqb n query)) sound.queries.same
-    ∙ sym (number-found (λ entry. entry.query) state.lives.queries query)
-    ∙ held-life state.lives slot query built sound.slots.lives there holds
+    accepted-lives state query sound.queries ∙ held-life state.lives slot query built sound.slots.lives there holds
+
+-- an accepted query that is found is sound, and has its number
+pub of-accepted : (state : State) (query : ℕ) (accepted : Accepted) → AreSoundQueries state
+    → accepted_at state.accepted query ≡ Some accepted → IsSoundQuery state accepted × (accepted.number ≡ query)
+of-accepted state query accepted queries found = (
+  find-holds (IsSoundQuery state) (λ a. eqb a.number query) state.accepted accepted found queries.each,
+  accepted-number state.accepted query accepted found,
+)
+
+-- so is who holds a slot
+pub holder-accepted : (state : State) (slot query built : ℕ) → IsSound state → slot < length state.lives.slots
+    → slot_at state.lives slot ≡ Held query built
+    → (accepted : Accepted) × (accepted_at state.accepted query ≡ Some accepted) × IsSoundQuery state accepted × (accepted.number ≡ query)
+holder-accepted state slot query built sound there holds =
+    let found = some-of (accepted_at state.accepted query) (held-accepted state slot query built sound there holds) in
+    let of = of-accepted state query found.0 sound.queries found.1 in
+    (found.0, found.1, of.0, of.1)
 
 -- a query on a roster was accepted, with its query and its snapshot
 pub accepted-on : (state : State) → IsSound state → (entry : OnRoster) → IsOnRoster state.lives state.accepted entry
     → (asked : Accepted) × (accepted_at state.accepted entry.number ≡ Some asked) × (asked.query ≡ entry.query) × (asked.snapshot ≡ entry.snapshot)
 accepted-on state sound entry on =
-    by_accepted (accepted_at state.accepted entry.number) refl
-    (held-accepted state entry.slot entry.number on.held.0 sound on.there on.held.1) on.same
-  where
-    by_accepted : (o : Option Accepted) → accepted_at state.accepted entry.number ≡ o → IsSome o
-        → IfSome o (λ asked. (asked.query ≡ entry.query) × (asked.snapshot ≡ entry.snapshot))
-        → (asked : Accepted) × (accepted_at state.accepted entry.number ≡ Some asked) × (asked.query ≡ entry.query) × (asked.snapshot ≡ entry.snapshot)
-    by_accepted None is some same = absurd (let both : false ≡ true = some in cc)
-    by_accepted (Some asked) is some same = (asked, is, same.0, same.1)
+    let found = holder-accepted state entry.slot entry.number on.held.0 sound on.there on.held.1 in
+    let same = some-at (λ asked. (asked.query ≡ entry.query) × (asked.snapshot ≡ entry.snapshot)) (accepted_at state.accepted entry.number) found.0
+    found.1 on.same in
+    (found.0, found.1, same.0, same.1)

@@ -1,6 +1,6 @@
 -- What stays sound where other groups are kept of accepted queries, and lives and seats are others.
-use Rattle.core_state.proofs.Words.{◌∙◌, ◌∷◌, ◌≡◌, [], Accepted, accepted_at, All, All-map, ap, AreSoundFilters, AreSoundHands, AreSoundQueries, AreSoundSeats, AreSoundSlots, arith, Bool, cond, Contains, Contains-get_or, Encodes, eqb, false, Filter, FitsSlot, Flight, forgotten, frame_words, get_or, Grouped, HasAccepted, Held, IfSome, IsSomeAnd, IsSound, IsSoundAccepted, IsSoundBatch, IsSoundHand, IsSoundQuery, length, life_in, List, map, MayBeOnRoster, None, Option, option_map, Query, query_in, QueryLife, refl, rows_in, Scan, Seat, slot_at, SlotState, Some, State, Store, subst, sym, tables_of, true, ℕ}
-use Rattle.core_state.proofs.FrameLemmas.{LivesAs, batches-with, filter-with, query-with}
+use Rattle.core_state.proofs.Words.{◌∙◌, ◌∷◌, ◌≡◌, [], Accepted, accepted_at, All, All-map, ap, AreSoundFilters, AreSoundHands, AreSoundQueries, AreSoundSeats, AreSoundSlots, arith, Bool, cond, Contains, Contains-get_or, Encodes, eqb, false, Filter, FitsSlot, Flight, forgotten, frame_words, get_or, Grouped, HasAccepted, Held, IfSome, IsSomeAnd, IsSound, IsSoundAccepted, IsSoundBatch, IsSoundHand, IsSoundQuery, length, List, map, None, Option, option_map, Query, query_in, QueryLife, refl, rows_in, Scan, Seat, slot_at, SlotState, Some, State, Store, subst, sym, tables_of, true, ℕ}
+use Rattle.core_state.proofs.FrameLemmas.{LivesAs, StaysOnRoster, batches-with, filter-with, query-with}
 
 -- a change of what is kept of accepted queries, and of nothing else of them
 abbrev pub KeepsAsked : (Accepted → Accepted) → Type 0
@@ -86,7 +86,7 @@ filters-anew state change keeps queries seats scan old = record {
 }
 
 pub batches-anew : (state : State) (change : Accepted → Accepted) → KeepsAsked change → (queries : List QueryLife) (flights : List Flight)
-    → ((number : ℕ) → IfSome (life_in state.lives.queries number) MayBeOnRoster → IfSome (life_in queries number) MayBeOnRoster)
+    → ((number : ℕ) → StaysOnRoster state.lives.queries queries number)
     → All (IsSoundBatch (frame_words state) (tables_of state) state.lives state.accepted) flights
     → All (IsSoundBatch (frame_words state) (tables_of state) (record state.lives { queries = queries }) (map change state.accepted)) flights
 batches-anew state change keeps queries flights stays old =
@@ -97,8 +97,9 @@ batches-anew state change keeps queries flights stays old =
     record {
       there = on.there;
       held = on.held;
-      life = stays entry.number on.life;
+      life = (stays entry.number).0 on.life;
       same = some-anew (λ asked snapshot. (asked ≡ entry.query) × (snapshot ≡ entry.snapshot)) change keeps entry.number state.accepted on.same;
+      extent = (stays entry.number).1 ∙ on.extent;
     }) old
 
 pub hands-anew : (state : State) (change : Accepted → Accepted) (queries : List QueryLife) (seats : List Seat) (scan : Scan)
@@ -137,7 +138,7 @@ queries-anew state change keeps queries seats scan same each old = record {
 
 -- a core is sound with other lives, other seats and other groups where its queries, slots and seats are
 pub sound-anew : (state : State) (change : Accepted → Accepted) → KeepsAsked change → (queries : List QueryLife) (seats : List Seat)
-    → ((number : ℕ) → IfSome (life_in state.lives.queries number) MayBeOnRoster → IfSome (life_in queries number) MayBeOnRoster)
+    → ((number : ℕ) → StaysOnRoster state.lives.queries queries number)
     → length seats ≡ length state.seats → AreSoundQueries (kept_anew state change queries seats state.scan)
     → AreSoundSlots (kept_anew state change queries seats state.scan) → AreSoundSeats (kept_anew state change queries seats state.scan)
     → IsSound state → IsSound (kept_anew state change queries seats state.scan)
@@ -149,8 +150,14 @@ sound-anew state change keeps queries seats stays count sound_queries slots soun
   queries = sound_queries;
   slots = slots;
   store = sound.store;
+  ends = sound.ends;
   quiet = λ none. (ap (map change) (sound.quiet none).0, (sound.quiet none).1, (sound.quiet none).2);
-  numbers = record { apart = sound.numbers.apart; given = sound.numbers.given };
+  numbers = record {
+    apart = sound.numbers.apart;
+    given = sound.numbers.given;
+    versions = sound.numbers.versions;
+    unnumbered = sound.numbers.unnumbered;
+  };
   scan = record { frames = sound.scan.frames; position = sound.scan.position };
   order = sound.order;
   seats = sound_seats;

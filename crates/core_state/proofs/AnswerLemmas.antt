@@ -1,10 +1,10 @@
 -- What a seat may take is right, and it waits only for what may still be answered.
-use Rattle.core_state.proofs.Words.{◌++◌, ◌<◌, ◌∙◌, ◌∷◌, ◌≡◌, ◌≢◌, ◌⊎◌, [], Accepted, accepted_at, All, All-contains, All-head, all_pairs_head, all_pairs_tail, AllPairs, answer_of, ap, AreSoundQueries, arith, Asked, Awaited, cases_lt, Contains, empty_seat, eqb, eqb-true, false, get_or_past, Grouped, grouped_of, Grouping, groups_in, HasAccepted, HasTaken, IfSome, inl, inr, is_open, is_some, IsAnswer, IsAwaited, IsKept, IsPermutation, IsRight, IsSomeAnd, IsSound, IsSoundQuery, IsSoundSeat, IsTrue, Joined, kept, length, Life, life_of, List, list_any, map, next_ready, None, Option, option_and_then, option_map, option_map_or, Pending, Query, query_in, QueryLife, Ready, ready_by, ready_to, refl, Replied, Seat, seat_at, slice_get, Some, State, subst, suc, sym, tables_of, true, Whole, zero, ℕ, ⊎_elim}
+use Rattle.core_state.proofs.Words.{◌++◌, ◌<◌, ◌∙◌, ◌∷◌, ◌≡◌, ◌≢◌, ◌⊎◌, [], Accepted, accepted_at, All, All-contains, All-head, all_pairs_head, all_pairs_tail, AllPairs, answer_of, ap, AreSoundQueries, arith, Asked, Awaited, cases_lt, Contains, empty_seat, eqb, false, get_or_past, Grouped, grouped_of, Grouping, groups_in, HasAccepted, HasTaken, IfSome, inl, inr, is_open, is_some, IsAnswer, IsAwaited, IsKept, IsPermutation, IsRight, IsSomeAnd, IsSound, IsSoundQuery, IsSoundSeat, IsTrue, Joined, kept, length, Life, life_of, List, map, next_ready, None, Option, option_and_then, option_map, option_map_or, Pending, Query, query_in, QueryLife, Ready, ready_by, ready_to, refl, Replied, Seat, seat_at, slice_get, Some, State, subst, suc, sym, tables_of, true, Whole, zero, ℕ, ⊎_elim}
 use Rattle.reply_text.specs.declared.reply.Reply.TheVariants.{Memory}
 use Rattle.pipeline_manager.specs.declared.life.Life.TheVariants as life
 use Rattle.core_state.specs.Answers.{AnswersAlone}
-use Rattle.core_state.proofs.AcceptedLemmas.{find-holds, number-found}
-use Rattle.core_state.proofs.FoundLemmas.{find-passes, some-at}
+use Rattle.core_state.proofs.AcceptedLemmas.{accepted-lives, find-holds, of-accepted}
+use Rattle.core_state.proofs.FoundLemmas.{some-at}
 use Rattle.core_state.proofs.SeatLemmas.{one-seat, pending-submitted}
 
 -- rows in another order have the same answer
@@ -111,20 +111,17 @@ asked-answer ignores state seat pending query snapshot sound first has is = by_f
         → (groups : Grouped) × (groups_in state pending.statement ≡ Some groups) × AnswersAlone (tables_of state) query snapshot groups
     by_found None found h = absurd h
     by_found (Some accepted) found h =
-        let number : accepted.number ≡ pending.statement =
-        eqb-true accepted.number pending.statement (find-passes (λ a. eqb a.number pending.statement) state.accepted accepted found) in
-        let of_query : IsSoundQuery state accepted =
-        find-holds (IsSoundQuery state) (λ a. eqb a.number pending.statement) state.accepted accepted found sound.queries.each in
+        let of = of-accepted state pending.statement accepted sound.queries found in
         let submits : Contains (seat_at state accepted.seat).submitted accepted.number =
         find-holds (λ a. Contains (seat_at state a.seat).submitted a.number) (λ a. eqb a.number pending.statement) state.accepted accepted found
         sound.seats.queries in
-        ⊎_elim (λ gone. absurd (not-taken state seat pending accepted sound first number submits gone.1))
+        ⊎_elim (λ gone. absurd (not-taken state seat pending accepted sound first of.1 submits gone.1))
         (λ answer. (
           answer.0,
           ap (λ o. option_map_or (λ a. a.groups) o None) found ∙ answer.1,
           subst (λ q. AnswersAlone (tables_of state) q snapshot answer.0) h.0
               (subst (λ s. AnswersAlone (tables_of state) accepted.query s answer.0) h.1 answer.2),
-        )) (answer-kept ignores state accepted of_query (subst (λ n. life_of state.lives n ≡ Some life.Answered) (sym number) is))
+        )) (answer-kept ignores state accepted of.0 (subst (λ n. life_of state.lives n ≡ Some life.Answered) (sym of.1) is))
 
 -- a query that is asked has a life
 asked-lives : (state : State) (statement : ℕ) (query : Query) (snapshot : ℕ) → AreSoundQueries state → HasAccepted state.accepted statement query snapshot
@@ -132,10 +129,7 @@ asked-lives : (state : State) (statement : ℕ) (query : Query) (snapshot : ℕ)
 asked-lives state statement query snapshot queries has none =
     let found : is_some (accepted_at state.accepted statement) ≡ true = by_found (accepted_at state.accepted statement) has in
     let missing : is_some (query_in state.lives.queries statement) ≡ false = by_entry (query_in state.lives.queries statement) none in
-    let same : is_some (accepted_at state.accepted statement) ≡ is_some (query_in state.lives.queries statement) =
-    number-found (λ a. a.number) state.accepted statement ∙ ap (list_any (λ n. eqb n statement)) queries.same
-    ∙ sym (number-found (λ entry. entry.query) state.lives.queries statement) in
-    let both : true ≡ false = sym found ∙ same ∙ missing in
+    let both : true ≡ false = sym found ∙ accepted-lives state statement queries ∙ missing in
     cc
   where
     by_found : (o : Option Accepted) → IsSomeAnd o (λ a. (a.query ≡ query) × (a.snapshot ≡ snapshot)) → is_some o ≡ true

@@ -1,8 +1,8 @@
 -- What stays sound beside the seats where a seat submits a statement: queries are accepted behind the others.
-use Rattle.core_state.proofs.Words.{◌<◌, ◌∙◌, ◌≡◌, ◌≤◌, Accepted, accepted_at, All, ap, AreSoundQueries, arith, Encodes, eqb, eqb-true, false, Filter, FitsSlot, frame_words, get_or, gets_rows, Has, Held, IfSome, IsOnRoster, IsQuietBefore, IsSome, IsSoundBeside, IsSoundHand, IsSoundQuery, IsTrue, length, List, list_any, MayBeOnRoster, None, OnRoster, Option, option_map, query_in, QueryLife, refl, rows_in, Seat, slot_at, SlotState, Some, State, subst, sym, tables_of, true, ℕ}
+use Rattle.core_state.proofs.Words.{◌<◌, ◌∙◌, ◌≡◌, ◌≤◌, Accepted, accepted_at, All, ap, AreSoundQueries, arith, Encodes, filter, Filter, FitsSlot, frame_words, get_or, gets_rows, Has, Held, IfSome, IsOnRoster, IsQuietBefore, IsSoundBeside, IsSoundHand, IsSoundQuery, IsTrue, length, List, MayBeOnRoster, OnRoster, option_map, option_map_or, query_in, QueryLife, refl, rows_in, Seat, set, slot_at, SlotState, State, subst, sym, tables_of, ℕ}
 use Rattle.pipeline_manager.specs.Sound as managed
-use Rattle.core_state.proofs.AcceptedLemmas.{find-holds, held-life, number-found}
-use Rattle.core_state.proofs.FoundLemmas.{find-passes, some-by}
+use Rattle.core_state.proofs.AcceptedLemmas.{accepted-lives, held-life, of-accepted}
+use Rattle.core_state.proofs.FoundLemmas.{some-by, some-of}
 use Rattle.core_state.proofs.FrameLemmas.{LivesAs, StayTaken, batches-with, filter-with, kept-with, lives-as, query-with}
 use Rattle.core_state.proofs.SubmitSeatLemmas.{Still}
 
@@ -19,20 +19,12 @@ later state seats statement accepted queries = record state {
 pub held-low : (state : State) → managed.IsSound state.lives → AreSoundQueries state → (slot query built : ℕ) → slot < length state.lives.slots
     → slot_at state.lives slot ≡ Held query built → query ≤ state.numbers.statement
 held-low state lives queries slot query built there holds =
-    by_accepted (accepted_at state.accepted query) refl
-    (number-found (λ accepted. accepted.number) state.accepted query
-    ∙ ap (list_any (λ n. eqb n query)) queries.same
-    ∙ sym (number-found (λ entry. entry.query) state.lives.queries query)
-    ∙ held-life state.lives slot query built lives there holds)
-  where
-    by_accepted : (o : Option Accepted) → accepted_at state.accepted query ≡ o → IsSome o → query ≤ state.numbers.statement
-    by_accepted None is some = absurd (let both : false ≡ true = some in cc)
-    by_accepted (Some accepted) is some =
-        let of_query : IsSoundQuery state accepted =
-        find-holds (IsSoundQuery state) (λ a. eqb a.number query) state.accepted accepted is queries.each in
-        let low = of_query.number in
-        let same : accepted.number ≡ query = eqb-true accepted.number query (find-passes (λ a. eqb a.number query) state.accepted accepted is) in
-        omega arith
+    let asked = some-of (accepted_at state.accepted query)
+    (accepted-lives state query queries ∙ held-life state.lives slot query built lives there holds) in
+    let of = of-accepted state query asked.0 queries asked.1 in
+    let low = of.0.number in
+    let same : asked.0.number ≡ query = of.1 in
+    omega arith
 
 fits-later : (state : State) (seats : List Seat) (statement : ℕ) (accepted : List Accepted) (queries : List QueryLife)
     → Still state (later state seats statement accepted queries) → (filter : Filter) (slot : ℕ) (holder : SlotState)
@@ -94,6 +86,12 @@ beside-later state seats statement accepted queries count still sound_queries li
   };
   store = old.store;
   quiet = quiet;
+  numbers = record {
+    apart = old.numbers.apart;
+    given = old.numbers.given;
+    versions = old.numbers.versions;
+    unnumbered = old.numbers.unnumbered;
+  };
   scan = record { frames = old.scan.frames; position = old.scan.position };
   order = old.order;
 }
@@ -110,6 +108,7 @@ beside-later state seats statement accepted queries count still sound_queries li
           life = subst (λ o. IfSome (option_map (λ (e : QueryLife). e.life) o) MayBeOnRoster) (sym (still.lives entry.number given)) on.life;
           same = subst (λ o. IfSome o (λ (a : Accepted). (a.query ≡ entry.query) × (a.snapshot ≡ entry.snapshot)))
               (sym (still.asked entry.number given)) on.same;
+          extent = ap (λ o. option_map_or (λ (e : QueryLife). e.extent) o 0) (still.lives entry.number given) ∙ on.extent;
         }
 
 -- the same queries are sound with another number of the last statement

@@ -1,14 +1,14 @@
 -- A filter that is built for a query keeps a core sound.
-use Rattle.core_state.proofs.Words.{◌<◌, ◌↔◌, ◌∙◌, ◌≡◌, ◌≤◌, [], Accepted, accepted_at, after_build, ap, built_of-holder, CanBuild, CanSpoil, Clearing, DimensionRow, Encodes, eqb-true, false, Filter, filter_with, FitsSlot, Free, gets_rows, Has, Has-with, Held, IfSome, inl, inr, is_begun, IsClearOf, IsSome, IsSound, IsSoundFilter, IsTrue, last_after, length, life_in, List, MayBeOnRoster, next_number, None, Option, option_map_or, position-Some, Query, refl, rows_in, Selection, selection_in, slice_get, slot_at, slot_of, slot_of-begun, SlotState, Some, State, subst, sym, tables_of, takes, true, vector_of, versions_in_hands, with_dimension, with_number, with_slot, with_version, ℕ, ⊎_elim}
+use Rattle.core_state.proofs.Words.{◌<◌, ◌↔◌, ◌∙◌, ◌≡◌, ◌≤◌, [], Accepted, accepted_at, after_build, ap, built_of-holder, CanBuild, DimensionRow, Encodes, false, filter, Filter, filter_with, FitsSlot, Free, gets_rows, Has, Has-with, Held, IfSome, inl, inr, is_begun, IsClearOf, IsSound, IsSoundFilter, IsTrue, length, life_in, List, MayBeOnRoster, None, Option, option_map_or, Query, refl, rows_in, Selection, selection_in, set, slice_get, slot_at, slot_of, slot_of-begun, SlotState, Some, State, subst, sym, tables_of, takes, vector_of, with_dimension, with_number, with_slot, with_version, ℕ, ⊎_elim}
 use Rattle.std.proofs.lemmas.Option.{slice_get_within}
 use Rattle.dimension_filter.proofs.AddLemmas.{added-ascends, added-encoded, added-others, added-sound, added-stored}
 use Rattle.dimension_filter.proofs.SlotLemmas.{complement-here, complement-other}
-use Rattle.pipeline_manager.specs.Lives.{is_held_by}
 use Rattle.pipeline_manager.specs.Sound as managed
 use Rattle.pipeline_manager.specs.declared.life.Life.TheVariants as life
 use Rattle.pipeline_manager.proofs.LawLemmas.{sound-after_built}
-use Rattle.core_state.proofs.AcceptedLemmas.{held-accepted}
-use Rattle.core_state.proofs.FoundLemmas.{some-at}
+use Rattle.core_state.proofs.AcceptedLemmas.{holder-accepted}
+use Rattle.core_state.proofs.CutRosterLemmas.{holds-slot}
+use Rattle.core_state.proofs.FoundLemmas.{some-at, some-of}
 use Rattle.core_state.proofs.VersionLemmas.{IsNextVersion, Versions, sound-versioned}
 
 -- a filter with a query in a slot that was clear has the query there
@@ -94,43 +94,26 @@ sound-with_built query dimension slot built accepted state can sound there at ho
             λ none. fits.1 (λ has. none ((Has-with built dimension filter.dimension).1 (inl has))),
           );
     } in
-    sound-versioned state slot dimension (next_number state.numbers.version (versions_in_hands state.scan.flights))
-    (last_after state.numbers.version) now change gives sound
-
-holds-it : (query : ℕ) (holder : SlotState) → is_held_by query holder ≡ true → (built : ℕ) × (holder ≡ Held query built)
-holds-it query Free e = absurd (let both : false ≡ true = e in cc)
-holds-it query (Held other built) e = (built, ap (λ n. Held n built) (eqb-true other query e))
-holds-it query (Clearing left) e = absurd (let both : false ≡ true = e in cc)
+    sound-versioned state slot dimension now change gives sound
 
 pub sound-after_build : (query dimension : ℕ) (state : State) → CanBuild query dimension state.lives → IsSound state
     → IsSound (after_build query dimension state)
 sound-after_build query dimension state can sound =
-    by_slot (slot_of state.lives query) refl (slot_of-begun state.lives query sound.slots.lives begun)
+    let place = some-of (slot_of state.lives query)
+    (slot_of-begun state.lives query sound.slots.lives (ap (λ o. option_map_or is_begun o false) can.building)) in
+    let slot : ℕ = place.0 in
+    let held = holds-slot state.lives query slot place.1 in
+    let asked = holder-accepted state slot query held.0 sound held.1 held.2 in
+    subst (λ o. IsSound (After o (accepted_at state.accepted query))) (sym place.1)
+    (subst (λ a. IsSound (After (Some slot) a)) (sym asked.1)
+    (subst (λ s. IsSound (record (with_version dimension
+    (filter_with slot (selection_in asked.0.query dimension) (rows_in (tables_of state).dimensions dimension)) state) {
+      lives = with_slot slot (with_dimension dimension s) state.lives;
+    })) (sym held.2) (sound-with_built query dimension slot held.0 asked.0 state can sound held.1 place.1 held.2 asked.1)))
   where
-    begun : CanSpoil query state.lives
-    begun = ap (λ o. option_map_or is_begun o false) can.building
-
     After : Option ℕ → Option Accepted → State
     After o a = record (option_map_or (λ slot. option_map_or
         (λ accepted. with_version dimension (filter_with slot (selection_in accepted.query dimension) (rows_in (tables_of state).dimensions dimension)) state)
         a state) o state) {
           lives = option_map_or (λ slot. with_slot slot (with_dimension dimension (slot_at state.lives slot)) state.lives) o state.lives;
         }
-
-    by_accepted : (slot : ℕ) → slot_of state.lives query ≡ Some slot → slot < length state.lives.slots → (built : ℕ) → slot_at state.lives slot ≡ Held query built
-        → (a : Option Accepted) → accepted_at state.accepted query ≡ a → IsSome a → IsSound (After (slot_of state.lives query) (accepted_at state.accepted query))
-    by_accepted slot at there built holds None is some = absurd (let both : false ≡ true = some in cc)
-    by_accepted slot at there built holds (Some accepted) is some =
-        subst (λ o. IsSound (After o (accepted_at state.accepted query))) (sym at)
-        (subst (λ a. IsSound (After (Some slot) a)) (sym is)
-        (subst (λ s. IsSound (record (with_version dimension (filter_with slot (selection_in accepted.query dimension) (rows_in (tables_of state).dimensions dimension)) state) {
-          lives = with_slot slot (with_dimension dimension s) state.lives;
-        })) (sym holds) (sound-with_built query dimension slot built accepted state can sound there at holds is)))
-
-    by_slot : (o : Option ℕ) → slot_of state.lives query ≡ o → IsSome o → IsSound (After (slot_of state.lives query) (accepted_at state.accepted query))
-    by_slot None at some = absurd (let both : false ≡ true = some in cc)
-    by_slot (Some slot) at some =
-        let found = position-Some (is_held_by query) state.lives.slots slot Free at in
-        let held = holds-it query (slot_at state.lives slot) found.1 in
-        by_accepted slot at found.0 held.0 held.1 (accepted_at state.accepted query) refl
-        (held-accepted state slot query held.0 sound found.0 held.1)

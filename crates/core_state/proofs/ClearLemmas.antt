@@ -1,5 +1,5 @@
 -- A filter that is cleared of a slot keeps a core sound.
-use Rattle.core_state.proofs.Words.{◌<◌, ◌∙◌, ◌≡◌, after_clear, CanClear, Clearing, Filter, FitsSlot, Free, Held, IsSound, IsSoundFilter, last_after, length, next_number, refl, slot_at, SlotState, State, subst, sym, tables_of, versions_in_hands, with_slot, with_version, without_dimension, ℕ}
+use Rattle.core_state.proofs.Words.{◌<◌, ◌∙◌, ◌≡◌, after_clear, CanClear, Clearing, Filter, FitsSlot, Free, Held, IsSound, IsSoundFilter, length, refl, slot_at, SlotState, State, subst, sym, tables_of, with_slot, with_version, without_dimension, ℕ}
 use Rattle.std.proofs.Common.{◌^◌}
 use Rattle.bit_words.specs.Sets.{without}
 use Rattle.bit_words.proofs.SetLemmas.{Has-less}
@@ -53,8 +53,7 @@ cleared-by slot dimension state sound (Clearing left) holds can =
           let fits : FitsSlot state.accepted (tables_of state) filter slot (Clearing left) = subst (FitsSlot state.accepted (tables_of state) filter slot) holds (old.slots slot there) in
           fits (λ has. none ((Has-less left dimension filter.dimension).1 (has, apart)));
     } in
-    sound-versioned state slot dimension (next_number state.numbers.version (versions_in_hands state.scan.flights))
-    (last_after state.numbers.version) now (filter_without slot) gives sound
+    sound-versioned state slot dimension now (filter_without slot) gives sound
 
 pub sound-cleared : (slot dimension : ℕ) (state : State) → CanClear slot dimension state.lives → IsSound state
     → IsSound (after_clear slot dimension state)

@@ -1,5 +1,5 @@
 -- What is found in lists, which numbers are in a set that a list gives, and which number no list has.
-use Rattle.core_state.proofs.Words.{◌<◌, ◌∙◌, ◌∷◌, ◌≡◌, ◌⊎◌, [], All, All-cons, All-head, All-nil, All-tail, Any, ap, arith, bit_at-zero, Bool, cond, cons_option, Contains, false, filter_map, find, get_or, get_or-range_with_len, Has, Has-with, inl, inr, IsSome, length, length-range_with_len, List, None, Option, range_with_len, refl, Some, subst, suc, sym, true, with_number, zero, ℕ}
+use Rattle.core_state.proofs.Words.{◌<◌, ◌∙◌, ◌∷◌, ◌≡◌, ◌⊎◌, [], All, All-cons, All-contains, All-contains_itself, All-head, All-nil, All-tail, Any, ap, arith, bit_at-zero, Bool, cond, cons_option, Contains, false, filter, filter_map, find, get_or, get_or-range_with_len, Has, Has-with, inl, inr, IsSome, length, length-range_with_len, List, map, None, Option, passes, range_with_len, refl, set, Some, subst, suc, sym, true, with_number, zero, ℕ}
 use Rattle.std.specs.Prelude.{fold}
 
 -- what is found of an element is among what is found
@@ -31,11 +31,50 @@ all-below P n each = λ k d low.
     let at : get_or (range_with_len 0 n) k d ≡ k = get_or-range_with_len 0 n k d inside ∙ (omega arith) in
     subst P (sym at) (each k inside)
 
+-- and what holds of the range holds of each
+pub at-below : (P : ℕ → Type 0) (n : ℕ) → All P (range_with_len 0 n) → (k : ℕ) → k < n → P k
+at-below P n all k low =
+    let inside : k < length (range_with_len 0 n) = let long = length-range_with_len 0 n in omega arith in
+    let at : get_or (range_with_len 0 n) k 0 ≡ k = get_or-range_with_len 0 n k 0 low ∙ (omega arith) in
+    subst P at (all k 0 inside)
+
+map-same : {X Y : Type 0} (f g : X → Y) (xs : List X) → All (λ x. f x ≡ g x) xs → map f xs ≡ map g xs
+map-same f g [] all = refl
+map-same f g (x ∷ xs) all =
+    ap (λ y. y ∷ map f xs) (All-head (λ z. f z ≡ g z) x xs all)
+    ∙ ap (λ rest. g x ∷ rest) (map-same f g xs (All-tail (λ z. f z ≡ g z) x xs all))
+
+-- what is made of them is the same where it is of each
+pub map-below : {Y : Type 0} (f g : ℕ → Y) (n : ℕ) → ((k : ℕ) → k < n → f k ≡ g k) → map f (range_with_len 0 n) ≡ map g (range_with_len 0 n)
+map-below f g n each = map-same f g (range_with_len 0 n) (all-below (λ k. f k ≡ g k) n each)
+
 -- what is found of a number below n is among what is found of the range of them
 pub found-below : {Y : Type 0} (h : ℕ → Option Y) (n k : ℕ) (y : Y) → k < n → h k ≡ Some y → Contains (filter_map h (range_with_len 0 n)) y
 found-below h n k y low is =
     let at : get_or (range_with_len 0 n) k 0 ≡ k = get_or-range_with_len 0 n k 0 low ∙ (omega arith) in
     found-in h (range_with_len 0 n) y k 0 (let long = length-range_with_len 0 n in omega arith) (ap h at ∙ is)
+
+-- what holds of all that pass a test holds of each that passes it
+pub from-filter : {X : Type 0} (P : X → Type 0) (p : X → Bool) (xs : List X) → All P (filter p xs) → All (λ x. p x ≡ true → P x) xs
+from-filter P p [] all = All-nil (λ x. p x ≡ true → P x)
+from-filter {X = X} P p (x ∷ xs) all = by_test (p x) refl all (from-filter P p xs)
+  where
+    by_test : (t : Bool) → p x ≡ t → All P (cond {A = List X} t (x ∷ filter p xs) (filter p xs))
+        → (All P (filter p xs) → All (λ y. p y ≡ true → P y) xs) → All (λ y. p y ≡ true → P y) (x ∷ xs)
+    by_test true is h rest =
+        All-cons (λ y. p y ≡ true → P y) x xs (λ e. All-head P x (filter p xs) h) (rest (All-tail P x (filter p xs) h))
+    by_test false is h rest =
+        All-cons (λ y. p y ≡ true → P y) x xs (λ e. absurd (let both : true ≡ false = sym e ∙ is in cc)) (rest h)
+
+-- an element that passes is kept
+pub kept-there : {X : Type 0} (p : X → Bool) (xs : List X) (x : X) → Contains xs x → p x ≡ true → Contains (filter p xs) x
+kept-there p xs x there = All-contains (λ y. p y ≡ true → Contains (filter p xs) y) xs x
+    (from-filter (Contains (filter p xs)) p xs (All-contains_itself (filter p xs))) there
+
+-- where nothing may be, nothing is
+pub none-all : {X : Type 0} (xs : List X) → All (λ x. ⊥) xs → xs ≡ []
+none-all [] all = refl
+none-all (x ∷ xs) all = absurd (All-head (λ y. ⊥) x xs all)
 
 -- where an element passes, one is found
 pub find-there : {X : Type 0} (p : X → Bool) (xs : List X) (k : ℕ) (d : X) → k < length xs → p (get_or xs k d) ≡ true → IsSome (find p xs)

@@ -1,14 +1,16 @@
 -- What is covered of each query behind a cut.
-use Rattle.core_state.proofs.Words.{◌++◌, ◌-◌, ◌∙◌, ◌∷◌, ◌≡◌, ◌≢◌, ◌≤◌, [], Accepted, ap, append-nil, append_assoc, arith, below, Bool, cond, cut_life, end_in, eqb, eqb-false, eqb-true, false, find, first_in, flat_map, Flight, IsCovered, IsKept, IsNext, IsPermutation, IsSome, IsSound, lap, Life, life_of, List, None, OnRoster, Option, option_map, option_map_or, positions_for, query_in, range_with_len, refl, Scan, Some, starts_of, State, still_to_come, subst, sym, tables_of, to_come, true, versions_in, ℕ}
-use Rattle.std.proofs.lemmas.List.Concat.{flat_map-append}
+use Rattle.core_state.proofs.Words.{◌++◌, ◌-◌, ◌∙◌, ◌∷◌, ◌≡◌, ◌≢◌, ◌≤◌, [], Accepted, ap, append-nil, append_assoc, arith, below, Bool, cond, cut_life, end_in, eqb, eqb-false, eqb-true, false, find, first_in, flat_map, Flight, IsCovered, IsKept, IsNext, IsPermutation, IsSome, IsSound, lap, Life, life_of, List, None, option_map, option_map_or, positions_for, query_in, range_with_len, refl, Scan, Some, starts_of, State, still_to_come, subst, sym, tables_of, to_come, true, versions_in, ℕ}
+use Rattle.std.proofs.lemmas.List.{flat_map_more}
 use Rattle.pipeline_manager.specs.Changes as managed
 use Rattle.pipeline_manager.specs.declared.life.Life.TheVariants as life
 use Rattle.continuous_scan.specs.Range.{covered}
-use Rattle.core_state.proofs.CutLapLemmas.{CutsLap, covered-same, cut-comes, cut-next, none-to-come}
+use Rattle.continuous_scan.proofs.StepLemmas.{CutsLap, cut_next}
+use Rattle.core_state.proofs.CutLapLemmas.{covered-same, cut-comes, none-to-come}
 use Rattle.core_state.proofs.CutRangeLemmas.{end-to-start}
 use Rattle.core_state.proofs.CutRosterLemmas.{off-roster, on-roster, start-among}
 use Rattle.core_state.proofs.CutRowsLemmas.{cut_flight}
 use Rattle.core_state.proofs.CutRunsLemmas.{Cuts, left-of}
+use Rattle.core_state.proofs.FoundLemmas.{some-of}
 
 -- what a cut does along the lap of a query that runs
 cuts-lap : (state : State) → IsSound state → Cuts state → (query extent start left : ℕ)
@@ -26,13 +28,6 @@ cuts-lap state sound range query extent start left found within next = record {
   to_start = end-to-start (first_in state) (versions_in state) state.settings.batch (starts_of state) start
       (start-among state sound query start left (ap (option_map (λ e. e.life)) found));
 }
-
--- the batches in flight give one batch's positions more
-flown-more : (query extent : ℕ) (flights : List Flight) (flight : Flight)
-    → flat_map (positions_for query extent) (flights ++ flight ∷ []) ≡ flat_map (positions_for query extent) flights ++ positions_for query extent flight
-flown-more query extent flights flight =
-    flat_map-append (positions_for query extent) flights (flight ∷ [])
-    ∙ ap (λ xs. flat_map (positions_for query extent) flights ++ xs) (append-nil (positions_for query extent flight))
 
 -- what is covered stays so where what is in flight and what is to come are together what they were
 covered-cut : (state : State) (scan : Scan) (accepted : Accepted) (extent : ℕ) (before now : Life)
@@ -54,13 +49,9 @@ covered-cut state scan accepted extent before now same next old = record {
 -- the positions of the batch that is cut, for a query that is on its roster, and for one that is not
 positions-on : (query extent : ℕ) (flight : Flight) → IsSome (find (λ entry. eqb entry.number query) flight.roster)
     → positions_for query extent flight ≡ below extent (range_with_len flight.rows.first flight.rows.count)
-positions-on query extent flight on = by_found (find (λ entry. eqb entry.number query) flight.roster) on
-  where
-    by_found : (o : Option OnRoster) → IsSome o
-        → option_map_or (λ entry. below extent (range_with_len flight.rows.first flight.rows.count)) o []
-        ≡ below extent (range_with_len flight.rows.first flight.rows.count)
-    by_found None some = absurd (let both : false ≡ true = some in cc)
-    by_found (Some entry) some = refl
+positions-on query extent flight on =
+    ap (λ o. option_map_or (λ entry. below extent (range_with_len flight.rows.first flight.rows.count)) o [])
+    (some-of (find (λ entry. eqb entry.number query) flight.roster) on).1
 
 positions-off : (query extent : ℕ) (flight : Flight) → find (λ entry. eqb entry.number query) flight.roster ≡ None
     → positions_for query extent flight ≡ []
@@ -79,7 +70,7 @@ covered_of state extent = managed.covered (first_in state) (end_in state - 1) ex
 flown-off : (state : State) (query extent : ℕ) → ((start left : ℕ) → life_of state.lives query ≢ Some (life.Running start left))
     → flat_map (positions_for query extent) (flights_after state) ≡ flat_map (positions_for query extent) state.scan.flights
 flown-off state query extent never =
-    flown-more query extent state.scan.flights (cut_flight state)
+    sym (flat_map_more (positions_for query extent) [] state.scan.flights (cut_flight state))
     ∙ ap (λ xs. flat_map (positions_for query extent) state.scan.flights ++ xs) (positions-off query extent (cut_flight state) (off-roster state query never))
     ∙ append-nil (flat_map (positions_for query extent) state.scan.flights)
 
@@ -96,7 +87,7 @@ flown-on state sound query extent start left runs along =
     ap (λ xs. before ++ xs) (sym (cut-comes state.scan.position (versions_in state) (first_in state) (end_in state) extent start left along))
     ∙ sym (append_assoc before here rest)
     ∙ ap (λ xs. (before ++ xs) ++ rest) (sym (positions-on query extent (cut_flight state) (on-roster state sound query start left runs)))
-    ∙ ap (λ xs. xs ++ rest) (sym (flown-more query extent state.scan.flights (cut_flight state)))
+    ∙ ap (λ xs. xs ++ rest) (flat_map_more (positions_for query extent) [] state.scan.flights (cut_flight state))
 
 -- what is kept of each query, with the batch that is cut in flight and the scan behind it
 pub kept-cut : (state : State) (scan : Scan)
@@ -141,7 +132,7 @@ kept-cut state scan flies stands sound range accepted extent (life.Running start
         (covered-cut state scan accepted extent (life.Running start left) (life.Running start less)
         flown
         (subst (λ position. IsNext position extent (life.Running start less)) (sym stands)
-        (cut-next state.scan.position (versions_in state) (first_in state) (end_in state) extent start left along (omega arith))) old)
+        (cut_next state.scan.position (versions_in state) (first_in state) (end_in state) extent start left along (omega arith))) old)
 kept-cut state scan flies stands sound range accepted extent life.Ending found within old =
     covered-cut state scan accepted extent life.Ending life.Ending
     (ap (λ xs. xs ++ []) (sym (ap (flat_map (positions_for accepted.number extent)) flies

@@ -9,11 +9,12 @@ use Rattle.core_state.proofs.CutNumberLemmas.{next-apart, next-given, still-give
 use Rattle.core_state.proofs.CutRosterLemmas.{entry-cut, roster-each}
 use Rattle.core_state.proofs.CutRowsLemmas.{batch-cut, cut_flight}
 use Rattle.core_state.proofs.CutRunsLemmas.{Cuts, cuts}
-use Rattle.core_state.proofs.FoundLemmas.{query_in-number}
-use Rattle.core_state.proofs.FrameLemmas.{LivesAs, batches-with, lives-as, moved}
+use Rattle.core_state.proofs.FoundLemmas.{extents-stay, query_in-number}
+use Rattle.core_state.proofs.FrameLemmas.{LivesAs, batches-with, lives-as, moved, versions-with}
 use Rattle.core_state.proofs.GivenLemmas.{Settles}
 use Rattle.core_state.proofs.HeldLemmas.{queries-held}
 use Rattle.core_state.proofs.MovedLemmas.{StaysWanted, seats-held}
+use Rattle.core_state.proofs.WholeLivesLemmas.{lives-cut, stay-lost}
 
 -- the lives after a cut, the scan behind it, and the numbers with one batch more
 abbrev queries_after : State → List QueryLife
@@ -48,6 +49,8 @@ batches-cut settles state range sound =
       life = life-cut MayBeOnRoster (first_in state) (end_in state - 1) state.lives.queries (get_or (get_or state.scan.flights k d).roster j e).number
           may-stay entry.life;
       same = entry.same;
+      extent = extents-stay (cut_query (first_in state) (end_in state - 1)) (λ entry. refl) (λ entry. refl) state.lives.queries
+          (get_or (get_or state.scan.flights k d).roster j e).number ∙ entry.extent;
     }) sound.batches)
     (batch-cut state (queries_after state) state.lives.slots (settles (changes_of state.entries) sound.store) sound ordered range.last
     (roster-each (IsOnRoster (record state.lives { queries = queries_after state }) state.accepted) state
@@ -103,9 +106,12 @@ numbers-cut state old = record {
       (λ k d low. let below = old.given above.0 k d low in let is = above.1 in omega arith)
       (let is = above.1 in
       let next = next-given state.numbers.batch (map (λ (flight : Flight). flight.rows.number) state.scan.flights) above.0 in omega arith);
+  versions = versions-with state.numbers.version state.filters.versions state.scan.flights (flights_after state)
+      (λ P all. All-push (λ (flight : Flight). IfSome flight.hand P) state.scan.flights (cut_flight state) all tt) old.versions;
+  unnumbered = old.unnumbered;
 }
 
--- who is waited for stays so, and what is told stays so
+-- who is waited for stays so, what is told stays so, and who is abandoned
 wanted-cut : (state : State) → StaysWanted state (queries_after state)
 wanted-cut state = λ query. (
   life-cut (λ now. now ≢ life.Abandoned) (first_in state) (end_in state - 1) state.lives.queries query
@@ -113,6 +119,7 @@ wanted-cut state = λ query. (
   life-cut (λ now. (now ≡ life.Answered) ⊎ (now ≡ life.Spoiled)) (first_in state) (end_in state - 1) state.lives.queries query
       (cut-cases (λ now later. (now ≡ life.Answered) ⊎ (now ≡ life.Spoiled) → (later ≡ life.Answered) ⊎ (later ≡ life.Spoiled))
       (λ now h. h) (λ start left h. absurd (⊎_elim (λ e. cc) (λ e. cc) h)) (λ start left less h. absurd (⊎_elim (λ e. cc) (λ e. cc) h))),
+  stay-lost state.lives.queries (queries_after state) (lives-cut (first_in state) (end_in state - 1) state.lives.queries).over query,
 )
 
 pub sound-cut : Settles → (state : State) → MayCut state → IsSound state → IsSound (after_cutting state)
@@ -124,6 +131,7 @@ sound-cut settles state can sound = record {
   queries = queries-cut state range sound;
   slots = slots-cut state sound.slots;
   store = sound.store;
+  ends = sound.ends;
   quiet = λ none. absurd (asked (sound.quiet none).0);
   numbers = numbers-cut state sound.numbers;
   scan = record {

@@ -1,22 +1,22 @@
 -- What a cut makes of the lives of queries.
-use Rattle.core_state.proofs.Words.{◌-◌, ◌∷◌, ◌≡◌, [], ap, Bool, cond, covered, cut_life, cut_query, eqb, false, gets_rows, IfSome, is_open, IsTrue, Life, life_in, List, map, MayBeOnRoster, None, Option, option_map, query_in, query_in-map, QueryLife, refl, Some, subst, sym, true, ℕ}
+use Rattle.core_state.proofs.Words.{◌-◌, ◌∷◌, ◌≡◌, [], ap, Bool, cond, covered, cut_life, cut_query, eqb, false, gets_rows, IfSome, is_open, IsTrue, Life, life_in, List, map, MayBeOnRoster, None, Option, option_map, query_in, query_in-map, QueryLife, refl, Some, started, subst, sym, true, ℕ}
 use Rattle.pipeline_manager.specs.declared.life.Life.TheVariants as life
+
+-- what holds of a life that begins
+pub started-by : (P : Life → Type 0) (start extent : ℕ) → P life.Ending → P (life.Running start extent) → P (started start extent)
+started-by P start extent ends runs = by_test (eqb extent 0)
+  where
+    by_test : (t : Bool) → P (cond {A = Life} t life.Ending (life.Running start extent))
+    by_test true = ends
+    by_test false = runs
 
 -- what a cut makes of a life: it stays, or a query that runs has less left, or ends
 pub cut-cases : (P : Life → Life → Type 0) → ((now : Life) → P now now) → ((start left : ℕ) → P (life.Running start left) life.Ending)
     → ((start left less : ℕ) → P (life.Running start left) (life.Running start less)) → (positions : ℕ) (now : Life)
     → P now (cut_life positions now)
-cut-cases P stays ends runs positions life.Waiting = stays life.Waiting
-cut-cases P stays ends runs positions life.Building = stays life.Building
-cut-cases P stays ends runs positions (life.Running start left) = by_test (eqb (left - positions) 0)
-  where
-    by_test : (t : Bool) → P (life.Running start left) (cond {A = Life} t life.Ending (life.Running start (left - positions)))
-    by_test true = ends start left
-    by_test false = runs start left (left - positions)
-cut-cases P stays ends runs positions life.Ending = stays life.Ending
-cut-cases P stays ends runs positions life.Answered = stays life.Answered
-cut-cases P stays ends runs positions life.Spoiled = stays life.Spoiled
-cut-cases P stays ends runs positions life.Abandoned = stays life.Abandoned
+cut-cases P stays ends runs positions (life.Running start left) =
+    started-by (P (life.Running start left)) start (left - positions) (ends start left) (runs start left (left - positions))
+cut-cases P stays ends runs positions other = stays other
 
 -- what is found of a query after a cut
 pub cut-found : (P : QueryLife → Type 0) (first last : ℕ) (queries : List QueryLife) (query : ℕ)

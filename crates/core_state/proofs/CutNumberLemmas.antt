@@ -1,19 +1,13 @@
 -- The number of a batch that is cut, and where the keys of its rows stand.
-use Rattle.core_state.proofs.Words.{◌*◌, ◌++◌, ◌+◌, ◌<◌, ◌∙◌, ◌∷◌, ◌≡◌, ◌≢◌, ◌≤◌, [], All, Any-from_list_any, ap, arith, Bool, cond, eq-eqb, eqb, eqb-true, false, find, flat_map, get_or, get_or-range_with_len, get_or_append_left, last_number, length, length-range_with_len, List, list_any, list_any_at, ltb, ltb-true, min, next_number, None, not, Option, option_map_or, range_with_len, refl, Some, suc, sym, true, zero, ℕ}
-use Rattle.std.proofs.lemmas.Bool.{lt-ltb}
-use Rattle.std.proofs.lemmas.List.{get_or-append-add, length-append}
+use Rattle.core_state.proofs.Words.{◌*◌, ◌+◌, ◌<◌, ◌∙◌, ◌∷◌, ◌≡◌, ◌≢◌, ◌≤◌, [], All, Any-from_list_any, ap, arith, Bool, cond, eq-eqb, eqb, eqb-true, false, find, flat_map, get_or, last_number, length, length-take-le, List, list_any, list_any_at, ltb, ltb-true, min, next_number, None, not, Option, option_map_or, range_with_len, refl, Some, sym, take, true, ℕ}
+use Rattle.std.proofs.lemmas.Bool.{lt-ltb, not-false, not-true}
+use Rattle.std.proofs.lemmas.List.{length-append}
+use Rattle.std.proofs.lemmas.List.Concat.{get_or-flat_map}
 use Rattle.std.proofs.lemmas.Map.Steps.{le-length_from_below}
 use Rattle.core_state.specs.Numbered.{least_unused}
 use Rattle.core_state.proofs.AcceptedLemmas.{find-none}
+use Rattle.core_state.proofs.CutFoundLemmas.{at-below}
 use Rattle.core_state.proofs.FoundLemmas.{find-passes}
-
-turned-over : (t : Bool) → not t ≡ true → t ≡ false
-turned-over true is = cc
-turned-over false is = refl
-
-turned-back : (t : Bool) → not t ≡ false → t ≡ true
-turned-back true is = refl
-turned-back false is = cc
 
 -- a number that is among some is one that they find
 any-turned : (number : ℕ) (used : List ℕ) → list_any (λ other. eqb other number) used ≡ true → list_any (eqb number) used ≡ true
@@ -33,13 +27,12 @@ least-free used = by_found (find is_free all) refl
     all = range_with_len 0 (length used + 1)
 
     by_found : (o : Option ℕ) → find is_free all ≡ o → list_any (λ other. eqb other (option_map_or (λ number. number) o 0)) used ≡ false
-    by_found (Some number) is = turned-over (list_any (λ other. eqb other number) used) (find-passes is_free all number is)
+    by_found (Some number) is = not-true (list_any (λ other. eqb other number) used) (find-passes is_free all number is)
     by_found None is =
         let none = find-none is_free all is in
         let many : length used + 1 ≤ length used = le-length_from_below used (length used + 1) (λ number low.
-        let at : get_or all number 0 ≡ number = get_or-range_with_len 0 (length used + 1) number 0 low ∙ (omega arith) in
-        let taken : is_free number ≡ false = ap is_free (sym at) ∙ none number 0 (let long = length-range_with_len 0 (length used + 1) in omega arith) in
-        any-turned number used (turned-back (list_any (λ other. eqb other number) used) taken)) in
+        let taken : is_free number ≡ false = at-below (λ n. is_free n ≡ false) (length used + 1) none number low in
+        any-turned number used (not-false (list_any (λ other. eqb other number) used) taken)) in
         absurd (omega arith)
 
 least-apart : (used : List ℕ) → All (λ other. other ≢ least_unused used) used
@@ -75,14 +68,9 @@ length-of_rows keys_of each (x ∷ xs) =
 
 pub get_or-of_rows : {X : Type 0} (keys_of : X → List ℕ) → ((x : X) → length (keys_of x) ≡ 8) → (xs : List X) (row place : ℕ) (d : X) (e : ℕ)
     → row < length xs → place < 8 → get_or (flat_map keys_of xs) (row * 8 + place) e ≡ get_or (keys_of (get_or xs row d)) place e
-get_or-of_rows keys_of each [] row place d e low inside = absurd (omega arith)
-get_or-of_rows keys_of each (x ∷ xs) zero place d e low inside =
-    let here = each x in
-    ap (λ n. get_or (keys_of x ++ flat_map keys_of xs) n e) (let at : 0 * 8 + place ≡ place = omega arith in at)
-    ∙ get_or_append_left (keys_of x) (flat_map keys_of xs) e place (omega arith)
-get_or-of_rows keys_of each (x ∷ xs) (suc row) place d e low inside =
-    let here = each x in
-    let at : suc row * 8 + place ≡ length (keys_of x) + (row * 8 + place) = omega arith in
-    ap (λ n. get_or (keys_of x ++ flat_map keys_of xs) n e) at
-    ∙ get_or-append-add (keys_of x) (flat_map keys_of xs) (row * 8 + place) e
-    ∙ get_or-of_rows keys_of each xs row place d e (omega arith) inside
+get_or-of_rows keys_of each xs row place d e low inside =
+    let here = each (get_or xs row d) in
+    let front = length-of_rows keys_of each (take row xs) in
+    let many = length-take-le row xs (omega arith) in
+    let at : row * 8 + place ≡ length (flat_map keys_of (take row xs)) + place = omega arith in
+    ap (λ n. get_or (flat_map keys_of xs) n e) at ∙ get_or-flat_map keys_of xs row place d e low (omega arith)

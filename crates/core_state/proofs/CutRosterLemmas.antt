@@ -1,11 +1,11 @@
 -- Which queries run, and how they stand on the roster of a batch that is cut.
-use Rattle.core_state.proofs.Words.{◌<◌, ◌∙◌, ◌≡◌, ◌≢◌, Accepted, accepted_at, All, ap, Clearing, Contains, cut_query, entry_of, eq-eqb, eqb, eqb-true, false, find, Free, gets_rows, Has, Held, holder_of, IfSome, is_begun, IsOnRoster, IsSome, IsSound, IsTrue, length, Life, life_of, map, MayBeOnRoster, ne_eqb, None, none-some, OnRoster, Option, option_and_then, option_map, option_map_or, position-Some, range_with_len, refl, roster_of, running_at, same_Some, slot_at, slot_of, slot_of-begun, SlotState, Some, start_at, start_in, starts_of, State, subst, sym, true, ℕ}
+use Rattle.core_state.proofs.Words.{◌<◌, ◌∙◌, ◌≡◌, ◌≢◌, Accepted, accepted_at, All, ap, Clearing, Contains, cut_query, entry_of, eq-eqb, eqb, eqb-true, false, find, Free, gets_rows, Has, Held, holder_of, IfSome, is_begun, IsOnRoster, IsSome, IsSound, IsTrue, length, Life, life_of, Lives, map, MayBeOnRoster, ne_eqb, None, none-some, OnRoster, Option, option_and_then, option_map, option_map_or, position-Some, range_with_len, refl, roster_of, running_at, same_Some, slot_at, slot_of, slot_of-begun, SlotState, Some, start_at, start_in, starts_of, State, subst, sym, true, ℕ}
 use Rattle.pipeline_manager.specs.Lives.{is_held_by}
 use Rattle.pipeline_manager.specs.declared.life.Life.TheVariants as life
-use Rattle.core_state.proofs.AcceptedLemmas.{held-accepted}
+use Rattle.core_state.proofs.AcceptedLemmas.{holder-accepted}
 use Rattle.core_state.proofs.CutFoundLemmas.{all-below, all-found, find-there, found-below, none-found}
 use Rattle.core_state.proofs.CutLifeLemmas.{life-cut, may-stay}
-use Rattle.core_state.proofs.FoundLemmas.{find-passes, some-at}
+use Rattle.core_state.proofs.FoundLemmas.{accepted-number, some-at, some-of, extents-stay}
 
 -- what is known of a slot whose query runs
 pub record RunsIn (state : State) (slot : ℕ) (entry : OnRoster) : Type 0 where
@@ -34,7 +34,7 @@ runs-in state slot entry is = by_slot (slot_at state.lives slot) refl is
         → option_map (entry_of state.lives slot) o ≡ Some entry → RunsIn state slot entry
     by_accepted query built start left held runs None found e = absurd (none-some entry e)
     by_accepted query built start left held runs (Some accepted) found e =
-        let number : accepted.number ≡ query = eqb-true accepted.number query (find-passes (λ a. eqb a.number query) state.accepted accepted found) in
+        let number : accepted.number ≡ query = accepted-number state.accepted query accepted found in
         record {
           built = built;
           start = start;
@@ -78,20 +78,21 @@ held-by query Free is = absurd (let both : false ≡ true = is in cc)
 held-by query (Held holder built) is = (built, ap (λ n. Held n built) (eqb-true holder query is))
 held-by query (Clearing left) is = absurd (let both : false ≡ true = is in cc)
 
+-- the slot of a query is there, and held by it
+pub holds-slot : (lives : Lives) (query slot : ℕ) → slot_of lives query ≡ Some slot
+    → (built : ℕ) × (slot < length lives.slots) × (slot_at lives slot ≡ Held query built)
+holds-slot lives query slot is =
+    let stands = position-Some (is_held_by query) lives.slots slot Free is in
+    let held = held-by query (slot_at lives slot) stands.1 in
+    (held.0, stands.0, held.1)
+
 -- a query that runs holds a slot
 pub runs-here : (state : State) → IsSound state → (query start left : ℕ) → life_of state.lives query ≡ Some (life.Running start left)
     → (slot : ℕ) × (built : ℕ) × (slot < length state.lives.slots) × (slot_at state.lives slot ≡ Held query built)
 runs-here state sound query start left runs =
-    by_slot (slot_of state.lives query) refl
-    (slot_of-begun state.lives query sound.slots.lives (ap (λ o. option_map_or is_begun o false) runs))
-  where
-    by_slot : (o : Option ℕ) → slot_of state.lives query ≡ o → IsSome o
-        → (slot : ℕ) × (built : ℕ) × (slot < length state.lives.slots) × (slot_at state.lives slot ≡ Held query built)
-    by_slot None is some = absurd (let both : false ≡ true = some in cc)
-    by_slot (Some slot) is some =
-        let stands = position-Some (is_held_by query) state.lives.slots slot Free is in
-        let held = held-by query (slot_at state.lives slot) stands.1 in
-        (slot, held.0, stands.0, held.1)
+    let place = some-of (slot_of state.lives query) (slot_of-begun state.lives query sound.slots.lives (ap (λ o. option_map_or is_begun o false) runs)) in
+    let held = holds-slot state.lives query place.0 place.1 in
+    (place.0, held.0, held.1, held.2)
 
 -- the start of a query that runs is among the starts
 pub start-among : (state : State) → IsSound state → (query start left : ℕ) → life_of state.lives query ≡ Some (life.Running start left)
@@ -118,21 +119,13 @@ roster-own state = roster-each (λ entry. running_at state entry.slot ≡ Some e
 pub on-roster : (state : State) → IsSound state → (query start left : ℕ) → life_of state.lives query ≡ Some (life.Running start left)
     → IsSome (find (λ entry. eqb entry.number query) (roster_of state))
 on-roster state sound query start left runs =
-    by_accepted (accepted_at state.accepted query) refl (held-accepted state here.0 query here.1 sound here.2 here.3)
-  where
-    here : (slot : ℕ) × (built : ℕ) × (slot < length state.lives.slots) × (slot_at state.lives slot ≡ Held query built)
-    here = runs-here state sound query start left runs
-
-    by_accepted : (o : Option Accepted) → accepted_at state.accepted query ≡ o → IsSome o
-        → IsSome (find (λ entry. eqb entry.number query) (roster_of state))
-    by_accepted None found some = absurd (let both : false ≡ true = some in cc)
-    by_accepted (Some accepted) found some =
-        let number : accepted.number ≡ query = eqb-true accepted.number query (find-passes (λ a. eqb a.number query) state.accepted accepted found) in
-        let entry : OnRoster = entry_of state.lives here.0 accepted in
-        let there : Contains (roster_of state) entry = found-below (running_at state) (length state.lives.slots) here.0 entry here.2
-        (runs-there state here.0 query here.1 start left accepted here.3 runs found) in
-        find-there (λ e. eqb e.number query) (roster_of state) there.0 entry there.1
-        (ap (λ (e : OnRoster). eqb e.number query) there.2 ∙ eq-eqb accepted.number query number)
+    let here = runs-here state sound query start left runs in
+    let asked = holder-accepted state here.0 query here.1 sound here.2 here.3 in
+    let entry : OnRoster = entry_of state.lives here.0 asked.0 in
+    let there : Contains (roster_of state) entry = found-below (running_at state) (length state.lives.slots) here.0 entry here.2
+    (runs-there state here.0 query here.1 start left asked.0 here.3 runs asked.1) in
+    find-there (λ e. eqb e.number query) (roster_of state) there.0 entry there.1
+    (ap (λ (e : OnRoster). eqb e.number query) there.2 ∙ eq-eqb asked.0.number query asked.3)
 
 -- a query that does not run is not
 pub off-roster : (state : State) (query : ℕ) → ((start left : ℕ) → life_of state.lives query ≢ Some (life.Running start left))
@@ -164,6 +157,7 @@ entry-cut state first last sound slot entry low is =
           (subst (λ o. IfSome o MayBeOnRoster) (sym here.runs) tt);
       same = subst (λ o. IfSome o (λ accepted. (accepted.query ≡ here.accepted.query) × (accepted.snapshot ≡ here.accepted.snapshot)))
           (sym here.found) (refl, refl);
+      extent = extents-stay (cut_query first last) (λ one. refl) (λ one. refl) state.lives.queries here.accepted.number;
     })
   where
     here : RunsIn state slot entry

@@ -1,12 +1,13 @@
 -- The rows of a batch that is cut: their bits are what the queries on its roster say of their versions.
-use Rattle.core_state.proofs.Words.{◌*◌, ◌+◌, ◌-◌, ◌<◌, ◌∙◌, ◌∷◌, ◌≡◌, ◌≤◌, [], All, All-contains, All-contains_itself, All-filter, ap, arith, bit_at, bit_at-zero, bits_of, Bool, cond, Contains, drop, end_in, eq-eqb, eqb, false, filter, filter_passes, first_in, Flight, frame_words, get_or, get_or-map, get_or-map-range_with_len, Has, has_passed, is_visible, IsOnRoster, IsSettled, IsSound, IsSoundBatch, IsSoundRow, joined, keeps_so_far, key_number, key_numbers, length, length-map, length-map-range_with_len, length-take-le, List, list_all, list_any, list_any_at, map, None, OnRoster, passes, PlainVersion, QueryLife, range_with_len, refl, roster_of, rows_of, running_at, same_Some, slice_get, slots_of, SlotState, Some, State, Store, subst, suc, sym, tables_of, takes_at, takes_version, true, versions_from, versions_in, zero, ℕ}
+use Rattle.core_state.proofs.Words.{◌*◌, ◌+◌, ◌-◌, ◌<◌, ◌∙◌, ◌≡◌, ◌≤◌, All, All-contains, All-contains_itself, All-filter, ap, arith, bit_at, bit_at-zero, bits_of, Bool, cond, Contains, drop, end_in, eq-eqb, eqb, false, filter, filter_passes, first_in, Flight, frame_words, get_or, get_or-map, get_or-map-range_with_len, Has, has_passed, is_visible, IsOnRoster, IsSettled, IsSound, IsSoundBatch, IsSoundRow, joined, keeps_so_far, key_number, key_numbers, length, length-map, length-map-range_with_len, length-take-le, List, list_all, list_any, list_any_at, map, None, OnRoster, passes, PlainVersion, QueryLife, range_with_len, refl, roster_of, rows_of, running_at, same_Some, slice_get, slots_of, SlotState, Some, State, Store, subst, sym, tables_of, takes, takes_at, takes_version, true, versions_from, versions_in, ℕ}
 use Rattle.std.specs.Prelude.{◌&&◌}
 use Rattle.std.proofs.lemmas.List.{get_or-drop, get_or-take, length-drop}
 use Rattle.std.proofs.lemmas.Option.{get_or_from_slice_get}
-use Rattle.core_state.proofs.CutFoundLemmas.{has-any, has-at}
+use Rattle.core_state.proofs.CutFoundLemmas.{has-any, has-at, kept-there}
 use Rattle.core_state.proofs.CutNumberLemmas.{get_or-of_rows, length-of_rows}
 use Rattle.core_state.proofs.CutRosterLemmas.{roster-own}
 use Rattle.core_state.proofs.FoundLemmas.{some-by}
+use Rattle.core_state.proofs.GiveLemmas.{each-at}
 use Rattle.core_state.proofs.KeyedLemmas.{filter-there}
 
 -- the batch that is cut, in flight
@@ -26,10 +27,6 @@ version-cut versions first end row version d low is =
     ∙ get_or-drop first versions row d
     ∙ get_or_from_slice_get versions (first + row) version d is
 
-all-hold : {X : Type 0} (p : X → Bool) (xs : List X) → ((x : X) → p x ≡ true) → list_all p xs ≡ true
-all-hold p [] each = refl
-all-hold p (x ∷ xs) each = ap (λ t. t && list_all p xs) (each x) ∙ all-hold p xs each
-
 same-tests : (a b t : Bool) → t ≡ true → (a && (b && t)) ≡ (a && b)
 same-tests true true t is = is
 same-tests true false t is = refl
@@ -39,8 +36,10 @@ same-tests false b t is = refl
 keeps-cut : (store : Store) (flight : Flight) (entry : OnRoster) (version : PlainVersion) → flight.rows.passed ≡ 0
     → keeps_so_far store flight entry version ≡ takes_version version entry
 keeps-cut store flight entry version nothing =
-    same-tests (is_visible version.begin version.end entry.snapshot) (passes entry.query.fact version.row) (list_all asks dimensions)
-    (all-hold asks dimensions (λ dimension. ap (λ passed. cond {A = Bool} (eqb (bit_at passed dimension) 1) (taken dimension) true) nothing
+    same-tests (is_visible version.begin version.end entry.snapshot) (passes entry.query.fact version.row)
+    (list_all asks (range_with_len 0 (length store.schema.dimensions)))
+    (each-at asks (length store.schema.dimensions) (λ dimension low.
+    ap (λ passed. cond {A = Bool} (eqb (bit_at passed dimension) 1) (taken dimension) true) nothing
     ∙ ap (λ bit. cond {A = Bool} (eqb bit 1) (taken dimension) true) (bit_at-zero dimension)))
   where
     taken : ℕ → Bool
@@ -49,42 +48,25 @@ keeps-cut store flight entry version nothing =
     asks : ℕ → Bool
     asks dimension = cond {A = Bool} (has_passed flight dimension) (taken dimension) true
 
-    dimensions : List ℕ
-    dimensions = range_with_len 0 (length store.schema.dimensions)
-
--- an element that passes is kept
-kept-there : {X : Type 0} (p : X → Bool) (xs : List X) (x : X) (k : ℕ) → k < length xs → get_or xs k x ≡ x → p x ≡ true → Contains (filter p xs) x
-kept-there p [] x k low is passes = absurd (omega arith)
-kept-there {X = X} p (y ∷ xs) x zero low is passes =
-    subst (λ t. Contains (cond {A = List X} t (y ∷ filter p xs) (filter p xs)) x) (sym (ap p is ∙ passes)) (zero, omega arith, is)
-kept-there {X = X} p (y ∷ xs) x (suc k) low is passes = by_test (p y) (kept-there p xs x k (omega arith) is passes)
-  where
-    by_test : (t : Bool) → Contains (filter p xs) x → Contains (cond {A = List X} t (y ∷ filter p xs) (filter p xs)) x
-    by_test true rest = (suc rest.0, (let inside = rest.1 in omega arith), rest.2)
-    by_test false rest = rest
-
 -- a slot's bit of a version is set where its query takes the version
 bit-takes : (state : State) (version : PlainVersion) (entry : OnRoster) → Contains (roster_of state) entry
     → Has (bits_of (roster_of state) version) entry.slot → takes_version version entry ≡ true
 bit-takes state version entry on has =
     let taking : List OnRoster = filter (takes_version version) (roster_of state) in
     let any = has-any (λ (e : OnRoster). e.slot) taking entry.slot has in
-    let other : OnRoster = any.1 in
-    let takes : takes_version version (get_or taking any.0 other) ≡ true = filter_passes (takes_version version) (roster_of state) any.0 other any.2 in
-    let own : running_at state (get_or taking any.0 other).slot ≡ Some (get_or taking any.0 other) =
-    All-filter (takes_version version) (λ e. running_at state e.slot ≡ Some e) (roster_of state) (roster-own state) any.0 other any.2 in
+    let there : Contains taking any.1 = (any.0, any.2, any.3) in
+    let own : running_at state any.1.slot ≡ Some any.1 = All-contains (λ e. running_at state e.slot ≡ Some e) taking any.1
+    (All-filter (takes_version version) (λ e. running_at state e.slot ≡ Some e) (roster_of state) (roster-own state)) there in
     let itself : running_at state entry.slot ≡ Some entry =
     All-contains (λ e. running_at state e.slot ≡ Some e) (roster_of state) entry (roster-own state) on in
-    let slot : (get_or taking any.0 other).slot ≡ entry.slot = ap (λ (e : OnRoster). e.slot) any.3 ∙ any.4 in
-    let same : get_or taking any.0 other ≡ entry =
-    same_Some (get_or taking any.0 other) entry (sym own ∙ ap (running_at state) slot ∙ itself) in
-    subst (λ e. takes_version version e ≡ true) same takes
+    subst (λ e. takes_version version e ≡ true) (same_Some any.1 entry (sym own ∙ ap (running_at state) any.4 ∙ itself))
+    (All-contains (λ e. takes_version version e ≡ true) taking any.1 (filter_passes (takes_version version) (roster_of state)) there)
 
 takes-bit : (state : State) (version : PlainVersion) (entry : OnRoster) → Contains (roster_of state) entry
     → takes_version version entry ≡ true → Has (bits_of (roster_of state) version) entry.slot
 takes-bit state version entry on takes =
     let taking : List OnRoster = filter (takes_version version) (roster_of state) in
-    let there : Contains taking entry = kept-there (takes_version version) (roster_of state) entry on.0 on.1 on.2 takes in
+    let there : Contains taking entry = kept-there (takes_version version) (roster_of state) entry on takes in
     subst (λ e. Has (slots_of taking) e.slot) there.2 (has-at (λ (e : OnRoster). e.slot) 0 taking there.0 entry there.1)
 
 -- a slot that has a bit of a version is on the roster
@@ -93,11 +75,10 @@ bit-on : (state : State) (version : PlainVersion) (slot : ℕ) → Has (bits_of 
 bit-on state version slot has =
     let taking : List OnRoster = filter (takes_version version) (roster_of state) in
     let any = has-any (λ (e : OnRoster). e.slot) taking slot has in
-    let other : OnRoster = get_or taking any.0 any.1 in
-    let there : Contains (roster_of state) other =
-    All-filter (takes_version version) (Contains (roster_of state)) (roster_of state) (All-contains_itself (roster_of state)) any.0 any.1 any.2 in
-    list_any_at (λ entry. eqb entry.slot slot) (roster_of state) there.0 other there.1
-    (ap (λ (e : OnRoster). eqb e.slot slot) there.2 ∙ eq-eqb other.slot slot (ap (λ (e : OnRoster). e.slot) any.3 ∙ any.4))
+    let there : Contains (roster_of state) any.1 = All-contains (Contains (roster_of state)) taking any.1
+    (All-filter (takes_version version) (Contains (roster_of state)) (roster_of state) (All-contains_itself (roster_of state))) (any.0, any.2, any.3) in
+    list_any_at (λ entry. eqb entry.slot slot) (roster_of state) there.0 any.1 there.1
+    (ap (λ (e : OnRoster). eqb e.slot slot) there.2 ∙ eq-eqb any.1.slot slot any.4)
 
 -- a dimension that has a filter is below the number of keys in a row
 key-inside : (state : State) → IsSettled (tables_of state) → IsSound state → (dimension : ℕ) → Has state.lives.filters dimension → dimension < 8

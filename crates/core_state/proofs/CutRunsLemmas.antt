@@ -1,12 +1,13 @@
 -- Where a query runs, the scan cuts some versions of the table.
-use Rattle.core_state.proofs.Words.{◌<◌, ◌∙◌, ◌≡◌, ◌≤◌, Accepted, accepted_at, ap, arith, end_in, eqb, eqb-true, false, first_in, Held, IsLeft, IsSome, IsSound, IsSoundQuery, length, Life, life_of, MayCut, None, Option, query_in, QueryLife, refl, slot_at, Some, starts_of, State, subst, true, versions_in, ℕ}
+use Rattle.core_state.proofs.Words.{◌<◌, ◌∙◌, ◌≡◌, ◌≤◌, ap, arith, end_in, eqb, first_in, IsLeft, IsSound, Life, life_of, MayCut, query_in, QueryLife, refl, Some, starts_of, State, subst, versions_in, ℕ}
 use Rattle.pipeline_manager.specs.Conditions.{IsRunning}
 use Rattle.pipeline_manager.specs.declared.life.Life.TheVariants as life
 use Rattle.pipeline_manager.proofs.QueryLemmas.{query_in-found}
-use Rattle.core_state.proofs.AcceptedLemmas.{find-holds, held-accepted}
-use Rattle.core_state.proofs.CutRangeLemmas.{end-after, end-last, first-below}
+use Rattle.continuous_scan.proofs.EndLemmas.{first_below}
+use Rattle.core_state.proofs.AcceptedLemmas.{find-holds, holder-accepted}
+use Rattle.core_state.proofs.CutRangeLemmas.{end-after, end-last}
 use Rattle.core_state.proofs.CutRosterLemmas.{runs-here}
-use Rattle.core_state.proofs.FoundLemmas.{find-passes, life-found, some-at}
+use Rattle.core_state.proofs.FoundLemmas.{life-found, some-at}
 
 -- a query that runs, as it is found among the lives and the accepted queries
 pub record Runs (state : State) : Type 0 where
@@ -44,29 +45,17 @@ left-of state sound query entry found =
 -- where a query runs, the table has a version
 pub some-versions : (state : State) → MayCut state → IsSound state → 1 ≤ versions_in state
 some-versions state can sound =
-    by_accepted (accepted_at state.accepted some.entry.query) refl (held-accepted state here.0 some.entry.query here.1 sound here.2 here.3)
-  where
-    some : Runs state
-    some = some-runs state can sound
-
-    here : (slot : ℕ) × (built : ℕ) × (slot < length state.lives.slots) × (slot_at state.lives slot ≡ Held some.entry.query built)
-    here = runs-here state sound some.entry.query some.start some.left (life-runs state some)
-
-    by_accepted : (o : Option Accepted) → accepted_at state.accepted some.entry.query ≡ o → IsSome o → 1 ≤ versions_in state
-    by_accepted None found there = absurd (let both : false ≡ true = there in cc)
-    by_accepted (Some accepted) found there =
-        let number : accepted.number ≡ some.entry.query =
-        eqb-true accepted.number some.entry.query (find-passes (λ a. eqb a.number some.entry.query) state.accepted accepted found) in
-        let of_query : IsSoundQuery state accepted =
-        find-holds (IsSoundQuery state) (λ a. eqb a.number some.entry.query) state.accepted accepted found sound.queries.each in
-        let within : some.entry.extent ≤ versions_in state =
-        some-at (λ e. e.extent ≤ versions_in state) (query_in state.lives.queries accepted.number) some.entry
-        (ap (query_in state.lives.queries) number ∙ some.found) of_query.within in
-        let left : IsLeft some.entry.extent (life.Running some.start some.left) =
-        subst (IsLeft some.entry.extent) some.runs (left-of state sound some.entry.query some.entry some.found) in
-        let one = left.0 in
-        let most = left.1 in
-        omega arith
+    let some : Runs state = some-runs state can sound in
+    let here = runs-here state sound some.entry.query some.start some.left (life-runs state some) in
+    let asked = holder-accepted state here.0 some.entry.query here.1 sound here.2 here.3 in
+    let within : some.entry.extent ≤ versions_in state =
+    some-at (λ e. e.extent ≤ versions_in state) (query_in state.lives.queries asked.0.number) some.entry
+    (ap (query_in state.lives.queries) asked.3 ∙ some.found) asked.2.within in
+    let left : IsLeft some.entry.extent (life.Running some.start some.left) =
+    subst (IsLeft some.entry.extent) some.runs (left-of state sound some.entry.query some.entry some.found) in
+    let one = left.0 in
+    let most = left.1 in
+    omega arith
 
 -- a cut begins before it ends, and ends within the table
 pub record Cuts (state : State) : Type 0 where
@@ -76,6 +65,6 @@ pub record Cuts (state : State) : Type 0 where
 pub cuts : (state : State) → MayCut state → IsSound state → Cuts state
 cuts state can sound = record {
   after = end-after (first_in state) (versions_in state) state.settings.batch (starts_of state) sound.settings.batch
-      (first-below state.scan.position (versions_in state) (some-versions state can sound) sound.scan.position);
+      (first_below state.scan.position (versions_in state) (some-versions state can sound) sound.scan.position);
   last = end-last (first_in state) (versions_in state) state.settings.batch (starts_of state);
 }

@@ -1,9 +1,10 @@
 -- A declaration that the tables take leaves everything sound beside the seats: before the fact table nothing was asked.
-use Rattle.core_state.proofs.Words.{◌++◌, ◌+◌, ◌<◌, ◌↔◌, ◌∙◌, ◌∷◌, ◌≡◌, ◌≤◌, ◌⊎◌, [], Accepts, AcceptsAll, All, All-cons, All-filter, All-head, All-nil, All-tail, ap, AreSoundFilters, arith, changes_of, cond, Contains, Contains-append_cases, Contains-append_right, empty_store, Entry, Err, fact_columns, false, Filter, filter, filter_dimensions, Filters, FilterVersion, first_versions, FitsSlot, Flight, frame_words, Free, get_or, get_or-range_with_len, Has, Has-with, Held, IfSome, inl, inr, is_some, IsClearOf, IsQuietBefore, IsSound, IsSoundBatch, IsSoundBeside, IsSoundFilter, IsSoundHand, IsSoundOrder, IsSoundQuery, IsSoundStore, length, length-range_with_len, List, list_any, map, None, Ok, Option, option_map_or, OutOfOrder, range_with_len, references, refl, Refusal, Result, Schema, Some, State, subst, sym, TableDef, tables_by, tables_of, true, versions_in, with_number, ℕ}
+use Rattle.core_state.proofs.Words.{◌++◌, ◌+◌, ◌<◌, ◌↔◌, ◌∙◌, ◌∷◌, ◌≡◌, ◌≤◌, [], Accepts, AcceptsAll, All, All-cons, All-filter, All-head, All-nil, All-tail, All-weaker, ap, AreSoundFilters, AreSoundNumbers, AreSoundVersions, arith, changes_of, cond, Contains, counted, empty_store, Entry, Err, fact_columns, false, filter, Filter, filter_dimensions, Filters, FilterVersion, first_versions, FitsSlot, Flight, frame_words, Free, Hand, Has, Held, IfSome, is_some, IsClearOf, IsPresentByNumber, IsQuietBefore, IsSound, IsSoundBatch, IsSoundBeside, IsSoundFilter, IsSoundHand, IsSoundOrder, IsSoundQuery, IsSoundStore, last_number, length, List, list_any, map, min, None, Ok, Option, option_map_or, OutOfOrder, range_with_len, references, refl, Refusal, Result, Schema, set, Some, State, subst, sym, TableDef, tables_by, tables_of, true, versions_in, with_number, ℕ}
 use Rattle.std.specs.Prelude.{fold}
 use Rattle.batch_flow.specs.declared.batch.TheConstants.{KEYS_IN_A_ROW}
 use Rattle.pipeline_manager.specs.Sound.{IsOfFilters}
 use Rattle.core_state.specs.Submitting.{first_version}
+use Rattle.core_state.proofs.CutFoundLemmas.{all-below, has-any, has-at}
 use Rattle.core_state.proofs.GrownLemmas.{accepts-more, changes-with}
 use Rattle.core_state.proofs.ReleaseLemmas.{none-in}
 
@@ -47,10 +48,10 @@ declared_now state entry set filters version = record state {
 pub declared-quiet : (state : State) (entry : Entry) (set : ℕ) (filters : Filters) (version : ℕ)
     → (tables_of state).schema.fact ≡ None → IsSound state
     → AreSoundFilters (declared_now state entry set filters version) → IsSoundStore (declared_now state entry set filters version)
-    → IsQuietBefore (declared_now state entry set filters version)
+    → IsQuietBefore (declared_now state entry set filters version) → AreSoundNumbers (declared_now state entry set filters version)
     → state.scan.position ≤ versions_in (declared_now state entry set filters version)
     → IsSoundOrder filters → IsSoundBeside (declared_now state entry set filters version)
-declared-quiet state entry set filters version none old sound_filters store quiet position order =
+declared-quiet state entry set filters version none old sound_filters store quiet numbers position order =
     let before = old.quiet none in
     let lives = old.slots.lives in
     record {
@@ -79,6 +80,7 @@ declared-quiet state entry set filters version none old sound_filters store quie
       };
       store = store;
       quiet = quiet;
+      numbers = numbers;
       scan = record { frames = old.scan.frames; position = position };
       order = order;
     }
@@ -121,55 +123,44 @@ first-each P (dimension ∷ dimensions) number all =
     (All-head (λ d. P (empty_filter d)) dimension dimensions all)
     (first-each P dimensions (number + 1) (All-tail (λ d. P (empty_filter d)) dimension dimensions all))
 
--- one member more of a list of numbers as a set
-has-member : (set member : ℕ) (members : List ℕ) (i : ℕ) (all : ℕ)
-    → Has all i ↔ (Has (with_number set member) i ⊎ Contains members i) → Has all i ↔ (Has set i ⊎ Contains (member ∷ members) i)
-has-member set member members i all before = (λ has. forward (before.0 has), λ has. before.1 (backward has))
+-- their versions have the next numbers
+first-numbers : (dimensions : List ℕ) (number : ℕ) → All (λ (version : FilterVersion). version.number < number + length dimensions) (first_versions dimensions number)
+first-numbers [] number = All-nil (λ (version : FilterVersion). version.number < number + 0)
+first-numbers (dimension ∷ dimensions) number =
+    All-cons (λ (version : FilterVersion). version.number < number + length (dimension ∷ dimensions)) (first_version dimension number)
+    (first_versions dimensions (number + 1)) (omega arith)
+    (All-weaker (λ (version : FilterVersion). version.number < number + 1 + length dimensions)
+    (λ version. version.number < number + length (dimension ∷ dimensions)) (λ version low. omega arith)
+    (first_versions dimensions (number + 1)) (first-numbers dimensions (number + 1)))
+
+still-counted : (count more most : ℕ) → min (count + more) most < most → min (count + more) most ≡ count + more
+still-counted count more most below = omega arith
+
+pub versions-first : (last : ℕ) (dimensions : List ℕ) (flights : List Flight) → flights ≡ []
+    → AreSoundVersions (counted last (length dimensions)) (first_versions dimensions (last + 1)) flights
+versions-first last dimensions flights none = record {
+  given = λ more.
+      subst (λ n. All (λ (version : FilterVersion). version.number ≤ n) (first_versions dimensions (last + 1)))
+      (sym (still-counted last (length dimensions) last_number more))
+      (All-weaker (λ (version : FilterVersion). version.number < last + 1 + length dimensions) (λ version. version.number ≤ last + length dimensions)
+      (λ version low. omega arith) (first_versions dimensions (last + 1)) (first-numbers dimensions (last + 1)));
+  held = λ more. none_in (λ hand. hand.version.number ≤ counted last (length dimensions));
+  present = none_in (λ hand. IsPresentByNumber (first_versions dimensions (last + 1)) hand.version);
+}
   where
-    first : Has set i ⊎ (i ≡ member) → Has set i ⊎ Contains (member ∷ members) i
-    first (inl there) = inl there
-    first (inr same) = inr (0, omega arith, sym same)
-
-    forward : Has (with_number set member) i ⊎ Contains members i → Has set i ⊎ Contains (member ∷ members) i
-    forward (inl has) = first ((Has-with set member i).0 has)
-    forward (inr there) = inr (Contains-append_right (member ∷ []) members i there)
-
-    at-first : Contains (member ∷ []) i ⊎ Contains members i → Has (with_number set member) i ⊎ Contains members i
-    at-first (inl at) =
-        let low = at.1 in
-        let place : at.0 ≡ 0 = omega arith in
-        let same : member ≡ i = sym (ap (λ k. get_or (member ∷ []) k i) place) ∙ at.2 in
-        inl ((Has-with set member i).1 (inr (sym same)))
-    at-first (inr rest) = inr rest
-
-    backward : Has set i ⊎ Contains (member ∷ members) i → Has (with_number set member) i ⊎ Contains members i
-    backward (inl has) = inl ((Has-with set member i).1 (inl has))
-    backward (inr there) = at-first (Contains-append_cases (member ∷ []) members i there)
-
-has-members : (set : ℕ) (members : List ℕ) (i : ℕ) → Has (fold with_number set members) i ↔ (Has set i ⊎ Contains members i)
-has-members set [] i = (λ has. inl has, by_cases)
-  where
-    by_cases : Has set i ⊎ Contains [] i → Has set i
-    by_cases (inl has) = has
-    by_cases (inr none) = let low = none.1 in absurd (omega arith)
-has-members set (member ∷ members) i =
-    has-member set member members i (fold with_number (with_number set member) members) (has-members (with_number set member) members i)
+    none_in : (P : Hand → Type 0) → All (λ (flight : Flight). IfSome flight.hand P) flights
+    none_in P = subst (All (λ (flight : Flight). IfSome flight.hand P)) (sym none) (All-nil (λ (flight : Flight). IfSome flight.hand P))
 
 -- the set of a list of numbers has its members
 pub has-set : (members : List ℕ) (i : ℕ) → Has (fold with_number 0 members) i ↔ Contains members i
-has-set members i = (λ has. by_cases ((has-members 0 members i).0 has), λ there. (has-members 0 members i).1 (inr there))
-  where
-    by_cases : Has 0 i ⊎ Contains members i → Contains members i
-    by_cases (inl none) = absurd (none-in i none)
-    by_cases (inr there) = there
+has-set members i = (
+  λ has. let any = has-any (λ n. n) members i has in subst (Contains members) any.4 (any.0, any.2, any.3),
+  λ there. subst (Has (fold with_number 0 members)) there.2 (has-at (λ n. n) 0 members there.0 i there.1),
+)
 
 -- filters are of declared dimensions
 pub filters-low : (schema : Schema) → All (λ dimension. dimension < length schema.dimensions) (filter_dimensions schema)
 filters-low schema =
     All-filter (λ dimension. list_any (references dimension) (fact_columns schema)) (λ dimension. dimension < length schema.dimensions)
     (range_with_len 0 (length schema.dimensions))
-    (λ k d low.
-    let many : length (range_with_len 0 (length schema.dimensions)) ≡ length schema.dimensions = length-range_with_len 0 (length schema.dimensions) in
-    let inside : k < length schema.dimensions = omega arith in
-    let is : get_or (range_with_len 0 (length schema.dimensions)) k d ≡ 0 + k = get_or-range_with_len 0 (length schema.dimensions) k d inside in
-    omega arith)
+    (all-below (λ dimension. dimension < length schema.dimensions) (length schema.dimensions) (λ k low. low))

@@ -2,7 +2,7 @@
 use Rattle.core_state.proofs.Words.{◌++◌, ◌+◌, ◌↔◌, ◌∙◌, ◌∷◌, ◌≡◌, ◌≤◌, [], Accepts, All, All-nil, ap, arith, Change, changes_of, Contains, Contains-get_or, counted, DimensionDeclared, Ended, Entry, FactDeclared, filter_dimensions, Filters, FilterVersion, first_versions, get_or, Has, IsOfRows, IsPermutation, IsPermutation-refl, IsSettled, IsSound, IsSoundBeside, IsSoundFilter, IsSoundStore, length, length-map, length-replicate, List, Loaded, None, none-some, replicate, Some, State, Store, subst, sym, TableDef, tables_by, tables_of, Tally, versions_in, with_change, with_number, ℕ}
 use Rattle.std.specs.Prelude.{fold}
 use Rattle.std.proofs.lemmas.List.Elements.{All-replicate}
-use Rattle.core_state.proofs.DeclareLemmas.{declared-quiet, declared_now, empty-sound, filters-low, first-dimensions, first-each, has-set, nil-by-map, no-filters, store-push, undeclared-by}
+use Rattle.core_state.proofs.DeclareLemmas.{declared-quiet, declared_now, empty-sound, filters-low, first-dimensions, first-each, has-set, nil-by-map, no-filters, store-push, undeclared-by, versions-first}
 use Rattle.core_state.proofs.GivenLemmas.{Settles}
 use Rattle.core_state.proofs.GrownLemmas.{tables-with}
 
@@ -17,6 +17,12 @@ dimension-declared seat statement table state none accepts old =
       set = subst (λ dimensions. (dimension : ℕ) → Has state.lives.filters dimension ↔ Contains dimensions dimension) same old.filters.set;
     })
     (store-push state.entries entry old.store accepts) (λ none_now. old.quiet none)
+    (record {
+      apart = old.numbers.apart;
+      given = old.numbers.given;
+      versions = old.numbers.versions;
+      unnumbered = λ none_now. old.numbers.unnumbered none;
+    })
     (let stands = old.scan.position in let many = as_many in omega arith)
     (record { tallies = old.order.tallies; count = old.order.count; order = old.order.order })
   where
@@ -54,6 +60,12 @@ fact-declared settles seat statement table state none accepts old =
       set = has-set dimensions;
     })
     store (λ none_now. absurd (none-some table (sym none_now ∙ fact)))
+    (record {
+      apart = old.numbers.apart;
+      given = old.numbers.given;
+      versions = versions-first state.numbers.version dimensions state.scan.flights (old.quiet none).1;
+      unnumbered = λ none_now. absurd (none-some table (sym none_now ∙ fact));
+    })
     (let stands = old.scan.position in let many = as_many in omega arith)
     (record {
       tallies = All-replicate (λ (tally : Tally). tally.drops ≤ tally.probes) (length dimensions) (record { probes = 0; drops = 0 }) (omega arith);

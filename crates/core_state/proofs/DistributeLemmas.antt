@@ -1,7 +1,8 @@
 -- What becomes of positions and of what is kept where a batch is distributed.
-use Rattle.core_state.proofs.Words.{◌++◌, ◌+◌, ◌∙◌, ◌∷◌, ◌≡◌, ◌≢◌, [], All, All-head, All-tail, all_pairs_head, all_pairs_tail, AllPairs, ap, append-nil, append_assoc, arith, Bool, cond, eqb, eqb-true, false, filter, filter-append, filter_map-append, flat_map, Flight, flight_at, grouped_of, is_kept, is_visible, IsPermutation, IsPermutation-append_left, IsPermutation-append_right, IsPermutation-refl, IsPermutation-trans, Joined, joined, kept_at, length, List, map, map-append, ne_eqb, not, Option, PlainVersion, Query, refl, Some, Store, subst, suc, sym, true, versions_at, with_row, with_rows, ℕ}
+use Rattle.core_state.proofs.Words.{◌++◌, ◌+◌, ◌∙◌, ◌∷◌, ◌≡◌, ◌≢◌, [], All, All-head, All-tail, all_pairs_head, all_pairs_tail, AllPairs, ap, append-nil, append_assoc, arith, Bool, cond, eqb, eqb-true, false, filter, filter-append, filter_map-append, flat_map, Flight, flight_at, grouped_of, is_kept, is_visible, IsPermutation, IsPermutation-append_left, IsPermutation-append_right, IsPermutation-refl, IsPermutation-trans, Joined, joined, kept_at, length, length-map, List, map, map-append, ne_eqb, not, Option, PlainVersion, Query, refl, Some, Store, subst, sym, true, versions_at, with_row, with_rows, ℕ}
 use Rattle.std.specs.Prelude.{slice_get}
-use Rattle.std.proofs.lemmas.List.Sorted.{IsPermutation-append_comm}
+use Rattle.std.proofs.lemmas.List.Concat.{flat_map_single}
+use Rattle.std.proofs.lemmas.List.Sorted.{IsPermutation-append_comm, length_permutation}
 use Rattle.star_plan.specs.Joined.{kept_of, value_at}
 
 -- the groups of rows, with one row more, are the groups of the rows and the one
@@ -88,18 +89,12 @@ landed-permutes positions_of batch landed (flight ∷ flights) is apart =
 pub length-landed : (batch : ℕ) (landed : Flight) (flights : List Flight) → flight_at flights batch ≡ Some landed
     → AllPairs (λ flight other. flight.rows.number ≢ other.rows.number) flights
     → length flights ≡ length (without_flight batch flights) + 1
-length-landed batch landed [] is apart = cc
-length-landed batch landed (flight ∷ flights) is apart =
-    by_test (eqb flight.rows.number batch) refl is
-    (λ rest. length-landed batch landed flights rest
-    (all_pairs_tail (λ f other. f.rows.number ≢ other.rows.number) flight flights apart))
-  where
-    by_test : (t : Bool) → eqb flight.rows.number batch ≡ t → cond {A = Option Flight} t (Some flight) (flight_at flights batch) ≡ Some landed
-        → (flight_at flights batch ≡ Some landed → length flights ≡ length (without_flight batch flights) + 1)
-        → length (flight ∷ flights)
-        ≡ length (cond {A = List Flight} (not t) (flight ∷ without_flight batch flights) (without_flight batch flights)) + 1
-    by_test true at found rest =
-        let here : flight.rows.number ≡ batch = eqb-true flight.rows.number batch at in
-        (omega arith) ∙ ap (λ (fs : List Flight). length fs + 1) (sym (others-fly batch flights (λ k d low number.
-        all_pairs_head (λ f other. f.rows.number ≢ other.rows.number) flight flights apart k d low (here ∙ sym number))))
-    by_test false at found rest = ap suc (rest found) ∙ (omega arith)
+length-landed batch landed flights is apart =
+    let others : List Flight = without_flight batch flights in
+    let one : Flight → List ℕ = λ flight. flight.rows.number ∷ [] in
+    let each : (fs : List Flight) → length (flat_map one fs) ≡ length fs = λ fs.
+    ap (λ (ns : List ℕ). length ns) (flat_map_single (λ (f : Flight). f.rows.number) fs) ∙ length-map fs (λ (f : Flight). f.rows.number) in
+    let same = length_permutation (flat_map one flights) (one landed ++ flat_map one others) (landed-permutes one batch landed flights is apart) in
+    let all = each flights in
+    let left = each others in
+    omega arith

@@ -5,7 +5,7 @@ use Rattle.pipeline_manager.specs.declared.life.Life.TheVariants as life
 use Rattle.core_state.proofs.AnewLemmas.{batches-anew, filters-anew, hands-anew, queries-anew}
 use Rattle.core_state.proofs.DistributeLemmas.{FoldsOne, length-landed, without_flight}
 use Rattle.core_state.proofs.FoundLemmas.{life-found, some-by}
-use Rattle.core_state.proofs.FrameLemmas.{LivesAs, lives-as}
+use Rattle.core_state.proofs.FrameLemmas.{LivesAs, lives-as, versions-with}
 use Rattle.core_state.proofs.LandedLemmas.{batch-brings, fed_by, feeds, gets-open, kept-landed, landed}
 use Rattle.core_state.proofs.SeatLemmas.{seat-anew, seats-anew}
 use Rattle.core_state.proofs.TakeLemmas.{All-option, All-option_tail, cons-tail, workers}
@@ -99,7 +99,7 @@ pub sound-landed : FoldsOne → (batch : ℕ) (flight : Flight) (state : State) 
 sound-landed folds batch flight state there of_batch through sound = record {
   settings = sound.settings;
   filters = filters-anew state change keeps queries state.seats scan sound.filters;
-  batches = batches-anew state change keeps queries scan.flights (λ number on. on)
+  batches = batches-anew state change keeps queries scan.flights (λ number. (λ on. on, refl))
       (All-filter left (IsSoundBatch (frame_words state) (tables_of state) state.lives state.accepted) state.scan.flights sound.batches);
   hands = hands-anew state change queries state.seats scan refl (hands-left state left scan refl sound.hands);
   queries = queries-anew state change keeps queries state.seats scan refl
@@ -107,10 +107,14 @@ sound-landed folds batch flight state there of_batch through sound = record {
       (λ entry found. lives accepted among of_query entry found)) sound.queries;
   slots = record { lives = sound.slots.lives; count = sound.slots.count; built = sound.slots.built };
   store = sound.store;
+  ends = sound.ends;
   quiet = λ none. (ap (map change) (sound.quiet none).0, ap (without_flight batch) (sound.quiet none).1, (sound.quiet none).2);
   numbers = record {
     apart = AllPairs-filter (λ f other. f.rows.number ≢ other.rows.number) left state.scan.flights sound.numbers.apart;
     given = λ more. All-filter left (λ f. f.rows.number ≤ state.numbers.batch) state.scan.flights (sound.numbers.given more);
+    versions = versions-with state.numbers.version state.filters.versions state.scan.flights scan.flights
+        (λ P. All-filter left (λ f. IfSome f.hand P) state.scan.flights) sound.numbers.versions;
+    unnumbered = sound.numbers.unnumbered;
   };
   scan = record {
     frames =
@@ -121,7 +125,7 @@ sound-landed folds batch flight state there of_batch through sound = record {
   };
   order = sound.order;
   seats = seats-anew state change keeps queries state.seats scan refl (λ seat. refl)
-      (λ k d low. seat-anew state change keeps queries (get_or state.seats k d) (λ j p inside h. h) (λ number h. h)
+      (λ k d low. seat-anew state change keeps queries (get_or state.seats k d) (λ j p inside h. h) (λ number h. h) (λ number was. was)
       (sound.seats.each k d low)) sound.seats;
 }
   where

@@ -1,17 +1,17 @@
 -- A slot that is taken from its query keeps a core sound.
-use Rattle.core_state.proofs.Words.{◌++◌, ◌<◌, ◌||◌, ◌↔◌, ◌∙◌, ◌∷◌, ◌≡◌, ◌≢◌, ◌≤◌, [], Accepted, after_finish, All, All-cons, All-nil, ap, append-nil, AreSoundQueries, Bool, Clearing, cond, eq-eqb, eqb, eqb-true, false, FitsSlot, flat_map, Flight, frame_words, Free, get_or, gets_rows, given_up, Has, Held, IfSome, inr, is_ending, is_on_roster, IsKept, IsOnRoster, IsPermutation, IsSound, IsSoundBatch, IsTrue, kept_at, length, length-set, Life, life_in, life_in-other, List, list_any, MayBeOnRoster, MayFinish, None, OnRoster, Option, option_map_or, positions_for, QueryLife, range_with_len, refl, set, slice_get, slot_at, slot_of-holder, SlotState, Some, State, subst, sym, tables_of, true, versions_in, with_life, ℕ, ⊎_elim}
+use Rattle.core_state.proofs.Words.{◌++◌, ◌<◌, ◌||◌, ◌↔◌, ◌∙◌, ◌∷◌, ◌≡◌, ◌≢◌, ◌≤◌, [], Accepted, after_finish, All, All-cons, All-contains, All-nil, ap, append-nil, AreSoundQueries, Bool, Clearing, cond, covered, eq-eqb, eqb, extent_in, false, filter, FitsSlot, flat_map, Flight, Free, get_or, gets_rows, given_up, Has, Held, IfSome, inr, is_ending, is_on_roster, IsKept, IsOnRoster, IsPermutation, IsSound, IsTrue, kept_at, length, length-set, Life, life_in, life_in-other, List, list_any, MayBeOnRoster, MayFinish, None, Option, option_map_or, positions_for, QueryLife, range_with_len, refl, set, slice_get, slot_at, SlotState, Some, State, subst, sym, tables_of, true, versions_in, with_life, ℕ, ⊎_elim}
 use Rattle.std.proofs.Common.{find}
 use Rattle.pipeline_manager.specs.Conditions.{IsOver}
 use Rattle.pipeline_manager.specs.Sound as managed
 use Rattle.pipeline_manager.specs.declared.life.Life.TheVariants as life
 use Rattle.pipeline_manager.proofs.EndLemmas.{sound-ended}
-use Rattle.core_state.proofs.AcceptedLemmas.{find-holds}
-use Rattle.core_state.proofs.FoundLemmas.{find-passes}
+use Rattle.core_state.proofs.FoundLemmas.{extents-written}
 use Rattle.core_state.proofs.FrameLemmas.{at-set}
+use Rattle.core_state.proofs.HandedSlotLemmas.{one-slot}
 use Rattle.core_state.proofs.HeldLemmas.{entry-set, filters-held, fits-set, slot-there}
 use Rattle.core_state.proofs.MovedLemmas.{Holds, StaysWanted, held_now, sound-held}
 use Rattle.core_state.proofs.RowsLemmas.{whole-extent}
-use Rattle.core_state.proofs.StartLemmas.{none-in-flight}
+use Rattle.core_state.proofs.StartLemmas.{none-in-flight, on-none}
 use Rattle.core_state.proofs.WrittenLemmas.{queries-written, wanted-written}
 
 -- where no element passes, each does not
@@ -29,30 +29,16 @@ apart-landed slot flight landed = λ k d low same.
     let none = none-passes (λ entry. eqb entry.slot slot) flight.roster landed k d low in
     let both : true ≡ false = sym (eq-eqb (get_or flight.roster k d).slot slot same) ∙ none in cc
 
--- two slots are not held by one query
-one-slot : (state : State) (slot other query built more : ℕ) → IsSound state → slot < length state.lives.slots → other < length state.lives.slots
-    → slot_at state.lives slot ≡ Held query built → slot_at state.lives other ≡ Held query more → other ≡ slot
-one-slot state slot other query built more sound there here holds holds_more =
-    let both : Some other ≡ Some slot =
-    sym (slot_of-holder state.lives other query more sound.slots.lives here holds_more)
-    ∙ slot_of-holder state.lives slot query built sound.slots.lives there holds in cc
-
 -- the query of a slot that is on no roster is on none
 none-landed : (slot query built : ℕ) (state : State) → IsSound state → slot < length state.lives.slots → slot_at state.lives slot ≡ Held query built
     → All (λ flight. is_on_roster slot flight ≡ false) state.scan.flights
     → All (λ flight. find (λ entry. eqb entry.number query) flight.roster ≡ None) state.scan.flights
 none-landed slot query built state sound there holds landed = λ k d low.
-    by_found (get_or state.scan.flights k d) (sound.batches k d low) (landed k d low)
-    (find (λ entry. eqb entry.number query) (get_or state.scan.flights k d).roster) refl
-  where
-    by_found : (flight : Flight) → IsSoundBatch (frame_words state) (tables_of state) state.lives state.accepted flight → is_on_roster slot flight ≡ false → (o : Option OnRoster)
-        → find (λ entry. eqb entry.number query) flight.roster ≡ o → o ≡ None
-    by_found flight of_batch off None is = refl
-    by_found flight of_batch off (Some entry) is =
-        let on : IsOnRoster state.lives state.accepted entry = find-holds (IsOnRoster state.lives state.accepted) (λ e. eqb e.number query) flight.roster entry is of_batch.roster in
-        let same : entry.number ≡ query = eqb-true entry.number query (find-passes (λ e. eqb e.number query) flight.roster entry is) in
-        absurd (find-holds (λ e. e.slot ≢ slot) (λ e. eqb e.number query) flight.roster entry is (apart-landed slot flight off)
-        (one-slot state slot entry.slot query built on.held.0 sound there on.there holds (on.held.1 ∙ ap (λ n. Held n on.held.0) same)))
+    let flight : Flight = get_or state.scan.flights k d in
+    on-none query flight.roster (λ entry among same.
+    let on = All-contains (IsOnRoster state.lives state.accepted) flight.roster entry (sound.batches k d low).roster among in
+    All-contains (λ e. e.slot ≢ slot) flight.roster entry (apart-landed slot flight (landed k d low)) among
+    (one-slot state.lives sound.slots.lives entry.slot slot query on.held.0 built (on.held.1 ∙ ap (λ n. Held n on.held.0) same) holds))
 
 -- an ended query has what its rows give
 kept-finished : (slot query built : ℕ) (state : State) → IsSound state → slot < length state.lives.slots → slot_at state.lives slot ≡ Held query built
@@ -81,9 +67,10 @@ sound-given_up : (slot query built : ℕ) (state : State) (queries : List QueryL
     → AreSoundQueries (held_now state queries (set state.lives.slots slot (Clearing built)) state.filters state.numbers.version)
     → StaysWanted state queries
     → ((other : ℕ) → other ≢ query → life_in queries other ≡ life_in state.lives.queries other)
+    → ((other : ℕ) → extent_in queries other ≡ extent_in state.lives.queries other)
     → IsSound state
     → IsSound (held_now state queries (set state.lives.slots slot (Clearing built)) state.filters state.numbers.version)
-sound-given_up slot query built state queries there holds landed lives_now queries_now wanted others sound =
+sound-given_up slot query built state queries there holds landed lives_now queries_now wanted others extents sound =
     let slots = set state.lives.slots slot (Clearing built) in
     let now : Holds state queries slots state.filters state.numbers.version = record {
       filters_now = filters-held state queries slots state.numbers.version state.filters.order (length-set state.lives.slots slot (Clearing built))
@@ -94,10 +81,11 @@ sound-given_up slot query built state queries there holds landed lives_now queri
           let entry = get_or flight.roster j e in
           let on = (sound.batches k d low).roster j e within in
           let apart : entry.slot ≢ slot = apart-landed slot flight (landed k d low) j e within in
-          entry-set state queries slot (Clearing built) entry apart
-          (subst (λ o. IfSome o MayBeOnRoster) (sym (others entry.number (λ same. apart
-          (one-slot state slot entry.slot query built on.held.0 sound there on.there holds (on.held.1 ∙ ap (λ n. Held n on.held.0) same)))))
-          on.life) on;
+          entry-set state queries slot (Clearing built) entry apart (
+            subst (λ o. IfSome o MayBeOnRoster) (sym (others entry.number (λ same. apart
+                (one-slot state.lives sound.slots.lives entry.slot slot query on.held.0 built (on.held.1 ∙ ap (λ n. Held n on.held.0) same) holds)))),
+            extents entry.number,
+          ) on;
       queries_now = queries_now;
       slots_now = record {
         lives = lives_now;
@@ -108,12 +96,14 @@ sound-given_up slot query built state queries there holds landed lives_now queri
             (λ now. IsTrue (gets_rows now) → (dimension : ℕ) → Has state.lives.filters dimension → Has more dimension))
             state.lives.slots slot other (Clearing built) Free inside (λ same is. cc)
             (λ apart is. subst (λ o. IfSome o (λ now. IsTrue (gets_rows now) → (dimension : ℕ) → Has state.lives.filters dimension → Has more dimension))
-            (sym (others holder (λ same. apart (one-slot state slot other query built more sound there inside holds (is ∙ ap (λ n. Held n more) same)))))
+            (sym (others holder (λ same. apart (one-slot state.lives sound.slots.lives other slot query more built (is ∙ ap (λ n. Held n more) same) holds))))
             (sound.slots.built other holder more inside is)) held;
       };
       quiet = λ none.
           let free : slot_at state.lives slot ≡ Free = (sound.quiet none).2 slot Free there in
           let both : Held query built ≡ Free = sym holds ∙ free in cc;
+      versions = sound.numbers.versions;
+      unnumbered = sound.numbers.unnumbered;
       order = sound.order;
       wanted = wanted;
     } in
@@ -152,12 +142,13 @@ sound-by_state slot state can sound (Held query built) holds over =
         (λ accepted extent same found was.
         kept-finished slot query built state sound there holds can.landed accepted extent same was.2 (was.1 refl) was.0)
         (λ wanted. refl) sound.queries)
-        (wanted-written state query life.Ending life.Answered was (λ h e. cc) (λ h. ⊎_elim (λ e. cc) (λ e. cc) h))
-        (λ other apart. life_in-other state.lives.queries query other life.Answered apart) sound
+        (wanted-written state query life.Ending life.Answered was (λ e. cc) (λ e. cc) (λ h. ⊎_elim (λ e. cc) (λ e. cc) h))
+        (λ other apart. life_in-other state.lives.queries query other life.Answered apart) (extents-written query life.Answered state.lives.queries) sound
     by_test false is =
         sound-given_up slot query built state state.lives.queries there holds can.landed
         (subst (λ t. managed.IsSound (record state.lives { queries = queries_of t; slots = slots })) is ended)
-        (record { same = sound.queries.same; each = sound.queries.each }) (λ number. (λ h. h, λ h. h)) (λ other apart. refl) sound
+        (record { same = sound.queries.same; each = sound.queries.each }) (λ number. (λ h. h, λ h. h, λ h. h)) (λ other apart. refl)
+        (λ other. refl) sound
 
 pub sound-finished : (slot : ℕ) (state : State) → MayFinish slot state → IsSound state → IsSound (after_finish slot state)
 sound-finished slot state can sound = sound-by_state slot state can sound (slot_at state.lives slot) refl can.over

@@ -1,5 +1,5 @@
 -- What stays sound where the batches in flight change, and not their positions.
-use Rattle.core_state.proofs.Words.{◌++◌, ◌+◌, ◌<◌, ◌==◌, ◌∙◌, ◌∷◌, ◌≡◌, ◌≤◌, [], All-map, ap, AreSoundBatches, AreSoundHands, AreSoundNumbers, AreSoundQueries, arith, filter, flat_map, Flight, get_or, get_or-map, IsSound, IsSoundOrder, length, length-map, List, map, option_map_or, positions_for, query_in, range_with_len, refl, Scan, State, subst, sym, tables_of, Tally, ℕ}
+use Rattle.core_state.proofs.Words.{◌++◌, ◌+◌, ◌<◌, ◌==◌, ◌∙◌, ◌∷◌, ◌≡◌, ◌≤◌, [], All-map, ap, AreSoundBatches, AreSoundHands, AreSoundNumbers, AreSoundQueries, AreSoundVersions, arith, filter, flat_map, Flight, get_or, get_or-map, IsSound, IsSoundOrder, length, length-map, List, map, option_map_or, positions_for, query_in, range_with_len, refl, Scan, State, subst, sym, tables_of, Tally, ℕ}
 use Rattle.std.specs.List.{find}
 use Rattle.std.specs.Prelude.{nat_lt}
 use Rattle.core_state.proofs.FoundLemmas.{some-by}
@@ -55,8 +55,9 @@ queries-flown state tallies change keeps =
     scan = record state.scan { flights = map change state.scan.flights }
 
 numbers-flown : (state : State) (tallies : List Tally) (change : Flight → Flight) → ((flight : Flight) → KeepsPlace flight (change flight))
+    → AreSoundVersions state.numbers.version state.filters.versions (map change state.scan.flights)
     → AreSoundNumbers state → AreSoundNumbers (flown state tallies change)
-numbers-flown state tallies change keeps old = record {
+numbers-flown state tallies change keeps versions old = record {
   apart = λ i j d before low same.
       let flights = state.scan.flights in
       let later : j < length flights = subst (λ n. j < n) (length-map flights change) low in
@@ -67,6 +68,8 @@ numbers-flown state tallies change keeps old = record {
   given = λ more. All-map (λ flight. flight.rows.number ≤ state.numbers.batch) change state.scan.flights
       (λ k d low. let flight = get_or state.scan.flights k d in
       subst (λ number. number ≤ state.numbers.batch) (sym (keeps flight).number) (old.given more k d low));
+  versions = versions;
+  unnumbered = old.unnumbered;
 }
 
 -- what a change of batches in flight has to give
@@ -74,6 +77,7 @@ pub record Flies (state : State) (tallies : List Tally) (change : Flight → Fli
   pub place : (flight : Flight) → KeepsPlace flight (change flight)
   pub batches : AreSoundBatches (flown state tallies change)
   pub hands : AreSoundHands (flown state tallies change)
+  pub versions : AreSoundVersions state.numbers.version state.filters.versions (map change state.scan.flights)
   pub order : IsSoundOrder (record state.filters { tallies = tallies })
 
 pub sound-flown : (state : State) (tallies : List Tally) (change : Flight → Flight) → Flies state tallies change → IsSound state
@@ -86,13 +90,14 @@ sound-flown state tallies change flies old = record {
   queries = queries-flown state tallies change flies.place old.queries;
   slots = record { lives = old.slots.lives; count = old.slots.count; built = old.slots.built };
   store = old.store;
+  ends = old.ends;
   quiet = λ none. ((old.quiet none).0, ap (map change) (old.quiet none).1, (old.quiet none).2);
-  numbers = numbers-flown state tallies change flies.place old.numbers;
+  numbers = numbers-flown state tallies change flies.place flies.versions old.numbers;
   scan = record {
     frames = ap (λ n. state.scan.free + n) (length-map state.scan.flights change) ∙ old.scan.frames;
     position = old.scan.position;
   };
   order = flies.order;
   seats = seats-held state state.lives.queries state.lives.slots (record state.filters { tallies = tallies })
-      (record state.scan { flights = map change state.scan.flights }) state.numbers refl (λ number. (λ h. h, λ h. h)) old.seats;
+      (record state.scan { flights = map change state.scan.flights }) state.numbers refl (λ number. (λ h. h, λ h. h, λ h. h)) old.seats;
 }

@@ -1,5 +1,5 @@
 -- What stays sound of each part of a core where what it reads changes: one lemma a part.
-use Rattle.core_state.proofs.Words.{◌++◌, ◌<◌, ◌↔◌, ◌∙◌, ◌∷◌, ◌≡◌, ◌≢◌, ◌≤◌, ◌⊎◌, [], Accepted, accepted_at, All, All-cons, All-contains, All-head, All-nil, All-tail, All-weaker, ap, arith, Asked, Awaited, cases_eq, Contains, empty_seat, Filter, Filters, FitsSlot, flat_map, Flight, Free, get_or, get_or-set_other, get_or-set_same, Grouped, HasAccepted, IfSome, IfSome_then, inl, inr, is_open, IsAwaited, IsCovered, IsKept, IsNext, IsOnRoster, IsPermutation, IsSoundAccepted, IsSoundBatch, IsSoundFilter, IsSoundQuery, IsSoundSeat, IsTaken, IsTrue, length, Life, life_in, List, Lives, map, None, none-some, Numbers, Option, Pending, positions_for, Query, query_in, QueryLife, range_with_len, Replied, same_Some, Scan, Seat, set, slice_get, SlotState, Some, State, Store, subst, sym, tables_of, Taken, to_come, ℕ, ⊎_elim}
+use Rattle.core_state.proofs.Words.{◌++◌, ◌<◌, ◌↔◌, ◌∙◌, ◌∷◌, ◌≡◌, ◌≢◌, ◌≤◌, ◌⊎◌, [], Accepted, accepted_at, All, All-cons, All-contains, All-head, All-nil, All-tail, All-weaker, AllPairs, ap, AreSoundVersions, arith, Asked, Awaited, cases_eq, Contains, empty_seat, extent_in, Filter, Filters, FilterVersion, FitsSlot, flat_map, Flight, Free, get_or, get_or-set_other, get_or-set_same, Grouped, Hand, HasAccepted, IfSome, IfSome_then, inl, inr, is_open, IsAccountedFor, IsAwaited, IsCovered, IsKept, IsNext, IsOnRoster, IsPermutation, IsPresentByNumber, IsSoundAccepted, IsSoundBatch, IsSoundFilter, IsSoundQuery, IsSoundSeat, IsTaken, IsTrue, length, Life, life_in, List, Lives, map, MayBeOnRoster, None, none-some, Numbers, Option, Pending, positions_for, Query, query_in, QueryLife, range_with_len, Replied, same_Some, Scan, Seat, set, slice_get, SlotState, Some, State, Store, subst, sym, tables_of, Taken, to_come, ℕ, ⊎_elim}
 use Rattle.pipeline_manager.specs.declared.life.Life.TheVariants as life
 
 -- the core with other lives of the same filters, other filters, another scan and other numbers
@@ -127,11 +127,27 @@ Wanted now = now ≢ life.Abandoned
 abbrev pub Told : Life → Type 0
 Told now = (now ≡ life.Answered) ⊎ (now ≡ life.Spoiled)
 
+-- who may be on a roster may still be there, with its extent
+abbrev pub StaysOnRoster : (queries next : List QueryLife) → (number : ℕ) → Type 0
+StaysOnRoster queries next number =
+    (IfSome (life_in queries number) MayBeOnRoster → IfSome (life_in next number) MayBeOnRoster) × (extent_in next number ≡ extent_in queries number)
+
+-- versions stay sound where the batches in flight are in no hands but those that they were in
+pub versions-with : (last : ℕ) (versions : List FilterVersion) (flights others : List Flight)
+    → ((P : Hand → Type 0) → All (λ flight. IfSome flight.hand P) flights → All (λ flight. IfSome flight.hand P) others)
+    → AreSoundVersions last versions flights → AreSoundVersions last versions others
+versions-with last versions flights others keep old = record {
+  given = old.given;
+  held = λ more. keep (λ hand. hand.version.number ≤ last) (old.held more);
+  present = keep (λ hand. IsPresentByNumber versions hand.version) old.present;
+}
+
 -- what is asked and told of a number stays so
 pub record StaysAsked (accepted others : List Accepted) (queries next : List QueryLife) (number : ℕ) : Type 0 where
   pub none : accepted_at accepted number ≡ None → accepted_at others number ≡ None
   pub has : (query : Query) (snapshot : ℕ) → HasAccepted accepted number query snapshot → HasAccepted others number query snapshot
   pub told : IfSome (life_in queries number) Told → IfSome (life_in next number) Told
+  pub lost : life_in queries number ≡ Some life.Abandoned → life_in next number ≡ Some life.Abandoned
 
 -- what holds of all that was taken and is waited for holds of what is waited for, and of what was taken
 pub awaited-there : (P : ℕ → Type 0) (front : List ℕ) (pending : List Pending) → All P (front ++ map (λ p. p.statement) pending)
@@ -152,32 +168,37 @@ taken-there P (first ∷ taken) rest all =
 abbrev pub numbers_of : Seat → List ℕ
 numbers_of seat = map (λ taken. taken.statement) seat.taken ++ map (λ pending. pending.statement) seat.pending
 
--- a seat stays sound where what was asked by its numbers stays so, and what it waits for is wanted
-pub seat-lasts : (last later : ℕ) (accepted others : List Accepted) (queries next : List QueryLife) (seat : Seat) → last ≤ later
+-- a seat that waits for these stays sound where what was asked by its numbers stays so, what it waits for is wanted, and nothing is lost
+pub seat-waits : (last later : ℕ) (accepted others : List Accepted) (queries next : List QueryLife) (seat : Seat) (waits : List Pending) → last ≤ later
     → ((number : ℕ) → number ≤ last → StaysAsked accepted others queries next number)
-    → All (λ pending. pending.statement ≤ last → IfSome (life_in queries pending.statement) Wanted → IfSome (life_in next pending.statement) Wanted) seat.pending
-    → IsSoundSeat last accepted queries seat → IsSoundSeat later others next seat
-seat-lasts last later accepted others queries next seat above stays wanted old = record {
+    → AllPairs (λ statement later. statement < later) (numbers_of (record seat { pending = waits }))
+    → All (Contains seat.submitted) (numbers_of (record seat { pending = waits }))
+    → All (λ pending. IsAwaited accepted queries pending.statement pending.awaited) waits
+    → All (λ pending. pending.statement ≤ last → IfSome (life_in queries pending.statement) Wanted → IfSome (life_in next pending.statement) Wanted) waits
+    → All (IsAccountedFor next (record seat { pending = waits })) seat.submitted
+    → IsSoundSeat last accepted queries seat → IsSoundSeat later others next (record seat { pending = waits })
+seat-waits last later accepted others queries next seat waits above stays in_order submitted awaited wanted whole old = record {
   rising = old.rising;
   given = All-weaker (λ s. s ≤ last) (λ s. s ≤ later) (λ s low. omega arith) seat.submitted old.given;
-  in_order = old.in_order;
-  submitted = old.submitted;
+  in_order = in_order;
+  submitted = submitted;
   taken = λ k d inside. let taken = get_or seat.taken k d in
       by_asked taken.statement
-      (taken-there (λ n. n ≤ last) seat.taken (map (λ pending. pending.statement) seat.pending) low k d inside)
+      (taken-there (λ n. n ≤ last) seat.taken (map (λ pending. pending.statement) waits) low k d inside)
       taken.query (old.taken k d inside);
-  awaited = λ k d inside. let pending = get_or seat.pending k d in
-      let given = awaited-there (λ n. n ≤ last) (map (λ taken. taken.statement) seat.taken) seat.pending low k d inside in
-      by_awaited pending.statement given pending.awaited (wanted k d inside given) (old.awaited k d inside);
+  awaited = λ k d inside. let pending = get_or waits k d in
+      let given = awaited-there (λ n. n ≤ last) (map (λ taken. taken.statement) seat.taken) waits low k d inside in
+      by_awaited pending.statement given pending.awaited (wanted k d inside given) (awaited k d inside);
+  whole = whole;
 }
   where
-    low : All (λ n. n ≤ last) (numbers_of seat)
+    low : All (λ n. n ≤ last) (numbers_of (record seat { pending = waits }))
     low = All-weaker (Contains seat.submitted) (λ n. n ≤ last) (λ n has. All-contains (λ s. s ≤ last) seat.submitted n old.given has)
-        (numbers_of seat) old.submitted
+        (numbers_of (record seat { pending = waits })) submitted
 
     by_asked : (statement : ℕ) → statement ≤ last → (asked : Option (Query × ℕ)) → IsTaken accepted queries statement asked
         → IsTaken others next statement asked
-    by_asked statement given None is = tt
+    by_asked statement given None is = let so = stays statement given in so.none is
     by_asked statement given (Some asked) is =
         let so = stays statement given in (so.has asked.0 asked.1 is.0, so.told is.1)
 
@@ -186,3 +207,14 @@ seat-lasts last later accepted others queries next seat above stays wanted old =
         → IsAwaited accepted queries statement awaited → IsAwaited others next statement awaited
     by_awaited statement given (Replied reply) wants is = let so = stays statement given in so.none is
     by_awaited statement given (Asked query snapshot) wants is = let so = stays statement given in (so.has query snapshot is.0, wants is.1)
+
+-- a seat stays sound where what was asked by its numbers stays so, and what it waits for is wanted
+pub seat-lasts : (last later : ℕ) (accepted others : List Accepted) (queries next : List QueryLife) (seat : Seat) → last ≤ later
+    → ((number : ℕ) → number ≤ last → StaysAsked accepted others queries next number)
+    → All (λ pending. pending.statement ≤ last → IfSome (life_in queries pending.statement) Wanted → IfSome (life_in next pending.statement) Wanted) seat.pending
+    → IsSoundSeat last accepted queries seat → IsSoundSeat later others next seat
+seat-lasts last later accepted others queries next seat above stays wanted old =
+    seat-waits last later accepted others queries next seat seat.pending above stays old.in_order old.submitted old.awaited wanted
+    (λ k d low. let number = get_or seat.submitted k d in
+    ⊎_elim (λ taken. inl taken) (λ other. inr (⊎_elim (λ waits. inl waits)
+    (λ lost. let so = stays number (old.given k d low) in inr (so.lost lost)) other)) (old.whole k d low)) old

@@ -1,6 +1,8 @@
 -- What becomes of the bits of a row, and of what a query keeps so far, where a batch passes a filter.
-use Rattle.core_state.proofs.Words.{◌&&◌, ◌<◌, ◌↔◌, ◌∙◌, ◌∷◌, ◌≡◌, [], All, All-cons, All-head, All-nil, All-tail, ap, arith, bit_at, bits_left_at, Bool, cond, Contains, eq-eqb, eqb, eqb-true, false, Filter, filtered, Flight, get_or, get_or-map-range_with_len, get_or-range_with_len, Has, Has-with, inl, inr, is_visible, IsSoundRow, IsTrue, joined, keeps_so_far, key_number, key_place, length, length-range_with_len, List, list_all, OnRoster, passed_by, passes, PlainVersion, range_with_len, refl, State, subst, sym, tables_of, takes_at, true, vector_of, with_number, ℕ, ⊎_elim}
+use Rattle.core_state.proofs.Words.{◌&&◌, ◌<◌, ◌↔◌, ◌∙◌, ◌≡◌, ap, arith, bit_at, bits_left_at, Bool, cond, Contains, eq-eqb, eqb, eqb-true, false, filter, Filter, filtered, Flight, get_or, get_or-map-range_with_len, Has, Has-with, inl, inr, is_visible, IsSoundRow, IsTrue, joined, keeps_so_far, key_number, key_place, length, List, list_all, OnRoster, passed_by, passes, PlainVersion, range_with_len, refl, State, subst, sym, tables_of, takes_at, true, vector_of, with_number, ℕ, ⊎_elim}
+use Rattle.std.proofs.lemmas.List.Sums.{AllPass-from_list_all, list_all-from_AllPass}
 use Rattle.bit_words.proofs.SetLemmas.{Has-both}
+use Rattle.core_state.proofs.CutFoundLemmas.{all-below, at-below}
 
 -- a row keeps those of its bits that are in the vector of its key
 pub given-bits : (filter : Filter) (keys bits : List ℕ) (row slot : ℕ) → row < length bits
@@ -24,32 +26,18 @@ asked-fact takes passed dimension = by_test (eqb (bit_at passed dimension) 1) re
     by_test false is =
         ((λ holds has. absurd (let both : true ≡ false = sym (eq-eqb (bit_at passed dimension) 1 has) ∙ is in cc)), (λ says. refl))
 
--- a test that computes whether each number passes
-pub all-pass : (p : ℕ → Bool) (xs : List ℕ) → list_all p xs ≡ true → All (λ x. p x ≡ true) xs
-all-pass p [] holds = All-nil (λ x. p x ≡ true)
-all-pass p (x ∷ xs) holds = by_test (p x) refl holds (all-pass p xs)
-  where
-    by_test : (t : Bool) → p x ≡ t → (t && list_all p xs) ≡ true → (list_all p xs ≡ true → All (λ y. p y ≡ true) xs) → All (λ y. p y ≡ true) (x ∷ xs)
-    by_test true is e rest = All-cons (λ y. p y ≡ true) x xs is (rest e)
-    by_test false is e rest = absurd (let both : false ≡ true = e in cc)
+-- a test of all numbers below one is a test of each
+pub at-each : (p : ℕ → Bool) (count : ℕ) → list_all p (range_with_len 0 count) ≡ true → (n : ℕ) → n < count → p n ≡ true
+at-each p count holds = at-below (λ n. p n ≡ true) count (AllPass-from_list_all p (range_with_len 0 count) holds)
 
-pub pass-all : (p : ℕ → Bool) (xs : List ℕ) → All (λ x. p x ≡ true) xs → list_all p xs ≡ true
-pass-all p [] all = refl
-pass-all p (x ∷ xs) all =
-    ap (λ t. t && list_all p xs) (All-head (λ y. p y ≡ true) x xs all) ∙ pass-all p xs (All-tail (λ y. p y ≡ true) x xs all)
+pub each-at : (p : ℕ → Bool) (count : ℕ) → ((n : ℕ) → n < count → p n ≡ true) → list_all p (range_with_len 0 count) ≡ true
+each-at p count holds = list_all-from_AllPass p (range_with_len 0 count) (all-below (λ n. p n ≡ true) count holds)
 
 pub all-asked : (takes : ℕ → Bool) (passed count : ℕ) → IsTrue (list_all (asked takes passed) (range_with_len 0 count))
     ↔ ((dimension : ℕ) → dimension < count → Has passed dimension → IsTrue (takes dimension))
 all-asked takes passed count = (
-  (λ holds dimension low.
-      let at : get_or (range_with_len 0 count) dimension 0 ≡ dimension = get_or-range_with_len 0 count dimension 0 low ∙ (omega arith) in
-      let inside : dimension < length (range_with_len 0 count) = omega (arith, length-range_with_len 0 count) in
-      (asked-fact takes passed dimension).0 (subst (λ d. IsTrue (asked takes passed d)) at
-      (all-pass (asked takes passed) (range_with_len 0 count) holds dimension 0 inside))),
-  (λ says. pass-all (asked takes passed) (range_with_len 0 count) (λ k d low.
-      let inside : k < count = omega (arith, length-range_with_len 0 count) in
-      let at : get_or (range_with_len 0 count) k d ≡ k = get_or-range_with_len 0 count k d inside ∙ (omega arith) in
-      subst (λ n. IsTrue (asked takes passed n)) (sym at) ((asked-fact takes passed k).1 (says k inside)))),
+  λ holds dimension low. (asked-fact takes passed dimension).0 (at-each (asked takes passed) count holds dimension low),
+  λ says. each-at (asked takes passed) count (λ dimension low. (asked-fact takes passed dimension).1 (says dimension low)),
 )
 
 -- one dimension more that is passed is one more whose row the query has to take

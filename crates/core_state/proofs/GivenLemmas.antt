@@ -1,11 +1,12 @@
 -- A batch that a worker gives back keeps a core sound.
-use Rattle.core_state.proofs.Words.{◌+◌, ◌<◌, ◌∙◌, ◌∷◌, ◌≡◌, ◌≢◌, [], AcceptsAll, after_give, All, All-contains, All-map, all_at, AllPairs, AllPairs-cons, arith, bits_left_at, Bool, Change, changes_of, cond, cons_option, Contains, empty_store, Encodes, eqb, false, Filter, find, Flight, frame_words, get_or, given_back, Hand, held_by, IfSome, is_held_by, IsMatched, IsOnRoster, IsOver, IsSettled, IsSome, IsSound, IsSoundBatch, IsSoundHand, IsSoundQuery, IsSoundRow, length, length-map-range_with_len, List, map, None, OnRoster, Option, option_map, option_map_or, passed_by, PlainVersion, refl, rows_in, slice_get, Some, State, store_of, subst, suc, tables_of, tallies_after, Tally, true, zero, ℕ}
+use Rattle.core_state.proofs.Words.{◌+◌, ◌<◌, ◌∙◌, ◌∷◌, ◌≢◌, [], AcceptsAll, after_give, All-contains, All-map, all_at, AllPairs, AllPairs-cons, arith, bits_left_at, Change, changes_of, cond, cons_option, Contains, empty_store, Encodes, eqb, Filter, find, Flight, frame_words, get_or, given_back, Hand, held_by, IfSome, is_held_by, IsMatched, IsOnRoster, IsOver, IsSettled, IsSome, IsSound, IsSoundBatch, IsSoundHand, IsSoundQuery, IsSoundRow, length, length-map-range_with_len, List, map, None, OnRoster, Option, option_map, option_map_or, passed_by, PlainVersion, refl, rows_in, slice_get, Some, State, store_of, subst, suc, sym, tables_of, tallies_after, Tally, zero, ℕ}
 use Rattle.core_state.proofs.AcceptedLemmas.{accepted-on, find-holds}
 use Rattle.core_state.proofs.FlownLemmas.{Flies, KeepsPlace, flown, sound-flown}
-use Rattle.core_state.proofs.FoundLemmas.{both-some}
+use Rattle.core_state.proofs.FoundLemmas.{both-some, some-of}
+use Rattle.core_state.proofs.FrameLemmas.{versions-with}
 use Rattle.core_state.proofs.GiveLemmas.{SaysByKey, bits-given, given-bits}
 use Rattle.core_state.proofs.KeyedLemmas.{filter-there, says-by-key}
-use Rattle.core_state.proofs.TakeLemmas.{All-option, All-option_tail, batch-stays, cons-tail, workers}
+use Rattle.core_state.proofs.TakeLemmas.{batch-stays, by-number, cons-tail, workers, workers-changed}
 use Rattle.core_state.proofs.TallyLemmas.{tallied-after}
 
 -- the tables of each history whose changes were taken are settled
@@ -91,23 +92,6 @@ place-given flight = by_hand flight.hand
 abbrev given : (batch : ℕ) → Flight → Flight
 given batch flight = cond {A = Flight} (eqb flight.rows.number batch) (given_back flight) flight
 
--- what holds of a batch whether it is given back or not
-by-number : (P : Flight → Type 0) (batch : ℕ) (flight : Flight) → P (given_back flight) → P flight → P (given batch flight)
-by-number P batch flight back other = by_test (eqb flight.rows.number batch)
-  where
-    by_test : (t : Bool) → P (cond {A = Flight} t (given_back flight) flight)
-    by_test true = back
-    by_test false = other
-
--- the workers whose hands are full are some of those that were
-fewer-workers : (P : ℕ → Type 0) (batch : ℕ) (flights : List Flight) → All P (workers flights) → All P (workers (map (given batch) flights))
-fewer-workers P batch [] all = all
-fewer-workers P batch (flight ∷ flights) all =
-    let parts = All-option_tail P (option_map (λ hand. hand.worker) flight.hand) (workers flights) all in
-    All-option P (option_map (λ hand. hand.worker) (given batch flight).hand) (workers (map (given batch) flights))
-    (by-number (λ f. IfSome (option_map (λ hand. hand.worker) f.hand) P) batch flight tt parts.0)
-    (fewer-workers P batch flights parts.1)
-
 -- no worker has two batches
 one-each : (batch : ℕ) (flights : List Flight) → AllPairs (λ w other. w ≢ other) (workers flights)
     → AllPairs (λ w other. w ≢ other) (workers (map (given batch) flights))
@@ -120,17 +104,21 @@ one-each batch (flight ∷ flights) one =
         → AllPairs (λ w other. w ≢ other) (cons_option (option_map (λ hand. hand.worker) o) (workers (map (given batch) flights)))
     by_hand None rest old = rest
     by_hand (Some hand) rest old = AllPairs-cons (λ w other. w ≢ other) hand.worker (workers (map (given batch) flights))
-        (fewer-workers (λ other. hand.worker ≢ other) batch flights (λ k d low. old zero (suc k) d (omega arith) (omega arith))) rest
+        (workers-changed (λ other. hand.worker ≢ other) batch given_back (λ f. tt) flights (λ k d low. old zero (suc k) d (omega arith) (omega arith))) rest
 
     by_rest : AllPairs (λ w other. w ≢ other) (workers (map (given batch) flights))
         → AllPairs (λ w other. w ≢ other) (workers (map (given batch) (flight ∷ flights)))
     by_rest rest =
         by-number (λ f. AllPairs (λ w other. w ≢ other) (cons_option (option_map (λ hand. hand.worker) f.hand) (workers (map (given batch) flights))))
-        batch flight rest (by_hand flight.hand rest one)
+        batch given_back flight rest (by_hand flight.hand rest one)
 
 pub sound-given : Settles → (worker : ℕ) (state : State) → IsSome (held_by state.scan.flights worker) → IsSound state
     → IsSound (after_give worker state)
-sound-given settles worker state some sound = by_found (find (is_held_by worker) state.scan.flights) some
+sound-given settles worker state some sound =
+    let held = some-of (find (is_held_by worker) state.scan.flights) some in
+    subst (λ o. IsSound (option_map_or (λ flight.
+    flown state (tallies_after flight state.filters.versions state.filters.tallies) (given flight.rows.number)) o state)) (sym held.1)
+    (sound-flown state (tallies_after held.0 state.filters.versions state.filters.tallies) (given held.0.rows.number) (flies held.0) sound)
   where
     flies : (flight : Flight) → Flies state (tallies_after flight state.filters.versions state.filters.tallies) (given flight.rows.number)
     flies flight =
@@ -138,26 +126,22 @@ sound-given settles worker state some sound = by_found (find (is_held_by worker)
         let change : Flight → Flight = given flight.rows.number in
         let after = tallied-after flight state.filters.versions state.filters.tallies sound.order.count sound.order.tallies in
         record {
-          place = λ f. by-number (KeepsPlace f) flight.rows.number f (place-given f)
+          place = λ f. by-number (KeepsPlace f) flight.rows.number given_back f (place-given f)
               (record { number = refl; first = refl; count = refl; roster = refl });
           batches = All-map (IsSoundBatch (frame_words state) (tables_of state) state.lives state.accepted) change state.scan.flights
               (λ k d low. let f = get_or state.scan.flights k d in
-              by-number (IsSoundBatch (frame_words state) (tables_of state) state.lives state.accepted) flight.rows.number f
+              by-number (IsSoundBatch (frame_words state) (tables_of state) state.lives state.accepted) flight.rows.number given_back f
               (batch-given settles state sound f (sound.batches k d low) (sound.hands.each k d low))
               (sound.batches k d low));
           hands = record {
             each = All-map (λ f. IfSome f.hand (IsSoundHand (length state.seats) state.lives.filters (tables_of state) f)) change state.scan.flights
                 (λ k d low. let f = get_or state.scan.flights k d in
-                by-number (λ g. IfSome g.hand (IsSoundHand (length state.seats) state.lives.filters (tables_of state) g)) flight.rows.number f tt
+                by-number (λ g. IfSome g.hand (IsSoundHand (length state.seats) state.lives.filters (tables_of state) g)) flight.rows.number given_back f tt
                 (sound.hands.each k d low));
             one = one-each flight.rows.number state.scan.flights sound.hands.one;
           };
+          versions = versions-with state.numbers.version state.filters.versions state.scan.flights (map change state.scan.flights)
+              (λ P all. All-map (λ f. IfSome f.hand P) change state.scan.flights
+              (λ k d low. by-number (λ f. IfSome f.hand P) flight.rows.number given_back (get_or state.scan.flights k d) tt (all k d low))) sound.numbers.versions;
           order = record { tallies = after.1; count = after.0; order = sound.order.order };
         }
-
-    by_found : (o : Option Flight) → IsSome o
-        → IsSound (option_map_or (λ flight.
-        flown state (tallies_after flight state.filters.versions state.filters.tallies) (given flight.rows.number)) o state)
-    by_found None none = absurd (let both : false ≡ true = none in cc)
-    by_found (Some flight) there = sound-flown state (tallies_after flight state.filters.versions state.filters.tallies)
-        (given flight.rows.number) (flies flight) sound

@@ -81,7 +81,7 @@ filters-grown state entries sound grows = record {
       (sound.filters.set dimension);
 }
 
-hand-grown : (state : State) (entries : List Entry) → IsSound state → Grows (tables_of state) (tables_by entries) → (flight : Flight) (hand : Hand)
+pub hand-grown : (state : State) (entries : List Entry) → IsSound state → Grows (tables_of state) (tables_by entries) → (flight : Flight) (hand : Hand)
     → ((k : ℕ) (d : OnRoster) → k < length flight.roster → IsOnRoster state.lives state.accepted (get_or flight.roster k d))
     → IsSoundHand (length state.seats) state.lives.filters (tables_of state) flight hand → IsSoundHand (length state.seats) state.lives.filters (tables_by entries) flight hand
 hand-grown state entries sound grows flight hand roster old = record {

@@ -1,5 +1,5 @@
 -- Rows that are loaded, and versions that are ended, leave everything sound that a core keeps beside its seats.
-use Rattle.core_state.proofs.Words.{◌++◌, ◌∙◌, ◌∷◌, ◌≡◌, ◌≤◌, [], Accepts, AcceptsAll, after_change, ap, arith, Change, changes_of, empty_store, Entry, fold, fold-append, IsOfRows, IsSettled, IsSound, IsSoundBeside, kept, List, map-append, Query, State, Store, store_of, subst, sym, tables_by, tables_of, with_entry, ℕ}
+use Rattle.core_state.proofs.Words.{◌++◌, ◌∙◌, ◌∷◌, ◌≡◌, ◌≤◌, [], Accepts, AcceptsAll, after_change, All, All-push, ap, arith, Change, changes_of, empty_store, EndsAscending, Entry, fold, fold-append, IsOfRows, IsSettled, IsSound, IsSoundBeside, kept, List, map-append, Query, State, Store, store_of, subst, sym, tables_by, tables_of, with_entry, ℕ}
 use Rattle.core_state.proofs.GivenLemmas.{Settles}
 use Rattle.core_state.proofs.GrownBatchLemmas.{batches-grown}
 use Rattle.core_state.proofs.GrownFilterLemmas.{filters-grown, hands-grown}
@@ -14,6 +14,12 @@ AreNotSeen = (store : Store) (change : Change) (query : Query) (snapshot : ℕ) 
 -- the changes of entries, and one more
 pub changes-with : (entries : List Entry) (entry : Entry) → changes_of (entries ++ entry ∷ []) ≡ changes_of entries ++ entry.change ∷ []
 changes-with entries entry = map-append (λ (e : Entry). e.change) entries (entry ∷ [])
+
+-- the deletes of entries, and of one more, name their positions ascending
+pub ends-with : (entries : List Entry) (entry : Entry) → All EndsAscending (changes_of entries) → EndsAscending entry.change
+    → All EndsAscending (changes_of (entries ++ entry ∷ []))
+ends-with entries entry ends last =
+    subst (All EndsAscending) (sym (changes-with entries entry)) (All-push EndsAscending (changes_of entries) entry.change ends last)
 
 -- the tables after an entry are those after its change
 pub tables-with : (entries : List Entry) (entry : Entry) → tables_by (entries ++ entry ∷ []) ≡ after_change (tables_by entries) entry.change
@@ -37,6 +43,12 @@ sound-grown settles not_seen seat statement change state of_rows accepted sound 
   store = subst (AcceptsAll empty_store) (sym (changes-with state.entries entry))
       (accepts-more empty_store (changes_of state.entries) change sound.store accepted);
   quiet = λ none. sound.quiet (ap (λ schema. schema.fact) (sym grows.schema) ∙ none);
+  numbers = record {
+    apart = sound.numbers.apart;
+    given = sound.numbers.given;
+    versions = sound.numbers.versions;
+    unnumbered = λ none. sound.numbers.unnumbered (ap (λ schema. schema.fact) (sym grows.schema) ∙ none);
+  };
   scan = record { frames = sound.scan.frames; position = let low = sound.scan.position in let longer = grows.longer in omega arith };
   order = sound.order;
 }

@@ -1,9 +1,10 @@
 -- What a worker took stays right while it holds it, whatever is committed meanwhile.
-use Rattle.core_state.proofs.Words.{◌*◌, ◌++◌, ◌+◌, ◌==◌, ◌∙◌, ◌≡◌, AcceptsAll, All, All-contains, ap, arith, bit_at, changes_of, Contains, empty_store, Encodes, Entry, filter_dimensions, Flight, frame_words, Hand, Has, IfSome, IfSome_then, IsOnRoster, IsSome, IsSound, IsSoundBatch, IsSoundHand, length, List, None, OnRoster, Option, refl, rows_in, slice_get, Some, State, subst, sym, TableDef, tables_by, tables_of, ℕ}
+use Rattle.core_state.proofs.Words.{◌*◌, ◌++◌, ◌+◌, ◌<◌, ◌↔◌, ◌∙◌, ◌≡◌, AcceptsAll, All, All-contains, ap, arith, changes_of, Contains, empty_store, Entry, filter_dimensions, Flight, frame_words, Hand, Has, IfSome, IfSome_then, IsOnRoster, IsSome, IsSound, IsSoundBatch, IsSoundHand, length, List, None, Option, refl, slice_get, Some, State, subst, sym, TableDef, tables_by, tables_of, ℕ}
 use Rattle.core_state.specs.Hands.{IsInHandAs}
 use Rattle.core_state.proofs.FoundLemmas.{some-at}
 use Rattle.core_state.proofs.GivenLemmas.{Settles}
 use Rattle.core_state.proofs.GrownBatchLemmas.{batch-grown}
+use Rattle.core_state.proofs.GrownFilterLemmas.{hand-grown}
 use Rattle.core_state.proofs.GrownRowsLemmas.{Grows}
 use Rattle.core_state.proofs.HandTablesLemmas.{tables-grown}
 
@@ -27,16 +28,19 @@ later-grown before after flight more sound later entries flies =
 
 -- the filters of a later core are those of an earlier one
 same-filters : (before after : State) → IsSound before → IsSound after → Grows (tables_of before) (tables_of after)
-    → (dimension : ℕ) → Has after.lives.filters dimension → Has before.lives.filters dimension
-same-filters before after sound later grows dimension has =
-    (sound.filters.set dimension).1
-    (subst (λ schema. Contains (filter_dimensions schema) dimension) grows.schema ((later.filters.set dimension).0 has))
+    → (dimension : ℕ) → Has after.lives.filters dimension ↔ Has before.lives.filters dimension
+same-filters before after sound later grows dimension = (
+  λ has. (sound.filters.set dimension).1
+      (subst (λ schema. Contains (filter_dimensions schema) dimension) grows.schema ((later.filters.set dimension).0 has)),
+  λ has. (later.filters.set dimension).1
+      (subst (λ schema. Contains (filter_dimensions schema) dimension) (sym grows.schema) ((sound.filters.set dimension).0 has)),
+)
 
 -- a batch that a worker took is sound in a later core
-batch-held : Settles → (before after : State) (flight home : Flight) → IsSound before → IsSound after → after.settings ≡ before.settings
-    → Grows (tables_of before) (tables_of after) → IsSoundBatch (frame_words before) (tables_of before) before.lives before.accepted flight → IsSoundBatch (frame_words after) (tables_of after) after.lives after.accepted home → IsInHandAs flight home
+batch-held : Settles → (before after : State) (flight : Flight) (hand : Hand) (home : Flight) → IsSound before → IsSound after → after.settings ≡ before.settings
+    → Grows (tables_of before) (tables_of after) → IsSoundBatch (frame_words before) (tables_of before) before.lives before.accepted flight → IsSoundBatch (frame_words after) (tables_of after) after.lives after.accepted home → IsInHandAs flight hand home
     → IsSoundBatch (frame_words after) (tables_of after) after.lives after.accepted flight
-batch-held settles before after flight home sound later settings grows old now alike = record {
+batch-held settles before after flight hand home sound later settings grows old now alike = record {
   within = let low = now.within in let first = alike.first in let count = alike.count in omega arith;
   bits = old.bits;
   keys = old.keys;
@@ -45,7 +49,7 @@ batch-held settles before after flight home sound later settings grows old now a
   slots = old.slots;
   rows = λ row low. IfSome_then (slice_get (tables_of after).versions (flight.rows.first + row)) (grown.rows row low)
       (λ version r. record {
-        keys = λ dimension has. r.keys dimension (same-filters before after sound later grows dimension has);
+        keys = λ dimension has. r.keys dimension ((same-filters before after sound later grows dimension).0 has);
         bits = r.bits;
         others = r.others;
       });
@@ -55,26 +59,37 @@ batch-held settles before after flight home sound later settings grows old now a
     grown = batch-grown before after.entries sound (settles (changes_of before.entries) sound.store) grows flight old
 
 -- a version that a worker took is sound in a later core
-hand-held : (after : State) (flight home : Flight) (hand : Hand) → IsSoundHand (length after.seats) after.lives.filters (tables_of after) home hand → IsInHandAs flight home
+hand-held : (before after : State) (flight : Flight) (hand : Hand) → IsSound before → IsSound after → after.settings ≡ before.settings
+    → Grows (tables_of before) (tables_of after) → All (IsOnRoster before.lives before.accepted) flight.roster
+    → IsSoundHand (length before.seats) before.lives.filters (tables_of before) flight hand
     → IsSoundHand (length after.seats) after.lives.filters (tables_of after) flight hand
-hand-held after flight home hand now alike = record {
-  seat = now.seat;
-  table = now.table;
-  is_filter = now.is_filter;
-  not_passed = ap (λ passed. bit_at passed hand.version.filter.dimension == 1) (sym alike.passed) ∙ now.not_passed;
-  encodes = subst (λ roster. All (λ (entry : OnRoster). Encodes hand.version.filter entry.slot entry.query entry.snapshot
-      (rows_in (tables_of after).dimensions hand.version.filter.dimension)) roster) alike.roster now.encodes;
+hand-held before after flight hand sound later settings grows roster old = record {
+  seat = subst (λ n. hand.worker < n) (sound.seats.count ∙ ap (λ settings. settings.seats) (sym settings) ∙ sym later.seats.count) old.seat;
+  table = old.table;
+  is_filter = (same-filters before after sound later grows hand.version.filter.dimension).1 old.is_filter;
+  not_passed = old.not_passed;
+  encodes = grown.encodes;
 }
+  where
+    grown : IsSoundHand (length before.seats) before.lives.filters (tables_by after.entries) flight hand
+    grown = hand-grown before after.entries sound grows flight hand roster old
 
 pub took-stays : Settles → (before after : State) (flight home : Flight) (hand : Hand) (more : List Entry) → IsSound before → IsSound after
     → after.settings ≡ before.settings → after.entries ≡ before.entries ++ more
-    → Contains before.scan.flights flight → flight.hand ≡ Some hand
-    → Contains after.scan.flights home → IsInHandAs flight home → IsSoundBatch (frame_words after) (tables_of after) after.lives after.accepted flight × IsSoundHand (length after.seats) after.lives.filters (tables_of after) flight hand
+    → Contains before.scan.flights flight → flight.hand ≡ Some hand → Contains after.scan.flights home → IsInHandAs flight hand home
+    → IsSoundBatch (frame_words after) (tables_of after) after.lives after.accepted flight
+    × IsSoundHand (length after.seats) after.lives.filters (tables_of after) flight hand
 took-stays settles before after flight home hand more sound later settings entries flies held at_home alike = (
-  batch-held settles before after flight home sound later settings (later-grown before after flight more sound later entries flies)
-      (All-contains (IsSoundBatch (frame_words before) (tables_of before) before.lives before.accepted) before.scan.flights flight sound.batches flies)
+  batch-held settles before after flight hand home sound later settings grows of_batch
       (All-contains (IsSoundBatch (frame_words after) (tables_of after) after.lives after.accepted) after.scan.flights home later.batches at_home) alike,
-  hand-held after flight home hand
-      (some-at (IsSoundHand (length after.seats) after.lives.filters (tables_of after) home) home.hand hand (alike.hand ∙ held)
-      (All-contains (λ f. IfSome f.hand (IsSoundHand (length after.seats) after.lives.filters (tables_of after) f)) after.scan.flights home later.hands.each at_home)) alike,
+  hand-held before after flight hand sound later settings grows of_batch.roster
+      (some-at (IsSoundHand (length before.seats) before.lives.filters (tables_of before) flight) flight.hand hand held
+      (All-contains (λ f. IfSome f.hand (IsSoundHand (length before.seats) before.lives.filters (tables_of before) f)) before.scan.flights flight
+      sound.hands.each flies)),
 )
+  where
+    grows : Grows (tables_of before) (tables_of after)
+    grows = later-grown before after flight more sound later entries flies
+
+    of_batch : IsSoundBatch (frame_words before) (tables_of before) before.lives before.accepted flight
+    of_batch = All-contains (IsSoundBatch (frame_words before) (tables_of before) before.lives before.accepted) before.scan.flights flight sound.batches flies

@@ -1,12 +1,12 @@
 -- Slot by slot a distributor has after a batch what the core keeps.
-use Rattle.core_state.proofs.Words.{◌∙◌, ◌≡◌, Accepted, accepted_at, after_distribute, ap, AreKeyedTablesOf, attached_at, bit_at, Bool, Clearing, cond, Contains, DimensionRow, eqb, eqb-true, false, fed_in, Flight, flight_at, frame_words, Free, get_or, gets_rows, Grouped, groups_in, Held, holder_of, IsSome, IsSound, IsSoundBatch, KeyedStore, List, list_any, map, None, Option, option_and_then, option_map, option_map_or, refl, Roomy, slot_at, SlotState, Some, State, sym, tables_of, true, unkept, with_batch, ℕ}
-use Rattle.core_state.proofs.AcceptedLemmas.{held-accepted}
+use Rattle.core_state.proofs.Words.{◌∙◌, ◌≡◌, Accepted, accepted_at, after_distribute, ap, AreKeyedTablesOf, attached_at, bit_at, Bool, Clearing, cond, Contains, DimensionRow, eqb, eqb-true, false, fed_in, Flight, flight_at, frame_words, Free, get_or, gets_rows, Grouped, groups_in, Held, holder_of, IsSound, IsSoundBatch, KeyedStore, List, list_any, map, None, Option, option_and_then, option_map, option_map_or, refl, Roomy, slot_at, SlotState, Some, State, sym, tables_of, true, unkept, with_batch, ℕ}
+use Rattle.core_state.proofs.AcceptedLemmas.{holder-accepted}
 use Rattle.core_state.proofs.AnewLemmas.{found-anew}
-use Rattle.core_state.proofs.FoundLemmas.{find-passes}
 use Rattle.core_state.proofs.HandedFoldLemmas.{FoldsTheSame, fed-as-folded}
-use Rattle.core_state.proofs.HandedLivesLemmas.{others-stay, slots-stay, spoiled-none, spoiled_all, still-kept, still-none, unkeeps}
-use Rattle.core_state.proofs.HandedSlotLemmas.{fed-among, gets, held-there, holds-fed, not-among}
+use Rattle.core_state.proofs.HandedLivesLemmas.{others-stay, slots-stay, spoiled-none, spoiled_all, still-kept, still-none}
+use Rattle.core_state.proofs.HandedSlotLemmas.{fed-among, gets, held-there, holds-fed, kept-none, kept-some, kept_by, not-among}
 use Rattle.core_state.proofs.LandedLemmas.{fed_by, feeds, landed}
+use Rattle.core_state.proofs.WholeFrameLemmas.{unkeeps}
 
 -- the core after a batch, where these queries found no memory
 abbrev pub after_flight : (batch : ℕ) → List ℕ → Flight → State → State
@@ -18,11 +18,6 @@ after_flight batch queries flight state = record (landed batch flight state) {
 pub distributed : (batch : ℕ) (queries : List ℕ) (flight : Flight) (state : State) → flight_at state.scan.flights batch ≡ Some flight
     → after_distribute batch queries state ≡ after_flight batch queries flight state
 distributed batch queries flight state there = ap (λ o. option_map_or (λ f. after_flight batch queries f state) o state) there
-
--- what is kept for the holder of a slot, where it gets rows
-abbrev pub kept_by : State → Option ℕ → Option Grouped
-kept_by core holder = option_and_then (groups_in core)
-    (option_and_then (λ query. cond {A = Option ℕ} (gets core.lives query) (Some query) None) holder)
 
 -- the queries of a set of slots that found no memory, and the core after the batch
 module _ (folds : FoldsTheSame) (state : State) (tables : KeyedStore) (dims : List (Roomy DimensionRow)) (flight : Flight) (sound : IsSound state)
@@ -52,44 +47,34 @@ module _ (folds : FoldsTheSame) (state : State) (tables : KeyedStore) (dims : Li
   kept-after : (slot query built : ℕ) → slot_at state.lives slot ≡ Held query built → gets state.lives query ≡ true
       → list_any (λ other. eqb other query) queries ≡ false → option_map (folded slot) (groups_in state query) ≡ groups_in now query
   kept-after slot query built holds yet none =
-      by_found (accepted_at state.accepted query) refl
-      (held-accepted state slot query built sound (held-there state.lives slot query built holds) holds)
-    where
-      by_found : (o : Option Accepted) → accepted_at state.accepted query ≡ o → IsSome o
-          → option_map (folded slot) (option_map_or (λ a. a.groups) o None) ≡ groups_in now query
-      by_found None is some = absurd (let both : false ≡ true = some in cc)
-      by_found (Some accepted) is some =
-          let same : accepted.number ≡ query = eqb-true accepted.number query (find-passes (λ a. eqb a.number query) state.accepted accepted is) in
-          let fed : (fed_by state flight accepted).number ≡ query = ap (λ a. a.number) (feeds state flight accepted).1 ∙ same in
-          let found : accepted_at now.accepted query ≡ Some (fed_by state flight accepted) =
-          found-anew (unkept queries) (unkeeps queries) query (map (fed_by state flight) state.accepted)
-          ∙ ap (option_map (unkept queries)) (found-anew (fed_by state flight) (feeds state flight) query state.accepted
-          ∙ ap (option_map (fed_by state flight)) is)
-          ∙ ap Some (still-kept queries query (fed_by state flight accepted) fed none) in
-          fed-as-folded folds state tables dims flight sound are flies batch slot built accepted (holds ∙ ap (λ n. Held n built) (sym same)) (ap (accepted_at state.accepted) same ∙ is)
-          (ap (gets state.lives) same ∙ yet)
-          ∙ ap (λ o. option_map_or (λ a. a.groups) o None) (sym found)
+      let asked = holder-accepted state slot query built sound (held-there state.lives slot query built holds) holds in
+      let accepted : Accepted = asked.0 in
+      let fed : (fed_by state flight accepted).number ≡ query = ap (λ a. a.number) (feeds state flight accepted).1 ∙ asked.3 in
+      let found : accepted_at now.accepted query ≡ Some (fed_by state flight accepted) =
+      found-anew (unkept queries) (unkeeps queries) query (map (fed_by state flight) state.accepted)
+      ∙ ap (option_map (unkept queries)) (found-anew (fed_by state flight) (feeds state flight) query state.accepted
+      ∙ ap (option_map (fed_by state flight)) asked.1)
+      ∙ ap Some (still-kept queries query (fed_by state flight accepted) fed none) in
+      ap (λ o. option_map (folded slot) (option_map_or (λ (a : Accepted). a.groups) o None)) asked.1
+      ∙ fed-as-folded folds state tables dims flight sound are flies batch slot built accepted (holds ∙ ap (λ n. Held n built) (sym asked.3))
+      (ap (accepted_at state.accepted) asked.3 ∙ asked.1) (ap (gets state.lives) asked.3 ∙ yet)
+      ∙ ap (λ o. option_map_or (λ (a : Accepted). a.groups) o None) (sym found)
 
   held-left : (slot query built : ℕ) → slot_at state.lives slot ≡ Held query built → left_at slot (kept_by state (Some query)) ≡ kept_by now (Some query)
   held-left slot query built holds = by_gets (gets state.lives query) refl
     where
       by_bit : gets state.lives query ≡ true → (t : Bool) → eqb (bit_at spoiled slot) 1 ≡ t
           → cond {A = Option Grouped} t None (option_map (folded slot) (groups_in state query)) ≡ kept_by now (Some query)
-      by_bit yet true has =
-          sym (ap (λ t. option_and_then (groups_in now) (cond {A = Option ℕ} t (Some query) None))
-          (spoiled-none queries query state.lives
+      by_bit yet true has = sym (kept-none now query (spoiled-none queries query state.lives
           (fed-among state spoiled slot query (eqb-true (bit_at spoiled slot) 1 has) (holds-fed state slot query built holds yet))))
       by_bit yet false has =
           let none = not-among state sound.slots.lives spoiled slot query built holds has in
           let still : gets now.lives query ≡ true = ap (λ o. option_map_or gets_rows o false) (others-stay queries query state.lives none) ∙ yet in
-          kept-after slot query built holds yet none
-          ∙ sym (ap (λ t. option_and_then (groups_in now) (cond {A = Option ℕ} t (Some query) None)) still)
+          kept-after slot query built holds yet none ∙ sym (kept-some now query still)
 
       by_gets : (t : Bool) → gets state.lives query ≡ t
           → left_at slot (option_and_then (groups_in state) (cond {A = Option ℕ} t (Some query) None)) ≡ kept_by now (Some query)
-      by_gets false is =
-          nothing-left slot
-          ∙ sym (ap (λ t. option_and_then (groups_in now) (cond {A = Option ℕ} t (Some query) None)) (still-none queries query state.lives is))
+      by_gets false is = nothing-left slot ∙ sym (kept-none now query (still-none queries query state.lives is))
       by_gets true is = by_bit is (eqb (bit_at spoiled slot) 1) refl
 
   -- slot by slot a distributor has after the batch what the core keeps

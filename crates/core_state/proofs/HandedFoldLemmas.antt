@@ -1,6 +1,6 @@
 -- What a batch brings a query that gets rows is what a distributor folds for it.
 use Rattle.core_state.proofs.Words.{◌∙◌, ◌≡◌, Accepted, accepted_at, All-contains, All-contains_itself, ap, AreKeyedTablesOf, Contains, DimensionRow, eq-eqb, eqb, eqb-true, false, Flight, frame_words, get_or, Grouped, grouped_of, Has, Held, IsOnRoster, IsSound, IsSoundBatch, IsSoundQuery, Joined, KeyedStore, List, None, OnRoster, Option, option_map, refl, Roomy, rows_for, slot_at, Some, State, sym, tables_of, true, with_batch, with_rows, with_versions, ℕ}
-use Rattle.core_state.proofs.AcceptedLemmas.{find-holds, find-none}
+use Rattle.core_state.proofs.AcceptedLemmas.{find-holds, find-none, of-accepted}
 use Rattle.core_state.proofs.FoundLemmas.{find-passes, some-at}
 use Rattle.core_state.proofs.HandedBatchLemmas.{entry-of, fed-groups, none-for}
 use Rattle.core_state.proofs.HandedSlotLemmas.{gets, one-slot}
@@ -59,7 +59,7 @@ module _ (folds : FoldsTheSame) (state : State) (tables : KeyedStore) (dims : Li
           (held.1 ∙ ap (λ n. Held n held.0) number) holds in
           let same = some-at (λ a. (a.query ≡ entry.query) × (a.snapshot ≡ entry.snapshot)) (accepted_at state.accepted entry.number) accepted
           (ap (accepted_at state.accepted) number ∙ there) (on-roster entry on).same in
-          let of_query : IsSoundQuery state accepted = find-holds (IsSoundQuery state) (λ a. eqb a.number accepted.number) state.accepted accepted there sound.queries.each in
+          let of_query : IsSoundQuery state accepted = (of-accepted state accepted.number accepted sound.queries there).0 in
           let has = fed-groups state accepted of_query yet in
           let groups : accepted.groups ≡ Some (grouped_of entry.query has.0) = has.1 ∙ ap (λ q. Some (grouped_of q has.0)) same.0 in
           ap (option_map (folded slot)) groups

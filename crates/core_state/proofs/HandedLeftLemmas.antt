@@ -1,20 +1,15 @@
 -- What a distributor has after a batch is what the core keeps after it.
-use Rattle.core_state.proofs.Words.{◌<◌, ◌∙◌, ◌∷◌, ◌≡◌, ◌≤◌, [], after_distribute, All, All-contains, All-contains_itself, All-head, All-tail, Any, ap, AreFed, AreKeyedTablesOf, arith, attached_at, attached_to, bit_at, Bool, cases_lt, cond, Contains, DimensionRow, eqb, false, fed_at, fed_in, Flight, flight_at, frame_words, Free, get_or, get_or-map-range_with_len, get_or-range_with_len, get_or_past, Grouped, Has, Held, holder_of, IfSome, IsFed, IsOnRoster, IsSomeAnd, IsSound, IsSoundBatch, KeyedStore, length, length-map-range_with_len, length-range_with_len, List, map, None, Option, option_map, range_with_len, refl, Roomy, Rows, slot_at, SlotState, Some, State, subst, sym, tables_of, true, Version, with_batch, ℕ, ⊎_elim}
+use Rattle.core_state.proofs.Words.{◌<◌, ◌∙◌, ◌≡◌, ◌≤◌, after_distribute, All-contains, All-contains_itself, Any, ap, AreFed, AreKeyedTablesOf, arith, attached_at, attached_to, bit_at, Bool, cases_lt, cond, Contains, DimensionRow, eqb, false, fed_at, fed_in, Flight, flight_at, frame_words, Free, get_or, get_or-map-range_with_len, get_or_past, Grouped, Has, Held, holder_of, IfSome, IsFed, IsOnRoster, IsSomeAnd, IsSound, IsSoundBatch, KeyedStore, length, length-map-range_with_len, List, map, None, Option, option_map, range_with_len, Roomy, Rows, slot_at, SlotState, Some, State, subst, sym, tables_of, true, Version, with_batch, ℕ, ⊎_elim}
 use Rattle.distributor.specs.Folded.{after_batch}
 use Rattle.distributor.specs.Masked.{HaveRows}
 use Rattle.core_state.specs.Handed.{HasWhatIsKept}
 use Rattle.core_state.proofs.AcceptedLemmas.{find-holds}
-use Rattle.core_state.proofs.HandedAfterLemmas.{after_flight, distributed, kept_by, slot-left}
+use Rattle.core_state.proofs.CutFoundLemmas.{map-below}
+use Rattle.core_state.proofs.HandedAfterLemmas.{after_flight, distributed, slot-left}
 use Rattle.core_state.proofs.HandedBatchLemmas.{entry-of}
 use Rattle.core_state.proofs.HandedFoldLemmas.{FoldsTheSame}
 use Rattle.core_state.proofs.HandedLivesLemmas.{slots-stay}
-use Rattle.core_state.proofs.HandedSlotLemmas.{all-fed, fed-apart, fed-holds}
-
-map-same : {Y : Type 0} (f g : ℕ → Y) (xs : List ℕ) → All (λ x. f x ≡ g x) xs → map f xs ≡ map g xs
-map-same f g [] all = refl
-map-same f g (x ∷ xs) all =
-    ap (λ y. y ∷ map f xs) (All-head (λ z. f z ≡ g z) x xs all)
-    ∙ ap (λ rest. g x ∷ rest) (map-same f g xs (All-tail (λ z. f z ≡ g z) x xs all))
+use Rattle.core_state.proofs.HandedSlotLemmas.{all-fed, fed-apart, fed-holds, kept_by}
 
 module _ (state now : State) (dims : List (Roomy DimensionRow)) (rows : Rows) (versions : List Version) (spoiled : ℕ)
     (stay : now.lives.slots ≡ state.lives.slots)
@@ -28,11 +23,8 @@ module _ (state now : State) (dims : List (Roomy DimensionRow)) (rows : Rows) (v
   pub slots-left : after_batch dims rows versions spoiled (attached_to state) ≡ attached_to now
   slots-left =
       ap (λ n. map at (range_with_len 0 n)) (length-map-range_with_len (attached_at state) 0 count)
-      ∙ map-same at (attached_at now) (range_with_len 0 count) (λ k d low.
-      let inside : k < count = omega (arith, length-range_with_len 0 count) in
-      let place : k ≡ get_or (range_with_len 0 count) k d = sym (get_or-range_with_len 0 count k d inside ∙ (omega arith)) in
-      subst (λ slot. at slot ≡ attached_at now slot) place
-      (ap (left_at k) (get_or-map-range_with_len (attached_at state) 0 count k k None inside (omega arith)) ∙ each k))
+      ∙ map-below at (attached_at now) count (λ slot low.
+      ap (left_at slot) (get_or-map-range_with_len (attached_at state) 0 count slot slot None low (omega arith)) ∙ each slot)
       ∙ ap (λ (slots : List SlotState). map (attached_at now) (range_with_len 0 (length slots))) (sym stay)
     where
       count : ℕ

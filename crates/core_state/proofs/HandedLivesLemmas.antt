@@ -1,9 +1,7 @@
 -- What becomes of lives and of what is kept where queries find no memory for the rows of a batch.
-use Rattle.core_state.proofs.Words.{◌||◌, ◌∙◌, ◌∷◌, ◌≡◌, [], Accepted, after_spoil, ap, Bool, cond, eq-eqb, eqb, eqb-true, false, fold, gets_rows, Grouped, IfSome, life_in-other, life_of, List, list_any, Lives, None, Option, option_map, option_map_or, query_in, QueryLife, refl, Some, subst, sym, true, unkept, with_life, ℕ}
+use Rattle.core_state.proofs.Words.{◌||◌, ◌∙◌, ◌∷◌, ◌≡◌, [], Accepted, after_spoil, ap, Bool, cases_eq, cond, eq-eqb, eqb, eqb-true, false, fold, gets_rows, life_in-other, life_of, List, list_any, Lives, None, option_map_or, refl, subst, sym, true, unkept, ℕ, ⊎_elim}
 use Rattle.pipeline_manager.specs.declared.life.Life.TheVariants as life
-use Rattle.core_state.proofs.AnewLemmas.{KeepsAsked}
-use Rattle.core_state.proofs.FoundLemmas.{with_life-found}
-use Rattle.core_state.proofs.HandedSlotLemmas.{gets}
+use Rattle.core_state.proofs.HandedSlotLemmas.{gets, gets-none}
 
 -- the lives in which these queries have no answer
 abbrev pub spoiled_all : List ℕ → Lives → Lives
@@ -13,29 +11,12 @@ pub slots-stay : (queries : List ℕ) (lives : Lives) → (spoiled_all queries l
 slots-stay [] lives = refl
 slots-stay (query ∷ queries) lives = slots-stay queries (after_spoil query lives)
 
--- a query does not get rows where its life says so
-no-rows : (o : Option QueryLife) → option_map_or gets_rows (option_map (λ e. e.life) o) false ≡ false → IfSome o (λ e. gets_rows e.life ≡ false)
-no-rows None is = tt
-no-rows (Some entry) is = is
-
-rows-no : (o : Option QueryLife) → IfSome o (λ e. gets_rows e.life ≡ false) → option_map_or gets_rows (option_map (λ e. e.life) o) false ≡ false
-rows-no None is = refl
-rows-no (Some entry) is = is
-
 -- a query that gets no rows gets none where another has no answer
 none-more : (query number : ℕ) (lives : Lives) → gets lives number ≡ false → gets (after_spoil query lives) number ≡ false
-none-more query number lives none =
-    rows-no (query_in (with_life query life.Spoiled lives.queries) number)
-    (with_life-found (λ e. gets_rows e.life ≡ false) query life.Spoiled lives.queries number
-    (λ entry found same. refl)
-    (λ entry found apart.
-    subst (λ o. IfSome o (λ e. gets_rows e.life ≡ false)) found (no-rows (query_in lives.queries number) none)))
-
-none-itself : (query : ℕ) (lives : Lives) → gets (after_spoil query lives) query ≡ false
-none-itself query lives =
-    rows-no (query_in (with_life query life.Spoiled lives.queries) query)
-    (with_life-found (λ e. gets_rows e.life ≡ false) query life.Spoiled lives.queries query
-    (λ entry found same. refl) (λ entry found apart. absurd (apart refl)))
+none-more query number lives none = ⊎_elim
+    (λ same. ap (gets (after_spoil query lives)) same ∙ gets-none lives query life.Spoiled refl)
+    (λ apart. ap (λ o. option_map_or gets_rows o false) (life_in-other lives.queries query number life.Spoiled apart) ∙ none)
+    (cases_eq number query)
 
 pub still-none : (queries : List ℕ) (number : ℕ) (lives : Lives) → gets lives number ≡ false → gets (spoiled_all queries lives) number ≡ false
 still-none [] number lives none = none
@@ -53,7 +34,7 @@ spoiled-none (query ∷ queries) number lives among =
         → (list_any (λ other. eqb other number) queries ≡ true → gets (spoiled_all queries (after_spoil query lives)) number ≡ false)
         → gets (spoiled_all queries (after_spoil query lives)) number ≡ false
     by_test true is any rest = still-none queries number (after_spoil query lives)
-        (subst (λ n. gets (after_spoil query lives) n ≡ false) (eqb-true query number is) (none-itself query lives))
+        (subst (λ n. gets (after_spoil query lives) n ≡ false) (eqb-true query number is) (gets-none lives query life.Spoiled refl))
     by_test false is any rest = rest any
 
 -- and one that is not has the life that it had
@@ -72,15 +53,6 @@ others-stay (query ∷ queries) number lives none =
         rest any
         ∙ life_in-other lives.queries query number life.Spoiled
         (λ same. let both : true ≡ false = sym (eq-eqb query number (sym same)) ∙ is in cc)
-
--- what is no longer kept is still asked
-pub unkeeps : (queries : List ℕ) → KeepsAsked (unkept queries)
-unkeeps queries accepted = by_test (list_any (λ number. eqb number accepted.number) queries)
-  where
-    by_test : (t : Bool) → (groups : Option Grouped)
-        × (cond {A = Accepted} t (record accepted { groups = None }) accepted ≡ record accepted { groups = groups })
-    by_test true = (None, refl)
-    by_test false = (accepted.groups, refl)
 
 -- one that is not among those without an answer is kept
 pub still-kept : (queries : List ℕ) (number : ℕ) (accepted : Accepted) → accepted.number ≡ number

@@ -1,5 +1,5 @@
 -- What is kept of a query has room for the rows of a batch.
-use Rattle.core_state.proofs.Words.{◌++◌, ◌+◌, ◌∙◌, ◌∷◌, ◌≡◌, ◌≤◌, [], Accepted, accepted_at, All, All-contains, All-contains_itself, ap, AreKeyedTablesOf, arith, attached_at, attached_to, Bool, changes_of, cons_option, Contains, DimensionRow, eqb, false, fed_at, filter, filter_map, flat_map, Flight, frame_words, get_or-map-range_with_len, Grouped, groups_in, IfSome, is_kept, is_some, is_visible, IsAnswer, IsCovered, IsKept, IsSettled, IsSound, IsSoundBatch, IsSoundQuery, Joined, joined, kept, kept_at, KeyedStore, length, length-map, length-map-range_with_len, length-range_with_len, Life, List, list_any, map, None, Option, option_and_then, option_map_or, plain_version, PlainVersion, positions_for, Query, query_in, QueryLife, range_with_len, refl, Roomy, slice_get, Some, State, Store, subst, sym, tables_of, to_come, true, versions_at, versions_in, ℕ, ⊎_elim}
+use Rattle.core_state.proofs.Words.{◌++◌, ◌+◌, ◌∙◌, ◌∷◌, ◌≡◌, ◌≤◌, [], Accepted, accepted_at, All, All-contains, All-contains_itself, All-map, ap, AreKeyedTablesOf, arith, attached_at, attached_to, Bool, changes_of, cons_option, Contains, DimensionRow, eqb, fed_at, filter, filter_map, flat_map, Flight, frame_words, Grouped, groups_in, IfSome, is_kept, is_some, is_visible, IsAnswer, IsCovered, IsKept, IsSettled, IsSound, IsSoundBatch, IsSoundQuery, Joined, joined, kept, kept_at, KeyedStore, length, length-map, length-range_with_len, Life, List, map, None, Option, option_and_then, option_map_or, plain_version, PlainVersion, positions_for, Query, query_in, range_with_len, refl, Roomy, slice_get, Some, State, Store, subst, sym, tables_of, to_come, versions_at, versions_in, ℕ, ⊎_elim}
 use Rattle.std.proofs.lemmas.List.{length-append}
 use Rattle.std.proofs.lemmas.List.Sorted.{length_permutation}
 use Rattle.std.proofs.lemmas.List.Sums.{count_by-le-length, length-filter}
@@ -7,9 +7,11 @@ use Rattle.star_plan.specs.Joined.{kept_of}
 use Rattle.star_history.specs.Alone.{visible}
 use Rattle.pipeline_manager.specs.declared.life.Life.TheVariants as life
 use Rattle.distributor.specs.Masked.{HaveRoom}
-use Rattle.core_state.proofs.AcceptedLemmas.{find-holds, number-found}
+use Rattle.core_state.proofs.AcceptedLemmas.{accepted-lives, find-holds}
+use Rattle.core_state.proofs.CutFoundLemmas.{all-below}
 use Rattle.core_state.proofs.DistributedLemmas.{found-itself}
-use Rattle.core_state.proofs.FoundLemmas.{some-at}
+use Rattle.core_state.proofs.FoundLemmas.{some-of}
+use Rattle.core_state.proofs.FrameLemmas.{lives-as}
 use Rattle.core_state.proofs.GivenLemmas.{Settles}
 
 -- groups of so many rows at most
@@ -90,18 +92,9 @@ few-by-life state accepted extent life.Abandoned within kept = subst (AreFew (ve
 few-rows : (state : State) (accepted : Accepted) → IsSound state → accepted_at state.accepted accepted.number ≡ Some accepted
     → IsSoundQuery state accepted → AreFew (versions_in state) accepted.groups
 few-rows state accepted sound there of_query =
-    by_life (query_in state.lives.queries accepted.number) refl
-    (sym (number-found (λ a. a.number) state.accepted accepted.number
-    ∙ ap (list_any (λ n. eqb n accepted.number)) sound.queries.same
-    ∙ sym (number-found (λ entry. entry.query) state.lives.queries accepted.number))
-    ∙ ap (λ o. is_some o) there)
-  where
-    by_life : (o : Option QueryLife) → query_in state.lives.queries accepted.number ≡ o → is_some o ≡ true
-        → AreFew (versions_in state) accepted.groups
-    by_life None is some = absurd (let both : false ≡ true = some in cc)
-    by_life (Some entry) is some = few-by-life state accepted entry.extent entry.life
-        (some-at (λ e. e.extent ≤ versions_in state) (query_in state.lives.queries accepted.number) entry is of_query.within)
-        (some-at (λ e. IsKept (tables_of state) state.seats state.scan accepted e.extent e.life) (query_in state.lives.queries accepted.number) entry is of_query.kept)
+    let entry = some-of (query_in state.lives.queries accepted.number) (sym (accepted-lives state accepted.number sound.queries) ∙ ap is_some there) in
+    let was = lives-as state accepted of_query entry.0 entry.1 in
+    few-by-life state accepted entry.0.extent entry.0.life was.2 was.0
 
 -- so there is room for the rows of a batch
 few-room : Settles → (state : State) (flight : Flight) → IsSound state → IsSoundBatch (frame_words state) (tables_of state) state.lives state.accepted flight → (o : Option Grouped)
@@ -122,11 +115,9 @@ room-kept settles state flight accepted sound flies there =
 
 pub room-attached : Settles → (state : State) (flight : Flight) → IsSound state → Contains state.scan.flights flight
     → All (HaveRoom flight.rows.count) (attached_to state)
-room-attached settles state flight sound flies k d low =
-    let count = length-map-range_with_len (attached_at state) 0 (length state.lives.slots) in
-    subst (HaveRoom flight.rows.count)
-    (sym (get_or-map-range_with_len (attached_at state) 0 (length state.lives.slots) k k d (omega arith) (omega arith)))
-    (by_fed (fed_at state k))
+room-attached settles state flight sound flies =
+    All-map (HaveRoom flight.rows.count) (attached_at state) (range_with_len 0 (length state.lives.slots))
+    (all-below (λ slot. HaveRoom flight.rows.count (attached_at state slot)) (length state.lives.slots) (λ slot low. by_fed (fed_at state slot)))
   where
     by_found : (number : ℕ) (o : Option Accepted) → accepted_at state.accepted number ≡ o
         → HaveRoom flight.rows.count (option_map_or (λ a. a.groups) o None)

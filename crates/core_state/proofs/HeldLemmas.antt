@@ -1,6 +1,6 @@
 -- What stays sound of slots, queries and filters where one slot or one life is written.
-use Rattle.core_state.proofs.Words.{◌<◌, ◌∙◌, ◌≡◌, ◌≢◌, Accepted, AreSoundFilters, AreSoundQueries, arith, cases_lt, Filter, Filters, FitsSlot, Free, get_or, get_or-set_other, get_or_past, IfSome, IsOnRoster, IsSoundFilter, IsSoundQuery, length, length-set, life_in, List, map, MayBeOnRoster, Numbers, OnRoster, query_in, QueryLife, Scan, set, slot_at, SlotState, State, subst, sym, tables_of, ℕ, ⊎_elim}
-use Rattle.core_state.proofs.FrameLemmas.{LivesAs, at-set, filter-with, moved, query-with}
+use Rattle.core_state.proofs.Words.{◌<◌, ◌∙◌, ◌≡◌, ◌≢◌, Accepted, AreSoundFilters, AreSoundQueries, arith, cases_lt, Filter, Filters, FitsSlot, Free, get_or, get_or-set_other, get_or_past, IfSome, IsOnRoster, IsSoundFilter, IsSoundQuery, length, length-set, List, map, Numbers, OnRoster, query_in, QueryLife, Scan, set, slot_at, SlotState, State, subst, sym, tables_of, ℕ, ⊎_elim}
+use Rattle.core_state.proofs.FrameLemmas.{LivesAs, StaysOnRoster, at-set, filter-with, moved, query-with}
 use Rattle.core_state.proofs.MovedLemmas.{held_now}
 
 -- a slot that is not Free is there
@@ -31,13 +31,14 @@ filters-held state queries slots version order count fits old = record {
 
 -- a slot that is written is on no roster, or is held as it was
 pub entry-set : (state : State) (queries : List QueryLife) (slot : ℕ) (now : SlotState) (entry : OnRoster)
-    → entry.slot ≢ slot → IfSome (life_in queries entry.number) MayBeOnRoster → IsOnRoster state.lives state.accepted entry
+    → entry.slot ≢ slot → StaysOnRoster state.lives.queries queries entry.number → IsOnRoster state.lives state.accepted entry
     → IsOnRoster (record state.lives { queries = queries; slots = set state.lives.slots slot now }) state.accepted entry
-entry-set state queries slot now entry apart life old = record {
+entry-set state queries slot now entry apart stays old = record {
   there = let low = old.there in let count = length-set state.lives.slots slot now in omega arith;
   held = (old.held.0, get_or-set_other state.lives.slots slot entry.slot now Free apart ∙ old.held.1, old.held.2);
-  life = life;
+  life = stays.0 old.life;
   same = old.same;
+  extent = stays.1 ∙ old.extent;
 }
 
 -- the accepted queries are sound where each is by its life

@@ -1,35 +1,13 @@
 -- What the bits of a batch say that has passed every filter, or has no bit left.
-use Rattle.core_state.proofs.Words.{◌&&◌, ◌+◌, ◌<◌, ◌↔◌, ◌∙◌, ◌∷◌, ◌≡◌, ◌≤◌, ◌⊎◌, [], All, All-cons, All-head, All-nil, All-permutation, All-tail, AllRows, ap, AreSoundFilters, arith, bit_at, Bool, Chosen, cond, Contains, eq-eqb, eqb, eqb-true, fact_columns, false, filter, Flight, frame_words, get_or, get_or-range_with_len, Has, has_passed, has_passed_all, IfSome, is_empty, is_kept, is_named, is_visible, IsOver, IsPermutation-sym, IsSoundBatch, IsSoundOrder, IsSoundRow, IsTrue, Joined, joined, joined_row, keeps_so_far, length, length-range_with_len, List, list_all, list_any, list_any-from_Any, map, nat_lt, nat_tests, OnRoster, option_map_or, passes, PlainVersion, Query, range_with_len, references, refl, Schema, Selection, selection_in, slice_get, slice_get_at, Some, State, Store, subst, sym, tables_of, takes, takes_at, true, Unnamed, ℕ, ⊎_elim}
+use Rattle.core_state.proofs.Words.{◌&&◌, ◌+◌, ◌<◌, ◌↔◌, ◌∙◌, ◌≡◌, ◌≤◌, ◌⊎◌, [], All, All-permutation, AllRows, ap, AreSoundFilters, arith, bit_at, Bool, Chosen, cond, Contains, eq-eqb, eqb, eqb-true, fact_columns, false, Flight, frame_words, get_or, Has, has_passed, has_passed_all, IfSome, is_empty, is_kept, is_named, is_visible, IsOver, IsPermutation-sym, IsSoundBatch, IsSoundOrder, IsSoundRow, IsTrue, Joined, joined, joined_row, keeps_so_far, length, List, list_all, list_any, list_any-from_Any, map, nat_lt, nat_tests, OnRoster, option_map_or, passes, PlainVersion, Query, range_with_len, references, refl, Schema, Selection, selection_in, slice_get, slice_get_at, Some, State, Store, subst, sym, tables_of, takes, takes_at, true, Unnamed, ℕ, ⊎_elim}
+use Rattle.std.proofs.lemmas.List.Sums.{AllPass-from_list_all}
 use Rattle.star_values.specs.declared.value.Value as cell
+use Rattle.star_history.proofs.FoundLemmas.{second_true}
+use Rattle.core_state.proofs.CutFoundLemmas.{at-below, from-filter}
 use Rattle.core_state.proofs.FoundLemmas.{some-at}
-use Rattle.core_state.proofs.GiveLemmas.{all-asked, all-pass, all-three, asked, pass-all, three-all}
+use Rattle.core_state.proofs.GiveLemmas.{all-asked, all-three, asked, at-each, each-at, three-all}
 use Rattle.core_state.proofs.KeyedLemmas.{begun-by, takes-at}
 use Rattle.core_state.proofs.ReleaseLemmas.{none-in}
-
--- a test of all numbers below one is a test of each
-at-each : (p : ℕ → Bool) (count : ℕ) → list_all p (range_with_len 0 count) ≡ true → (n : ℕ) → n < count → p n ≡ true
-at-each p count holds n low =
-    let at : get_or (range_with_len 0 count) n 0 ≡ n = get_or-range_with_len 0 count n 0 low ∙ (omega arith) in
-    let inside : n < length (range_with_len 0 count) = omega (arith, length-range_with_len 0 count) in
-    subst (λ m. p m ≡ true) at (all-pass p (range_with_len 0 count) holds n 0 inside)
-
-each-at : (p : ℕ → Bool) (count : ℕ) → ((n : ℕ) → n < count → p n ≡ true) → list_all p (range_with_len 0 count) ≡ true
-each-at p count holds = pass-all p (range_with_len 0 count) (λ k d low.
-    let inside : k < count = omega (arith, length-range_with_len 0 count) in
-    let at : get_or (range_with_len 0 count) k d ≡ k = get_or-range_with_len 0 count k d inside ∙ (omega arith) in
-    subst (λ n. p n ≡ true) (sym at) (holds k inside))
-
--- what holds of all that pass a test holds of each number that passes it
-from-filter : (P : ℕ → Type 0) (p : ℕ → Bool) (xs : List ℕ) → All P (filter p xs) → All (λ x. p x ≡ true → P x) xs
-from-filter P p [] all = All-nil (λ x. p x ≡ true → P x)
-from-filter P p (x ∷ xs) all = by_test (p x) refl all (from-filter P p xs)
-  where
-    by_test : (t : Bool) → p x ≡ t → All P (cond {A = List ℕ} t (x ∷ filter p xs) (filter p xs))
-        → (All P (filter p xs) → All (λ y. p y ≡ true → P y) xs) → All (λ y. p y ≡ true → P y) (x ∷ xs)
-    by_test true is h rest =
-        All-cons (λ y. p y ≡ true → P y) x xs (λ e. All-head P x (filter p xs) h) (rest (All-tail P x (filter p xs) h))
-    by_test false is h rest =
-        All-cons (λ y. p y ≡ true → P y) x xs (λ e. absurd (let both : true ≡ false = sym e ∙ is in cc)) (rest h)
 
 -- a batch that has passed all of the order has passed the filter of each dimension that the fact table references
 abbrev PassedAll : Schema → (passed : ℕ) → Type 0
@@ -44,14 +22,11 @@ passed-all state flight filters order through dimension low referenced =
     let dimensions = map (λ version. version.filter.dimension) state.filters.versions in
     let of_filters : All Passed dimensions =
     All-permutation Passed state.filters.order dimensions (IsPermutation-sym dimensions state.filters.order order.order)
-    (all-pass (has_passed flight) state.filters.order through) in
+    (AllPass-from_list_all (has_passed flight) state.filters.order through) in
     let test : ℕ → Bool = λ d. list_any (references d) (fact_columns schema) in
-    let all = range_with_len 0 (length schema.dimensions) in
-    let at : get_or all dimension dimension ≡ dimension = get_or-range_with_len 0 (length schema.dimensions) dimension dimension low ∙ (omega arith) in
-    let inside : dimension < length all = omega (arith, length-range_with_len 0 (length schema.dimensions)) in
     eqb-true (bit_at flight.rows.passed dimension) 1
-    (subst (λ d. test d ≡ true → Passed d) at
-    (from-filter Passed test all (subst (All Passed) filters.dimensions of_filters) dimension dimension inside) referenced)
+    (at-below (λ d. test d ≡ true → Passed d) (length schema.dimensions)
+    (from-filter Passed test (range_with_len 0 (length schema.dimensions)) (subst (All Passed) filters.dimensions of_filters)) dimension low referenced)
 
 -- of a dimension that it does not name a query takes any row
 unnamed-takes : (selection : Selection) (row : List cell.Value) → is_named selection ≡ false → takes selection row ≡ true
@@ -115,11 +90,8 @@ same-tests false false to from = refl
 
 no-bit : (bits : List ℕ) (row slot : ℕ) → list_all (λ word. eqb word 0) bits ≡ true → row < length bits → Has (get_or bits row 0) slot → ⊥
 no-bit bits row slot empty low has =
-    let zero_word : get_or bits row 0 ≡ 0 = eqb-true (get_or bits row 0) 0 (at-list bits empty row low) in
+    let zero_word : get_or bits row 0 ≡ 0 = eqb-true (get_or bits row 0) 0 (AllPass-from_list_all (λ word. eqb word 0) bits empty row 0 low) in
     none-in slot (subst (λ word. Has word slot) zero_word has)
-  where
-    at-list : (words : List ℕ) → list_all (λ word. eqb word 0) words ≡ true → (k : ℕ) → k < length words → eqb (get_or words k 0) 0 ≡ true
-    at-list words all k inside = all-pass (λ word. eqb word 0) words all k 0 inside
 
 -- a version that a query sees is below its extent
 abbrev pub SeesBelow : Store → (snapshot extent : ℕ) → Type 0
@@ -187,13 +159,9 @@ row-agrees state flight entry extent filters order through sound on over sees ro
 
     from_kept : (below && (seen && (fact && all_taken))) ≡ true → eqb (bit_at (get_or flight.rows.bits row 0) entry.slot) 1 ≡ true
     from_kept is =
-        let parts = all-three seen fact all_taken (second below (seen && (fact && all_taken)) is) in
+        let parts = all-three seen fact all_taken (second_true below (seen && (fact && all_taken)) is) in
         let count = over.choices in
         eq-eqb (bit_at (get_or flight.rows.bits row 0) entry.slot) 1
         (bits.1 (three-all seen fact all_asked parts.0 parts.1
         (asked-all (takes_at entry.query row_of) flight.rows.passed (length store.schema.dimensions)
         (subst (λ n. list_all (takes_at entry.query row_of) (range_with_len 0 n) ≡ true) count parts.2))))
-      where
-        second : (a b : Bool) → (a && b) ≡ true → b ≡ true
-        second true b e = e
-        second false b e = absurd (let both : false ≡ true = e in cc)

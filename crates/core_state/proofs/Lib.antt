@@ -62,8 +62,8 @@ pub mod HandHeldLemmas
 pub mod StepLemmas
 pub mod AnswerLemmas
 pub mod LaterLemmas
+pub mod SaysLemmas
 pub mod WholeLivesLemmas
-pub mod WholeSeatsLemmas
 pub mod WholeFrameLemmas
 pub mod WholeToldLemmas
 pub mod WholeStepLemmas
@@ -73,7 +73,6 @@ pub mod StepSeatLemmas
 pub mod StepToldLemmas
 pub mod SinceLemmas
 pub mod EffectLemmas
-pub mod WholeRunLemmas
 pub mod AbandonedLivesLemmas
 pub mod AbandonedLemmas
 pub mod ScannedListLemmas
@@ -83,13 +82,7 @@ pub mod ScannedCutLemmas
 pub mod ScannedBatchLemmas
 pub mod ScannedAfterLemmas
 pub mod ScannedLifeLemmas
-pub mod ScannedStartLemmas
 pub mod ScannedTestLemmas
-pub mod ScannedFrameLemmas
-pub mod ScannedEventLemmas
-pub mod ScannedOverLemmas
-pub mod ViewLemmas
-pub mod ScannedSubmitLemmas
 pub mod HandedListLemmas
 pub mod HandedKeyLemmas
 pub mod HandedLemmas
@@ -101,6 +94,11 @@ pub mod HandedFoldLemmas
 pub mod HandedAfterLemmas
 pub mod HandedLeftLemmas
 pub mod AttachedFrameLemmas
+pub mod ViewLemmas
+pub mod ViewEventLemmas
+pub mod ScannedStartLemmas
+pub mod ScannedOverLemmas
+pub mod ScannedEventLemmas
 pub mod AttachedStartLemmas
 pub mod AttachedOverLemmas
 pub mod AttachedEventLemmas
@@ -109,4 +107,3 @@ pub mod LoggedPlaceLemmas
 pub mod LoggedRowsLemmas
 pub mod LoggedLemmas
 pub mod LoggedDeleteLemmas
-pub mod LoggedStepLemmas

@@ -26,7 +26,7 @@ sound-released slot state can old =
           let entry = (old.batches k d low).roster j e within in
           entry-set state state.lives.queries slot Free (get_or (get_or state.scan.flights k d).roster j e)
           (λ same. let both : Held (get_or (get_or state.scan.flights k d).roster j e).number entry.held.0 ≡ Clearing 0 =
-          sym entry.held.1 ∙ subst (λ at. slot_at state.lives at ≡ Clearing 0) (sym same) can in cc) entry.life entry;
+          sym entry.held.1 ∙ subst (λ at. slot_at state.lives at ≡ Clearing 0) (sym same) can in cc) (λ on. on, refl) entry;
       queries_now = record { same = old.queries.same; each = old.queries.each };
       slots_now = record {
         lives = sound-after_free slot state.lives there can old.slots.lives;
@@ -38,7 +38,9 @@ sound-released slot state can old =
             state.lives.slots slot other Free Free inside (λ same is. cc) (λ apart. old.slots.built other query built inside) held;
       };
       quiet = λ none. All-set (λ at. at ≡ Free) state.lives.slots slot Free refl (old.quiet none).2;
+      versions = old.numbers.versions;
+      unnumbered = old.numbers.unnumbered;
       order = old.order;
-      wanted = λ query. (λ h. h, λ h. h);
+      wanted = λ query. (λ h. h, λ h. h, λ h. h);
     } in
     sound-held state state.lives.queries slots state.filters state.numbers.version now old

@@ -15,7 +15,9 @@ sound-reordered state old =
       queries_now = record { same = old.queries.same; each = old.queries.each };
       slots_now = record { lives = old.slots.lives; count = old.slots.count; built = old.slots.built };
       quiet = λ none. (old.quiet none).2;
+      versions = old.numbers.versions;
+      unnumbered = old.numbers.unnumbered;
       order = record { tallies = old.order.tallies; count = old.order.count; order = order_by-permutes state.filters };
-      wanted = λ query. (λ h. h, λ h. h);
+      wanted = λ query. (λ h. h, λ h. h, λ h. h);
     } in
     sound-held state state.lives.queries state.lives.slots filters state.numbers.version now old

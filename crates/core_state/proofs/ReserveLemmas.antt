@@ -2,7 +2,7 @@
 use Rattle.core_state.proofs.Words.{◌<◌, ◌∙◌, ◌≡◌, [], after_reserving, ap, Filter, FitsSlot, Free, get_or, gets_rows, Has, Held, IfSome, IsSound, IsTrue, length, length-set, Life, life_in, life_in-same, map, MayBeOnRoster, MayReserve, None, oldest-waits, option_map, option_map_or, refl, set, slot_at, Some, State, subst, sym, tables_of, with_life, ℕ, ⊎_elim}
 use Rattle.pipeline_manager.specs.declared.life.Life.TheVariants as life
 use Rattle.pipeline_manager.proofs.CallLemmas.{sound-reserved}
-use Rattle.core_state.proofs.FoundLemmas.{life-written, no-life}
+use Rattle.core_state.proofs.FoundLemmas.{extents-written, life-written, no-life}
 use Rattle.core_state.proofs.FrameLemmas.{at-set}
 use Rattle.core_state.proofs.HeldLemmas.{entry-set, filters-held, fits-set}
 use Rattle.core_state.proofs.MovedLemmas.{Holds, sound-held}
@@ -35,8 +35,10 @@ sound-with_reserved query slot state can old =
           let on = get_or (get_or state.scan.flights k d).roster j e in
           entry-set state queries slot (Held query 0) on
           (λ same. let both : Held on.number entry.held.0 ≡ Free =
-          sym entry.held.1 ∙ subst (λ at. slot_at state.lives at ≡ Free) (sym same) can.is_free in cc)
-          (life-written MayBeOnRoster query life.Waiting life.Building state.lives.queries on.number waits (λ never. never) entry.life) entry;
+          sym entry.held.1 ∙ subst (λ at. slot_at state.lives at ≡ Free) (sym same) can.is_free in cc) (
+            life-written MayBeOnRoster query life.Waiting life.Building state.lives.queries on.number waits (λ never. never),
+            extents-written query life.Building state.lives.queries on.number,
+          ) entry;
       queries_now = queries-written state query life.Waiting life.Building slots state.filters state.numbers.version waits
           (λ accepted extent same found was. was.0) (λ wanted. refl) old.queries;
       slots_now = record {
@@ -55,8 +57,10 @@ sound-with_reserved query slot state can old =
           let queries_none : map (λ entry. entry.query) state.lives.queries ≡ [] =
           sym old.queries.same ∙ ap (map (λ accepted. accepted.number)) (old.quiet none).0 in
           let both : None ≡ Some life.Waiting = sym (no-life state.lives.queries queries_none query) ∙ waits in cc;
+      versions = old.numbers.versions;
+      unnumbered = old.numbers.unnumbered;
       order = old.order;
-      wanted = wanted-written state query life.Waiting life.Building waits (λ h is. cc) (λ h. ⊎_elim (λ e. cc) (λ e. cc) h);
+      wanted = wanted-written state query life.Waiting life.Building waits (λ is. cc) (λ is. cc) (λ h. ⊎_elim (λ e. cc) (λ e. cc) h);
     } in
     sound-held state queries slots state.filters state.numbers.version now old
   where

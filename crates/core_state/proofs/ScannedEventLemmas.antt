@@ -1,72 +1,43 @@
--- Events that leave a scan as it is.
-use Rattle.core_state.proofs.Words.{◌∙◌, ◌∷◌, ◌≡◌, [], Accepted, after_finish, after_reserving, after_taking, ap, Bool, Clearing, cond, false, forgotten, Free, given_up, Held, holder_of, inl, inr, is_ending, IsScannedAs, IsSound, length-set, Life, life_in, life_of, List, Lives, map, MayFinish, MayReserve, None, oldest-waits, Option, option_and_then, option_map_or, Pending, QueryLife, refl, Scanning, seat_at, set, slot_at, SlotState, Some, start_in, State, subst, sym, take, true, with_life, without_groups, ℕ}
-use Rattle.pipeline_manager.specs.Conditions.{IsOver, gives_up}
-use Rattle.pipeline_manager.specs.declared.life.Life.TheVariants as life
+-- A scan of an empty core, and what the other events leave of a scan.
+use Rattle.core_state.proofs.Words.{◌<◌, ◌∙◌, ◌∷◌, ◌≡◌, [], Accepted, after_build_wants, after_reorder, after_take, after_taking, ap, arith, Build, CanBuild, Clear, Distribute, empty_core, Event, Finish, forgotten, Free, get_or, get_or-replicate, Give, holder_of, IsEnabled, IsScannedAs, IsSound, length, length-replicate, life_of, List, Lives, map, None, Option, option_and_then, outcome_of, Pending, refl, Release, Reorder, replicate, Reserve, RunSettings, Scanning, seat_at, slot_at, start_in, State, Submit, subst, sym, tables_of, take, Take, without_groups, ℕ}
+use Rattle.continuous_scan.specs.Range.{new_scan}
+use Rattle.core_state.specs.Events.{after_event}
+use Rattle.core_state.specs.Scanned.{LeavesScan}
 use Rattle.core_state.proofs.AnewLemmas.{forgets}
-use Rattle.core_state.proofs.FrameLemmas.{at-set}
-use Rattle.core_state.proofs.ScannedFrameLemmas.{StaysBy, found-kept, scanned-stays, start_by, written-rests, written-stays}
+use Rattle.core_state.proofs.ScannedCutLemmas.{RunsBy}
+use Rattle.core_state.proofs.ScannedOverLemmas.{asked-stays, found-kept, scanned-distribute}
 use Rattle.core_state.proofs.ScannedRunLemmas.{found_by}
+use Rattle.core_state.proofs.ViewLemmas.{scanned-none, scanned-stays, scanned-views}
+use Rattle.core_state.proofs.ViewEventLemmas.{IsTakenFrom, views-all, views-build, views-clear, views-finish, views-give, views-outcome, views-release, views-reserve, views-wants}
 
-pub scanned-reserve : (state : State) (scan : Scanning) (query slot : ℕ) → IsSound state → MayReserve query slot state → IsScannedAs state scan
-    → IsScannedAs (after_reserving slot state) scan
-scanned-reserve state scan query slot sound may same =
-    subst (λ o. IsScannedAs (record state { lives = option_map_or reserved o state.lives }) scan) (sym may.oldest)
-    (scanned-stays state (record state { lives = reserved query }) scan refl (length-set state.lives.slots slot (Held query 0))
-    (λ at low. at-set
-    (λ s. StaysBy state.accepted state.accepted state.lives (reserved query) at (holder_of (slot_at state.lives at)) (holder_of s))
-    state.lives.slots slot at (Held query 0) Free low
-    (λ is. inl (
-      ap (λ n. start_by state.lives (holder_of (slot_at state.lives n))) is ∙ ap (λ s. start_by state.lives (holder_of s)) may.is_free,
-      written-rests state.lives query life.Building refl,
-    ))
-    (λ apart. written-stays state.accepted state.lives at (holder_of (slot_at state.lives at)) query life.Building
-    (ap (option_and_then start_in) (oldest-waits state.lives.queries query sound.slots.lives.rising may.oldest)) refl)) same)
-  where
-    reserved : ℕ → Lives
-    reserved number = record state.lives {
-      queries = with_life number life.Building state.lives.queries;
-      slots = set state.lives.slots slot (Held number 0);
-    }
+-- where a slot is taken from its query, nobody ran in it
+scanned-finish : (state later : State) (scan : Scanning) (slot : ℕ) → IsTakenFrom state later slot → IsScannedAs state scan → IsScannedAs later scan
+scanned-finish state later scan slot taken = scanned-none state later scan slot taken.views taken.before
+    (ap (λ holder. option_and_then start_in (option_and_then (life_of later.lives) holder)) taken.after)
 
--- a query that gives up does not run
-over-rests : (o : Option Life) → option_map_or gives_up o false ≡ true → option_and_then start_in o ≡ None
-over-rests (Some (life.Running start left)) over = absurd (let both : false ≡ true = over in cc)
-over-rests other over = refl
+-- each event that leaves a scan
+pub scanned-event : (state : State) (scan : Scanning) (event : Event) → IsSound state → IsEnabled state event → LeavesScan event
+    → IsScannedAs state scan → IsScannedAs (after_event event state) scan
+unfolding after_event
+scanned-event state scan (Submit seat statement) sound may leaves =
+    scanned-views state _ scan (views-outcome state seat (outcome_of (tables_of state) statement) sound)
+scanned-event state scan (Reserve query slot) sound may leaves = scanned-views state _ scan (views-reserve state query slot sound may)
+scanned-event state scan (Build query dimension) sound may leaves = scanned-views state _ scan (views-build state query dimension)
+scanned-event state scan (Take worker batch) sound may leaves = scanned-views state (after_take worker batch state) scan
+    (views-all state (after_take worker batch state) (record { position = refl; accepted = refl; queries = refl; slots = refl }))
+scanned-event state scan (Give worker) sound may leaves = scanned-views state _ scan (views-give state worker)
+scanned-event state scan (Distribute batch) sound may leaves = scanned-distribute state scan batch [] sound may.there
+scanned-event state scan (Finish slot) sound may leaves = scanned-finish state _ scan slot (views-finish state slot sound may)
+scanned-event state scan (Clear slot dimension) sound may leaves = scanned-views state _ scan (views-clear state slot dimension)
+scanned-event state scan (Release slot) sound may leaves = scanned-views state _ scan (views-release state slot may)
+scanned-event state scan Reorder sound may leaves = scanned-views state (after_reorder state) scan
+    (views-all state (after_reorder state) (record { position = refl; accepted = refl; queries = refl; slots = refl }))
+scanned-event state scan other sound may leaves = absurd leaves
 
-pub scanned-finish : (state : State) (scan : Scanning) (slot : ℕ) → MayFinish slot state → IsScannedAs state scan
-    → IsScannedAs (after_finish slot state) scan
-scanned-finish state scan slot may same = by_slot (slot_at state.lives slot) refl may.over
-  where
-    ended : (query built : ℕ) → List QueryLife → State
-    ended query built queries = record state {
-      lives = record state.lives { queries = queries; slots = set state.lives.slots slot (Clearing built) };
-    }
-
-    stays : (query built : ℕ) → slot_at state.lives slot ≡ Held query built → option_and_then start_in (life_of state.lives query) ≡ None
-        → (queries : List QueryLife)
-        → ((at : ℕ) → StaysBy state.accepted state.accepted state.lives (ended query built queries).lives at (holder_of (slot_at state.lives at))
-        (holder_of (slot_at state.lives at)))
-        → IsScannedAs (ended query built queries) scan
-    stays query built is rests queries others =
-        scanned-stays state (ended query built queries) scan refl (length-set state.lives.slots slot (Clearing built))
-        (λ at low. at-set
-        (λ s. StaysBy state.accepted state.accepted state.lives (ended query built queries).lives at (holder_of (slot_at state.lives at)) (holder_of s))
-        state.lives.slots slot at (Clearing built) Free low
-        (λ here. inl (ap (λ n. start_by state.lives (holder_of (slot_at state.lives n))) here ∙ ap (λ s. start_by state.lives (holder_of s)) is ∙ rests, refl))
-        (λ apart. others at)) same
-
-    by_test : (query built : ℕ) → slot_at state.lives slot ≡ Held query built → option_and_then start_in (life_of state.lives query) ≡ None
-        → (t : Bool) → IsScannedAs (ended query built (cond {A = List QueryLife} t (with_life query life.Answered state.lives.queries) state.lives.queries)) scan
-    by_test query built is rests true = stays query built is rests (with_life query life.Answered state.lives.queries)
-        (λ at. written-stays state.accepted state.lives at (holder_of (slot_at state.lives at)) query life.Answered rests refl)
-    by_test query built is rests false = stays query built is rests state.lives.queries (λ at. inr (refl, refl))
-
-    by_slot : (now : SlotState) → slot_at state.lives slot ≡ now → IsOver now state.lives
-        → IsScannedAs (record state { lives = given_up slot now state.lives }) scan
-    by_slot Free is over = absurd over
-    by_slot (Held query built) is over = by_test query built is (over-rests (life_of state.lives query) over)
-        (option_map_or is_ending (life_in state.lives.queries query) false)
-    by_slot (Clearing left) is over = absurd over
+-- a query that finds no memory as a filter is built for it did not run
+pub scanned-wants : (state : State) (scan : Scanning) (query dimension : ℕ) → CanBuild query dimension state.lives → IsScannedAs state scan
+    → IsScannedAs (after_build_wants query state) scan
+scanned-wants state scan query dimension can = scanned-views state (after_build_wants query state) scan (views-wants state query dimension can)
 
 -- nothing is kept any more for some statements
 found-without : (pending : List Pending) (accepted : List Accepted) (lives : Lives) (slot : ℕ) (holder : Option ℕ)
@@ -78,4 +49,18 @@ found-without (asked ∷ pending) accepted lives slot holder =
 
 pub scanned-taking : (state : State) (scan : Scanning) (seat : ℕ) → IsScannedAs state scan → IsScannedAs (after_taking seat state) scan
 scanned-taking state scan seat = scanned-stays state (after_taking seat state) scan refl refl
-    (λ at low. inr (refl, found-without (take 1 (seat_at state seat).pending) state.accepted state.lives at (holder_of (slot_at state.lives at))))
+    (λ at low. asked-stays state.lives state.accepted (after_taking seat state).accepted at scan.running
+    (found-without (take 1 (seat_at state seat).pending) state.accepted state.lives at (holder_of (slot_at state.lives at))))
+
+-- a new scan has what runs in an empty core
+pub scanned-empty : (settings : RunSettings) → IsScannedAs (empty_core settings) (new_scan settings.slots)
+scanned-empty settings = record {
+  position = refl;
+  count = length-replicate settings.slots None ∙ sym (length-replicate settings.slots Free);
+  slots = λ slot low.
+      let many : length (replicate settings.slots Free) ≡ settings.slots = length-replicate settings.slots Free in
+      let inside : slot < settings.slots = omega arith in
+      subst (λ s. RunsBy [] (empty_core settings).lives slot (holder_of s) (get_or (replicate settings.slots None) slot None))
+      (sym (get_or-replicate settings.slots slot Free Free inside))
+      (subst (RunsBy [] (empty_core settings).lives slot None) (sym (get_or-replicate settings.slots slot None None inside)) tt);
+}

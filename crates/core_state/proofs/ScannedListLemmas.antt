@@ -2,8 +2,8 @@
 use Rattle.core_state.proofs.Words.{◌++◌, ◌+◌, ◌<◌, ◌∙◌, ◌∷◌, ◌≡◌, [], ap, append-nil, arith, Bool, cond, cons_option, end_at_start, false, filter, filter-append, filter_map, filter_map-append, fold-append, get_or, length, List, None, OnRoster, Option, option_map, option_map_or, range_with_len, refl, Running, slots_of, Some, suc, sym, true, with_number, zero, ℕ}
 use Rattle.std.specs.Prelude.{fold}
 use Rattle.continuous_scan.specs.Stamped.{numbers_below}
+use Rattle.continuous_scan.proofs.EndLemmas.{lowered}
 use Rattle.continuous_scan.proofs.LapLemmas.{range_parts}
-use Rattle.core_state.proofs.CutRangeLemmas.{lowered}
 
 -- an end is lowered to the starts that are found in the slots
 pub same-end : (starts : ℕ → Option ℕ) (first end from : ℕ) (running : List (Option Running))

@@ -1,13 +1,13 @@
 -- The conditions of the queries that a scan has may be asked of each version of the fact table.
-use Rattle.core_state.proofs.Words.{◌<◌, ◌↔◌, ◌∙◌, ◌≡◌, [], All, All-nil, All-weaker, ap, AreTablesOf, arith, changes_of, eqb, fact_columns, get_or, get_or-map, get_or_default, IfSome, IsSameRun, IsScannedAs, IsSettled, IsSound, IsSoundQuery, IsTrue, KeyedStore, length, length-map, life_at, List, map, None, OnRoster, Option, option_map_or, plain_version, PlainVersion, Query, query_of, refl, Running, running_at, RunsAs, Scanning, Some, State, Store, subst, sym, TableDef, tables_of, true, Version, ℕ}
+use Rattle.core_state.proofs.Words.{◌<◌, ◌↔◌, ◌∙◌, ◌≡◌, [], All, All-nil, All-weaker, ap, AreTablesOf, arith, changes_of, fact_columns, get_or, get_or-map, get_or_default, IfSome, inl, inr, IsScannedAs, IsSettled, IsSound, IsSoundQuery, IsTrue, KeyedStore, length, length-map, List, map, None, OnRoster, Option, option_map_or, plain_version, PlainVersion, Query, query_of, refl, Running, Scanning, Some, State, Store, subst, sym, TableDef, tables_of, true, Version, ℕ}
 use Rattle.star_values.specs.Value.{kinds_in}
 use Rattle.star_values.specs.declared.value.Value as cell
 use Rattle.star_plan.specs.Columns.{kinds_of}
 use Rattle.star_plan.specs.Fits.{fits_table, some_test_fits}
 use Rattle.continuous_scan.specs.Stamped.{CanTest, CanTestAll}
-use Rattle.core_state.proofs.AcceptedLemmas.{find-holds}
-use Rattle.core_state.proofs.CutRosterLemmas.{RunsIn, runs-in}
+use Rattle.core_state.proofs.AcceptedLemmas.{of-accepted}
 use Rattle.core_state.proofs.GivenLemmas.{Settles}
+use Rattle.core_state.proofs.ScannedRunLemmas.{slot-cases}
 
 -- a row fits a table where its values have the kinds of the table's columns
 abbrev pub FitByKinds : Type 0
@@ -35,23 +35,16 @@ FitsTable state (Some r) = some_test_fits (kinds_of (fact_columns (tables_of sta
 
 slot-fits : (state : State) (scan : Scanning) (slot : ℕ) → IsSound state → IsScannedAs state scan → slot < length state.lives.slots
     → FitsTable state (get_or scan.running slot None)
-slot-fits state scan slot sound same low = by_slot (running_at state slot) (get_or scan.running slot None) refl (same.slots slot low)
-  where
-    by_entry : (entry : OnRoster) (r : Running) → running_at state slot ≡ Some entry → IsSameRun (life_at state.lives slot) entry r
-        → FitsTable state (Some r)
-    by_entry entry r is run =
-        let here : RunsIn state slot entry = runs-in state slot entry is in
-        let of_query : IsSoundQuery state here.accepted =
-        find-holds (IsSoundQuery state) (λ a. eqb a.number here.accepted.number) state.accepted here.accepted here.found sound.queries.each in
-        let asked : query_of r.query ≡ here.accepted.query = run.query ∙ ap (λ (e : OnRoster). e.query) here.is in
-        ap (λ (query : Query). some_test_fits (kinds_of (fact_columns (tables_of state).schema)) query.fact) asked ∙ of_query.over.fact
-
-    by_slot : (o : Option OnRoster) (running : Option Running) → running_at state slot ≡ o → RunsAs (life_at state.lives slot) o running
-        → FitsTable state running
-    by_slot None None is fits = tt
-    by_slot None (Some r) is fits = absurd fits
-    by_slot (Some entry) None is fits = absurd fits
-    by_slot (Some entry) (Some r) is fits = by_entry entry r is fits
+slot-fits state scan slot sound same low =
+    elim (slot-cases state slot (get_or scan.running slot None) sound low (same.slots slot low)) [
+      | inl none ↦ subst (FitsTable state) (sym none.1) tt
+      | inr runs ↦
+          let of_query : IsSoundQuery state runs.here.accepted =
+          (of-accepted state runs.here.accepted.number runs.here.accepted sound.queries runs.here.found).0 in
+          let asked : query_of runs.run.query ≡ runs.here.accepted.query = runs.same.query ∙ ap (λ (e : OnRoster). e.query) runs.here.is in
+          subst (FitsTable state) (sym runs.there)
+          (ap (λ (query : Query). some_test_fits (kinds_of (fact_columns (tables_of state).schema)) query.fact) asked ∙ of_query.over.fact)
+    ]
 
 -- it may be asked of a version whose values have the kinds of the columns
 slot-asks : (state : State) (version : Version) (running : Option Running)

@@ -1,21 +1,31 @@
 -- What stays sound of seats where other groups are kept of accepted queries.
-use Rattle.core_state.proofs.Words.{◌++◌, ◌<◌, ◌∙◌, ◌∷◌, ◌≡◌, ◌≢◌, ◌≤◌, ◌⊎◌, [], Accepted, All, All-cons, All-filter, All-head, All-map, All-tail, all_pairs_head, all_pairs_tail, AllPairs, AllPairs-cons, ap, AreSoundSeats, arith, Bool, cases_eq, cases_lt, cond, Contains, empty_seat, false, filter, get_or, get_or-set_other, get_or-set_same, get_or_default, get_or_past, IfSome, inl, inr, IsAwaited, IsSoundSeat, length, life_in, List, map, option_map, Pending, QueryLife, Scan, Seat, set, State, subst, sym, true, ℕ, ⊎_elim}
+use Rattle.core_state.proofs.Words.{◌++◌, ◌<◌, ◌∙◌, ◌∷◌, ◌≡◌, ◌≢◌, ◌≤◌, ◌⊎◌, [], Accepted, All, All-cons, All-filter, All-head, All-map, All-tail, All-weaker, all_pairs_head, all_pairs_tail, AllPairs, AllPairs-cons, ap, AreSoundSeats, arith, Bool, cases_eq, cases_lt, cond, Contains, Contains-append_left, Contains-append_right, Contains-push, empty_seat, false, filter, get_or, get_or-set_other, get_or-set_same, get_or_default, get_or_past, IfSome, inl, inr, IsAccountedFor, IsAwaited, IsSoundSeat, length, life_in, List, map, option_map, Pending, QueryLife, refl, Scan, Seat, set, Some, State, subst, sym, true, ℕ, ⊎_elim}
+use Rattle.std.proofs.lemmas.Map.Made.{Contains-tail}
+use Rattle.pipeline_manager.specs.declared.life.Life.TheVariants as life
 use Rattle.core_state.proofs.AnewLemmas.{KeepsAsked, by-change, found-anew, has-anew, kept_anew}
-use Rattle.core_state.proofs.FrameLemmas.{Told, Wanted, awaited-there, seat-lasts}
+use Rattle.core_state.proofs.FrameLemmas.{StaysAsked, Told, Wanted, awaited-there, seat-lasts, seat-waits}
+use Rattle.core_state.proofs.WholeLivesLemmas.{StayLost}
+
+-- what is asked and told stays so
+asked-anew : (state : State) (change : Accepted → Accepted) → KeepsAsked change → (queries : List QueryLife)
+    → ((number : ℕ) → IfSome (life_in state.lives.queries number) Told → IfSome (life_in queries number) Told) → StayLost state.lives.queries queries
+    → (number : ℕ) → StaysAsked state.accepted (map change state.accepted) state.lives.queries queries number
+asked-anew state change keeps queries told lost number = record {
+  none = λ none. found-anew change keeps number state.accepted ∙ ap (option_map change) none;
+  has = has-anew change keeps state.accepted number;
+  told = told number;
+  lost = lost number;
+}
 
 -- a seat is as sound as it was where what it waits for is still wanted
 pub seat-anew : (state : State) (change : Accepted → Accepted) → KeepsAsked change → (queries : List QueryLife) (seat : Seat)
     → All (λ pending. IfSome (life_in state.lives.queries pending.statement) Wanted → IfSome (life_in queries pending.statement) Wanted) seat.pending
-    → ((number : ℕ) → IfSome (life_in state.lives.queries number) Told → IfSome (life_in queries number) Told)
+    → ((number : ℕ) → IfSome (life_in state.lives.queries number) Told → IfSome (life_in queries number) Told) → StayLost state.lives.queries queries
     → IsSoundSeat state.numbers.statement state.accepted state.lives.queries seat
     → IsSoundSeat state.numbers.statement (map change state.accepted) queries seat
-seat-anew state change keeps queries seat wanted told old =
+seat-anew state change keeps queries seat wanted told lost old =
     seat-lasts state.numbers.statement state.numbers.statement state.accepted (map change state.accepted) state.lives.queries queries seat (omega arith)
-    (λ number given. record {
-      none = λ none. found-anew change keeps number state.accepted ∙ ap (option_map change) none;
-      has = has-anew change keeps state.accepted number;
-      told = told number;
-    }) (λ k d low given. wanted k d low) old
+    (λ number given. asked-anew state change keeps queries told lost number) (λ k d low given. wanted k d low) old
 
 -- a part of seats that is the same in a seat that is changed is the same in all
 pub part-stays : {X : Type 0} (part : Seat → X) (seats : List Seat) (seat : ℕ) (now : Seat) → seat < length seats
@@ -110,16 +120,47 @@ pairs-fewer R number_of p (x ∷ front) ys pairs =
     (all-fewer (R x) number_of p front ys (all_pairs_head R x (front ++ map number_of ys) pairs))
     (pairs-fewer R number_of p front ys (all_pairs_tail R x (front ++ map number_of ys) pairs))
 
--- a seat that waits for less is sound
-pub seat-fewer : (state : State) (p : Pending → Bool) (seat : Seat) → IsSoundSeat state.numbers.statement state.accepted state.lives.queries seat
-    → IsSoundSeat state.numbers.statement state.accepted state.lives.queries (record seat { pending = filter p seat.pending })
-seat-fewer state p seat old = record {
-  rising = old.rising;
-  given = old.given;
-  in_order = pairs-fewer (λ statement later. statement < later) (λ pending. pending.statement) p (map (λ taken. taken.statement) seat.taken)
-      seat.pending old.in_order;
-  submitted = all-fewer (Contains seat.submitted) (λ pending. pending.statement) p (map (λ taken. taken.statement) seat.taken)
-      seat.pending old.submitted;
-  taken = old.taken;
-  awaited = All-filter p (λ pending. IsAwaited state.accepted state.lives.queries pending.statement pending.awaited) seat.pending old.awaited;
-}
+-- a number of a list is the first, or one of the others
+pub contains-cases : (first : ℕ) (rest : List ℕ) (number : ℕ) → Contains (first ∷ rest) number → (first ≡ number) ⊎ Contains rest number
+contains-cases first rest number has =
+    ⊎_elim (λ same. inl same) (λ apart. inr (Contains-tail first rest number apart has)) (cases_eq first number)
+
+-- a number of a list is that of one that passes a test, or of one that does not
+passes-cases : {X : Type 0} (number_of : X → ℕ) (p : X → Bool) (Q : ℕ → Type 0) → ((x : X) → p x ≡ false → Q (number_of x)) → (xs : List X) (number : ℕ)
+    → Contains (map number_of xs) number → Contains (map number_of (filter p xs)) number ⊎ Q number
+passes-cases number_of p Q fails [] number has = inl has
+passes-cases {X = X} number_of p Q fails (x ∷ xs) number has =
+    by_test (p x) refl (contains-cases (number_of x) (map number_of xs) number has) (passes-cases number_of p Q fails xs number)
+  where
+    rest : List ℕ
+    rest = map number_of (filter p xs)
+
+    by_test : (t : Bool) → p x ≡ t → (number_of x ≡ number) ⊎ Contains (map number_of xs) number
+        → (Contains (map number_of xs) number → Contains rest number ⊎ Q number)
+        → Contains (map number_of (cond {A = List X} t (x ∷ filter p xs) (filter p xs))) number ⊎ Q number
+    by_test true is (inl same) others =
+        inl (subst (Contains (number_of x ∷ rest)) same (Contains-append_left (number_of x ∷ []) rest (number_of x) (Contains-push [] (number_of x))))
+    by_test true is (inr among) others =
+        ⊎_elim (λ there. inl (Contains-append_right (number_of x ∷ []) rest number there)) (λ q. inr q) (others among)
+    by_test false is (inl same) others = inr (subst Q same (fails x is))
+    by_test false is (inr among) others = others among
+
+-- a seat that waits for less is sound where what it waits for no more is abandoned
+pub seat-fewer : (state : State) (change : Accepted → Accepted) → KeepsAsked change → (queries : List QueryLife) (p : Pending → Bool) (seat : Seat)
+    → All (λ pending. IfSome (life_in state.lives.queries pending.statement) Wanted → IfSome (life_in queries pending.statement) Wanted) (filter p seat.pending)
+    → ((number : ℕ) → IfSome (life_in state.lives.queries number) Told → IfSome (life_in queries number) Told) → StayLost state.lives.queries queries
+    → ((pending : Pending) → p pending ≡ false → life_in queries pending.statement ≡ Some life.Abandoned)
+    → IsSoundSeat state.numbers.statement state.accepted state.lives.queries seat
+    → IsSoundSeat state.numbers.statement (map change state.accepted) queries (record seat { pending = filter p seat.pending })
+seat-fewer state change keeps queries p seat wanted told lost dropped old =
+    seat-waits state.numbers.statement state.numbers.statement state.accepted (map change state.accepted) state.lives.queries queries
+    seat (filter p seat.pending) (omega arith) (λ number given. asked-anew state change keeps queries told lost number)
+    (pairs-fewer (λ statement later. statement < later) (λ pending. pending.statement) p (map (λ taken. taken.statement) seat.taken)
+    seat.pending old.in_order)
+    (all-fewer (Contains seat.submitted) (λ pending. pending.statement) p (map (λ taken. taken.statement) seat.taken) seat.pending old.submitted)
+    (All-filter p (λ pending. IsAwaited state.accepted state.lives.queries pending.statement pending.awaited) seat.pending old.awaited)
+    (λ k d low given. wanted k d low)
+    (All-weaker (IsAccountedFor state.lives.queries seat) (IsAccountedFor queries (record seat { pending = filter p seat.pending }))
+    (λ number is. ⊎_elim (λ taken. inl taken) (λ other. inr (⊎_elim
+    (λ waits. passes-cases (λ (pending : Pending). pending.statement) p (λ n. life_in queries n ≡ Some life.Abandoned) dropped seat.pending number waits)
+    (λ was. inr (lost number was)) other)) is) seat.submitted old.whole) old

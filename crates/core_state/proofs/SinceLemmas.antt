@@ -3,8 +3,9 @@ use Rattle.core_state.proofs.Words.{◌+◌, ◌<◌, ◌∙◌, ◌∷◌, ◌�
 use Rattle.core_state.specs.Events.{after_event}
 use Rattle.core_state.proofs.PendingLemmas.{Stays, stays-itself, stays-then, waited, waited-last, waited-none}
 use Rattle.core_state.proofs.StepLemmas.{StepsKeep}
-use Rattle.core_state.proofs.StepSeatLemmas.{aside-outcome, waiting-low}
+use Rattle.core_state.proofs.StepSeatLemmas.{waiting-low}
 use Rattle.core_state.proofs.StepToldLemmas.{tells-step}
+use Rattle.core_state.proofs.WholeToldLemmas.{aside-outcome}
 
 -- steps leave what is waited for by the numbers that were given as it was told
 stays-all : StepsKeep → (steps : List Step) (state : State) (seat statement : ℕ) → MayStepAll state steps → IsSound state

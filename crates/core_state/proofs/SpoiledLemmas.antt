@@ -1,12 +1,12 @@
 -- Queries that find no memory for the rows of a batch are spoiled one after the other.
-use Rattle.core_state.proofs.Words.{◌||◌, ◌∙◌, ◌∷◌, ◌≡◌, ◌≢◌, [], Accepted, after_build_wants, after_distribute, after_spoil, All, All-head, All-tail, All-weaker, all_pairs_head, all_pairs_tail, AllPairs, ap, AreFed, Bool, CanSpoil, cond, eq-eqb, eqb, eqb-true, false, Flight, flight_at, fold, forgotten, frame_words, get_or, gets_rows, is_begun, IsFed, IsSome, IsSound, IsSoundBatch, IsThrough, Life, life_in-other, life_of, List, list_any, map, MayDistribute, None, Option, option_map_or, refl, Some, State, subst, sym, tables_of, true, unkept, ℕ}
+use Rattle.core_state.proofs.Words.{◌||◌, ◌∙◌, ◌∷◌, ◌≡◌, ◌≢◌, [], Accepted, after_build_wants, after_distribute, after_spoil, All, All-head, All-tail, All-weaker, all_pairs_head, all_pairs_tail, AllPairs, ap, AreFed, Bool, CanSpoil, cond, eq-eqb, eqb, eqb-true, false, fed, Flight, flight_at, fold, forgotten, frame_words, get_or, gets_rows, is_begun, IsFed, IsSound, IsSoundBatch, IsThrough, Life, life_in-other, life_of, List, list_any, map, MayDistribute, None, Option, option_map_or, refl, Some, State, subst, sym, tables_of, true, unkept, ℕ}
 use Rattle.std.proofs.lemmas.List.{map-id}
 use Rattle.pipeline_manager.specs.declared.life.Life.TheVariants as life
 use Rattle.core_state.proofs.AbandonLemmas.{sound-wanting}
 use Rattle.core_state.proofs.AcceptedLemmas.{find-holds}
 use Rattle.core_state.proofs.DistributeLemmas.{FoldsOne}
 use Rattle.core_state.proofs.DistributedLemmas.{sound-landed}
-use Rattle.core_state.proofs.FoundLemmas.{some-at}
+use Rattle.core_state.proofs.FoundLemmas.{some-at, some-of}
 use Rattle.core_state.proofs.LandedBitsLemmas.{same-tests}
 use Rattle.core_state.proofs.LandedLemmas.{landed}
 
@@ -81,21 +81,21 @@ fed-begun (Some now) e = gets-begun now e
 
 pub sound-distributed : FoldsOne → (batch : ℕ) (spoiled : List ℕ) (state : State) → MayDistribute batch state → AreFed batch spoiled state
     → IsSound state → IsSound (after_distribute batch spoiled state)
-sound-distributed folds batch spoiled state may fed sound = by_flight (flight_at state.scan.flights batch) refl may.there
+sound-distributed folds batch spoiled state may fed sound =
+    let here = some-of (flight_at state.scan.flights batch) may.there in
+    let flight : Flight = here.0 in
+    subst (λ o. IsSound (After o)) (sym here.1)
+    (subst IsSound (spoiled-so spoiled (landed batch flight state))
+    (sound-in_turn spoiled (landed batch flight state) fed.apart
+    (All-weaker (λ query. IsFed batch query state) (λ query. CanSpoil query state.lives)
+    (λ query is_fed. fed-begun (life_of state.lives query) is_fed.gets) spoiled fed.each)
+    (sound-landed folds batch flight state here.1
+    (find-holds (IsSoundBatch (frame_words state) (tables_of state) state.lives state.accepted) (λ f. eqb f.rows.number batch) state.scan.flights flight
+    here.1 sound.batches)
+    (some-at (IsThrough state.filters) (flight_at state.scan.flights batch) flight here.1 may.through) sound)))
   where
     After : Option Flight → State
     After o = option_map_or (λ flight. record (landed batch flight state) {
       accepted = map (unkept spoiled) (landed batch flight state).accepted;
       lives = fold (λ lives query. after_spoil query lives) state.lives spoiled;
     }) o state
-
-    by_flight : (o : Option Flight) → flight_at state.scan.flights batch ≡ o → IsSome o → IsSound (After o)
-    by_flight None is some = absurd (let both : false ≡ true = some in cc)
-    by_flight (Some flight) is some =
-        subst IsSound (spoiled-so spoiled (landed batch flight state))
-        (sound-in_turn spoiled (landed batch flight state) fed.apart
-        (All-weaker (λ query. IsFed batch query state) (λ query. CanSpoil query state.lives)
-        (λ query is_fed. fed-begun (life_of state.lives query) is_fed.gets) spoiled fed.each)
-        (sound-landed folds batch flight state is
-        (find-holds (IsSoundBatch (frame_words state) (tables_of state) state.lives state.accepted) (λ f. eqb f.rows.number batch) state.scan.flights flight is sound.batches)
-        (some-at (IsThrough state.filters) (flight_at state.scan.flights batch) flight is may.through) sound))

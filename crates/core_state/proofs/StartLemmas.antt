@@ -1,24 +1,17 @@
 -- A query that begins its lap keeps a core sound.
-use Rattle.core_state.proofs.Words.{◌++◌, ◌-◌, ◌<◌, ◌∙◌, ◌∷◌, ◌≡◌, ◌≢◌, ◌≤◌, ◌⊎◌, [], Accepted, after_start, All, All-head, All-tail, ap, AreSoundBatches, arith, Bool, built_of-holder, CanRun, cases_eq, cond, drop, eqb, eqb-true, extent_in, false, filter, first_cases, first_of, flat_map, Flight, frame_words, get_or, gets_rows, grouped_of, Has, Held, IfSome, inl, inr, IsKept, IsOnRoster, IsPermutation, IsPermutation-refl, IsSound, IsSoundBatch, IsTrue, lap, lap_start, length, length-lap, Life, life_in, life_in-other, List, MayBeOnRoster, nat_lt, next_below, next_cases, None, OnRoster, Option, option_map_or, place_cases, place_in_lap, positions_for, Query, range_with_len, refl, slot_at, Some, start_cases, started, State, still_to_come, subst, sym, tables_of, true, versions_in, with_life, ℕ, ⊎_elim}
+use Rattle.core_state.proofs.Words.{◌++◌, ◌-◌, ◌<◌, ◌∙◌, ◌∷◌, ◌≡◌, ◌≢◌, ◌≤◌, ◌⊎◌, [], Accepted, after_start, All, All-contains, All-head, All-tail, ap, AreSoundBatches, arith, Bool, built_of-holder, CanRun, cases_eq, cond, Contains, Contains-get_or, drop, eqb, eqb-true, extent_in, false, filter, first_cases, first_of, flat_map, Flight, get_or, gets_rows, grouped_of, Has, Held, IfSome, inl, inr, IsKept, IsOnRoster, IsPermutation, IsPermutation-refl, IsSound, IsTrue, kept, lap, lap_start, length, length-lap, Life, life_in, life_in-other, List, MayBeOnRoster, nat_lt, ne_eqb, next_below, next_cases, None, OnRoster, option_map_or, place_cases, place_in_lap, positions_for, Query, range_with_len, refl, slot_at, Some, start_cases, started, State, still_to_come, subst, sym, tables_of, true, versions_in, with_life, ℕ, ⊎_elim}
 use Rattle.std.proofs.Common.{find}
 use Rattle.star_plan.specs.Joined.{kept_of}
 use Rattle.continuous_scan.proofs.LapLemmas.{lap-permutation}
 use Rattle.pipeline_manager.specs.Lives.{built_of}
 use Rattle.pipeline_manager.specs.declared.life.Life.TheVariants as life
 use Rattle.pipeline_manager.proofs.CallLemmas.{sound-after_run}
-use Rattle.core_state.proofs.AcceptedLemmas.{find-holds}
-use Rattle.core_state.proofs.FoundLemmas.{find-passes, life-written, some-at}
+use Rattle.core_state.proofs.FoundLemmas.{extents-written, life-written, some-at}
+use Rattle.core_state.proofs.CutLifeLemmas.{started-by}
+use Rattle.core_state.proofs.CutFoundLemmas.{none-found}
 use Rattle.core_state.proofs.HeldLemmas.{filters-held}
 use Rattle.core_state.proofs.MovedLemmas.{Holds, sound-held}
 use Rattle.core_state.proofs.WrittenLemmas.{queries-written, wanted-written}
-
--- what holds of a life that begins
-started-by : (P : Life → Type 0) (start extent : ℕ) → P life.Ending → P (life.Running start extent) → P (started start extent)
-started-by P start extent ends runs = by_test (eqb extent 0)
-  where
-    by_test : (t : Bool) → P (cond {A = Life} t life.Ending (life.Running start extent))
-    by_test true = ends
-    by_test false = runs
 
 -- a query that is on no roster has no positions in flight
 pub none-in-flight : (number extent : ℕ) (flights : List Flight)
@@ -31,19 +24,20 @@ none-in-flight number extent (flight ∷ flights) none =
     (All-head (λ f. find (λ entry. eqb entry.number number) f.roster ≡ None) flight flights none)
     ∙ none-in-flight number extent flights (All-tail (λ f. find (λ entry. eqb entry.number number) f.roster ≡ None) flight flights none)
 
+-- a query that no entry of a roster has is not found there
+pub on-none : (query : ℕ) (roster : List OnRoster) → ((entry : OnRoster) → Contains roster entry → entry.number ≢ query)
+    → find (λ entry. eqb entry.number query) roster ≡ None
+on-none query roster never = none-found (λ entry. eqb entry.number query) roster
+    (λ k d low. ne_eqb (get_or roster k d).number query (never (get_or roster k d) (Contains-get_or roster k d low)))
+
 -- a query whose life is on no roster is on none
 pub none-on-roster : (state : State) (query : ℕ) (now : Life) → life_in state.lives.queries query ≡ Some now → (MayBeOnRoster now → ⊥)
     → AreSoundBatches state → All (λ flight. find (λ entry. eqb entry.number query) flight.roster ≡ None) state.scan.flights
 none-on-roster state query now was never batches = λ k d low.
-    by_found (get_or state.scan.flights k d) (batches k d low) (find (λ entry. eqb entry.number query) (get_or state.scan.flights k d).roster) refl
-  where
-    by_found : (flight : Flight) → IsSoundBatch (frame_words state) (tables_of state) state.lives state.accepted flight → (o : Option OnRoster) → find (λ entry. eqb entry.number query) flight.roster ≡ o → o ≡ None
-    by_found flight sound None is = refl
-    by_found flight sound (Some entry) is =
-        let on : IsOnRoster state.lives state.accepted entry = find-holds (IsOnRoster state.lives state.accepted) (λ e. eqb e.number query) flight.roster entry is sound.roster in
-        let same : entry.number ≡ query = eqb-true entry.number query (find-passes (λ e. eqb e.number query) flight.roster entry is) in
-        absurd (never (some-at MayBeOnRoster (life_in state.lives.queries entry.number) now
-        (subst (λ n. life_in state.lives.queries n ≡ Some now) (sym same) was) on.life))
+    let roster : List OnRoster = (get_or state.scan.flights k d).roster in
+    on-none query roster (λ entry there same. never (some-at MayBeOnRoster (life_in state.lives.queries entry.number) now
+    (subst (λ n. life_in state.lives.queries n ≡ Some now) (sym same) was)
+    (All-contains (IsOnRoster state.lives state.accepted) roster entry (batches k d low).roster there).life))
 
 -- the first position that the scan meets is the first of the lap
 first-is-next : (position versions extent : ℕ) → extent ≤ versions
@@ -126,6 +120,7 @@ sound-started query state can sound =
             life = life-written MayBeOnRoster query life.Building new state.lives.queries (get_or flight.roster j e).number can.building
                 (λ never. absurd never) entry.life;
             same = entry.same;
+            extent = extents-written query new state.lives.queries (get_or flight.roster j e).number ∙ entry.extent;
           };
       queries_now = queries-written state query life.Building new state.lives.slots state.filters state.numbers.version can.building
           (λ accepted extent same found was.
@@ -138,9 +133,11 @@ sound-started query state can sound =
         built = λ slot holder built low held. by_holder new slot holder built low held (cases_eq holder query);
       };
       quiet = λ none. (sound.quiet none).2;
+      versions = sound.numbers.versions;
+      unnumbered = sound.numbers.unnumbered;
       order = sound.order;
       wanted = wanted-written state query life.Building new can.building
-          (λ h. started-by (λ now. now ≢ life.Abandoned) start (extent_in state.lives.queries query) (λ is. cc) (λ is. cc))
+          (λ is. cc) (started-by (λ now. now ≢ life.Abandoned) start (extent_in state.lives.queries query) (λ is. cc) (λ is. cc))
           (λ h. absurd (⊎_elim (λ is. cc) (λ is. cc) h));
     } in
     sound-held state queries state.lives.slots state.filters state.numbers.version now sound

@@ -1,14 +1,10 @@
 -- What a written seat, an outcome and a reply leave of what the seats wait for, and of the last number of a statement.
-use Rattle.core_state.proofs.Words.{◌++◌, ◌+◌, ◌<◌, ◌∙◌, ◌∷◌, ◌≡◌, ◌≢◌, ◌≤◌, ◌⊎◌, [], Accepted, accepted_at, after_abandon, after_abandoning, after_outcome, after_taking, All, All-contains, All-nil, All-weaker, ap, arith, Awaited, awaited_at, awaited_by, cases_eq, cases_lt, Contains, empty_seat, false, forgotten, get_or, get_or-set_other, get_or_past, inl, inr, IsSome, IsSound, length, map, None, none-some, Option, option_map_or, Outcome, Pending, refl, Seat, seat_at, set, Some, State, subst, sym, true, with_seat, with_statement, with_taken, without_pending, ℕ, ⊎_elim}
+use Rattle.core_state.proofs.Words.{◌++◌, ◌+◌, ◌<◌, ◌∙◌, ◌∷◌, ◌≡◌, ◌≢◌, ◌≤◌, ◌⊎◌, [], accepted_at, after_abandoning, after_outcome, after_taking, All, All-contains, All-nil, All-weaker, ap, arith, Awaited, awaited_at, awaited_by, cases_eq, cases_lt, Contains, empty_seat, false, get_or, get_or-set_other, get_or_past, inl, inr, IsSome, IsSound, length, map, None, none-some, Option, Outcome, Pending, refl, Seat, seat_at, set, Some, State, subst, sym, true, with_statement, with_taken, without_pending, ℕ, ⊎_elim}
 use Rattle.core_state.proofs.PendingLemmas.{Stays, pairs-back, stays-dropped, stays-filtered, stays-same, stays-set, waited, waited-before, waited-none}
 use Rattle.core_state.proofs.ReplyLemmas.{in-order}
 use Rattle.core_state.proofs.SeatLemmas.{pending-submitted}
-use Rattle.core_state.proofs.WholeToldLemmas.{leaves-outcome, seated}
-
--- the seats and the last number of a statement stay
-pub record IsAside (before after : State) : Type 0 where
-  pub seats : after.seats ≡ before.seats
-  pub number : after.numbers.statement ≡ before.numbers.statement
+use Rattle.core_state.proofs.WholeFrameLemmas.{by-option}
+use Rattle.core_state.proofs.WholeToldLemmas.{aside-outcome}
 
 -- what a seat waits for has numbers that were given
 pub waiting-low : (state : State) (seat statement : ℕ) → IsSound state → state.numbers.statement < statement
@@ -46,11 +42,13 @@ tells-all adds before after sound number stays = record {
   number = number;
 }
 
-pub tells-aside : (adds : (seat statement : ℕ) → Type 0) (before after : State) → IsSound before → IsAside before after → Tells adds before after
-tells-aside adds before after sound aside =
-    tells-all adds before after sound (let same = aside.number in omega arith)
+-- where the seats and the last number of a statement stay
+pub tells-aside : (adds : (seat statement : ℕ) → Type 0) (before after : State) → IsSound before → after.seats ≡ before.seats
+    → after.numbers.statement ≡ before.numbers.statement → Tells adds before after
+tells-aside adds before after sound seats number =
+    tells-all adds before after sound (omega arith)
     (λ seat statement. stays-same (awaited_at before seat statement) (awaited_at after seat statement)
-    (ap (λ seats. waited (get_or seats seat empty_seat).pending statement) aside.seats))
+    (ap (λ ss. waited (get_or ss seat empty_seat).pending statement) seats))
 
 -- where one seat is written and no number falls, and what that seat waits for stays
 tells-written : (adds : (seat statement : ℕ) → Type 0) (before after : State) (seat : ℕ) (now : Seat) → IsSound before
@@ -61,12 +59,6 @@ tells-written adds before after seat now sound seats number stays =
     tells-all adds before after sound number
     (λ other statement. subst (λ ss. Stays (awaited_at before other statement) (waited (get_or ss other empty_seat).pending statement)) (sym seats)
     (stays-set before.seats seat now statement (stays statement) other))
-
--- a submission writes its seat and its number alone
-pub aside-outcome : (seat : ℕ) (found : Outcome) (state : State) → IsAside (seated seat found.told state) (after_outcome seat found state)
-aside-outcome seat found state =
-    let told = leaves-outcome seat (state.numbers.statement + 1) found (seated seat found.told state) in
-    record { seats = told.seats; number = told.number }
 
 -- what is waited for by another number stays, and by its own number in another seat
 stays-outcome : (seat : ℕ) (found : Outcome) (state : State) (other statement : ℕ)
@@ -115,17 +107,10 @@ tells-outcome adds seat found state sound own = record {
 
 -- nobody waits for a query any more
 pub tells-abandoned : (adds : (seat statement : ℕ) → Type 0) (query : ℕ) (state : State) → IsSound state → Tells adds state (after_abandoning query state)
-tells-abandoned adds query state sound = by_accepted (accepted_at state.accepted query)
-  where
-    lost : Accepted → State
-    lost accepted = with_seat accepted.seat (without_pending query)
-        (record state { accepted = map (forgotten query) state.accepted; lives = after_abandon query state.lives })
-
-    by_accepted : (o : Option Accepted) → Tells adds state (option_map_or lost o state)
-    by_accepted None = tells-aside adds state state sound (record { seats = refl; number = refl })
-    by_accepted (Some accepted) =
-        tells-written adds state (lost accepted) accepted.seat (without_pending query (get_or state.seats accepted.seat empty_seat)) sound refl
-        (omega arith) (λ statement. stays-filtered query (get_or state.seats accepted.seat empty_seat).pending statement)
+tells-abandoned adds query state sound =
+    by-option (Tells adds state) (accepted_at state.accepted query) _ state (tells-aside adds state state sound refl refl)
+    (λ accepted is. tells-written adds state _ accepted.seat (without_pending query (get_or state.seats accepted.seat empty_seat)) sound refl
+    (omega arith) (λ statement. stays-filtered query (get_or state.seats accepted.seat empty_seat).pending statement))
 
 -- the reply to a seat's first statement is taken
 pub tells-taken : (adds : (seat statement : ℕ) → Type 0) (seat : ℕ) (state : State) → IsSound state → Tells adds state (after_taking seat state)

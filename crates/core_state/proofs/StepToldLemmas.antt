@@ -11,7 +11,7 @@ adds_by step state seat statement = (statement ≡ state.numbers.statement + 1) 
 pub tells-step : (step : Step) (state : State) → MayStep state step → IsSound state → Tells (adds_by step state) state (after_step step state)
 tells-step step state may sound =
     step-cases (Tells (adds_by step state) state) step state may sound
-    (λ new frame. tells-aside (adds_by step state) state new sound (record { seats = frame.leaves.seats; number = frame.leaves.number }))
+    (λ new frame. tells-aside (adds_by step state) state new sound frame.seats frame.number)
     (λ seat text is. tells-outcome (adds_by step state) seat (outcome_of (tables_of state) text) state sound (refl, text, is))
     (λ query can. tells-abandoned (adds_by step state) query state sound) (λ seat. tells-taken (adds_by step state) seat state sound)
 

@@ -1,8 +1,9 @@
 -- A statement that a seat submits keeps a core sound.
-use Rattle.core_state.proofs.Words.{◌+◌, ◌<◌, Accepts, after_outcome, after_submitting, Change, changes_of, DimensionDeclared, Ended, FactDeclared, FitsTables, IsOfRows, IsSettled, IsSound, IsSoundBeside, length, Loaded, None, Option, outcome_of, Reply, Some, State, Statement, Store, tables_of, Told, with_change, with_entry, ℕ}
+use Rattle.core_state.proofs.Words.{◌+◌, ◌<◌, Accepts, after_outcome, after_submitting, Change, changes_of, DimensionDeclared, Ended, EndsAscending, FactDeclared, FitsTables, IfSome, IsOfRows, IsSettled, IsSound, IsSoundBeside, length, Loaded, None, Option, outcome_of, Reply, Some, State, Statement, Store, tables_of, Told, with_change, with_entry, ℕ}
 use Rattle.star_statement.specs.Outcome as outcome
 use Rattle.core_state.proofs.DeclaredLemmas.{declared-beside}
 use Rattle.core_state.proofs.GivenLemmas.{Settles}
+use Rattle.core_state.proofs.LoggedDeleteLemmas.{outcome-ascends}
 use Rattle.core_state.proofs.ToldLemmas.{sound-asked, sound-changed, sound-told}
 
 -- loads and deletes that the tables take keep what is sound beside the seats
@@ -19,7 +20,7 @@ pub sound-submitted : Grows → Settles → Outcomes → (seat : ℕ) (statement
     → IsSound (after_submitting seat statement state)
 sound-submitted grows settles outcomes seat statement state there sound =
     by_outcome (outcome_of (tables_of state) statement).change (outcome_of (tables_of state) statement).told
-    (outcomes (tables_of state) statement settled)
+    (outcome-ascends (tables_of state) statement) (outcomes (tables_of state) statement settled)
   where
     settled : IsSettled (tables_of state)
     settled = settles (changes_of state.entries) sound.store
@@ -27,26 +28,26 @@ sound-submitted grows settles outcomes seat statement state there sound =
     number : ℕ
     number = state.numbers.statement + 1
 
-    by_change : (change : Change) (reply : Reply) → Accepts (tables_of state) change
+    by_change : (change : Change) (reply : Reply) → EndsAscending change → Accepts (tables_of state) change
         → IsSound (after_outcome seat (record { change = Some change; told = outcome.Replied reply }) state)
-    by_change (DimensionDeclared table) reply accepts =
-        sound-changed seat (DimensionDeclared table) reply state.lives.filters state.filters state.numbers.version state there
+    by_change (DimensionDeclared table) reply ascends accepts =
+        sound-changed seat (DimensionDeclared table) reply state.lives.filters state.filters state.numbers.version state there ascends
         (declared-beside settles seat number (DimensionDeclared table) state (λ rows. rows) accepts sound) sound
-    by_change (FactDeclared table) reply accepts =
+    by_change (FactDeclared table) reply ascends accepts =
         let now = with_change seat number (FactDeclared table) state in
-        sound-changed seat (FactDeclared table) reply now.lives.filters now.filters now.numbers.version state there
+        sound-changed seat (FactDeclared table) reply now.lives.filters now.filters now.numbers.version state there ascends
         (declared-beside settles seat number (FactDeclared table) state (λ rows. rows) accepts sound) sound
-    by_change (Loaded table rows) reply accepts =
-        sound-changed seat (Loaded table rows) reply state.lives.filters state.filters state.numbers.version state there
+    by_change (Loaded table rows) reply ascends accepts =
+        sound-changed seat (Loaded table rows) reply state.lives.filters state.filters state.numbers.version state there ascends
         (grows seat number (Loaded table rows) state tt accepts sound) sound
-    by_change (Ended positions) reply accepts =
-        sound-changed seat (Ended positions) reply state.lives.filters state.filters state.numbers.version state there
+    by_change (Ended positions) reply ascends accepts =
+        sound-changed seat (Ended positions) reply state.lives.filters state.filters state.numbers.version state there ascends
         (grows seat number (Ended positions) state tt accepts sound) sound
 
-    by_outcome : (change : Option Change) (told : Told) → FitsTables (tables_of state) change told
+    by_outcome : (change : Option Change) (told : Told) → IfSome change EndsAscending → FitsTables (tables_of state) change told
         → IsSound (after_outcome seat (record { change = change; told = told }) state)
-    by_outcome None (outcome.Replied reply) follows = sound-told seat reply state there sound
-    by_outcome None (outcome.Accepted query snapshot) follows =
+    by_outcome None (outcome.Replied reply) ascends follows = sound-told seat reply state there sound
+    by_outcome None (outcome.Accepted query snapshot) ascends follows =
         sound-asked seat query snapshot state there settled follows.0 follows.1 follows.2 sound
-    by_outcome (Some change) (outcome.Replied reply) follows = by_change change reply follows
-    by_outcome (Some change) (outcome.Accepted query snapshot) follows = absurd follows
+    by_outcome (Some change) (outcome.Replied reply) ascends follows = by_change change reply ascends follows
+    by_outcome (Some change) (outcome.Accepted query snapshot) ascends follows = absurd follows

@@ -1,5 +1,5 @@
 -- A seat is sound after it submits a statement, and after another does.
-use Rattle.core_state.proofs.Words.{◌++◌, ◌<◌, ◌∙◌, ◌∷◌, ◌≡◌, ◌≤◌, [], Accepted, accepted_at, All, All-contains, All-push, All-weaker, all_pairs_push, AllPairs, ap, append_assoc, awaited_by, Contains, Contains-append_left, Contains-push, IfSome, IsAwaited, IsSomeAnd, IsSoundSeat, map, map_push, option_map, Pending, query_in, QueryLife, Seat, State, subst, sym, Told, with_statement, ℕ}
+use Rattle.core_state.proofs.Words.{◌++◌, ◌<◌, ◌∙◌, ◌∷◌, ◌≡◌, ◌≤◌, [], Accepted, accepted_at, All, All-contains, All-push, All-weaker, all_pairs_push, AllPairs, ap, append_assoc, awaited_by, Contains, Contains-append_left, Contains-push, IfSome, inl, inr, IsAccountedFor, IsAwaited, IsSomeAnd, IsSoundSeat, List, map, map_push, option_map, Pending, query_in, QueryLife, Seat, State, subst, sym, Told, with_statement, ℕ, ⊎_elim}
 use Rattle.core_state.proofs.FrameLemmas as frame
 use Rattle.core_state.proofs.FrameLemmas.{Wanted, numbers_of, seat-lasts}
 
@@ -24,6 +24,7 @@ seat-later old new still later seat =
       has = λ query snapshot. subst (λ o. IsSomeAnd o (λ (asked : Accepted). (asked.query ≡ query) × (asked.snapshot ≡ snapshot)))
           (sym (still.asked number low));
       told = subst (λ o. IfSome (option_map (λ (entry : QueryLife). entry.life) o) frame.Told) (sym (still.lives number low));
+      lost = λ was. ap (option_map (λ (entry : QueryLife). entry.life)) (still.lives number low) ∙ was;
     })
     (λ k d inside low. subst (λ o. IfSome (option_map (λ (entry : QueryLife). entry.life) o) Wanted) (sym (still.lives _ low)))
 
@@ -45,10 +46,22 @@ seat-with state statement told seat above given waits is = record {
       (Contains-push seat.submitted statement));
   taken = is.taken;
   awaited = All-push (λ pending. IsAwaited state.accepted state.lives.queries pending.statement pending.awaited) seat.pending waiting is.awaited waits;
+  whole = All-push (IsAccountedFor state.lives.queries (with_statement statement told seat)) seat.submitted statement
+      (All-weaker (IsAccountedFor state.lives.queries seat) (IsAccountedFor state.lives.queries (with_statement statement told seat))
+      (λ number is. ⊎_elim (λ taken. inl taken) (λ other. inr (⊎_elim
+      (λ waits. inl (pends number (Contains-append_left before (statement ∷ []) number waits))) (λ lost. inr lost) other)) is)
+      seat.submitted is.whole)
+      (inr (inl (pends statement (Contains-push before statement))));
 }
   where
     waiting : Pending
     waiting = record { statement = statement; awaited = awaited_by told }
+
+    before : List ℕ
+    before = map (λ pending. pending.statement) seat.pending
+
+    pends : (number : ℕ) → Contains (before ++ statement ∷ []) number → Contains (map (λ pending. pending.statement) (seat.pending ++ waiting ∷ [])) number
+    pends number = subst (λ numbers. Contains numbers number) (sym (map_push (λ (p : Pending). p.statement) seat.pending waiting))
 
     same : map (λ taken. taken.statement) seat.taken ++ map (λ pending. pending.statement) (seat.pending ++ waiting ∷ [])
         ≡ numbers_of seat ++ statement ∷ []

@@ -1,6 +1,7 @@
 -- A batch that is taken into a hand keeps a core sound.
-use Rattle.core_state.proofs.Words.{◌+◌, ◌<◌, ◌∙◌, ◌∷◌, ◌≡◌, ◌≢◌, [], Accepted, accepted_at, after_take, All, All-cons, All-head, All-map, All-nil, All-tail, AllPairs, AllPairs-cons, ap, arith, Bool, cond, cons_option, DimensionRow, Encodes, eq-eqb, eqb, eqb-true, false, Filter, filter_map, Filters, FilterVersion, find, FitsSlot, Flight, frame_words, get_or, Hand, has_passed, IfSome, IfSome_then, IsOnRoster, IsSound, IsSoundBatch, IsSoundFilter, IsSoundHand, length, List, Lives, map, MayTake, ne_eqb, None, OnRoster, Option, option_map, option_map_or, refl, rows_in, slice_get, Some, State, Store, subst, suc, sym, tables_of, true, version_at, zero, ℕ}
+use Rattle.core_state.proofs.Words.{◌+◌, ◌<◌, ◌∙◌, ◌∷◌, ◌≡◌, ◌≢◌, ◌≤◌, [], Accepted, accepted_at, after_take, All, All-cons, All-head, All-map, All-nil, All-tail, AllPairs, AllPairs-cons, ap, AreSoundVersions, arith, Bool, cond, cons_option, DimensionRow, Encodes, eq-eqb, eqb, eqb-true, false, filter, Filter, filter_map, Filters, FilterVersion, find, FitsSlot, Flight, frame_words, get_or, Hand, has_passed, IfSome, IfSome_then, IsOnRoster, IsPresentByNumber, IsSound, IsSoundBatch, IsSoundFilter, IsSoundHand, length, List, Lives, map, MayTake, ne_eqb, None, OnRoster, Option, option_map, option_map_or, refl, rows_in, slice_get, Some, State, Store, subst, suc, sym, tables_of, true, version_at, zero, ℕ}
 use Rattle.std.specs.Prelude.{not}
+use Rattle.std.proofs.lemmas.Bool.{not-true}
 use Rattle.std.proofs.lemmas.Option.{option_and_then_some}
 use Rattle.core_state.specs.Found as found
 use Rattle.core_state.specs.Found.{next_filter}
@@ -22,10 +23,6 @@ encodes-there state sound filter of_filter entry on =
     rows : List DimensionRow
     rows = rows_in (tables_of state).dimensions filter.dimension
 
-not-true : (b : Bool) → not b ≡ true → b ≡ false
-not-true true e = cc
-not-true false e = refl
-
 -- the change of a batch that is taken
 abbrev taken_by : (worker : ℕ) → Filters → Flight → Flight
 taken_by worker filters flight = record flight {
@@ -35,13 +32,13 @@ taken_by worker filters flight = record flight {
 abbrev changed : (worker batch : ℕ) → Filters → Flight → Flight
 changed worker batch filters flight = cond {A = Flight} (eqb flight.rows.number batch) (taken_by worker filters flight) flight
 
--- what holds of a batch whether it is the taken one or not
-by-number : (P : Flight → Type 0) (worker batch : ℕ) (filters : Filters) (flight : Flight) → P (taken_by worker filters flight) → P flight
-    → P (changed worker batch filters flight)
-by-number P worker batch filters flight taken other = by_test (eqb flight.rows.number batch)
+-- what holds of a batch whether it is the one that changes or not
+pub by-number : (P : Flight → Type 0) (batch : ℕ) (change : Flight → Flight) (flight : Flight) → P (change flight) → P flight
+    → P (cond {A = Flight} (eqb flight.rows.number batch) (change flight) flight)
+by-number P batch change flight changes other = by_test (eqb flight.rows.number batch)
   where
-    by_test : (t : Bool) → P (cond {A = Flight} t (taken_by worker filters flight) flight)
-    by_test true = taken
+    by_test : (t : Bool) → P (cond {A = Flight} t (change flight) flight)
+    by_test true = changes
     by_test false = other
 
 -- the hand of a taken batch is sound
@@ -69,6 +66,45 @@ hand-taken worker batch state seat sound flight of_batch = by_next (next_filter 
               ∙ not-true (has_passed flight dimension) (find-passes (λ d. not (has_passed flight d)) state.filters.order dimension wants);
           encodes = λ k d low. encodes-there state sound version.filter of_filter (get_or flight.roster k d) (of_batch.roster k d low);
         })
+
+-- the version that is taken has what each present one has that is found
+version-taken : (P : FilterVersion → Type 0) (worker : ℕ) (filters : Filters) (flight : Flight)
+    → ((dimension : ℕ) (version : FilterVersion) → version_at filters.versions dimension ≡ Some version → P version)
+    → IfSome (taken_by worker filters flight).hand (λ hand. P hand.version)
+version-taken P worker filters flight each = by_next (next_filter filters flight) refl
+  where
+    by_next : (o : Option FilterVersion) → next_filter filters flight ≡ o
+        → IfSome (option_map {U = Hand} (λ version. record { worker = worker; version = version }) o) (λ hand. P hand.version)
+    by_next None is = tt
+    by_next (Some version) is =
+        option_and_then_some (version_at filters.versions) (find (λ dimension. not (has_passed flight dimension)) filters.order) version is
+        (λ dimension wants. each dimension version)
+
+-- what holds of these and of the versions in hands holds of those in hands then
+in-hands : (P : FilterVersion → Type 0) (worker batch : ℕ) (filters : Filters) (flights : List Flight)
+    → ((dimension : ℕ) (version : FilterVersion) → version_at filters.versions dimension ≡ Some version → P version)
+    → All (λ flight. IfSome flight.hand (λ hand. P hand.version)) flights
+    → All (λ flight. IfSome flight.hand (λ hand. P hand.version)) (map (changed worker batch filters) flights)
+in-hands P worker batch filters flights each all =
+    All-map (λ flight. IfSome flight.hand (λ hand. P hand.version)) (changed worker batch filters) flights
+    (λ k d low. let flight = get_or flights k d in
+    by-number (λ f. IfSome f.hand (λ hand. P hand.version)) batch (taken_by worker filters) flight (version-taken P worker filters flight each) (all k d low))
+
+-- a present version is in a hand
+versions-taken : (last worker batch : ℕ) (filters : Filters) (flights : List Flight) → AreSoundVersions last filters.versions flights
+    → AreSoundVersions last filters.versions (map (changed worker batch filters) flights)
+versions-taken last worker batch filters flights old = record {
+  given = old.given;
+  held = λ more. in-hands (λ version. version.number ≤ last) worker batch filters flights
+      (λ dimension version at. find-holds (λ v. v.number ≤ last) (λ v. eqb v.filter.dimension dimension) filters.versions version at (old.given more))
+      (old.held more);
+  present = in-hands (IsPresentByNumber filters.versions) worker batch filters flights
+      (λ dimension version at.
+      let same : version.filter.dimension ≡ dimension =
+      eqb-true version.filter.dimension dimension (find-passes (λ v. eqb v.filter.dimension dimension) filters.versions version at) in
+      subst (λ o. IfSome o (λ (v : FilterVersion). v.number ≡ version.number → v ≡ version)) (sym (ap (version_at filters.versions) same ∙ at)) (λ number. refl))
+      old.present;
+}
 
 -- a batch is as sound as it was, whose hand it may be in
 pub batch-stays : (words : ℕ) (store : Store) (lives : Lives) (accepted : List Accepted) (flight : Flight) (hand : Option Hand)
@@ -114,20 +150,23 @@ not-among worker (flight ∷ flights) free =
     by_hand None e = tt
     by_hand (Some hand) e = λ same. let both : true ≡ false = sym (eq-eqb hand.worker worker (sym same)) ∙ e in cc
 
--- a taken batch is in the worker's hand or in none
-among-changed : (P : ℕ → Type 0) (worker batch : ℕ) (filters : Filters) → P worker → (flights : List Flight) → All P (workers flights)
-    → All P (workers (map (changed worker batch filters) flights))
-among-changed P worker batch filters its [] all = all
-among-changed P worker batch filters its (flight ∷ flights) all =
+-- what holds of the workers holds of those after a batch changes, whose hand it leaves to such a worker or empty
+pub workers-changed : (P : ℕ → Type 0) (batch : ℕ) (change : Flight → Flight)
+    → ((flight : Flight) → IfSome (option_map (λ hand. hand.worker) (change flight).hand) P) → (flights : List Flight) → All P (workers flights)
+    → All P (workers (map (λ flight. cond {A = Flight} (eqb flight.rows.number batch) (change flight) flight) flights))
+workers-changed P batch change its [] all = all
+workers-changed P batch change its (flight ∷ flights) all =
     let parts = All-option_tail P (option_map (λ hand. hand.worker) flight.hand) (workers flights) all in
-    All-option P (option_map (λ hand. hand.worker) (changed worker batch filters flight).hand) (workers (map (changed worker batch filters) flights))
-    (by-number (λ f. IfSome (option_map (λ hand. hand.worker) f.hand) P) worker batch filters flight (by_next (next_filter filters flight)) parts.0)
-    (among-changed P worker batch filters its flights parts.1)
-  where
-    by_next : (o : Option FilterVersion)
-        → IfSome (option_map (λ hand. hand.worker) (option_map {U = Hand} (λ version. record { worker = worker; version = version }) o)) P
-    by_next None = tt
-    by_next (Some version) = its
+    let rest = map (λ (f : Flight). cond {A = Flight} (eqb f.rows.number batch) (change f) f) flights in
+    All-option P (option_map (λ hand. hand.worker) (cond {A = Flight} (eqb flight.rows.number batch) (change flight) flight).hand) (workers rest)
+    (by-number (λ f. IfSome (option_map (λ hand. hand.worker) f.hand) P) batch change flight (its flight) parts.0)
+    (workers-changed P batch change its flights parts.1)
+
+-- a taken batch is in the worker's hand or in none
+in-hand : (P : ℕ → Type 0) (worker : ℕ) → P worker → (o : Option FilterVersion)
+    → IfSome (option_map (λ hand. hand.worker) (option_map {U = Hand} (λ version. record { worker = worker; version = version }) o)) P
+in-hand P worker its None = tt
+in-hand P worker its (Some version) = its
 
 -- no other batch has the number of the taken one
 others-stay : (worker batch : ℕ) (filters : Filters) (flights : List Flight) → All (λ flight. flight.rows.number ≢ batch) flights
@@ -166,8 +205,8 @@ one-each worker batch filters (flight ∷ flights) free apart one =
     by_hand None e old rest = rest
     by_hand (Some hand) e old rest =
         AllPairs-cons (λ w other. w ≢ other) hand.worker (workers (map (changed worker batch filters) flights))
-        (among-changed (λ other. hand.worker ≢ other) worker batch filters
-        (λ same. let both : true ≡ false = sym (eq-eqb hand.worker worker same) ∙ e in cc) flights
+        (workers-changed (λ other. hand.worker ≢ other) batch (taken_by worker filters) (λ f. in-hand (λ other. hand.worker ≢ other) worker
+        (λ same. let both : true ≡ false = sym (eq-eqb hand.worker worker same) ∙ e in cc) (next_filter filters f)) flights
         (λ k d low. old zero (suc k) d (omega arith) (omega arith))) rest
 
     by_test : (t : Bool) → eqb flight.rows.number batch ≡ t
@@ -185,22 +224,23 @@ sound-taken worker batch state can sound =
     let change : Flight → Flight = changed worker batch state.filters in
     let flights = state.scan.flights in
     let flies : Flies state state.filters.tallies change = record {
-      place = λ flight. by-number (KeepsPlace flight) worker batch state.filters flight
+      place = λ flight. by-number (KeepsPlace flight) batch (taken_by worker state.filters) flight
           (record { number = refl; first = refl; count = refl; roster = refl })
           (record { number = refl; first = refl; count = refl; roster = refl });
       batches = All-map (IsSoundBatch (frame_words state) (tables_of state) state.lives state.accepted) change flights
           (λ k d low. let flight = get_or flights k d in
-          by-number (IsSoundBatch (frame_words state) (tables_of state) state.lives state.accepted) worker batch state.filters flight
+          by-number (IsSoundBatch (frame_words state) (tables_of state) state.lives state.accepted) batch (taken_by worker state.filters) flight
           (batch-stays (frame_words state) (tables_of state) state.lives state.accepted flight (taken_by worker state.filters flight).hand (sound.batches k d low))
           (sound.batches k d low));
       hands = record {
         each = All-map (λ flight. IfSome flight.hand (IsSoundHand (length state.seats) state.lives.filters (tables_of state) flight)) change flights
             (λ k d low. let flight = get_or flights k d in
-            by-number (λ f. IfSome f.hand (IsSoundHand (length state.seats) state.lives.filters (tables_of state) f)) worker batch state.filters flight
+            by-number (λ f. IfSome f.hand (IsSoundHand (length state.seats) state.lives.filters (tables_of state) f)) batch (taken_by worker state.filters) flight
             (hand-taken worker batch state can.seat sound flight (sound.batches k d low))
             (sound.hands.each k d low));
         one = one-each worker batch state.filters flights (find-none (found.is_held_by worker) flights can.empty) sound.numbers.apart sound.hands.one;
       };
+      versions = versions-taken state.numbers.version worker batch state.filters flights sound.numbers.versions;
       order = sound.order;
     } in
     sound-flown state state.filters.tallies change flies sound

@@ -1,34 +1,24 @@
 -- A reply that is taken keeps a core sound.
-use Rattle.core_state.proofs.Words.{◌++◌, ◌<◌, ◌∙◌, ◌∷◌, ◌≡◌, ◌≢◌, ◌⊎◌, [], Accepted, after_taking, All, All-contains, All-head, All-push, All-tail, AllPairs, ap, append_assoc, AreSoundQueries, Asked, Awaited, cases_eq, cond, Contains, Contains-append_left, Contains-push, drop, empty_seat, eq-eqb, eqb, false, forgotten, get_or, get_or-set_other, get_or-set_same, HasTaken, IfSome, inl, inr, is_open, is_some, IsAwaited, IsKept, IsSome, IsSound, IsSoundQuery, IsSoundSeat, IsTaken, length, length-set, Life, life_in, List, list_any, map, map-append, ne_eqb, next_ready, None, Option, option_and_then, option_map, Pending, query_in, QueryLife, ready_by, ready_to, refl, Replied, Seat, set, slice_get, Some, State, subst, sym, tables_of, take, Taken, taken_by, true, without_groups, ℕ, ⊎_elim}
+use Rattle.core_state.proofs.Words.{◌++◌, ◌<◌, ◌∙◌, ◌∷◌, ◌≡◌, ◌≢◌, ◌⊎◌, [], Accepted, after_taking, All, All-contains, All-head, All-push, All-tail, All-weaker, AllPairs, ap, append_assoc, AreSoundQueries, Asked, Awaited, cases_eq, cond, Contains, Contains-append_left, Contains-push, drop, empty_seat, eq-eqb, false, forgotten, get_or, get_or-set_other, get_or-set_same, HasTaken, IfSome, inl, inr, is_open, IsAccountedFor, IsAwaited, IsKept, IsSome, IsSound, IsSoundQuery, IsSoundSeat, IsTaken, length, length-set, Life, life_in, List, map, map-append, map_push, ne_eqb, next_ready, None, Option, option_and_then, Pending, query_in, QueryLife, ready_by, ready_to, refl, Replied, Seat, seat_at, set, slice_get, Some, State, subst, sym, tables_of, take, Taken, taken_by, true, without_groups, ℕ, ⊎_elim}
 use Rattle.pipeline_manager.specs.declared.life.Life.TheVariants as life
 use Rattle.core_state.specs.Submitting.{asked_by}
-use Rattle.core_state.proofs.AcceptedLemmas.{number-found}
+use Rattle.core_state.proofs.AcceptedLemmas.{none-lives}
 use Rattle.core_state.proofs.AnewLemmas.{by-change, forgets, kept_anew, queries-anew, sound-anew}
 use Rattle.core_state.proofs.FoundLemmas.{life-found, some-at, some-by}
 use Rattle.core_state.proofs.FrameLemmas.{LivesAs, StayTaken, Told, at-set, kept-with, lives-as}
-use Rattle.core_state.proofs.SeatLemmas.{one-seat, part-stays, pending-submitted, pending-there, seat-anew, seats-anew}
+use Rattle.core_state.proofs.SeatLemmas.{contains-cases, one-seat, part-stays, pending-submitted, pending-there, seat-anew, seats-anew}
 
 -- what is ready is no query, or one that is over
 pub ready-told : (state : State) (statement : ℕ) (awaited : Awaited) → AreSoundQueries state → IsAwaited state.accepted state.lives.queries statement awaited
     → IsSome (ready_to state statement awaited) → IfSome (life_in state.lives.queries statement) Told
-ready-told state statement (Replied reply) queries none ready = by_found (query_in state.lives.queries statement)
-    (number-found (λ entry. entry.query) state.lives.queries statement ∙ ap (list_any (λ n. eqb n statement)) (sym queries.same)
-    ∙ sym (number-found (λ accepted. accepted.number) state.accepted statement) ∙ ap is_some none)
-  where
-    by_found : (o : Option QueryLife) → is_some o ≡ false → IfSome (option_map (λ entry. entry.life) o) Told
-    by_found None e = tt
-    by_found (Some entry) e = absurd (let both : true ≡ false = e in cc)
+ready-told state statement (Replied reply) queries none ready = subst (λ o. IfSome o Told) (sym (none-lives state queries statement none)) tt
 ready-told state statement (Asked query snapshot) queries awaited ready = by_life (life_in state.lives.queries statement) ready
   where
     by_life : (o : Option Life) → IsSome (option_and_then (ready_by state statement snapshot) o) → IfSome o Told
     by_life None e = tt
-    by_life (Some life.Waiting) e = absurd (let both : false ≡ true = e in cc)
-    by_life (Some life.Building) e = absurd (let both : false ≡ true = e in cc)
-    by_life (Some (life.Running start left)) e = absurd (let both : false ≡ true = e in cc)
-    by_life (Some life.Ending) e = absurd (let both : false ≡ true = e in cc)
     by_life (Some life.Answered) e = inl refl
     by_life (Some life.Spoiled) e = inr refl
-    by_life (Some life.Abandoned) e = absurd (let both : false ≡ true = e in cc)
+    by_life other e = absurd (let both : false ≡ true = e in cc)
 
 told-closed : (now : Life) → Told now → is_open now ≡ false
 told-closed now told = ⊎_elim (λ e. ap is_open e) (λ e. ap is_open e) told
@@ -53,6 +43,8 @@ seat-taken state first rest seat told old = record {
   taken = All-push (λ taken. IsTaken state.accepted state.lives.queries taken.statement taken.query) seat.taken (taken_by first) old.taken
       (by_awaited first.awaited (All-head (λ pending. IsAwaited state.accepted state.lives.queries pending.statement pending.awaited) first rest old.awaited));
   awaited = All-tail (λ pending. IsAwaited state.accepted state.lives.queries pending.statement pending.awaited) first rest old.awaited;
+  whole = All-weaker (IsAccountedFor state.lives.queries (record seat { pending = first ∷ rest }))
+      (IsAccountedFor state.lives.queries (with_first first rest seat)) accounted seat.submitted old.whole;
 }
   where
     same : map (λ taken. taken.statement) (seat.taken ++ taken_by first ∷ []) ++ map (λ pending. pending.statement) rest
@@ -63,15 +55,29 @@ seat-taken state first rest seat told old = record {
         ∙ append_assoc (map (λ taken. taken.statement) seat.taken) (first.statement ∷ []) (map (λ pending. pending.statement) rest)
 
     by_awaited : (awaited : Awaited) → IsAwaited state.accepted state.lives.queries first.statement awaited → IsTaken state.accepted state.lives.queries first.statement (asked_by awaited)
-    by_awaited (Replied reply) none = tt
+    by_awaited (Replied reply) none = none
     by_awaited (Asked query snapshot) is = (is.0, told)
+
+    before : List ℕ
+    before = map (λ taken. taken.statement) seat.taken
+
+    took : (number : ℕ) → Contains (before ++ first.statement ∷ []) number → Contains (map (λ taken. taken.statement) (seat.taken ++ taken_by first ∷ [])) number
+    took number = subst (λ numbers. Contains numbers number) (sym (map_push (λ (taken : Taken). taken.statement) seat.taken (taken_by first)))
+
+    accounted : (number : ℕ) → IsAccountedFor state.lives.queries (record seat { pending = first ∷ rest }) number
+        → IsAccountedFor state.lives.queries (with_first first rest seat) number
+    accounted number is = ⊎_elim (λ taken. inl (took number (Contains-append_left before (first.statement ∷ []) number taken)))
+        (λ other. ⊎_elim
+        (λ waits. ⊎_elim (λ same. inl (took number (subst (Contains (before ++ first.statement ∷ [])) same (Contains-push before first.statement))))
+        (λ among. inr (inl among)) (contains-cases first.statement (map (λ pending. pending.statement) rest) number waits))
+        (λ lost. inr (inr lost)) other) is
 
 sound-with_first : (seat : ℕ) (first : Pending) (rest : List Pending) (state : State)
     → (get_or state.seats seat empty_seat).pending ≡ first ∷ rest → IfSome (life_in state.lives.queries first.statement) Told → IsSound state
     → IsSound (kept_anew state (forgotten first.statement) state.lives.queries
     (set state.seats seat (with_first first rest (get_or state.seats seat empty_seat))) state.scan)
 sound-with_first seat first rest state is told sound =
-    sound-anew state (forgotten first.statement) (forgets first.statement) queries seats (λ number on. on) (length-set state.seats seat with)
+    sound-anew state (forgotten first.statement) (forgets first.statement) queries seats (λ number. (λ on. on, refl)) (length-set state.seats seat with)
     (queries-anew state (forgotten first.statement) (forgets first.statement) queries seats state.scan refl
     (λ accepted among of_query. some-by (LivesAs (tables_of state) seats state.scan accepted (forgotten first.statement accepted)) (query_in queries accepted.number)
     (λ entry found. lives accepted among of_query entry found (cases_eq accepted.number first.statement))) sound.queries)
@@ -97,11 +103,11 @@ sound-with_first seat first rest state is told sound =
 
     each : (k : ℕ) (d : Seat) → k < length state.seats → IsSoundSeat now.numbers.statement now.accepted now.lives.queries (get_or seats k d)
     each k d low = at-set (IsSoundSeat now.numbers.statement now.accepted now.lives.queries) state.seats seat k with d low
-        (λ same. seat-anew state (forgotten first.statement) (forgets first.statement) queries with (λ j p inside h. h) (λ number h. h)
+        (λ same. seat-anew state (forgotten first.statement) (forgets first.statement) queries with (λ j p inside h. h) (λ number h. h) (λ number was. was)
         (seat-taken state first rest (get_or state.seats seat empty_seat) told
         (subst (λ ps. IsSoundSeat state.numbers.statement state.accepted state.lives.queries (record (get_or state.seats seat empty_seat) { pending = ps }))
         is (sound.seats.each seat empty_seat there))))
-        (λ apart. seat-anew state (forgotten first.statement) (forgets first.statement) queries (get_or state.seats k d) (λ j p inside h. h) (λ number h. h)
+        (λ apart. seat-anew state (forgotten first.statement) (forgets first.statement) queries (get_or state.seats k d) (λ j p inside h. h) (λ number h. h) (λ number was. was)
         (sound.seats.each k d low))
 
     -- the number of a statement stands in one seat
@@ -157,22 +163,34 @@ sound-with_first seat first rest state is told sound =
           was.2,
         )
 
+-- where a reply may be taken, the seat waits for a first statement, which is no query, or one that is over
+pub ready-first : (state : State) (seat : ℕ) → IsSound state → IsSome (next_ready state seat)
+    → (first : Pending) × (rest : List Pending) × ((seat_at state seat).pending ≡ first ∷ rest)
+    × IfSome (life_in state.lives.queries first.statement) Told
+ready-first state seat sound = by_pending (seat_at state seat).pending refl
+  where
+    by_pending : (pending : List Pending) → (seat_at state seat).pending ≡ pending
+        → IsSome (option_and_then (λ (first : Pending). ready_to state first.statement first.awaited) (slice_get pending 0))
+        → (first : Pending) × (rest : List Pending) × ((seat_at state seat).pending ≡ first ∷ rest)
+        × IfSome (life_in state.lives.queries first.statement) Told
+    by_pending [] is some = absurd (let both : false ≡ true = some in cc)
+    by_pending (first ∷ rest) is some = (
+      first,
+      rest,
+      is,
+      ready-told state first.statement first.awaited sound.queries
+          (All-head (λ pending. IsAwaited state.accepted state.lives.queries pending.statement pending.awaited) first rest
+          (subst (All (λ pending. IsAwaited state.accepted state.lives.queries pending.statement pending.awaited)) is
+          (sound.seats.each seat empty_seat (pending-there state.seats seat first rest is)).awaited)) some,
+    )
+
 pub sound-replied : (seat : ℕ) (state : State) → IsSome (next_ready state seat) → IsSound state → IsSound (after_taking seat state)
-sound-replied seat state ready sound = by_pending here.pending refl ready
+sound-replied seat state ready sound =
+    let first = ready-first state seat sound ready in
+    subst (λ pending. IsSound (record state {
+      accepted = without_groups (take 1 pending) state.accepted;
+      seats = set state.seats seat (record here { pending = drop 1 pending; taken = here.taken ++ map taken_by (take 1 pending) });
+    })) (sym first.2) (sound-with_first seat first.0 first.1 state first.2 first.3 sound)
   where
     here : Seat
-    here = get_or state.seats seat empty_seat
-
-    by_pending : (pending : List Pending) → here.pending ≡ pending
-        → IsSome (option_and_then (λ first. ready_to state first.statement first.awaited) (slice_get pending 0))
-        → IsSound (record state {
-          accepted = without_groups (take 1 pending) state.accepted;
-          seats = set state.seats seat (record here { pending = drop 1 pending; taken = here.taken ++ map taken_by (take 1 pending) });
-        })
-    by_pending [] is some = absurd (let both : false ≡ true = some in cc)
-    by_pending (first ∷ rest) is some =
-        sound-with_first seat first rest state is
-        (ready-told state first.statement first.awaited sound.queries
-        (All-head (λ pending. IsAwaited state.accepted state.lives.queries pending.statement pending.awaited) first rest
-        (subst (All (λ pending. IsAwaited state.accepted state.lives.queries pending.statement pending.awaited)) is
-        (sound.seats.each seat empty_seat (pending-there state.seats seat first rest is)).awaited)) some) sound
+    here = seat_at state seat

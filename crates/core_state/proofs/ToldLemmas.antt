@@ -1,5 +1,5 @@
 -- A core is sound after a statement by what is told of it: a reply, with a change or without one, or that it is accepted.
-use Rattle.core_state.proofs.Words.{◌+◌, ◌<◌, ◌∙◌, ◌∷◌, ◌≡◌, ◌≢◌, [], Accepted, accepted_at, All, All-head, All-push, All-tail, all_pairs_push, ap, AreSoundNumbers, AreSoundSeats, arith, Change, cond, Contains, empty_seat, Entry, Filters, get_or, IfSome, IsOver, IsSettled, IsSome, IsSomeAnd, IsSound, IsSoundBeside, length, length-set, List, map, ne_eqb, None, Option, option_map, Query, query_in-push_same, QueryLife, refl, Reply, Seat, Some, State, subst, sym, tables_of, Told, versions_in, with_statement, ℕ}
+use Rattle.core_state.proofs.Words.{◌+◌, ◌<◌, ◌∙◌, ◌∷◌, ◌≡◌, ◌≢◌, [], Accepted, accepted_at, All, All-head, All-push, All-tail, all_pairs_push, ap, AreSoundSeats, arith, Change, changes_of, cond, Contains, empty_seat, EndsAscending, Entry, Filters, get_or, IfSome, IsOver, IsSettled, IsSome, IsSomeAnd, IsSound, IsSoundBeside, length, length-set, List, map, ne_eqb, None, Option, option_map, Query, query_in-push_same, QueryLife, refl, Reply, Seat, Some, State, subst, sym, tables_of, Told, versions_in, with_statement, ℕ}
 use Rattle.star_statement.specs.Outcome as outcome
 use Rattle.pipeline_manager.specs.declared.life.Life.TheVariants as life
 use Rattle.core_state.specs.Settings.{AreWithin}
@@ -7,6 +7,7 @@ use Rattle.core_state.proofs.AskLemmas.{accepted-push_same, accepted_as, asked_n
 use Rattle.core_state.proofs.BesideLemmas.{beside-seated, later}
 use Rattle.core_state.proofs.DeclareLemmas.{declared_now}
 use Rattle.core_state.proofs.FrameLemmas.{StayTaken}
+use Rattle.core_state.proofs.GrownLemmas.{ends-with}
 use Rattle.core_state.proofs.SeatLemmas.{part-stays}
 use Rattle.core_state.proofs.SubmitSeatsLemmas.{seats-submitted, seats_by, stands, stands-low, stands-new}
 
@@ -19,13 +20,15 @@ beside-of state sound = record {
   slots = sound.slots;
   store = sound.store;
   quiet = sound.quiet;
+  numbers = sound.numbers;
   scan = sound.scan;
   order = sound.order;
 }
 
--- the rest of what is sound reads the seats and the numbers
-sound-beside : (state : State) → AreWithin state.settings → IsSoundBeside state → AreSoundNumbers state → AreSoundSeats state → IsSound state
-sound-beside state within beside numbers seats = record {
+-- the rest of what is sound reads the entries and the seats
+sound-beside : (state : State) → AreWithin state.settings → IsSoundBeside state → All EndsAscending (changes_of state.entries) → AreSoundSeats state
+    → IsSound state
+sound-beside state within beside ends seats = record {
   settings = within;
   filters = beside.filters;
   batches = beside.batches;
@@ -33,8 +36,9 @@ sound-beside state within beside numbers seats = record {
   queries = beside.queries;
   slots = beside.slots;
   store = beside.store;
+  ends = ends;
   quiet = beside.quiet;
-  numbers = numbers;
+  numbers = beside.numbers;
   scan = beside.scan;
   order = beside.order;
   seats = seats;
@@ -72,7 +76,7 @@ sound-told seat reply state there sound =
     let told = outcome.Replied reply in
     let number = state.numbers.statement + 1 in
     let beside = beside-seated state (seats_now state seat told) number (seats-many state seat told) (omega arith) (seats-stay state seat told there) (beside-of state sound) in
-    sound-beside _ sound.settings beside (record { apart = sound.numbers.apart; given = sound.numbers.given })
+    sound-beside _ sound.settings beside sound.ends
     (seats-submitted state (later state (seats_now state seat told) number state.accepted state.lives.queries) seat number told
     (record {
       there = there;
@@ -90,18 +94,18 @@ sound-told seat reply state there sound =
 
 -- a statement that is replied to, and makes a change
 pub sound-changed : (seat : ℕ) (change : Change) (reply : Reply) (set : ℕ) (filters : Filters) (version : ℕ) (state : State)
-    → seat < length state.seats
+    → seat < length state.seats → EndsAscending change
     → IsSoundBeside (declared_now state (record { seat = seat; statement = state.numbers.statement + 1; change = change }) set filters version)
     → IsSound state
     → IsSound (later (declared_now state (record { seat = seat; statement = state.numbers.statement + 1; change = change }) set filters version)
     (seats_now state seat (outcome.Replied reply)) (state.numbers.statement + 1) state.accepted state.lives.queries)
-sound-changed seat change reply set filters version state there changed sound =
+sound-changed seat change reply set filters version state there ascends changed sound =
     let told = outcome.Replied reply in
     let number = state.numbers.statement + 1 in
     let entry : Entry = record { seat = seat; statement = number; change = change } in
     let middle = declared_now state entry set filters version in
     let beside = beside-seated middle (seats_now state seat told) number (seats-many state seat told) (omega arith) (seats-stay state seat told there) changed in
-    sound-beside _ sound.settings beside (record { apart = sound.numbers.apart; given = sound.numbers.given })
+    sound-beside _ sound.settings beside (ends-with state.entries entry sound.ends ascends)
     (seats-submitted state (later middle (seats_now state seat told) number state.accepted state.lives.queries) seat number told
     (record {
       there = there;
@@ -127,7 +131,7 @@ pub sound-asked : (seat : ℕ) (query : Query) (snapshot : ℕ) (state : State) 
     → snapshot ≡ (tables_of state).commits → IsOver (tables_of state).schema query → IsSome (tables_of state).schema.fact → IsSound state
     → IsSound (asked_now state (seats_now state seat (outcome.Accepted query snapshot)) seat (state.numbers.statement + 1) query snapshot)
 sound-asked seat query snapshot state there settled is over declared sound =
-    sound-beside _ sound.settings beside (record { apart = sound.numbers.apart; given = sound.numbers.given })
+    sound-beside _ sound.settings beside sound.ends
     (seats-submitted state now seat number told
     (record {
       there = there;

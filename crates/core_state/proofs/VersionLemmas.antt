@@ -1,11 +1,14 @@
 -- A core in which a filter has a next version, and a slot another state.
-use Rattle.core_state.proofs.Words.{◌<◌, ◌↔◌, ◌∙◌, ◌∷◌, ◌≡◌, ◌≢◌, ◌≤◌, [], accepted_at, All-map, ap, arith, Bool, Clearing, cond, DimensionRow, Encodes, eqb, eqb-false, eqb-true, false, Filter, Filters, FilterVersion, FitsSlot, Free, get_or, gets_rows, Has, Held, IfSome, IfSome_then, IsClearOf, IsOnRoster, IsPermutation, IsSound, IsSoundFilter, IsTrue, length, length-map, length-set, life_in, List, map, None, OnRoster, Option, Query, refl, rows_in, selection_in, set, slice_get, slot_at, SlotState, Some, State, subst, sym, tables_of, takes, true, vector_of, ℕ}
+use Rattle.core_state.proofs.Words.{◌+◌, ◌<◌, ◌↔◌, ◌∙◌, ◌∷◌, ◌≡◌, ◌≢◌, ◌≤◌, [], accepted_at, All, All-cons, All-head, All-map, All-nil, All-tail, ap, AreSoundVersions, arith, Bool, Clearing, cond, DimensionRow, Encodes, eqb, eqb-false, eqb-true, false, Filter, Filters, FilterVersion, FitsSlot, Flight, Free, get_or, gets_rows, Hand, Has, Held, IfSome, IfSome_then, IsClearOf, IsOnRoster, IsPermutation, IsPresentByNumber, IsSound, IsSoundFilter, IsTrue, last_after, last_number, length, length-map, length-set, life_in, List, map, next_number, None, OnRoster, Option, option_map, Query, refl, rows_in, selection_in, set, slice_get, slot_at, SlotState, Some, State, subst, sym, tables_of, takes, true, vector_of, version_at, versions_in_hands, ℕ}
 use Rattle.dimension_filter.specs.Filter as table
 use Rattle.dimension_filter.specs.Filter.{AreAscending, is_stored}
 use Rattle.pipeline_manager.specs.Sound as managed
+use Rattle.core_state.proofs.CutNumberLemmas.{next-apart, next-given, still-given}
+use Rattle.core_state.proofs.FoundLemmas.{both-some}
 use Rattle.core_state.proofs.FrameLemmas.{at-set, filter-with}
 use Rattle.core_state.proofs.HeldLemmas.{entry-set, fits-set}
 use Rattle.core_state.proofs.MovedLemmas.{Holds, held_now, sound-held}
+use Rattle.core_state.proofs.TakeLemmas.{All-option, All-option_tail}
 
 -- the next version of a filter of this dimension
 abbrev pub versioned : (dimension number : ℕ) → (Filter → Filter) → FilterVersion → FilterVersion
@@ -95,23 +98,113 @@ pub record Versions (state : State) (slot dimension : ℕ) (now : SlotState) (ch
   pub next : (filter : Filter) → IsSoundFilter state.accepted (tables_of state) state.lives.slots state.lives.filters filter → filter.dimension ≡ dimension → IsNextVersion state slot now filter (change filter)
   pub others : (filter : Filter) → IsSoundFilter state.accepted (tables_of state) state.lives.slots state.lives.filters filter → filter.dimension ≢ dimension → FitsSlot state.accepted (tables_of state) filter slot now
 
+-- what holds of a version whether it is the next one or not
+by-version : (P : FilterVersion → Type 0) (dimension number : ℕ) (change : Filter → Filter) (version : FilterVersion)
+    → P (record { number = number; filter = change version.filter }) → P version → P (versioned dimension number change version)
+by-version P dimension number change version next other = by_test (eqb version.filter.dimension dimension)
+  where
+    by_test : (t : Bool) → P (cond {A = FilterVersion} t (record { number = number; filter = change version.filter }) version)
+    by_test true = next
+    by_test false = other
+
+same-dimension : (dimension number : ℕ) (change : Filter → Filter) → ((filter : Filter) → (change filter).dimension ≡ filter.dimension)
+    → (version : FilterVersion) → (versioned dimension number change version).filter.dimension ≡ version.filter.dimension
+same-dimension dimension number change keeps version =
+    by-version (λ v. v.filter.dimension ≡ version.filter.dimension) dimension number change version (keeps version.filter) refl
+
 same-dimensions : (dimension number : ℕ) (change : Filter → Filter) → ((filter : Filter) → (change filter).dimension ≡ filter.dimension)
     → (versions : List FilterVersion)
     → map (λ version. version.filter.dimension) (map (versioned dimension number change) versions) ≡ map (λ version. version.filter.dimension) versions
 same-dimensions dimension number change keeps [] = refl
 same-dimensions dimension number change keeps (version ∷ versions) =
-    ap (λ d. d ∷ map (λ v. v.filter.dimension) (map (versioned dimension number change) versions)) (by_test (eqb version.filter.dimension dimension))
+    ap (λ d. d ∷ map (λ v. v.filter.dimension) (map (versioned dimension number change) versions)) (same-dimension dimension number change keeps version)
     ∙ ap (λ rest. version.filter.dimension ∷ rest) (same-dimensions dimension number change keeps versions)
-  where
-    by_test : (t : Bool) → (cond {A = FilterVersion} t (record { number = number; filter = change version.filter }) version).filter.dimension ≡ version.filter.dimension
-    by_test true = keeps version.filter
-    by_test false = refl
 
-pub sound-versioned : (state : State) (slot dimension number version : ℕ) (now : SlotState) (change : Filter → Filter)
+-- the present version of a dimension is the next one where that is of this dimension
+found-versioned : (dimension number : ℕ) (change : Filter → Filter) → ((filter : Filter) → (change filter).dimension ≡ filter.dimension)
+    → (versions : List FilterVersion) (at : ℕ)
+    → version_at (map (versioned dimension number change) versions) at ≡ option_map (versioned dimension number change) (version_at versions at)
+found-versioned dimension number change keeps [] at = refl
+found-versioned dimension number change keeps (version ∷ versions) at =
+    ap (λ d. cond {A = Option FilterVersion} (eqb d at) (Some (versioned dimension number change version))
+    (version_at (map (versioned dimension number change) versions) at)) (same-dimension dimension number change keeps version)
+    ∙ by_test (eqb version.filter.dimension at) (found-versioned dimension number change keeps versions at)
+  where
+    by_test : (t : Bool)
+        → version_at (map (versioned dimension number change) versions) at ≡ option_map (versioned dimension number change) (version_at versions at)
+        → cond {A = Option FilterVersion} t (Some (versioned dimension number change version)) (version_at (map (versioned dimension number change) versions) at)
+        ≡ option_map (versioned dimension number change) (cond {A = Option FilterVersion} t (Some version) (version_at versions at))
+    by_test true rest = refl
+    by_test false rest = rest
+
+-- what holds of the number of the version in each hand holds of all these numbers
+some-mapped : {X : Type 0} (f : X → ℕ) (P : ℕ → Type 0) (o : Option X) → IfSome o (λ x. P (f x)) ↔ IfSome (option_map f o) P
+some-mapped f P None = (λ h. tt, λ h. tt)
+some-mapped f P (Some x) = (λ h. h, λ h. h)
+
+numbers-in_hands : (P : ℕ → Type 0) (flights : List Flight) → All (λ flight. IfSome flight.hand (λ hand. P hand.version.number)) flights
+    ↔ All P (versions_in_hands flights)
+numbers-in_hands P [] = (λ all. All-nil P, λ all. All-nil (λ (flight : Flight). IfSome flight.hand (λ hand. P hand.version.number)))
+numbers-in_hands P (flight ∷ flights) =
+    let first = some-mapped (λ (hand : Hand). hand.version.number) P flight.hand in
+    let rest = numbers-in_hands P flights in (
+      λ all. All-option P (option_map (λ hand. hand.version.number) flight.hand) (versions_in_hands flights)
+          (first.0 (All-head InHand flight flights all)) (rest.0 (All-tail InHand flight flights all)),
+      λ all. let parts = All-option_tail P (option_map (λ hand. hand.version.number) flight.hand) (versions_in_hands flights) all in
+          All-cons InHand flight flights (first.1 parts.0) (rest.1 parts.1),
+    )
+  where
+    InHand : Flight → Type 0
+    InHand f = IfSome f.hand (λ hand. P hand.version.number)
+
+-- the next version has a number that no hand has
+versions-next : (last dimension : ℕ) (change : Filter → Filter) → ((filter : Filter) → (change filter).dimension ≡ filter.dimension)
+    → (versions : List FilterVersion) (flights : List Flight) → AreSoundVersions last versions flights
+    → AreSoundVersions (last_after last) (map (versioned dimension (next_number last (versions_in_hands flights)) change) versions) flights
+versions-next last dimension change keeps versions flights old = record {
+  given = λ more.
+      let above = still-given last last_number more in
+      let next = next-given last (versions_in_hands flights) above.0 in
+      subst (λ n. All (λ (v : FilterVersion). v.number ≤ n) (map (versioned dimension number change) versions)) (sym above.1)
+      (All-map (λ (v : FilterVersion). v.number ≤ last + 1) (versioned dimension number change) versions
+      (λ k d low. let below = old.given above.0 k d low in
+      by-version (λ v. v.number ≤ last + 1) dimension number change (get_or versions k d)
+      (subst (λ n. n ≤ last + 1) (sym next) (omega arith)) (omega arith)));
+  held = λ more.
+      let above = still-given last last_number more in
+      subst (λ n. All (λ (flight : Flight). IfSome flight.hand (λ hand. hand.version.number ≤ n)) flights) (sym above.1)
+      (λ k d low. IfSome_then (get_or flights k d).hand (old.held above.0 k d low) (λ hand below. omega arith));
+  present = λ k d low. both-some (λ hand. hand.version.number ≢ number) (λ hand. IsPresentByNumber versions hand.version)
+      (λ hand. IsPresentByNumber (map (versioned dimension number change) versions) hand.version)
+      (get_or flights k d).hand (λ hand. present hand.version) (apart k d low) (old.present k d low);
+}
+  where
+    number : ℕ
+    number = next_number last (versions_in_hands flights)
+
+    apart : All (λ flight. IfSome flight.hand (λ hand. hand.version.number ≢ number)) flights
+    apart = (numbers-in_hands (λ n. n ≢ number) flights).1
+        (next-apart last (versions_in_hands flights) (λ more. (numbers-in_hands (λ n. n ≤ last) flights).0 (old.held more)))
+
+    present : (held : FilterVersion) → held.number ≢ number → IsPresentByNumber versions held
+        → IsPresentByNumber (map (versioned dimension number change) versions) held
+    present held other is =
+        subst (λ o. IfSome o (λ version. version.number ≡ held.number → version ≡ held))
+        (sym (found-versioned dimension number change keeps versions held.filter.dimension)) (by_found (version_at versions held.filter.dimension) is)
+      where
+        by_found : (o : Option FilterVersion) → IfSome o (λ version. version.number ≡ held.number → version ≡ held)
+            → IfSome (option_map (versioned dimension number change) o) (λ version. version.number ≡ held.number → version ≡ held)
+        by_found None h = tt
+        by_found (Some version) h =
+            by-version (λ v. v.number ≡ held.number → v ≡ held) dimension number change version (λ same. absurd (other (sym same))) h
+
+pub sound-versioned : (state : State) (slot dimension : ℕ) (now : SlotState) (change : Filter → Filter)
     → Versions state slot dimension now change → IsSound state
     → IsSound (held_now state state.lives.queries (set state.lives.slots slot now)
-    (record state.filters { versions = map (versioned dimension number change) state.filters.versions }) version)
-sound-versioned state slot dimension number version now change gives sound =
+    (record state.filters {
+      versions = map (versioned dimension (next_number state.numbers.version (versions_in_hands state.scan.flights)) change) state.filters.versions;
+    }) (last_after state.numbers.version))
+sound-versioned state slot dimension now change gives sound =
     let dimensions = same-dimensions dimension number change gives.keeps state.filters.versions in
     let holds : Holds state state.lives.queries slots filters version = record {
       filters_now = record {
@@ -123,7 +216,7 @@ sound-versioned state slot dimension number version now change gives sound =
       rosters = λ k d low j e within.
           let on = (sound.batches k d low).roster j e within in
           let entry = get_or (get_or state.scan.flights k d).roster j e in
-          entry-set state state.lives.queries slot now entry (gives.off entry on) on.life on;
+          entry-set state state.lives.queries slot now entry (gives.off entry on) (λ held. held, refl) on;
       queries_now = record { same = sound.queries.same; each = sound.queries.each };
       slots_now = record {
         lives = gives.lives;
@@ -135,15 +228,23 @@ sound-versioned state slot dimension number version now change gives sound =
             (λ same. gives.built holder built) (λ apart. sound.slots.built other holder built inside);
       };
       quiet = λ none. absurd (gives.used ((sound.quiet none).2 slot Free gives.there));
+      versions = versions-next state.numbers.version dimension change gives.keeps state.filters.versions state.scan.flights sound.numbers.versions;
+      unnumbered = λ none. absurd (gives.used ((sound.quiet none).2 slot Free gives.there));
       order = record {
         tallies = sound.order.tallies;
         count = sound.order.count ∙ sym (length-map state.filters.versions (versioned dimension number change));
         order = subst (λ list. IsPermutation list state.filters.order) (sym dimensions) sound.order.order;
       };
-      wanted = λ query. (λ h. h, λ h. h);
+      wanted = λ query. (λ h. h, λ h. h, λ h. h);
     } in
     sound-held state state.lives.queries slots filters version holds sound
   where
+    number : ℕ
+    number = next_number state.numbers.version (versions_in_hands state.scan.flights)
+
+    version : ℕ
+    version = last_after state.numbers.version
+
     slots : List SlotState
     slots = set state.lives.slots slot now
 

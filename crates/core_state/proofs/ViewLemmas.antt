@@ -1,215 +1,141 @@
--- What events leave of what each slot shows: who holds it, with its life, and what it asked; a scan and a distributor have
--- what they had where it stays.
-use Rattle.core_state.proofs.Words.{◌+◌, ◌<◌, ◌∙◌, ◌≡◌, ◌≢◌, [], Accepted, accepted_at, after_build, after_clear, after_give, after_outcome, after_release, ap, arith, attached_to, CanFree, Change, Clearing, DimensionDeclared, entry_of, eqb, eqb-true, false, Filter, Free, gets_rows, grouped_of, Held, holder_of, inr, is_held_by, IsScannedAs, IsSome, IsSound, IsSoundQuery, length, length-set, life_of, Lives, None, OnRoster, Option, option_and_then, option_map, option_map_or, query_in, query_in-push_other, QueryLife, refl, Scanning, slot_at, slot_of, SlotState, Some, State, subst, sym, true, versions_in, with_built, with_change, with_dimension, with_query, with_slot, with_version, without_dimension, ℕ}
-use Rattle.std.proofs.Common.{find}
-use Rattle.star_statement.specs.Outcome as outcome
+-- What each slot shows: who holds it, with the life and the extent, what was asked and what is kept of it. A scan and a
+-- distributor have what they had at each slot that shows what it showed.
+use Rattle.core_state.proofs.Words.{◌<◌, ◌∙◌, ◌≡◌, ◌≢◌, ◌⊎◌, Accepted, accepted_at, ap, arith, attached_at, attached_to, Bool, cases_eq, cond, false, get_or, gets_rows, Grouped, groups_in, holder_of, inl, inr, IsScannedAs, length, length-set, Life, life_at, life_of, List, None, none-some, Option, option_and_then, option_map, option_map_or, query_in, QueryLife, refl, Running, running_at, RunsAs, RunsAt, same_Some, Scanning, set, slot_at, Some, start_at, start_in, State, subst, sym, true, ℕ, ⊎_elim}
 use Rattle.pipeline_manager.specs.declared.life.Life.TheVariants as life
-use Rattle.core_state.proofs.AcceptedLemmas.{find-holds, held-accepted}
-use Rattle.core_state.proofs.AskLemmas.{accepted-push}
-use Rattle.core_state.proofs.AttachedFrameLemmas.{attached-same, slot-same}
-use Rattle.core_state.proofs.FoundLemmas.{find-passes}
+use Rattle.core_state.proofs.AttachedFrameLemmas.{attached-same, attached-set}
 use Rattle.core_state.proofs.FrameLemmas.{at-set}
-use Rattle.core_state.proofs.ScannedFrameLemmas.{StaysIn, scanned-stays}
-use Rattle.core_state.proofs.ScannedLifeLemmas.{holder-held}
-use Rattle.core_state.proofs.ScannedRunLemmas.{found_by}
-use Rattle.core_state.proofs.WholeFrameLemmas.{by-built, by-option}
-use Rattle.core_state.proofs.WholeToldLemmas.{seated}
+use Rattle.core_state.proofs.HandedSlotLemmas.{gets, kept-none, kept_by}
+use Rattle.core_state.proofs.ScannedCutLemmas.{RunsBy, found-same}
+use Rattle.core_state.proofs.ScannedRunLemmas.{found_by, runs-none}
+use Rattle.core_state.proofs.ScannedSlotLemmas.{run_in}
 
--- a slot shows what it showed
-pub record ShowsAs (state later : State) (slot : ℕ) : Type 0 where
+-- nobody holds a slot who gets rows
+abbrev pub RestsAt : State → (slot : ℕ) → Type 0
+RestsAt state slot = option_map_or gets_rows (life_at state.lives slot) false ≡ false
+
+-- a slot has its holder, of whom nothing changes
+pub record SameAt (state later : State) (slot : ℕ) : Type 0 where
   pub holder : holder_of (slot_at later.lives slot) ≡ holder_of (slot_at state.lives slot)
   pub lives : (query : ℕ) → holder_of (slot_at state.lives slot) ≡ Some query
       → query_in later.lives.queries query ≡ query_in state.lives.queries query
   pub asked : (query : ℕ) → holder_of (slot_at state.lives slot) ≡ Some query
       → accepted_at later.accepted query ≡ accepted_at state.accepted query
 
--- each slot does, and the scan stands where it stood
-pub record SameViews (state later : State) : Type 0 where
+-- a slot shows what it showed, or nobody holds it who gets rows, before and after
+abbrev pub ShowsAs : (state later : State) → (slot : ℕ) → Type 0
+ShowsAs state later slot = (RestsAt state slot × RestsAt later slot) ⊎ SameAt state later slot
+
+-- each slot does, but for one if there is one, and the scan stands where it stood
+pub record Views (state later : State) (without : Option ℕ) : Type 0 where
   pub position : later.scan.position ≡ state.scan.position
   pub count : length later.lives.slots ≡ length state.lives.slots
-  pub each : (slot : ℕ) → slot < length state.lives.slots → ShowsAs state later slot
+  pub each : (slot : ℕ) → slot < length state.lives.slots → without ≢ Some slot → ShowsAs state later slot
 
--- so the same runs in it
-shows-runs : (state later : State) (slot : ℕ) → ShowsAs state later slot → StaysIn state later slot
-shows-runs state later slot shows = inr (
-  ap (option_and_then (life_of later.lives)) shows.holder ∙ by_life (holder_of (slot_at state.lives slot)) shows.lives,
-  ap (found_by later.accepted later.lives slot) shows.holder ∙ by_found (holder_of (slot_at state.lives slot)) shows.lives shows.asked,
-)
+-- What a scan has.
+
+-- where nobody gets rows, nobody runs
+rests-none : (state : State) (slot : ℕ) → RestsAt state slot → start_at state.lives slot ≡ None
+rests-none state slot rests = by_life (life_at state.lives slot) rests
   where
-    Same : Option ℕ → Type 0
-    Same holder = (query : ℕ) → holder ≡ Some query → query_in later.lives.queries query ≡ query_in state.lives.queries query
+    by_life : (o : Option Life) → option_map_or gets_rows o false ≡ false → option_and_then start_in o ≡ None
+    by_life (Some (life.Running start left)) gets = absurd (let both : true ≡ false = gets in cc)
+    by_life other gets = refl
 
-    by_life : (holder : Option ℕ) → Same holder → option_and_then (life_of later.lives) holder ≡ option_and_then (life_of state.lives) holder
-    by_life None lives = refl
-    by_life (Some query) lives = ap (option_map (λ (e : QueryLife). e.life)) (lives query refl)
+none-stay : (state later : State) (slot : ℕ) (running : List (Option Running)) → start_at state.lives slot ≡ None → start_at later.lives slot ≡ None
+    → RunsAt state running slot → RunsAt later running slot
+none-stay state later slot running before after fits =
+    (runs-none later slot (get_or running slot None) after).1 ((runs-none state slot (get_or running slot None) before).0 fits)
 
-    entry_with : Accepted → (extent : ℕ) → OnRoster
-    entry_with a extent = record { slot = slot; number = a.number; query = a.query; snapshot = a.snapshot; extent = extent }
+shows-runs : (state later : State) (slot : ℕ) (running : List (Option Running)) → ShowsAs state later slot
+    → RunsAt state running slot → RunsAt later running slot
+shows-runs state later slot running (inl rests) fits =
+    none-stay state later slot running (rests-none state slot rests.0) (rests-none later slot rests.1) fits
+shows-runs state later slot running (inr same) fits =
+    subst (λ holder. RunsBy later.accepted later.lives slot holder (get_or running slot None)) (sym same.holder)
+    (by_holder (holder_of (slot_at state.lives slot)) refl fits)
+  where
+    by_holder : (holder : Option ℕ) → holder_of (slot_at state.lives slot) ≡ holder
+        → RunsBy state.accepted state.lives slot holder (get_or running slot None)
+        → RunsBy later.accepted later.lives slot holder (get_or running slot None)
+    by_holder None is runs = runs
+    by_holder (Some query) is runs =
+        subst (λ now. RunsAs now (run_in now (found_by later.accepted later.lives slot (Some query))) (get_or running slot None))
+        (sym (ap (option_map (λ (e : QueryLife). e.life)) (same.lives query is)))
+        (subst (λ found. RunsAs (life_of state.lives query) (run_in (life_of state.lives query) found) (get_or running slot None))
+        (sym (found-same state.accepted later.accepted state.lives later.lives slot query (same.asked query is)
+        (ap (λ o. option_map_or (λ (e : QueryLife). e.extent) o 0) (same.lives query is)))) runs)
 
-    by_found : (holder : Option ℕ) → Same holder
-        → ((query : ℕ) → holder ≡ Some query → accepted_at later.accepted query ≡ accepted_at state.accepted query)
-        → found_by later.accepted later.lives slot holder ≡ found_by state.accepted state.lives slot holder
-    by_found None lives asked = refl
-    by_found (Some query) lives asked =
-        ap (option_map (entry_of later.lives slot)) (asked query refl) ∙ by_accepted (accepted_at state.accepted query) refl
+-- a scan stays where each slot of it does
+pub scanned-stays : (state later : State) (scan : Scanning) → later.scan.position ≡ state.scan.position
+    → length later.lives.slots ≡ length state.lives.slots
+    → ((slot : ℕ) → slot < length state.lives.slots → RunsAt state scan.running slot → RunsAt later scan.running slot)
+    → IsScannedAs state scan → IsScannedAs later scan
+scanned-stays state later scan position count stays same = record {
+  position = same.position ∙ sym position;
+  count = same.count ∙ sym count;
+  slots = λ slot low. let inside : slot < length state.lives.slots = omega arith in stays slot inside (same.slots slot inside);
+}
+
+pub scanned-views : (state later : State) (scan : Scanning) → Views state later None → IsScannedAs state scan → IsScannedAs later scan
+scanned-views state later scan views = scanned-stays state later scan views.position views.count
+    (λ slot low. shows-runs state later slot scan.running (views.each slot low (none-some slot)))
+
+-- so too where nobody runs in the other slot before and after
+pub scanned-none : (state later : State) (scan : Scanning) (slot : ℕ) → Views state later (Some slot)
+    → start_at state.lives slot ≡ None → start_at later.lives slot ≡ None → IsScannedAs state scan → IsScannedAs later scan
+scanned-none state later scan slot views before after = scanned-stays state later scan views.position views.count (λ at low. ⊎_elim
+    (λ is. none-stay state later at scan.running (ap (start_at state.lives) is ∙ before) (ap (start_at later.lives) is ∙ after))
+    (λ apart. shows-runs state later at scan.running (views.each at low (λ both. apart (sym (same_Some slot at both)))))
+    (cases_eq at slot))
+
+-- a scan into whose other slot is written what runs there
+pub scanned-set : (state later : State) (scan : Scanning) (slot : ℕ) (new : Option Running) → Views state later (Some slot)
+    → RunsAs (life_at later.lives slot) (running_at later slot) new → IsScannedAs state scan
+    → IsScannedAs later (record scan { running = set scan.running slot new })
+scanned-set state later scan slot new views here same = record {
+  position = same.position ∙ sym views.position;
+  count = length-set scan.running slot new ∙ same.count ∙ sym views.count;
+  slots = λ at low.
+      let many = views.count in
+      let all = same.count in
+      let inside : at < length state.lives.slots = omega arith in
+      at-set (RunsAs (life_at later.lives at) (running_at later at)) scan.running slot at new None (omega arith)
+      (λ is. subst (λ n. RunsAs (life_at later.lives n) (running_at later n) new) (sym is) here)
+      (λ apart. shows-runs state later at scan.running (views.each at inside (λ both. apart (sym (same_Some slot at both)))) (same.slots at inside));
+}
+
+-- What a distributor has.
+
+-- nothing for nobody who gets rows
+pub attached-none : (state : State) (slot : ℕ) → RestsAt state slot → attached_at state slot ≡ None
+attached-none state slot rests = by_holder (holder_of (slot_at state.lives slot)) rests
+  where
+    by_holder : (o : Option ℕ) → option_map_or gets_rows (option_and_then (life_of state.lives) o) false ≡ false → kept_by state o ≡ None
+    by_holder None none = refl
+    by_holder (Some query) none = kept-none state query none
+
+shows-attached : (state later : State) (slot : ℕ) → ShowsAs state later slot → attached_at later slot ≡ attached_at state slot
+shows-attached state later slot (inl rests) = attached-none later slot rests.1 ∙ sym (attached-none state slot rests.0)
+shows-attached state later slot (inr same) = ap (kept_by later) same.holder ∙ by_holder (holder_of (slot_at state.lives slot)) refl
+  where
+    by_holder : (holder : Option ℕ) → holder_of (slot_at state.lives slot) ≡ holder → kept_by later holder ≡ kept_by state holder
+    by_holder None is = refl
+    by_holder (Some query) is =
+        ap (λ o. option_and_then (groups_in later)
+        (cond {A = Option ℕ} (option_map_or gets_rows (option_map (λ (e : QueryLife). e.life) o) false) (Some query) None)) (same.lives query is)
+        ∙ by_test (gets state.lives query)
       where
-        by_accepted : (o : Option Accepted) → accepted_at state.accepted query ≡ o
-            → option_map (entry_of later.lives slot) o ≡ option_map (entry_of state.lives slot) o
-        by_accepted None found = refl
-        by_accepted (Some a) found =
-            let is : a.number ≡ query = eqb-true a.number query (find-passes (λ x. eqb x.number query) state.accepted a found) in
-            ap (λ e. Some (entry_with a e)) (ap (λ o. option_map_or (λ (e : QueryLife). e.extent) o 0)
-            (subst (λ n. query_in later.lives.queries n ≡ query_in state.lives.queries n) (sym is) (lives query refl)))
+        by_test : (t : Bool) → option_and_then (groups_in later) (cond {A = Option ℕ} t (Some query) None)
+            ≡ option_and_then (groups_in state) (cond {A = Option ℕ} t (Some query) None)
+        by_test true = ap (λ o. option_map_or (λ (a : Accepted). a.groups) o None) (same.asked query is)
+        by_test false = refl
 
-pub scanned-views : (state later : State) (scan : Scanning) → SameViews state later → IsScannedAs state scan → IsScannedAs later scan
-scanned-views state later scan same =
-    scanned-stays state later scan same.position same.count (λ slot low. shows-runs state later slot (same.each slot low))
+pub attached-views : (state later : State) → Views state later None → attached_to later ≡ attached_to state
+attached-views state later views =
+    attached-same state later views.count (λ slot low. shows-attached state later slot (views.each slot low (none-some slot)))
 
-pub attached-views : (state later : State) → SameViews state later → attached_to later ≡ attached_to state
-attached-views state later same =
-    attached-same state later same.count (λ slot low.
-    let shows = same.each slot low in
-    slot-same state later slot shows.holder (λ query is. (
-      ap (λ o. option_map_or gets_rows (option_map (λ (e : QueryLife). e.life) o) false) (shows.lives query is),
-      λ yet. ap (λ o. option_map_or (λ (a : Accepted). a.groups) o None) (shows.asked query is),
-    )))
-
--- Events.
-
--- the same lives and queries, and a slot that is written over has the holder that it had
-views-slot : (state later : State) (slot : ℕ) (new : SlotState) → later.scan.position ≡ state.scan.position
-    → later.accepted ≡ state.accepted → later.lives ≡ with_slot slot new state.lives → holder_of new ≡ holder_of (slot_at state.lives slot)
-    → SameViews state later
-views-slot state later slot new position accepted lives holder = record {
-  position = position;
-  count = ap (λ (l : Lives). length l.slots) lives ∙ length-set state.lives.slots slot new;
-  each = λ at low. record {
-    holder = ap (λ (l : Lives). holder_of (slot_at l at)) lives
-        ∙ at-set (λ s. holder_of s ≡ holder_of (slot_at state.lives at)) state.lives.slots slot at new Free low
-        (λ is. holder ∙ ap (λ n. holder_of (slot_at state.lives n)) (sym is)) (λ apart. refl);
-    lives = λ query is. ap (λ (l : Lives). query_in l.queries query) lives;
-    asked = λ query is. ap (λ a. accepted_at a query) accepted;
-  };
-}
-
--- nothing of it changes
-pub views-all : (state later : State) → later.scan.position ≡ state.scan.position → later.accepted ≡ state.accepted → later.lives ≡ state.lives
-    → SameViews state later
-views-all state later position accepted lives = record {
-  position = position;
-  count = ap (λ (l : Lives). length l.slots) lives;
-  each = λ at low. record {
-    holder = ap (λ (l : Lives). holder_of (slot_at l at)) lives;
-    lives = λ query is. ap (λ (l : Lives). query_in l.queries query) lives;
-    asked = λ query is. ap (λ a. accepted_at a query) accepted;
-  };
-}
-
-holder-more : (dimension : ℕ) (now : SlotState) → holder_of (with_dimension dimension now) ≡ holder_of now
-holder-more dimension Free = refl
-holder-more dimension (Held query built) = refl
-holder-more dimension (Clearing left) = refl
-
-holder-less : (dimension : ℕ) (now : SlotState) → holder_of (without_dimension dimension now) ≡ holder_of now
-holder-less dimension Free = refl
-holder-less dimension (Held query built) = refl
-holder-less dimension (Clearing left) = refl
-
-pub views-build : (state : State) (query dimension : ℕ) → SameViews state (after_build query dimension state)
-views-build state query dimension = by_slot (slot_of state.lives query)
-  where
-    same : {X : Type 0} (part : State → X) → ((change : Filter → Filter) → part (with_version dimension change state) ≡ part state)
-        → part (with_built query dimension state) ≡ part state
-    same part each = by-built (λ s. part s ≡ part state) query dimension state refl each
-
-    by_slot : (o : Option ℕ) → SameViews state (record (with_built query dimension state) {
-      lives = option_map_or (λ slot. with_slot slot (with_dimension dimension (slot_at state.lives slot)) state.lives) o state.lives;
-    })
-    by_slot None = views-all state _ (same (λ s. s.scan.position) (λ change. refl)) (same (λ s. s.accepted) (λ change. refl)) refl
-    by_slot (Some slot) = views-slot state _ slot (with_dimension dimension (slot_at state.lives slot))
-        (same (λ s. s.scan.position) (λ change. refl)) (same (λ s. s.accepted) (λ change. refl)) refl (holder-more dimension (slot_at state.lives slot))
-
-pub views-give : (state : State) (worker : ℕ) → SameViews state (after_give worker state)
-views-give state worker =
-    by-option (SameViews state) (find (is_held_by worker) state.scan.flights) _ state (views-all state state refl refl refl)
-    (λ flight is. views-all state _ refl refl refl)
-
-pub views-clear : (state : State) (slot dimension : ℕ) → SameViews state (after_clear slot dimension state)
-views-clear state slot dimension = views-slot state (after_clear slot dimension state) slot
-    (without_dimension dimension (slot_at state.lives slot)) refl refl refl (holder-less dimension (slot_at state.lives slot))
-
-pub views-release : (state : State) (slot : ℕ) → CanFree slot state.lives → SameViews state (after_release slot state)
-views-release state slot can = views-slot state (after_release slot state) slot Free refl refl refl (sym (ap holder_of can))
-
--- Statements.
-
--- no slot is held by this number
-abbrev NoneHolds : (number : ℕ) → Lives → Type 0
-NoneHolds number lives = (slot : ℕ) → slot < length lives.slots → holder_of (slot_at lives slot) ≢ Some number
-
--- no slot is held by the number of the next statement
-next-free : (state : State) → IsSound state → NoneHolds (state.numbers.statement + 1) state.lives
-next-free state sound slot low holds =
-    by_accepted (accepted_at state.accepted number) refl (held-accepted state slot number held.0 sound low held.1)
-  where
-    number : ℕ
-    number = state.numbers.statement + 1
-
-    held : (built : ℕ) × (slot_at state.lives slot ≡ Held number built)
-    held = holder-held number (slot_at state.lives slot) holds
-
-    by_accepted : (o : Option Accepted) → accepted_at state.accepted number ≡ o → IsSome o → ⊥
-    by_accepted None found some = let both : false ≡ true = some in cc
-    by_accepted (Some a) found some =
-        let is : a.number ≡ number = eqb-true a.number number (find-passes (λ x. eqb x.number number) state.accepted a found) in
-        let of_query : IsSoundQuery state a = find-holds (IsSoundQuery state) (λ x. eqb x.number number) state.accepted a found sound.queries.each in
-        let most = of_query.number in
-        let same : a.number ≡ state.numbers.statement + 1 = is in
-        omega arith
-
--- the change of a statement
-views-change : (seat statement : ℕ) (change : Change) (state later : State) → SameViews state later
-    → SameViews state (with_change seat statement change later)
-views-change seat statement (DimensionDeclared table) state later same = record {
-  position = same.position;
-  count = same.count;
-  each = λ at low. let shows = same.each at low in record { holder = shows.holder; lives = shows.lives; asked = shows.asked };
-}
-views-change seat statement other state later same = record {
-  position = same.position;
-  count = same.count;
-  each = λ at low. let shows = same.each at low in record { holder = shows.holder; lives = shows.lives; asked = shows.asked };
-}
-
--- the query of a statement, whose number is that of no holder
-views-query : (seat statement : ℕ) (told : outcome.Told) (state later : State) → NoneHolds statement state.lives → SameViews state later
-    → SameViews state (with_query seat statement told later)
-views-query seat statement (outcome.Replied reply) state later none same = same
-views-query seat statement (outcome.Accepted query snapshot) state later none same = record {
-  position = same.position;
-  count = same.count;
-  each = λ at low. let shows = same.each at low in record {
-    holder = shows.holder;
-    lives = λ number is. query_in-push_other later.lives.queries
-        (record { query = statement; extent = versions_in later; life = life.Waiting }) number (λ e. none at low (is ∙ ap Some e))
-        ∙ shows.lives number is;
-    asked = λ number is. accepted-push later.accepted
-        (record { number = statement; seat = seat; query = query; snapshot = snapshot; groups = Some (grouped_of query []) })
-        number (λ e. none at low (is ∙ ap Some (sym e))) ∙ shows.asked number is;
-  };
-}
-
-pub views-outcome : (state : State) (seat : ℕ) (found : outcome.Outcome) → IsSound state → SameViews state (after_outcome seat found state)
-views-outcome state seat found sound =
-    views-query seat number found.told state _ (next-free state sound)
-    (by-option (SameViews state) found.change (λ change. with_change seat number change before) before first
-    (λ change is. views-change seat number change state before first))
-  where
-    number : ℕ
-    number = state.numbers.statement + 1
-
-    before : State
-    before = seated seat found.told state
-
-    first : SameViews state before
-    first = views-all state before refl refl refl
+-- and at the other slot
+pub attached-but : (state later : State) (slot : ℕ) (attached : Option Grouped) → Views state later (Some slot)
+    → slot < length state.lives.slots → attached_at later slot ≡ attached → attached_to later ≡ set (attached_to state) slot attached
+attached-but state later slot attached views low here = attached-set state later slot attached views.count low here
+    (λ other inside apart. shows-attached state later other (views.each other inside (λ both. apart (sym (same_Some slot other both)))))

@@ -92,12 +92,12 @@ pub use Rattle.core_state.specs.Handed.{AreKeyedTablesOf, attached_at, attached_
 pub use Rattle.core_state.specs.Logged.{EndsAscending, facts_loaded_by, positions_ended_by, rows_loaded_by}
 pub use Rattle.core_state.specs.Numbered.{counted, last_after, last_number, next_number}
 pub use Rattle.core_state.specs.Scanned.{AreTablesOf, IsSameRun, IsScannedAs, life_at, RunsAs, RunsAt}
-pub use Rattle.core_state.specs.Sound.{AreSoundBatches, AreSoundFilters, AreSoundHands, AreSoundNumbers, AreSoundQueries, AreSoundSeats, AreSoundSlots, empty_core, HasAccepted, HasTaken, IsAnswer, IsAwaited, IsCovered, IsKept, IsNext, IsQuietBefore, IsSound, IsSoundAccepted, IsSoundOrder, IsSoundQuery, IsSoundSeat, IsSoundStore, IsTaken, kept_at, positions_for, to_come, versions_at}
+pub use Rattle.core_state.specs.Sound.{AreSoundBatches, AreSoundFilters, AreSoundHands, AreSoundNumbers, AreSoundQueries, AreSoundSeats, AreSoundSlots, AreSoundVersions, empty_core, HasAccepted, HasTaken, IsAnswer, IsAwaited, IsCovered, IsKept, IsNext, IsPresentByNumber, IsQuietBefore, IsSound, IsSoundAccepted, IsSoundOrder, IsSoundQuery, IsSoundSeat, IsSoundStore, IsTaken, kept_at, positions_for, to_come, versions_at}
 pub use Rattle.core_state.specs.State.{Accepted, Asked, Awaited, Entry, Filters, FilterVersion, Flight, Hand, Numbers, OnRoster, Pending, Replied, Scan, Seat, State, Taken}
 pub use Rattle.core_state.specs.Steps.{after_step, after_steps, awaited_at, Done, MaySpoil, MayStep, MayStepAll, Replying, Step, Wanting}
 pub use Rattle.core_state.specs.Submitting.{after_abandoning, after_outcome, after_submitting, after_taking, awaited_by, empty_seat, first_versions, forgotten, Grouping, groups_in, next_ready, Ready, ready_by, ready_to, seat_at, taken_by, Whole, with_change, with_query, with_seat, with_statement, with_taken, without_groups, without_pending}
 pub use Rattle.core_state.specs.Tables.{changes_of, filter_dimensions, key_number, key_numbers, tables_by, tables_of, versions_in}
-pub use Rattle.core_state.specs.Whole.{LosesNone}
+pub use Rattle.core_state.specs.Whole.{IsAccountedFor}
 pub use Rattle.core_state.specs.declared.event.Event.{Event}
 pub use Rattle.core_state.specs.declared.event.Event.TheVariants.{Abandon, Build, Clear, Cut, Distribute, Finish, Give, Release, Reorder, Reserve, Start, Submit, Take}
 pub use Rattle.core_state.specs.declared.settings.RunSettings.{RunSettings}

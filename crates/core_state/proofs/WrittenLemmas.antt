@@ -1,19 +1,21 @@
 -- What stays sound where the life of one query is written.
-use Rattle.core_state.proofs.Words.{◌<◌, ◌↔◌, ◌∙◌, ◌≡◌, ◌≢◌, ◌≤◌, ◌⊎◌, Accepted, ap, AreSoundQueries, Filters, IfSome, is_open, IsKept, IsTrue, Life, life_in, List, query_in, refl, slice_get, SlotState, Some, State, subst, sym, tables_of, with_life, ℕ}
+use Rattle.core_state.proofs.Words.{◌<◌, ◌↔◌, ◌∙◌, ◌≡◌, ◌≢◌, ◌≤◌, ◌⊎◌, Accepted, ap, AreSoundQueries, Filters, IfSome, is_open, IsKept, IsTrue, Life, life_in, List, query_in, refl, same_Some, slice_get, SlotState, Some, State, subst, sym, tables_of, with_life, ℕ}
 use Rattle.pipeline_manager.specs.declared.life.Life.TheVariants as life
 use Rattle.core_state.proofs.FoundLemmas.{life-written, query_in-number, same-life, with_life-found, with_life-numbers}
 use Rattle.core_state.proofs.FrameLemmas.{LivesAs, Told, Wanted, lives-as}
 use Rattle.core_state.proofs.HeldLemmas.{queries-held}
 use Rattle.core_state.proofs.MovedLemmas.{StaysWanted, held_now}
+use Rattle.core_state.proofs.WholeLivesLemmas.{lost-written}
 
--- who is waited for, and whose reply was taken
+-- who is waited for, whose reply was taken, and who was abandoned
 pub wanted-written : (state : State) (query : ℕ) (old new : Life) → life_in state.lives.queries query ≡ Some old
-    → (old ≢ life.Abandoned → new ≢ life.Abandoned)
+    → old ≢ life.Abandoned → new ≢ life.Abandoned
     → ((old ≡ life.Answered) ⊎ (old ≡ life.Spoiled) → (new ≡ life.Answered) ⊎ (new ≡ life.Spoiled))
     → StaysWanted state (with_life query new state.lives.queries)
-wanted-written state query old new was wanted taken = λ number. (
-  life-written Wanted query old new state.lives.queries number was wanted,
+wanted-written state query old new was wanted still taken = λ number. (
+  life-written Wanted query old new state.lives.queries number was (λ h. still),
   life-written Told query old new state.lives.queries number was taken,
+  lost-written query new state.lives.queries (λ is. wanted (same_Some old life.Abandoned (sym was ∙ is))) number,
 )
 
 -- the accepted queries are sound where what is kept for the one is what its new life says

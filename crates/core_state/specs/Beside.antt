@@ -1,7 +1,7 @@
 -- What of a core reads its tables, beside its seats: rows that are loaded, and versions that are ended, leave it sound.
 use Rattle.std.specs.Prelude.{ℕ, [], ◌∷◌, ◌++◌}
 use Rattle.star_history.specs.History.{Change, DimensionDeclared, FactDeclared, Loaded, Ended}
-use Rattle.core_state.specs.Sound.{AreSoundBatches, AreSoundFilters, AreSoundHands, AreSoundQueries, AreSoundSlots, IsQuietBefore, IsSoundOrder, IsSoundScan, IsSoundStore}
+use Rattle.core_state.specs.Sound.{AreSoundBatches, AreSoundFilters, AreSoundHands, AreSoundNumbers, AreSoundQueries, AreSoundSlots, IsQuietBefore, IsSoundOrder, IsSoundScan, IsSoundStore}
 use Rattle.core_state.specs.State.{State}
 
 -- a change that loads rows or ends versions
@@ -25,5 +25,6 @@ pub record IsSoundBeside (state : State) : Type 0 where
   pub slots : AreSoundSlots state
   pub store : IsSoundStore state
   pub quiet : IsQuietBefore state
+  pub numbers : AreSoundNumbers state
   pub scan : IsSoundScan state
   pub order : IsSoundOrder state.filters

@@ -100,3 +100,9 @@ unfoldable pub after_want : Event → (spoiled : List ℕ) → State → State
 after_want (Build query dimension) spoiled state = after_build_wants query state
 after_want (Distribute batch) spoiled state = after_distribute batch spoiled state
 after_want other spoiled state = state
+
+-- an event that leaves the history and the seats: no statement is submitted, and no query abandoned
+abbrev pub LeavesSeats : Event → Type 0
+LeavesSeats (Submit seat statement) = ⊥
+LeavesSeats (Abandon query) = ⊥
+LeavesSeats other = Unit {0}

@@ -12,7 +12,7 @@ use Rattle.star_history.specs.Alone.{joined}
 use Rattle.star_history.specs.Store.{PlainVersion, Store, rows_in}
 use Rattle.batch_flow.specs.Rows.{key_place}
 use Rattle.batch_flow.specs.declared.batch.TheConstants.{KEYS_IN_A_ROW}
-use Rattle.pipeline_manager.specs.Lives.{Lives, life_of, slot_at}
+use Rattle.pipeline_manager.specs.Lives.{Lives, extent_in, life_of, slot_at}
 use Rattle.pipeline_manager.specs.declared.life.Life.{Life}
 use Rattle.pipeline_manager.specs.declared.life.Life.TheVariants as life
 use Rattle.pipeline_manager.specs.declared.life.SlotState.{SlotState}
@@ -69,7 +69,7 @@ MayBeOnRoster life.Building = ⊥
 MayBeOnRoster life.Answered = ⊥
 MayBeOnRoster other = Unit {0}
 
--- a slot on a roster is held by its query, which is as the core has it, and every filter is built for it
+-- a slot on a roster is held by its query, which is as the core has it, with its extent, and every filter is built for it
 pub record IsOnRoster (lives : Lives) (accepted : List Accepted) (entry : OnRoster) : Type 0 where
   pub there : entry.slot < length lives.slots
   pub held : (built : ℕ) × (slot_at lives entry.slot ≡ Held entry.number built)
@@ -77,6 +77,7 @@ pub record IsOnRoster (lives : Lives) (accepted : List Accepted) (entry : OnRost
   pub life : IfSome (life_of lives entry.number) MayBeOnRoster
   pub same : IfSome (accepted_at accepted entry.number)
       (λ asked. (asked.query ≡ entry.query) × (asked.snapshot ≡ entry.snapshot))
+  pub extent : extent_in lives.queries entry.number ≡ entry.extent
 
 -- whether a query keeps a version as far as a batch has passed filters: it sees the version, its condition on the fact
 -- table holds, and it takes the row of each dimension whose filter the batch passed

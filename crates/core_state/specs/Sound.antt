@@ -22,13 +22,15 @@ use Rattle.continuous_scan.specs.Lap.{lap, lap_start, next_below, place_in_lap, 
 use Rattle.aggregations.specs.Grouped.{grouped_of}
 use Rattle.core_state.specs.Cutting.{frame_words, gets_rows}
 use Rattle.core_state.specs.Flown.{IsSoundBatch, IsSoundFilter, IsSoundHand}
-use Rattle.core_state.specs.Found.{accepted_at}
+use Rattle.core_state.specs.Found.{accepted_at, version_at}
+use Rattle.core_state.specs.Logged.{EndsAscending}
 use Rattle.core_state.specs.Numbered.{last_number}
 use Rattle.core_state.specs.Settings.{AreWithin, frames_of}
-use Rattle.core_state.specs.State.{Accepted, Asked, Awaited, Filters, Flight, Replied, Scan, Seat, State}
+use Rattle.core_state.specs.State.{Accepted, Asked, Awaited, Filters, FilterVersion, Flight, Replied, Scan, Seat, State}
 use Rattle.core_state.specs.Submitting.{empty_seat, seat_at}
 use Rattle.core_state.specs.declared.settings.RunSettings.{RunSettings}
 use Rattle.core_state.specs.Tables.{changes_of, filter_dimensions, tables_of, versions_in}
+use Rattle.core_state.specs.Whole.{IsAccountedFor}
 
 -- the filters: one for each dimension that the fact table references, ascending, each sound
 pub record AreSoundFilters (state : State) : Type 0 where
@@ -162,10 +164,25 @@ abbrev pub IsQuietBefore : State → Type 0
 IsQuietBefore state = (tables_of state).schema.fact ≡ None →
     (state.accepted ≡ []) × (state.scan.flights ≡ []) × All (λ slot. slot ≡ Free) state.lives.slots
 
--- batches in flight have different numbers, and until the numbers have run out none is above the last one given
+-- where the present version of a dimension has the number of a version in a hand, it is that version
+abbrev pub IsPresentByNumber : List FilterVersion → (held : FilterVersion) → Type 0
+IsPresentByNumber versions held =
+    IfSome (version_at versions held.filter.dimension) (λ version. version.number ≡ held.number → version ≡ held)
+
+-- until the numbers of versions have run out no present version has one above the last one given, nor has one in a hand; and one in a
+-- hand that has the dimension and the number of a present one is that one
+pub record AreSoundVersions (last : ℕ) (versions : List FilterVersion) (flights : List Flight) : Type 0 where
+  pub given : last < last_number → All (λ version. version.number ≤ last) versions
+  pub held : last < last_number → All (λ flight. IfSome flight.hand (λ hand. hand.version.number ≤ last)) flights
+  pub present : All (λ flight. IfSome flight.hand (λ hand. IsPresentByNumber versions hand.version)) flights
+
+-- batches in flight have different numbers, and until the numbers have run out none is above the last one given; so it is with versions,
+-- of which none has a number before the fact table is declared
 pub record AreSoundNumbers (state : State) : Type 0 where
   pub apart : AllPairs (λ flight other. flight.rows.number ≢ other.rows.number) state.scan.flights
   pub given : state.numbers.batch < last_number → All (λ flight. flight.rows.number ≤ state.numbers.batch) state.scan.flights
+  pub versions : AreSoundVersions state.numbers.version state.filters.versions state.scan.flights
+  pub unnumbered : (tables_of state).schema.fact ≡ None → state.numbers.version ≡ 0
 
 -- the free frames and the batches in flight are the frames that were made, and the scan stands within the table
 pub record IsSoundScan (state : State) : Type 0 where
@@ -194,14 +211,14 @@ IsAwaited accepted queries statement (Asked query snapshot) =
     × IfSome (life_in queries statement) (λ now. now ≢ life.Abandoned)
 
 -- a statement whose reply a seat took: a query is one of the core with its query and its snapshot, and was answered or
--- replied that it found no memory
+-- replied that it found no memory; what is no query has no number of one
 abbrev pub IsTaken : List Accepted → List QueryLife → (statement : ℕ) → Option (Query × ℕ) → Type 0
-IsTaken accepted queries statement None = Unit {0}
+IsTaken accepted queries statement None = accepted_at accepted statement ≡ None
 IsTaken accepted queries statement (Some asked) =
     HasAccepted accepted statement asked.0 asked.1
     × IfSome (life_in queries statement) (λ now. (now ≡ life.Answered) ⊎ (now ≡ life.Spoiled))
 
--- a seat: the numbers that it submitted rise, and those that it took and waits for are among them, in the same order
+-- a seat: the numbers that it submitted rise, those that it took and waits for are among them, in the same order, and none is lost
 pub record IsSoundSeat (last : ℕ) (accepted : List Accepted) (queries : List QueryLife)
     (seat : Seat) : Type 0 where
   pub rising : AllPairs (λ statement later. statement < later) seat.submitted
@@ -213,6 +230,7 @@ pub record IsSoundSeat (last : ℕ) (accepted : List Accepted) (queries : List Q
   pub taken : All (λ taken. IsTaken accepted queries taken.statement taken.query) seat.taken
   pub awaited : All (λ pending. IsAwaited accepted queries pending.statement pending.awaited)
       seat.pending
+  pub whole : All (IsAccountedFor queries seat) seat.submitted
 
 -- the seats and the entries: numbers of statements rise along the entries, each stands in its seat, and no number stands
 -- in two seats
@@ -225,7 +243,7 @@ pub record AreSoundSeats (state : State) : Type 0 where
   pub entries : All (λ entry. Contains (seat_at state entry.seat).submitted entry.statement) state.entries
   pub queries : All (λ accepted. Contains (seat_at state accepted.seat).submitted accepted.number) state.accepted
 
--- all of it, in a core whose settings are within their limits
+-- all of it, in a core whose settings are within their limits, and whose deletes name their positions ascending
 pub record IsSound (state : State) : Type 0 where
   pub settings : AreWithin state.settings
   pub filters : AreSoundFilters state
@@ -234,6 +252,7 @@ pub record IsSound (state : State) : Type 0 where
   pub queries : AreSoundQueries state
   pub slots : AreSoundSlots state
   pub store : IsSoundStore state
+  pub ends : All EndsAscending (changes_of state.entries)
   pub quiet : IsQuietBefore state
   pub numbers : AreSoundNumbers state
   pub scan : IsSoundScan state

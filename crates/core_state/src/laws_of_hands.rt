@@ -29,7 +29,7 @@ pub fn what_a_worker_took_stays_right()
     ensures { (before after : State) (flight home : Flight) (hand : Hand) (more : List Entry) → IsSound before → IsSound after →
         after.settings ≡ before.settings → after.entries ≡ before.entries ++ more →
         Contains before.scan.flights flight → flight.hand ≡ Some hand →
-        Contains after.scan.flights home → IsInHandAs flight home →
+        Contains after.scan.flights home → IsInHandAs flight hand home →
         IsSoundBatch (frame_words after) (tables_of after) after.lives after.accepted flight
         × IsSoundHand (length after.seats) after.lives.filters (tables_of after) flight hand }
 {

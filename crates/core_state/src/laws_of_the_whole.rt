@@ -12,22 +12,24 @@ ghost use Rattle.core_state.specs.Whole.{LosesNone};
 ghost use Rattle.core_state.specs.declared.event.Event.TheVariants.{Abandon};
 ghost use Rattle.core_state.specs.declared.settings.RunSettings.{RunSettings};
 
-use crate::laws::an_empty_core_is_sound;
-use crate::laws_of_runs::every_step_keeps_a_core_sound;
+use crate::laws_of_runs::{every_core_is_sound, every_step_keeps_a_core_sound};
 
-/// No step loses a statement: each one that was submitted is still waited for, or its reply was taken, or its query was abandoned.
+/// No step loses a statement: each one that was submitted is still waited for, or its reply was taken, or its query was abandoned; and
+/// so it is in every sound core.
 pub fn no_step_loses_a_statement()
     ensures step { (step : Step) (state : State) → MayStep state step → IsSound state → LosesNone state → LosesNone (after_step step state) }
+    ensures sound { (state : State) → IsSound state → LosesNone state }
     ensures first { (settings : RunSettings) → LosesNone (empty_core settings) }
-{}
+{
+    every_step_keeps_a_core_sound();
+}
 
 /// Whatever steps came one after the other, from no tables on, no statement is lost.
 pub fn no_core_has_lost_a_statement()
     ensures { (settings : RunSettings) (steps : List Step) → AreWithin settings → MayStepAll (empty_core settings) steps →
         LosesNone (after_steps steps (empty_core settings)) }
 {
-    an_empty_core_is_sound();
-    every_step_keeps_a_core_sound();
+    every_core_is_sound();
     no_step_loses_a_statement();
 }
 

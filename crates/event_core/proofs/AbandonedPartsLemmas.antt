@@ -85,7 +85,6 @@ abandon-becomes keep detach stops parts query asked statements core can found ar
     subst (Becomes later) (sym is) (becomes-of later after same (record {
       sound = subst IsSound is (abandon-sound keep (state_of parts) query can core.sound);
       tables = record { same = core.tables.same; keyed = core.tables.keyed };
-      ends = core.ends;
       scanned = scans;
       attached = ap (detached_for parts.lives query) core.attached
           ∙ sym (detach (state_of parts) query core.sound can) ∙ ap attached_to is;
@@ -93,7 +92,6 @@ abandon-becomes keep detach stops parts query asked statements core can found ar
           (detached-elsewhere parts.lives parts.attached query) (λ some. refl) core.beside;
       frames = core.frames;
       words = core.words;
-      unnumbered = core.unnumbered;
     }))
   where
     later : Parts

@@ -56,11 +56,9 @@ becomes-accepted laws parts seat statement query snapshot core there tells =
     (record { scan = refl; attached = refl; settings = refl; made = refl; words = refl })
     (record {
       tables = record { same = core.tables.same; keyed = core.tables.keyed };
-      ends = core.ends;
       beside = All-push (λ (a : AskedQuery). IsSome (attached_for new.lives new.attached a.number) → a.kept ≡ None) parts.asked entry core.beside
           (λ some. absurd (let both : false ≡ true =
           subst (λ o. IsSome (option_and_then (λ slot. get_or parts.attached slot None) o)) free some in cc));
-      unnumbered = core.unnumbered;
     })
   where
     number : ℕ

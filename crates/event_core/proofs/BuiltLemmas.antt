@@ -12,7 +12,7 @@ use Rattle.core_state.proofs.GivenLemmas.{Settles}
 use Rattle.event_core.proofs.AskedFoundLemmas.{accepted-found, asked-there}
 use Rattle.event_core.proofs.HeldSlotLemmas.{attached_for-written}
 use Rattle.event_core.proofs.LivedLemmas.{IsSeenAs, QuietEventsLeave, becomes-lived, state_lived}
-use Rattle.event_core.proofs.NextVersionLemmas.{IsPresent, has-fact, has-few, has-present, is-present, with-next}
+use Rattle.event_core.proofs.NextVersionLemmas.{IsPresent, has-few, has-present, is-present, with-next}
 use Rattle.event_core.proofs.RowsFitLemmas.{rows-fit}
 
 -- a query that is built has begun
@@ -144,7 +144,6 @@ becomes-built quiet parts query dimension slot asked old version core can place 
     becomes-lived quiet parts (Build query dimension) (after_build query dimension (state_of parts)) (after_built query dimension parts.lives)
     (with_new version parts.filters) numbers core can tt tt refl (seen-built parts query dimension slot place)
     (state-built parts query dimension slot asked old version core place found present numbered changed)
-    (λ none. absurd (has-fact (state_of parts) dimension core.sound can.filters none))
   where
     numbers : Numbers
     numbers = record parts.numbers { version = last_after parts.numbers.version }

@@ -1,13 +1,12 @@
 -- A statement that changes the tables becomes the core's: its change is an entry more, and the fact table has its filters.
-use Rattle.event_core.proofs.Words.{◌++◌, ◌+◌, ◌<◌, ◌∙◌, ◌∷◌, ◌≡◌, ◌≤◌, [], Accepts, AcceptsAll, after_change, after_outcome, after_submitting, All, All-push, ap, arith, Becomes, Change, changed, changes_of, counted, Dimension, empty_store, EndsAscending, entries_as, Entry, Fact, fact_columns, filter_dimensions, fold, IfSome, IsCore, IsKeyed, IsSettled, KeyedStore, kind_of_change, known_in, length, length-range_with_len, List, list_any, Logged, logged, map, None, none-some, Outcome, outcome_of, Parts, plain, range_with_len, references, refl, replicate, Reply, Schema, Seat, seat_as, Some, State, state_of, Statement, statements_at, Store, store_of, submitted, subst, sym, TableDef, tables_by, tables_of, Waits, with_first_filters, with_number, ℕ}
+use Rattle.event_core.proofs.Words.{◌++◌, ◌+◌, ◌<◌, ◌∙◌, ◌∷◌, ◌≡◌, ◌≤◌, [], Accepts, AcceptsAll, after_change, after_outcome, after_submitting, ap, arith, Becomes, Change, changed, changes_of, counted, empty_store, EndsAscending, entries_as, Entry, fact_columns, filter_dimensions, fold, IfSome, IsCore, IsKeyed, IsSettled, KeyedStore, kind_of_change, known_in, length, length-range_with_len, List, list_any, logged, Logged, map, Outcome, outcome_of, Parts, plain, range_with_len, references, refl, replicate, Reply, Schema, Seat, seat_as, Some, State, state_of, Statement, statements_at, Store, store_of, submitted, subst, sym, TableDef, tables_by, tables_of, Waits, with_first_filters, with_number, ℕ}
 use Rattle.std.proofs.lemmas.List.Sums.{count_by-le-length, length-filter}
-use Rattle.star_plan.specs.declared.table.Table.{Table}
-use Rattle.star_history.specs.History.{DimensionDeclared, FactDeclared, Loaded, Ended}
+use Rattle.star_history.specs.History.{FactDeclared}
 use Rattle.star_history.proofs.LaterLemmas.{undeclared}
 use Rattle.star_statement.specs.Outcome as outcome
 use Rattle.core_state.specs.Fitting.{FitsTables}
 use Rattle.core_state.specs.Submitting.{filters_by, first_versions}
-use Rattle.core_state.proofs.GrownLemmas.{changes-with, tables-with}
+use Rattle.core_state.proofs.GrownLemmas.{tables-with}
 use Rattle.core_parts.specs.Filters.{no_probes}
 use Rattle.event_core.proofs.EntryLemmas.{ChangesFollow, entries-logged}
 use Rattle.event_core.proofs.SubmittedCoreLemmas.{Laws, becomes-after}
@@ -61,7 +60,6 @@ record Followed (parts : Parts) (seat : ℕ) (change : Change) (tables : KeyedSt
   settled : IsSettled (tables_of (state_of parts))
   entries : entries_as (plain tables) (parts.log ++ logged_of parts seat change ∷ []) ≡ (state_of parts).entries ++ entry_of parts seat change ∷ []
   told : plain tables ≡ tables_by (entries_as (plain tables) (parts.log ++ logged_of parts seat change ∷ []))
-  ends : All EndsAscending (changes_of (entries_as (plain tables) (parts.log ++ logged_of parts seat change ∷ [])))
 
 -- such a change follows from the laws
 followed : TableLaws → (parts : Parts) (seat : ℕ) (statement : Statement) (reply : Reply) (change : Change) (tables : KeyedStore)
@@ -71,8 +69,6 @@ followed says parts seat statement reply change tables is = record {
   settled = settled;
   entries = more;
   told = is.after ∙ sym (ap tables_by more ∙ tables-with before entry);
-  ends = subst (λ entries. All EndsAscending (changes_of entries)) (sym more)
-      (subst (All EndsAscending) (sym (changes-with before entry)) (All-push EndsAscending (changes_of before) change is.core.ends ascending));
 }
   where
     before : List Entry
@@ -93,7 +89,7 @@ followed says parts seat statement reply change tables is = record {
 
     more : entries_as (plain tables) (parts.log ++ logged_of parts seat change ∷ []) ≡ before ++ entry ∷ []
     more = entries-logged says.follow (plain parts.tables) (plain tables) parts.log seat (parts.numbers.statement + 1) change
-        is.core.sound.store is.core.ends takes ascending is.after
+        is.core.sound.store is.core.sound.ends takes ascending is.after
 
 -- the seats of the parts are those of the state
 seats-same : (parts : Parts) (seat : ℕ) (reply : Reply) (change : Change) (tables : KeyedStore) → seat < length parts.seats
@@ -106,9 +102,8 @@ seats-same parts seat reply change tables there =
 becomes-logged : Laws → TableLaws → (parts : Parts) (seat : ℕ) (statement : Statement) (reply : Reply) (change : Change) (tables : KeyedStore)
     → Changes parts seat statement reply change tables
     → filters_by change (changed_now parts seat reply change) ≡ changed_now parts seat reply change
-    → ((after_change (tables_of (state_of parts)) change).schema.fact ≡ None → (tables_of (state_of parts)).schema.fact ≡ None)
     → Becomes (logged_now parts seat reply change tables) (after_submitting seat statement (state_of parts))
-becomes-logged laws says parts seat statement reply change tables is same undeclares =
+becomes-logged laws says parts seat statement reply change tables is same =
     becomes-after laws parts (logged_now parts seat reply change tables) seat statement is.core is.there
     (ap (λ (entries : List Entry). record (changed_now parts seat reply change) {
       entries = entries;
@@ -120,9 +115,7 @@ becomes-logged laws says parts seat statement reply change tables is same undecl
     (record { scan = refl; attached = refl; settings = refl; made = refl; words = refl })
     (record {
       tables = record { same = facts.told; keyed = is.keyed };
-      ends = facts.ends;
       beside = is.core.beside;
-      unnumbered = λ none. is.core.unnumbered (undeclares (ap (λ (s : Store). s.schema.fact) (sym is.after ∙ facts.told) ∙ none));
     })
   where
     facts : Followed parts seat change tables
@@ -162,10 +155,7 @@ becomes-declared laws says parts seat statement reply table tables is =
     (record { scan = refl; attached = refl; settings = refl; made = refl; words = refl })
     (record {
       tables = record { same = facts.told; keyed = is.keyed };
-      ends = facts.ends;
       beside = is.core.beside;
-      unnumbered = λ none. absurd (none-some table (sym none
-          ∙ ap (λ (s : Store). s.schema.fact) (sym facts.told ∙ is.after)));
     })
   where
     facts : Followed parts seat (FactDeclared table) tables
@@ -193,7 +183,7 @@ becomes-declared laws says parts seat statement reply table tables is =
     same_dimensions = ap (λ (s : Store). filter_dimensions s.schema) (is.after ∙ sym declared)
 
     unnumbered : parts.numbers.version ≡ 0
-    unnumbered = is.core.unnumbered (undeclared (tables_of (state_of parts)) table facts.takes.0)
+    unnumbered = is.core.sound.numbers.unnumbered (undeclared (tables_of (state_of parts)) table facts.takes.0)
 
     first : 1 ≡ parts.numbers.version + 1
     first = let none = unnumbered in omega arith
@@ -213,16 +203,7 @@ pub becomes-changed : Laws → TableLaws → (parts : Parts) (seat : ℕ) (state
     → Becomes (changed seat (parts.numbers.statement + 1)
     (statements_at parts.seats seat ++ statement_of (parts.numbers.statement + 1) (Waits reply) ∷ []) (kind_of_change change) tables parts)
     (after_submitting seat statement (state_of parts))
-becomes-changed laws says parts seat statement reply (DimensionDeclared table) tables is =
-    becomes-logged laws says parts seat statement reply (DimensionDeclared table) tables is refl (λ none. none)
 becomes-changed laws says parts seat statement reply (FactDeclared table) tables is =
     becomes-declared laws says parts seat statement reply table tables is
-becomes-changed laws says parts seat statement reply (Loaded table rows) tables is =
-    becomes-logged laws says parts seat statement reply (Loaded table rows) tables is refl (by_table table)
-  where
-    by_table : (table : Table) → (after_change (tables_of (state_of parts)) (Loaded table rows)).schema.fact ≡ None
-        → (tables_of (state_of parts)).schema.fact ≡ None
-    by_table Fact none = none
-    by_table (Dimension number) none = none
-becomes-changed laws says parts seat statement reply (Ended positions) tables is =
-    becomes-logged laws says parts seat statement reply (Ended positions) tables is refl (λ none. none)
+becomes-changed laws says parts seat statement reply other tables is =
+    becomes-logged laws says parts seat statement reply other tables is refl

@@ -11,7 +11,7 @@ use Rattle.core_state.specs.Events.{after_event}
 use Rattle.core_state.proofs.HeldLemmas.{slot-there}
 use Rattle.event_core.proofs.HeldSlotLemmas.{attached_for-written}
 use Rattle.event_core.proofs.LivedLemmas.{IsSeenAs, QuietEventsLeave, becomes-lived, state_lived}
-use Rattle.event_core.proofs.NextVersionLemmas.{has-fact, has-few, has-present, is-present, with-next}
+use Rattle.event_core.proofs.NextVersionLemmas.{has-few, has-present, is-present, with-next}
 
 -- the slot is there, and what it is cleared of is a filter
 to-clear : (lives : Lives) (slot dimension : ℕ) → managed.IsSound lives → CanClear slot dimension lives
@@ -57,8 +57,6 @@ becomes-cleared quiet parts slot dimension old version core can found numbered c
     (ap (λ filters. state_lived (after_cleared slot dimension parts.lives) filters numbers (state_of parts))
     (with-next (state_of parts) dimension (next_number parts.numbers.version (versions_in_hands (state_of parts).scan.flights))
     old version (filter_without slot) core.sound (is-present (state_of parts) dimension old core.sound found) numbered changed refl))
-    (λ none. absurd (has-fact (state_of parts) dimension core.sound
-    (to-clear parts.lives slot dimension core.sound.slots.lives can).1 none))
   where
     numbers : Numbers
     numbers = record parts.numbers { version = last_after parts.numbers.version }

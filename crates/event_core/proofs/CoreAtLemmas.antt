@@ -1,5 +1,5 @@
 -- Parts whose state is known are those of a core where they fit that state.
-use Rattle.event_core.proofs.Words.{after_step, All, AreTablesOf, attached_for, attached_to, Becomes, changes_of, EndsAscending, frame_words, frames_of, IsCore, IsScannedAs, IsSome, IsSound, MayStep, Parts, State, state_of, Step, subst, sym, tables_of}
+use Rattle.event_core.proofs.Words.{after_step, All, AreTablesOf, attached_for, attached_to, Becomes, frame_words, frames_of, IsCore, IsScannedAs, IsSome, IsSound, MayStep, Parts, State, state_of, Step, subst, sym}
 use Rattle.std.specs.Prelude.{◌≡◌, None}
 
 -- each step keeps a core sound
@@ -10,26 +10,22 @@ KeepSound = (step : Step) (state : State) → MayStep state step → IsSound sta
 pub record AreOf (parts : Parts) (state : State) : Type 0 where
   pub sound : IsSound state
   pub tables : AreTablesOf state parts.tables
-  pub ends : All EndsAscending (changes_of state.entries)
   pub scanned : IsScannedAs state parts.scan
   pub attached : parts.attached ≡ attached_to state
   pub beside : All (λ asked. IsSome (attached_for parts.lives parts.attached asked.number) → asked.kept ≡ None) parts.asked
   pub frames : parts.pool.made ≡ frames_of parts.settings
   pub words : parts.pool.words ≡ frame_words state
-  pub unnumbered : (tables_of state).schema.fact ≡ None → parts.numbers.version ≡ 0
 
 -- parts that fit the state that they stand for
 core-of : (parts : Parts) → AreOf parts (state_of parts) → IsCore parts
 core-of parts are = record {
   sound = are.sound;
   tables = are.tables;
-  ends = are.ends;
   scanned = are.scanned;
   attached = are.attached;
   beside = are.beside;
   frames = are.frames;
   words = are.words;
-  unnumbered = are.unnumbered;
 }
 
 -- parts that stand for a state and fit it

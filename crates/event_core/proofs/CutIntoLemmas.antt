@@ -150,13 +150,11 @@ core-cut : AttachedLaw → (parts : Parts) (holders frame : List ℕ) (inside : 
 core-cut law parts holders frame inside core may sound scan same = record {
   sound = subst IsSound (sym same) sound;
   tables = record { same = core.tables.same; keyed = core.tables.keyed };
-  ends = core.ends;
   scanned = subst (λ now. IsScannedAs now (scanned.after_cut (length parts.tables.versions) parts.settings.batch parts.scan)) (sym same) scan;
   attached = core.attached ∙ sym (attached-cut law (state_of parts) core.sound may) ∙ ap attached_to (sym same);
   beside = core.beside;
   frames = core.frames;
   words = core.words;
-  unnumbered = core.unnumbered;
 }
 
 -- the parts behind a cut

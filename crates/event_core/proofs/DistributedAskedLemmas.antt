@@ -5,8 +5,9 @@ use Rattle.core_state.specs.State.{Flight}
 use Rattle.core_state.proofs.AnewLemmas.{KeepsAsked, found-anew}
 use Rattle.core_state.proofs.DistributedLemmas.{found-itself}
 use Rattle.core_state.proofs.HandedBatchLemmas.{fed-groups}
-use Rattle.core_state.proofs.HandedLivesLemmas.{still-kept, still-none, unkeeps}
+use Rattle.core_state.proofs.HandedLivesLemmas.{still-kept, still-none}
 use Rattle.core_state.proofs.LandedLemmas.{entry_for, fed_by, feeds, with_more}
+use Rattle.core_state.proofs.WholeFrameLemmas.{unkeeps}
 use Rattle.event_core.proofs.DistributedSlotLemmas.{attached-shown}
 
 -- groups that are attached are those that are kept

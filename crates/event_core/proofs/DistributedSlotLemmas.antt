@@ -3,8 +3,7 @@ use Rattle.event_core.proofs.Words.{◌∙◌, ◌∷◌, ◌≡◌, [], Accepte
 use Rattle.std.specs.List.{fold}
 use Rattle.pipeline_manager.specs.declared.life.Life.TheVariants as life
 use Rattle.core_state.specs.Handed.{fed_at}
-use Rattle.core_state.proofs.AttachedFrameLemmas.{kept-some}
-use Rattle.core_state.proofs.HandedSlotLemmas.{all-fed, fed-holds}
+use Rattle.core_state.proofs.HandedSlotLemmas.{all-fed, fed-holds, kept-some}
 
 -- what is found the same of each number is the same in all
 same-found : (f g : ℕ → Option ℕ) (xs : List ℕ) → ((x : ℕ) → f x ≡ g x) → filter_map f xs ≡ filter_map g xs

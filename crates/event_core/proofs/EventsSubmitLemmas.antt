@@ -1,5 +1,5 @@
 -- What the code makes of a statement that is submitted is what the law says.
-use Rattle.event_core.proofs.Words.{◌++◌, ◌+◌, ◌<◌, ◌∙◌, ◌∷◌, ◌≡◌, [], accepted, after_change, after_submit, after_submitting, All, ap, arith, AskedQuery, attached_to, Becomes, Change, Changed, changed, ChangeKind, changes_of, EndsAscending, entries_as, filter_dimensions, fold, Follows, get_or, get_or-map, grouped_of, IsAsked, IsCore, IsKeyed, IsScannedAs, IsSound, KeyedStore, kind_of_change, known_in, length, length-map, length-set, List, Lives, Logged, logged, map, map-set, None, Ok, Option, option_map, option_map_or, Outcome, outcome_of, Parts, plain, query_of, refill, refill-all, refl, Reply, Roomy, Schema, seat_as, set, Some, Standing, StarQuery, State, state_of, Statement, statements_at, Store, Submitted, submitted, subst, sym, tables_of, Told, Waits, with_filters_for, with_first_filters, with_number, ℕ}
+use Rattle.event_core.proofs.Words.{◌++◌, ◌+◌, ◌<◌, ◌∙◌, ◌∷◌, ◌≡◌, [], accepted, after_change, after_submit, after_submitting, ap, arith, AskedQuery, attached_to, Becomes, Change, changed, Changed, ChangeKind, entries_as, filter_dimensions, fold, Follows, get_or, get_or-map, grouped_of, IsAsked, IsCore, IsKeyed, IsScannedAs, IsSound, KeyedStore, kind_of_change, known_in, length, length-map, length-set, List, Lives, logged, Logged, map, map-set, None, Ok, Option, option_map, option_map_or, Outcome, outcome_of, Parts, plain, query_of, refill, refill-all, refl, Reply, Roomy, Schema, seat_as, set, Some, Standing, StarQuery, State, state_of, Statement, statements_at, Store, Submitted, submitted, subst, sym, tables_of, Told, Waits, with_filters_for, with_first_filters, with_number, ℕ}
 use Rattle.std.proofs.Common.{Err, Result}
 use Rattle.std.specs.Result.{OnErr}
 use Rattle.std.proofs.Math.Seq.{map-set_same}
@@ -79,13 +79,11 @@ with-tables parts tables after same keyed becomes = record {
   core = record {
     sound = subst IsSound (sym same_state) becomes.core.sound;
     tables = record { same = same ∙ becomes.core.tables.same ∙ sym (ap tables_of same_state); keyed = keyed };
-    ends = subst (λ (state : State). All EndsAscending (changes_of state.entries)) (sym same_state) becomes.core.ends;
     scanned = subst (λ (state : State). IsScannedAs state parts.scan) (sym same_state) becomes.core.scanned;
     attached = becomes.core.attached ∙ sym (ap attached_to same_state);
     beside = becomes.core.beside;
     frames = becomes.core.frames;
     words = becomes.core.words;
-    unnumbered = λ none. becomes.core.unnumbered (sym (ap (λ (state : State). (tables_of state).schema.fact) same_state) ∙ none);
   };
 }
   where

@@ -59,13 +59,11 @@ ended-becomes keep leaves detach parts slot query built asked core may holds sam
     same_accepted same_known (ended-reaches parts.lives slot query built holds)) (record {
       sound = finish-sound keep (state_of parts) slot may core.sound;
       tables = record { same = core.tables.same; keyed = core.tables.keyed };
-      ends = core.ends;
       scanned = finish-scanned leaves (state_of parts) parts.scan slot core.sound may core.scanned;
       attached = ap (λ attached. set attached slot None) core.attached ∙ sym (detach (state_of parts) slot core.sound may);
       beside = beside;
       frames = core.frames;
       words = core.words;
-      unnumbered = core.unnumbered;
     })
 
 -- a slot's query is an accepted one

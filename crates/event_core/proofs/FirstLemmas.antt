@@ -1,5 +1,5 @@
 -- The parts of a new core.
-use Rattle.event_core.proofs.Words.{◌∙◌, ◌∷◌, ◌≡◌, [], All-nil, ap, AreWithin, arith, attached_to, Becomes, empty_core, empty_seat, empty_store, EndsAscending, first_parts, frame_words, frames_of, IsKeyed, IsScannedAs, IsSound, KeyedStore, length, List, map, new_scan, None, plain, refl, replicate, RunSettings, Seat, seat_as, State, state_of, subst, suc, sym, zero, ℕ}
+use Rattle.event_core.proofs.Words.{◌∙◌, ◌∷◌, ◌≡◌, [], ap, AreWithin, arith, attached_to, Becomes, empty_core, empty_seat, empty_store, first_parts, frame_words, frames_of, IsKeyed, IsScannedAs, IsSound, KeyedStore, length, List, map, new_scan, None, plain, refl, replicate, RunSettings, Seat, seat_as, State, state_of, subst, suc, sym, zero, ℕ}
 use Rattle.std.proofs.lemmas.List.{length-replicate}
 
 -- seats of no statements are empty
@@ -34,12 +34,10 @@ becomes-first sound scanned attached settings frames tables within made empty ke
       core = record {
         sound = subst IsSound (sym same) (sound settings within);
         tables = record { same = empty; keyed = keyed };
-        ends = All-nil EndsAscending;
         scanned = subst (λ state. IsScannedAs state (new_scan settings.slots)) (sym same) (scanned settings);
         attached = sym (ap attached_to same ∙ attached settings);
         beside = λ place d low. absurd (omega arith);
         frames = refl;
         words = refl;
-        unnumbered = λ none. refl;
       };
     }

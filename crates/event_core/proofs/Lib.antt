@@ -34,6 +34,7 @@ pub mod HeldSlotLemmas
 pub mod KeptLifeLemmas
 pub mod LivedLemmas
 pub mod MachineLemmas
+pub mod MadeLemmas
 pub mod NewCoreLemmas
 pub mod NextVersionLemmas
 pub mod PassedAllLemmas

@@ -1,13 +1,13 @@
 -- A core of which the lives of queries, the filters and the last numbers change.
 use Rattle.event_core.proofs.Words.{◌∙◌, accepted_in, after_reorder, after_reserve, after_reserving, ap, attached_for, attached_to, Becomes, CanFree, cases_eq, Event, Filters, Free, gets, gets_rows, Grouped, Held, is_held_by, IsCore, IsEnabled, IsSome, IsSound, known_in, LeavesAttached, LeavesRest, LeavesScan, Lives, MayReserve, Numbers, option_map_or, order_by, Parts, reaches_in, Release, Reorder, reordered, Reserve, reserved, State, state_of, subst, sym, tables_of, with_life, with_slot, ⊎_elim}
-use Rattle.std.specs.Prelude.{◌≡◌, ℕ, false, List, Option, None, refl}
+use Rattle.std.specs.Prelude.{◌≡◌, ℕ, false, List, Option, refl}
 use Rattle.pipeline_manager.specs.Changes.{after_free}
 use Rattle.pipeline_manager.specs.declared.life.Life.TheVariants as life
 use Rattle.pipeline_manager.proofs.LifeLemmas.{oldest-waits}
 use Rattle.core_state.specs.Admitting.{after_release}
 use Rattle.core_state.specs.Events.{after_event}
 use Rattle.core_state.proofs.AttachedEventLemmas.{attached-event}
-use Rattle.core_state.proofs.AttachedFrameLemmas.{gets-written}
+use Rattle.core_state.proofs.HandedSlotLemmas.{gets-none}
 use Rattle.event_core.specs.Changes.{released}
 use Rattle.event_core.proofs.HeldSlotLemmas.{attached_for-none, attached_for-written, beside-same, held-by_other}
 use Rattle.event_core.proofs.SeenLemmas.{accepted-same, reaches-with_life, state-seen}
@@ -43,9 +43,8 @@ pub becomes-lived : QuietEventsLeave → (parts : Parts) (event : Event) (after 
     → IsCore parts → IsEnabled (state_of parts) event → LeavesScan event → LeavesAttached event
     → after_event event (state_of parts) ≡ after → IsSeenAs parts.lives lives parts.attached
     → state_lived lives filters numbers (state_of parts) ≡ after
-    → ((tables_of (state_of parts)).schema.fact ≡ None → numbers.version ≡ 0)
     → Becomes (parts_lived lives filters numbers parts) after
-becomes-lived quiet parts event after lives filters numbers core may scan attached is same becomes unnumbered = record {
+becomes-lived quiet parts event after lives filters numbers core may scan attached is same becomes = record {
   state = state-lived parts lives filters numbers same ∙ becomes;
   core = quiet parts (parts_lived lives filters numbers parts) event core may scan attached
       (state-lived parts lives filters numbers same ∙ becomes ∙ sym is) (record {
@@ -57,7 +56,6 @@ becomes-lived quiet parts event after lives filters numbers core may scan attach
         words = refl;
         entries = refl;
         beside = beside-same parts.lives lives parts.attached parts.attached parts.asked same.attached core.beside;
-        unnumbered = unnumbered;
       });
 }
 
@@ -102,7 +100,7 @@ seen-reserved parts query slot core may =
     here =
         ap (λ attached. attached_for later attached query) (core.attached ∙ sym stays)
         ∙ attached_for-none (record state { lives = later }) query
-        (gets-written parts.lives query life.Building query none ∙ none)
+        (gets-none parts.lives query life.Building refl)
         ∙ sym (ap (λ attached. attached_for parts.lives attached query) core.attached ∙ attached_for-none state query none)
 
 -- a slot that is free again was held by no query
@@ -119,7 +117,7 @@ pub becomes-reserved : QuietEventsLeave → (parts : Parts) (query slot : ℕ) �
 unfolding after_event
 becomes-reserved quiet parts query slot core may =
     becomes-lived quiet parts (Reserve query slot) (after_reserving slot (state_of parts)) (after_reserve slot parts.lives) parts.filters
-    parts.numbers core may tt tt refl (seen-reserved parts query slot core may) refl core.unnumbered
+    parts.numbers core may tt tt refl (seen-reserved parts query slot core may) refl
 
 -- the parts where a slot is free again
 pub becomes-released : QuietEventsLeave → (parts : Parts) (slot : ℕ) → IsCore parts → CanFree slot parts.lives
@@ -127,7 +125,7 @@ pub becomes-released : QuietEventsLeave → (parts : Parts) (slot : ℕ) → IsC
 unfolding after_event
 becomes-released quiet parts slot core can =
     becomes-lived quiet parts (Release slot) (after_release slot (state_of parts)) (after_free slot parts.lives) parts.filters
-    parts.numbers core can tt tt refl (seen-released parts slot can) refl core.unnumbered
+    parts.numbers core can tt tt refl (seen-released parts slot can) refl
 
 -- the parts with another order of the filters
 pub becomes-reordered : QuietEventsLeave → (parts : Parts) → IsCore parts → IsSome (tables_of (state_of parts)).schema.fact
@@ -136,4 +134,4 @@ unfolding after_event
 becomes-reordered quiet parts core may =
     becomes-lived quiet parts Reorder (after_reorder (state_of parts)) parts.lives
     (record parts.filters { order = order_by parts.filters }) parts.numbers core may tt tt refl
-    (record { attached = λ query. refl; reaches = refl }) refl core.unnumbered
+    (record { attached = λ query. refl; reaches = refl }) refl

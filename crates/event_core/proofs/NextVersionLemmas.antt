@@ -1,10 +1,9 @@
 -- The filters of a core, of which one has a next version.
-use Rattle.event_core.proofs.Words.{◌<◌, ◌∙◌, ◌∷◌, ◌≡◌, ◌≢◌, [], All, All-cons, All-contains, All-head, All-map, All-nil, All-tail, AllPairs, ap, arith, Bool, cond, Contains, eq-eqb, eqb, eqb-true, fact_columns, false, Filter, filter_dimensions, Filters, FilterVersion, find-holds, find-passes, get_or, get_or-map, get_or-range_with_len, Has, IsSound, length, length-map, length-range_with_len, List, list_any, map, None, Option, range_with_len, references, refl, same_Some, Schema, Some, State, subst, suc, sym, tables_of, true, version_at, with_new, ℕ}
+use Rattle.event_core.proofs.Words.{◌<◌, ◌∙◌, ◌∷◌, ◌≡◌, [], All, All-cons, All-contains, All-head, All-map, All-nil, All-tail, AllPairs, ap, arith, Bool, cond, Contains, eq-eqb, eqb, eqb-true, fact_columns, false, Filter, filter_dimensions, Filters, FilterVersion, find-holds, find-passes, get_or, get_or-map, get_or-range_with_len, Has, IsSound, length, length-map, length-range_with_len, List, list_any, map, None, Option, range_with_len, references, refl, same_Some, Schema, Some, State, subst, suc, sym, tables_of, true, version_at, with_new, ℕ}
 use Rattle.std.proofs.Common.{find, filter}
 use Rattle.std.proofs.lemmas.List.Kept.{AllPairs-filter}
 use Rattle.core_state.specs.Flown.{IsSoundFilter}
 use Rattle.core_state.proofs.AcceptedLemmas.{find-none}
-use Rattle.core_state.proofs.DeclareLemmas.{no-filters}
 use Rattle.core_state.proofs.VersionLemmas.{versioned}
 
 -- a number that is among those of a list is found
@@ -49,14 +48,6 @@ pub has-few : (state : State) (dimension : ℕ) → IsSound state → Has state.
 has-few state dimension sound has =
     let present = has-present state dimension sound has in
     subst (λ n. n < 8) present.1.dimension present.1.sound.table.numbered
-
--- and the fact table is declared
-pub has-fact : (state : State) (dimension : ℕ) → IsSound state → Has state.lives.filters dimension → (tables_of state).schema.fact ≢ None
-has-fact state dimension sound has none =
-    let among : Contains [] dimension =
-    subst (λ dimensions. Contains dimensions dimension) (no-filters (tables_of state).schema none) ((sound.filters.set dimension).0 has) in
-    let low : among.0 < 0 = among.1 in
-    absurd (omega arith)
 
 -- the dimensions of filters ascend
 range-rises : (first count : ℕ) → AllPairs (λ x y. x < y) (range_with_len first count)

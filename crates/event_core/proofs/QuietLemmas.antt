@@ -1,6 +1,6 @@
 -- Events that touch neither the scan nor what is attached.
-use Rattle.event_core.proofs.Words.{◌∙◌, after_event, after_step, All, ap, attached_to, changes_of, Done, EndsAscending, Entry, Event, frames_of, IsCore, IsEnabled, IsKeyed, IsScannedAs, IsSound, LeavesAttached, LeavesRest, LeavesScan, MayStep, Parts, plain, RunSettings, Scanning, State, state_of, Step, subst, sym, tables_by}
-use Rattle.std.specs.Prelude.{◌≡◌, ◌+◌, ◌*◌, List}
+use Rattle.event_core.proofs.Words.{◌∙◌, after_event, after_step, ap, attached_to, Done, Event, frames_of, IsCore, IsEnabled, IsKeyed, IsScannedAs, IsSound, LeavesAttached, LeavesRest, LeavesScan, MayStep, Parts, plain, RunSettings, Scanning, State, state_of, Step, subst, sym, tables_by}
+use Rattle.std.specs.Prelude.{◌≡◌, ◌+◌, ◌*◌}
 
 -- each step keeps a core sound
 abbrev pub StepsKeep : Type 0
@@ -25,13 +25,11 @@ core-left old new core sound scanned attached rest = record {
     same = ap plain rest.tables ∙ core.tables.same ∙ sym (ap tables_by rest.entries);
     keyed = subst IsKeyed (sym rest.tables) core.tables.keyed;
   };
-  ends = subst (λ (entries : List Entry). All EndsAscending (changes_of entries)) (sym rest.entries) core.ends;
   scanned = subst (IsScannedAs (state_of new)) (sym rest.scan) scanned;
   attached = rest.attached ∙ core.attached ∙ sym attached;
   beside = rest.beside;
   frames = rest.made ∙ core.frames ∙ sym (ap frames_of rest.settings);
   words = rest.words ∙ core.words ∙ sym (ap (λ (settings : RunSettings). 16 + settings.batch * 16) rest.settings);
-  unnumbered = rest.unnumbered;
 }
 
 -- an event that leaves the scan and what is attached

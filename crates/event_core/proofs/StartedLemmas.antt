@@ -148,7 +148,6 @@ begun-becomes keep attach parts query slot asked groups scan core can place foun
     becomes-of later (after_start query (state_of parts)) same (record {
       sound = start-sound keep (state_of parts) query can core.sound;
       tables = record { same = core.tables.same; keyed = core.tables.keyed };
-      ends = core.ends;
       scanned = scans;
       attached = ap (λ attached. set attached slot (Some groups)) core.attached
           ∙ ap (set (attached_to (state_of parts)) slot) (sym kept ∙ start-kept attach parts query slot asked core can place found)
@@ -157,7 +156,6 @@ begun-becomes keep attach parts query slot asked groups scan core can place foun
           (attached-elsewhere parts.lives parts.attached slot (Some groups) query place) (λ some. refl) core.beside;
       frames = core.frames;
       words = core.words;
-      unnumbered = core.unnumbered;
     })
   where
     start : ℕ

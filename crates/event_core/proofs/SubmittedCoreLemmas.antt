@@ -1,5 +1,5 @@
 -- The parts after a statement are those of a core.
-use Rattle.event_core.proofs.Words.{◌*◌, ◌++◌, ◌+◌, ◌<◌, ◌∙◌, ◌∷◌, ◌≡◌, [], Accepted, after_outcome, after_step, after_submitting, All, ap, AreTablesOf, arith, attached_for, attached_to, Becomes, changes_of, Done, EndsAscending, Event, frames_of, IsCore, IsEnabled, IsNew, IsScannedAs, IsSome, IsSound, known_in, LeavesAttached, LeavesScan, length, length-map, List, map, MayStep, None, of-numbers, Outcome, outcome_of, Parts, QueryLife, refl, Reply, RunSettings, Scanning, Seat, seat_as, State, state_of, Statement, statements_at, Step, Submit, submitted, subst, sym, tables_of, Waits, ℕ}
+use Rattle.event_core.proofs.Words.{◌*◌, ◌++◌, ◌+◌, ◌<◌, ◌∙◌, ◌∷◌, ◌≡◌, [], Accepted, after_outcome, after_step, after_submitting, All, ap, AreTablesOf, arith, attached_for, attached_to, Becomes, Done, Event, frames_of, IsCore, IsEnabled, IsNew, IsScannedAs, IsSome, IsSound, known_in, LeavesAttached, LeavesScan, length, length-map, List, map, MayStep, None, of-numbers, Outcome, outcome_of, Parts, QueryLife, refl, Reply, RunSettings, Scanning, Seat, seat_as, State, state_of, Statement, statements_at, Step, Submit, submitted, subst, sym, tables_of, Waits, ℕ}
 use Rattle.star_statement.specs.Outcome as outcome
 use Rattle.core_state.specs.Events.{after_event}
 use Rattle.event_core.proofs.SubmittedSeatLemmas.{seats-one, statement_of}
@@ -23,9 +23,7 @@ pub record Stays (old new : Parts) : Type 0 where
 -- what a statement has to keep of a core
 pub record Keeps (new : Parts) : Type 0 where
   pub tables : AreTablesOf (state_of new) new.tables
-  pub ends : All EndsAscending (changes_of (state_of new).entries)
   pub beside : All (λ asked. IsSome (attached_for new.lives new.attached asked.number) → asked.kept ≡ None) new.asked
-  pub unnumbered : (tables_of (state_of new)).schema.fact ≡ None → new.numbers.version ≡ 0
 
 -- the parts whose state is that after a statement
 pub becomes-after : Laws → (old new : Parts) (seat : ℕ) (statement : Statement) → IsCore old → seat < length old.seats
@@ -37,7 +35,6 @@ becomes-after laws old new seat statement core there same stays keeps = record {
   core = record {
     sound = subst IsSound (sym same) (laws.step (Done (Submit seat statement)) (state_of old) may core.sound);
     tables = keeps.tables;
-    ends = keeps.ends;
     scanned = subst (IsScannedAs (state_of new)) (sym stays.scan)
         (subst (λ state. IsScannedAs state old.scan) (sym same)
         (laws.scan (state_of old) old.scan (Submit seat statement) core.sound may tt core.scanned));
@@ -46,7 +43,6 @@ becomes-after laws old new seat statement core there same stays keeps = record {
     beside = keeps.beside;
     frames = stays.made ∙ core.frames ∙ sym (ap frames_of stays.settings);
     words = stays.words ∙ core.words ∙ sym (ap (λ (settings : RunSettings). 16 + settings.batch * 16) stays.settings);
-    unnumbered = keeps.unnumbered;
   };
 }
   where
@@ -73,9 +69,7 @@ becomes-replied laws parts seat statement reply core there tells =
     (record { scan = refl; attached = refl; settings = refl; made = refl; words = refl })
     (record {
       tables = record { same = core.tables.same; keyed = core.tables.keyed };
-      ends = core.ends;
       beside = core.beside;
-      unnumbered = core.unnumbered;
     })
   where
     number : ℕ

@@ -56,13 +56,11 @@ taking-becomes keep attaches scans parts seat first statements core is ready are
     becomes-of later after same (record {
       sound = keep (Replying seat) (state_of parts) ready core.sound;
       tables = record { same = core.tables.same; keyed = core.tables.keyed };
-      ends = core.ends;
       scanned = scans (state_of parts) parts.scan seat core.scanned;
       attached = core.attached ∙ sym (attaches (state_of parts) seat core.sound ready);
       beside = beside-kept parts.lives parts.lives parts.attached parts.attached first.number None parts.asked elsewhere (λ some. refl) core.beside;
       frames = core.frames;
       words = core.words;
-      unnumbered = core.unnumbered;
     })
   where
     later : Parts

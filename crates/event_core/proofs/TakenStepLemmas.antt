@@ -4,11 +4,11 @@ use Rattle.event_core.proofs.Words.{after_event, after_step, Build, Distribute, 
 use Rattle.event_core.specs.Took.{IsOf, IsSpoilt, StepsFor}
 
 -- a step of this event that may come and gives this state
-record StepFor (event : Event) (old new : State) : Type 0 where
-  step : Step
-  may : MayStep old step
-  is_of : IsOf event step
-  after : new ≡ after_step step old
+pub record StepFor (event : Event) (old new : State) : Type 0 where
+  pub step : Step
+  pub may : MayStep old step
+  pub is_of : IsOf event step
+  pub after : new ≡ after_step step old
 
 spoilt-step : (event : Event) (old new : State) → IsEnabled old event → IsSpoilt event old new → StepFor event old new
 spoilt-step (Build query dimension) old new enabled spoilt =
@@ -17,7 +17,7 @@ spoilt-step (Distribute batch) old new enabled spoilt =
     record { step = Wanting (Distribute batch) spoilt.0; may = (enabled, spoilt.1); is_of = refl; after = spoilt.2 }
 spoilt-step other old new enabled spoilt = absurd spoilt
 
-taken-step : (event : Event) (old new : State) → IsEnabled old event → (new ≡ after_event event old) ⊎ IsSpoilt event old new
+pub taken-step : (event : Event) (old new : State) → IsEnabled old event → (new ≡ after_event event old) ⊎ IsSpoilt event old new
     → StepFor event old new
 taken-step event old new enabled (inl done) = record { step = Done event; may = enabled; is_of = refl; after = done }
 taken-step event old new enabled (inr spoilt) = spoilt-step event old new enabled spoilt

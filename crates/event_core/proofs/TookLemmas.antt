@@ -1,7 +1,11 @@
 -- Events that a core took.
-use Rattle.event_core.proofs.Words.{◌++◌, ◌+◌, ◌∙◌, ◌∷◌, ◌≡◌, ◌⊎◌, [], after_build, after_build_wants, after_distribute, ap, AreFed, arith, Build, Distribute, drop, Event, inl, inr, IsEnabled, IsSound, List, refl, State, subst, suc, sym, take, TookAll, zero, ℕ}
+use Rattle.event_core.proofs.Words.{◌++◌, ◌+◌, ◌∙◌, ◌∷◌, ◌≡◌, ◌⊎◌, [], after_build, after_build_wants, after_distribute, ap, AreFed, arith, Build, Distribute, drop, Event, IfSome, inl, inr, IsEnabled, IsSound, List, refl, slice_get, Some, State, subst, suc, sym, take, TookAll, zero, ℕ}
 use Rattle.core_state.specs.Events.{after_event, after_want}
-use Rattle.event_core.specs.Took.{IsAfter, Took}
+use Rattle.std.proofs.Common.{Err, Result}
+use Rattle.std.specs.Prelude.{◌↔◌, IsErrOf}
+use Rattle.event_core.specs.Took.{IsAfter, IsRefused, MayWantMemory, Took}
+use Rattle.event_core.specs.declared.stepping.StepFault.{StepFault}
+use Rattle.event_core.specs.declared.stepping.StepFault.TheVariants.{NotEnabled, Memory}
 
 -- an event that was done
 pub took-done : (event done : Event) (old new : State) → IsEnabled old event → event ≡ done → new ≡ after_event done old → Took event old new
@@ -63,3 +67,23 @@ taken-next at events left rest event old now next taken is took sound =
   where
     comes : ComesNext at events rest event
     comes = comes-next at events rest event (sym is ∙ taken.rest)
+
+-- the event that comes next stands at its place
+next-there : (at : ℕ) (events rest : List Event) (event : Event) → event ∷ rest ≡ drop at events → slice_get events at ≡ Some event
+next-there zero [] rest event is = absurd (let both : event ∷ rest ≡ [] = is in cc)
+next-there (suc at) [] rest event is = absurd (let both : event ∷ rest ≡ [] = is in cc)
+next-there zero (first ∷ events) rest event is = let same : first ≡ event = cc in ap Some same
+next-there (suc at) (first ∷ events) rest event is = next-there at events rest event is
+
+-- why the event that comes next was not taken
+pub refused-next : {T : Type 0} (at : ℕ) (events left rest : List Event) (event : Event) (now next : State) (cause : StepFault)
+    (result : Result T StepFault) → left ≡ drop at events → left ≡ event ∷ rest → result ≡ Err cause → next ≡ now
+    → IsErrOf result NotEnabled ↔ (IsEnabled now event → ⊥) → (IsErrOf result Memory → IsEnabled now event × MayWantMemory event)
+    → IfSome (slice_get events at) (IsRefused cause next)
+refused-next at events left rest event now next cause result is steps failed same disabled memory =
+    subst (λ o. IfSome o (IsRefused cause next)) (sym (next-there at events rest event (sym steps ∙ is)))
+    (subst (λ state. IsRefused cause state event) (sym same) (by_cause cause failed))
+  where
+    by_cause : (cause : StepFault) → result ≡ Err cause → IsRefused cause now event
+    by_cause NotEnabled failed = disabled.0 failed
+    by_cause Memory failed = memory failed

@@ -85,6 +85,5 @@ becomes-unbuilt keep scans attached parts query dimension core can =
             words = refl;
             entries = refl;
             beside = beside-forgotten parts.lives parts.attached query parts.asked core.beside;
-            unnumbered = core.unnumbered;
           });
     }

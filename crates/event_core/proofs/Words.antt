@@ -62,7 +62,7 @@ pub use Rattle.star_statement.specs.Kinds.{kind_of_change}
 pub use Rattle.star_statement.specs.Outcome.{Outcome, outcome_of, Told}
 pub use Rattle.star_statement.specs.declared.applied.Applied.TheVariants.{Changed}
 pub use Rattle.star_statement.specs.declared.applied.ChangeKind.{ChangeKind}
-pub use Rattle.core_parts.proofs.PlaceLemmas.{refill-all}
+pub use Rattle.star_lists.proofs.PlaceLemmas.{refill-all}
 pub use Rattle.core_parts.proofs.TurnLemmas.{first_of}
 pub use Rattle.core_parts.specs.Asked.{AreRising, asked_at, AskedQuery, known_in, with_kept, with_kept_at}
 pub use Rattle.core_parts.specs.Filters.{next_of, plus, with_new}
@@ -77,13 +77,13 @@ pub use Rattle.core_parts.specs.declared.submitted.Standing.TheVariants.{IsAband
 pub use Rattle.core_parts.specs.declared.submitted.Submitted.{Submitted}
 pub use Rattle.core_state.proofs.AcceptedLemmas.{find-holds, held-accepted}
 pub use Rattle.core_state.proofs.AskLemmas.{of-numbers}
-pub use Rattle.core_state.proofs.AttachedFrameLemmas.{attached-count, attached-get, kept-none}
+pub use Rattle.core_state.proofs.AttachedFrameLemmas.{attached-count, attached-get}
 pub use Rattle.core_state.proofs.CutFoundLemmas.{find-there}
+pub use Rattle.core_state.proofs.CutRosterLemmas.{holds-slot}
 pub use Rattle.core_state.proofs.FoundLemmas.{find-passes, some-at, some-by}
-pub use Rattle.core_state.proofs.HandedAfterLemmas.{after_flight, kept_by}
+pub use Rattle.core_state.proofs.HandedAfterLemmas.{after_flight}
 pub use Rattle.core_state.proofs.HandedLivesLemmas.{others-stay}
-pub use Rattle.core_state.proofs.HandedSlotLemmas.{gets, held-there, one-slot}
-pub use Rattle.core_state.proofs.ScannedLifeLemmas.{holds-slot}
+pub use Rattle.core_state.proofs.HandedSlotLemmas.{gets, held-there, kept-none, kept_by, one-slot}
 pub use Rattle.core_state.proofs.ScannedOverLemmas.{life-accepted}
 pub use Rattle.core_state.proofs.ScannedTestLemmas.{FitByKinds}
 pub use Rattle.core_state.specs.Admitting.{after_build, after_build_wants, after_clear, after_finish, after_reserving, after_start, selection_in, versions_in_hands}

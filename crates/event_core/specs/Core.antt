@@ -19,30 +19,26 @@ use Rattle.continuous_scan.specs.Stamped.{CanTestAll}
 use Rattle.core_state.specs.Cutting.{frame_words}
 use Rattle.core_state.specs.Found.{holder_of}
 use Rattle.core_state.specs.Handed.{attached_to}
-use Rattle.core_state.specs.Logged.{EndsAscending}
 use Rattle.core_state.specs.Scanned.{AreTablesOf, IsScannedAs}
 use Rattle.core_state.specs.Settings.{frames_of}
 use Rattle.core_state.specs.Sound.{IsSound}
 use Rattle.core_state.specs.State.{State}
-use Rattle.core_state.specs.Tables.{changes_of, tables_of}
 use Rattle.core_state.specs.declared.settings.RunSettings.{RunSettings}
 use Rattle.core_parts.specs.declared.flight.Flight.{Flight}
 use Rattle.event_core.specs.Parts.{Parts}
 use Rattle.event_core.specs.Seen.{attached_for, state_of}
 
--- the state is sound, and the parts fit it: the tables are those of its history, whose deletes name positions ascending;
--- the scan has what runs; at the slots the groups of the queries that get rows are attached, and then nothing is kept
--- beside; the frames are as many and as long as the settings say; and before the fact table no version had a number
+-- the state is sound, and the parts fit it: the tables are those of its history; the scan has what runs; at the slots the
+-- groups of the queries that get rows are attached, and then nothing is kept beside; and the frames are as many and as long
+-- as the settings say
 pub record IsCore (parts : Parts) : Type 0 where
   pub sound : IsSound (state_of parts)
   pub tables : AreTablesOf (state_of parts) parts.tables
-  pub ends : All EndsAscending (changes_of (state_of parts).entries)
   pub scanned : IsScannedAs (state_of parts) parts.scan
   pub attached : parts.attached ≡ attached_to (state_of parts)
   pub beside : All (λ asked. IsSome (attached_for parts.lives parts.attached asked.number) → asked.kept ≡ None) parts.asked
   pub frames : parts.pool.made ≡ frames_of parts.settings
   pub words : parts.pool.words ≡ frame_words (state_of parts)
-  pub unnumbered : (tables_of (state_of parts)).schema.fact ≡ None → parts.numbers.version ≡ 0
 
 -- there is room for as many batches in flight as there are frames
 abbrev pub HasRoom : RunSettings → Roomy Flight → Type 0
@@ -91,7 +87,6 @@ pub record LeavesRest (old new : Parts) : Type 0 where
   pub words : new.pool.words ≡ old.pool.words
   pub entries : (state_of new).entries ≡ (state_of old).entries
   pub beside : All (λ asked. IsSome (attached_for new.lives new.attached asked.number) → asked.kept ≡ None) new.asked
-  pub unnumbered : (tables_of (state_of new)).schema.fact ≡ None → new.numbers.version ≡ 0
 
 -- the queries that hold the slots of a set, where one does
 abbrev pub holders_in : Lives → (slots : ℕ) → List ℕ

@@ -5,6 +5,8 @@ use Rattle.core_state.specs.State.{State}
 use Rattle.core_state.specs.Steps.{Step, Done, Wanting, Replying, MayStepAll, after_steps}
 use Rattle.core_state.specs.declared.event.Event.{Event}
 use Rattle.core_state.specs.declared.event.Event.TheVariants.{Submit, Build, Start, Take, Distribute, Clear}
+use Rattle.event_core.specs.declared.stepping.StepFault.{StepFault}
+use Rattle.event_core.specs.declared.stepping.StepFault.TheVariants.{NotEnabled, Memory}
 
 -- at an event queries found no memory: the query that is built, or some of those that get rows of the batch
 abbrev pub IsSpoilt : Event → (old new : State) → Type 0
@@ -57,3 +59,8 @@ MayWantMemory (Start query) = Unit {0}
 MayWantMemory (Take worker batch) = Unit {0}
 MayWantMemory (Clear slot dimension) = Unit {0}
 MayWantMemory other = ⊥
+
+-- why an event was not taken: it may not come, or it may, and finds no memory
+abbrev pub IsRefused : StepFault → State → Event → Type 0
+IsRefused NotEnabled state event = IsEnabled state event → ⊥
+IsRefused Memory state event = IsEnabled state event × MayWantMemory event

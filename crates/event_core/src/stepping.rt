@@ -1,9 +1,9 @@
 //! One event after the other.
-ghost use Rattle.std.specs.Prelude.{◌≡◌, ◌<◌, ◌↔◌, ℕ, List, length, take, IsTrue, IsErrOf, OnOk, OnErr, IfErr};
+ghost use Rattle.std.specs.Prelude.{◌≡◌, ◌<◌, ◌↔◌, ℕ, List, length, slice_get, take, IsTrue, IsErrOf, OnOk, OnErr, IfErr, IfSome};
 ghost use Rattle.core_state.specs.Events.{IsEnabled};
 ghost use Rattle.core_state.specs.Sound.{IsSound};
 ghost use Rattle.event_core.specs.Seen.{state_of};
-ghost use Rattle.event_core.specs.Took.{MayWantMemory, Took, TookAll};
+ghost use Rattle.event_core.specs.Took.{IsRefused, MayWantMemory, Took, TookAll};
 
 use crate::machine::Core;
 use core_state::Event;
@@ -46,7 +46,7 @@ impl Core {
         ensures disabled { IsErrOf result StepFault.NotEnabled ↔ (IsEnabled (state_of self.old) event → ⊥) }
         ensures taken { OnOk result (Took event (state_of self.old) (state_of self.new)) }
         ensures err { OnErr result (self.new ≡ self.old) }
-        ensures memory { IsErrOf result StepFault.Memory → MayWantMemory event }
+        ensures memory { IsErrOf result StepFault.Memory → IsEnabled (state_of self.old) event × MayWantMemory event }
         ensures sound { IsSound (state_of self.new) }
     {
         let taken = self.take_if_enabled(event);
@@ -59,7 +59,7 @@ impl Core {
         ensures disabled { IsErrOf result StepFault.NotEnabled ↔ (IsEnabled (state_of self.old) event → ⊥) }
         ensures taken { OnOk result (Took event (state_of self.old) (state_of self.new)) }
         ensures err { OnErr result (self.new ≡ self.old) }
-        ensures memory { IsErrOf result StepFault.Memory → MayWantMemory event }
+        ensures memory { IsErrOf result StepFault.Memory → IsEnabled (state_of self.old) event × MayWantMemory event }
     {
         if !self.enabled(&event) {
             return Err(StepFault::NotEnabled);
@@ -93,11 +93,12 @@ impl Core {
         Ok(())
     }
 
-    /// Takes events, one after the other, up to the first that is not taken.
+    /// Takes events, one after the other, up to the first that is not taken, and tells why that was not.
     pub fn run_events(&mut self, events: Vec<Event>) -> Result<(), EventsFault>
         ensures all { OnOk result (TookAll events.items (state_of self.old) (state_of self.new)) }
         ensures before { IfErr result (λ fault. TookAll (take fault.at events.items) (state_of self.old) (state_of self.new)
             × (fault.at < length events.items)) }
+        ensures cause { IfErr result (λ fault. IfSome (slice_get events.items fault.at) (IsRefused fault.cause (state_of self.new))) }
         ensures sound { IsSound (state_of self.new) }
     {
         let _ = &self.settings;
