@@ -1,9 +1,9 @@
 -- What turn after turn leaves, from the call on.
-use Rattle.core_driver.proofs.Words.{◌*◌, ◌∷◌, ◌≡◌, ◌≤◌, [], All, All-weaker, AnswersAll, arith, count_by, false, find, find-none, HasLap, inl, inr, is_to_start, is_unfinished, IsDriven, IsFinished, IsLanded, IsLed, IsOfLanding, IsRunning, IsSettled, IsSound, IsTurn, length, Life, List, MayGoOn, None, NoneIsToStart, Option, QueryLife, refl, Some, SomeRuns, State, StepsKeep, true, unfinished_in, versions_in, ⊎_elim}
+use Rattle.core_driver.proofs.Words.{◌*◌, ◌+◌, ◌-◌, ◌∷◌, ◌≡◌, ◌≤◌, [], Admits, All, All-weaker, AnswersAll, AreTurns, arith, count_by, false, find, find-none, HasLap, inl, inr, is_to_start, is_unfinished, IsDriven, IsFinished, IsLanded, IsLed, IsLedCutting, IsOfAdmission, IsOfLanding, IsOfRound, IsRunning, IsSettled, IsSound, IsTurn, IsWholeTurn, LandsAndTurns, length, Life, List, MayGoOn, None, NoneIsToStart, Option, QueryLife, refl, SharesLap, Some, SomeRuns, State, StepsKeep, subst, true, unfinished_in, versions_in, ℕ, ⊎_elim}
+use Rattle.std.proofs.Common.{◌++◌}
 use Rattle.pipeline_manager.specs.declared.life.Life.TheVariants as life
 use Rattle.event_core.specs.declared.choosing.EventKind.TheVariants as kind
-use Rattle.core_driver.specs.Driven.{IsWholeTurn}
-use Rattle.core_driver.specs.Lap.{SharesLap}
+use Rattle.core_driver.proofs.CuttingLemmas.{admission-cuts, count-led, cutting-joined, cutting-wider, cuts-nothing, landing-cuts, led-of}
 use Rattle.core_driver.proofs.DoneLemmas.{answers-all}
 use Rattle.core_driver.proofs.KindLemmas.{some-of-first, some-of-more}
 use Rattle.core_driver.proofs.LapCountLemmas.{count-one}
@@ -11,44 +11,56 @@ use Rattle.core_driver.proofs.LapLandingLemmas.{led-lands}
 use Rattle.core_driver.proofs.LapQueryLemmas.{none-any}
 use Rattle.core_driver.proofs.LapRestLemmas.{rests-land}
 use Rattle.core_driver.proofs.LapStartLemmas.{none-enabled}
-use Rattle.core_driver.proofs.LapTurnLemmas.{landing-bound, lap-goes, lap-lands, turn-bound}
-use Rattle.core_driver.proofs.LedLemmas.{led-joined, led-sound, led-wider}
-use Rattle.core_driver.proofs.PhaseLemmas.{round-landing}
+use Rattle.core_driver.proofs.LapTurnLemmas.{lap-goes, lap-lands}
+use Rattle.core_driver.proofs.LedLemmas.{led-sound}
+use Rattle.core_driver.proofs.PhaseLemmas.{led-round, round-landing}
 use Rattle.core_driver.proofs.RoundLemmas.{settled-landed}
 use Rattle.core_driver.proofs.SettleLemmas.{finishes}
 use Rattle.core_driver.proofs.WholeLemmas.{goes-by}
 
--- what was in flight landed, turns followed, and the lap goes on within its bound, as far as it is said at the call
+-- what was in flight landed, whole turns followed, and the lap goes on within its bound, as far as it is said at the call
 pub record HasGone (first now : State) : Type 0 where
-  pub driven : IsLed IsDriven first now
+  pub cut : ℕ
+  pub led : IsLedCutting IsDriven cut first now
   pub landed : IsLanded now
-  pub none : unfinished_in first ≡ 0 → (unfinished_in now ≡ 0) × (now.scan.cut ≡ first.scan.cut)
-  pub once : unfinished_in first ≤ length first.lives.slots → (SomeRuns first → ⊥) → HasLap (versions_in first) first now
-  pub twice : unfinished_in first ≤ length first.lives.slots → HasLap (2 * versions_in first) first now
+  pub turns : LandsAndTurns first now
+  pub none : unfinished_in first ≡ 0 → (unfinished_in now ≡ 0) × (cut ≡ 0)
+  pub once : unfinished_in first ≤ length first.lives.slots → (SomeRuns first → ⊥) → (cut ≤ versions_in first) × HasLap (versions_in first - cut) now
+  pub twice : unfinished_in first ≤ length first.lives.slots → (cut ≤ 2 * versions_in first) × HasLap (2 * versions_in first - cut) now
 
--- the driver takes events of a landing
-pub landing-driven : (old new : State) → IsLed IsOfLanding old new → IsLed IsDriven old new
-landing-driven = led-wider IsOfLanding IsDriven (λ event one. inr (round-landing event one))
+-- the driver's events so far
+pub gone-driven : (first now : State) → HasGone first now → IsLed IsDriven first now
+gone-driven first now gone = led-of IsDriven gone.cut first now gone.led
+
+-- the driver takes events of a landing, which cut nothing
+landing-driven : (old new : State) → IsLed IsOfLanding old new → IsLedCutting IsDriven 0 old new
+landing-driven old new led =
+    cutting-wider IsOfLanding IsDriven (λ event one. inr (round-landing event one)) 0 old new (cuts-nothing IsOfLanding landing-cuts old new led)
+
+-- a lap of which nothing was cut has all of its bound left
+all-left : (bound : ℕ) (state : State) → HasLap bound state → (0 ≤ bound) × HasLap (bound - 0) state
+all-left bound state has = ((omega arith), subst (λ n. HasLap n state) (let same : bound ≡ bound - 0 = omega arith in same) has)
 
 -- once what was in flight landed
 pub gone-first : StepsKeep → (first now : State) → IsSound first → IsLed IsOfLanding first now → IsLanded now → HasGone first now
 gone-first keep first now sound led landed = record {
-  driven = landing-driven first now led;
+  cut = 0;
+  led = landing-driven first now led;
   landed = landed;
-  none = λ none.
-      let lands = led-lands first now led in
-      let fewer = (rests-land first now lands).unfinished in
-      ((omega arith), lands.cut);
-  once = λ few none. lap-lands keep (versions_in first) first now sound led landed few (inr (refl, none));
-  twice = λ few. lap-lands keep (2 * versions_in first) first now sound led landed few (inl refl);
+  turns = record { landed = now; turns = []; lands = led; each = refl };
+  none = λ none. let fewer = (rests-land first now (led-lands first now led)).unfinished in ((omega arith), refl);
+  once = λ few none. all-left (versions_in first) now (lap-lands keep (versions_in first) first now sound led landed few (inr (refl, none)));
+  twice = λ few. all-left (2 * versions_in first) now (lap-lands keep (2 * versions_in first) first now sound led landed few (inl refl));
 }
 
 -- where it breaks off
 pub first-lap : (first now : State) → IsLed IsOfLanding first now → SharesLap first now
 first-lap first now led = record {
-  none = λ none. (led-lands first now led).cut;
-  once = λ few none. landing-bound (versions_in first) first now led;
-  twice = λ few. landing-bound (2 * versions_in first) first now led;
+  cut = 0;
+  led = landing-driven first now led;
+  none = λ none. refl;
+  once = λ few none. omega arith;
+  twice = λ few. omega arith;
 }
 
 -- where none is unfinished, each query is finished
@@ -89,33 +101,97 @@ never-goes state none may = ⊎_elim
     starts = All-weaker (λ entry. is_unfinished entry.life ≡ false) (λ entry. is_to_start entry.life ≡ false) (λ entry. to-start entry.life)
         state.lives.queries all
 
+-- whole turns and one more
+turns-more : (turns : List State) (old mid new : State) → AreTurns turns old mid → IsWholeTurn mid new → AreTurns (turns ++ new ∷ []) old new
+turns-more [] old mid new same turn = (subst (λ state. IsWholeTurn state new) same turn, refl)
+turns-more (next ∷ rest) old mid new turns turn = (turns.0, turns-more rest next mid new turns.1 turn)
+
+-- an admission and a round cut what the round cuts
+halves-cut : (cut : ℕ) (old mid new : State) → IsLed IsOfAdmission old mid → IsLedCutting IsOfRound cut mid new → IsLedCutting IsDriven cut old new
+halves-cut cut old mid new admits round =
+    subst (λ n. IsLedCutting IsDriven n old new) (let same : 0 + cut ≡ cut = omega arith in same)
+    (cutting-joined IsDriven 0 cut old mid new
+    (cutting-wider IsOfAdmission IsDriven (λ event one. inl one) 0 old mid (cuts-nothing IsOfAdmission admission-cuts old mid admits))
+    (cutting-wider IsOfRound IsDriven (λ event one. inr one) cut mid new round))
+
+-- what is left of a lap after more was cut
+less-left : (bound cut more : ℕ) (state : State) → (more ≤ bound - cut) × HasLap (bound - cut - more) state → cut ≤ bound
+    → (cut + more ≤ bound) × HasLap (bound - (cut + more)) state
+less-left bound cut more state left low =
+    let most = left.0 in
+    ((omega arith), subst (λ n. HasLap n state) (let same : bound - cut - more ≡ bound - (cut + more) = omega arith in same) left.1)
+
+-- a turn behind turns, of which the round cut so many
+gone-round : StepsKeep → (bound : ℕ) (first old mid new : State) (gone : HasGone first old) (more : ℕ) → IsSound old
+    → (gone.cut ≤ bound) × HasLap (bound - gone.cut) old → Admits old mid → IsLedCutting IsOfRound more mid new
+    → (gone.cut + more ≤ bound) × HasLap (bound - (gone.cut + more)) new
+gone-round keep bound first old mid new gone more sound left admits round =
+    less-left bound gone.cut more new (lap-goes keep more (bound - gone.cut) old mid new sound left.1 admits round) left.0
+
 -- after one turn more
-pub gone-on : StepsKeep → (first old new : State) → IsSound first → HasGone first old → MayGoOn old → IsLed IsDriven old new
-    → IsWholeTurn old new → IsSettled new → HasGone first new
-gone-on keep first old new sound gone may driven whole settled =
-    let so_sound : IsSound old = led-sound keep IsDriven first old gone.driven sound in
+pub gone-on : StepsKeep → (first old new : State) → IsSound first → HasGone first old → MayGoOn old → IsWholeTurn old new → IsSettled new
+    → HasGone first new
+gone-on keep first old new sound gone may whole settled =
+    let so_sound : IsSound old = led-sound keep IsDriven first old (gone-driven first old gone) sound in
+    let round = count-led IsOfRound whole.mid new (led-round whole.mid new whole.round) in
     record {
-      driven = led-joined IsDriven first old new gone.driven driven;
+      cut = gone.cut + round.0;
+      led = cutting-joined IsDriven gone.cut round.0 first old new gone.led
+          (halves-cut round.0 old whole.mid new whole.admits.led round.1);
       landed = settled-landed new settled;
+      turns = record {
+        landed = gone.turns.landed;
+        turns = gone.turns.turns ++ new ∷ [];
+        lands = gone.turns.lands;
+        each = turns-more gone.turns.turns gone.turns.landed old new gone.turns.each whole;
+      };
       none = λ none. absurd (never-goes old (gone.none none).0 may);
-      once = λ few none. lap-goes keep (versions_in first) first old whole.0 new so_sound (gone.once few none) whole.1.0 whole.1.1;
-      twice = λ few. lap-goes keep (2 * versions_in first) first old whole.0 new so_sound (gone.twice few) whole.1.0 whole.1.1;
+      once = λ few none. gone-round keep (versions_in first) first old whole.mid new gone round.0 so_sound (gone.once few none) whole.admits round.1;
+      twice = λ few. gone-round keep (2 * versions_in first) first old whole.mid new gone round.0 so_sound (gone.twice few) whole.admits round.1;
     }
 
 -- where a turn breaks off
 pub gone-lap : StepsKeep → (first old new : State) → IsSound first → HasGone first old → MayGoOn old → IsTurn old new → SharesLap first new
-gone-lap keep first old new sound gone may turn =
-    let so_sound : IsSound old = led-sound keep IsDriven first old gone.driven sound in
-    record {
+gone-lap keep first old new sound gone may turn = ⊎_elim admission round turn
+  where
+    so_sound : IsSound old
+    so_sound = led-sound keep IsDriven first old (gone-driven first old gone) sound
+
+    admission : IsLed IsOfAdmission old new → SharesLap first new
+    admission led = record {
+      cut = gone.cut + 0;
+      led = cutting-joined IsDriven gone.cut 0 first old new gone.led
+          (cutting-wider IsOfAdmission IsDriven (λ event one. inl one) 0 old new (cuts-nothing IsOfAdmission admission-cuts old new led));
       none = λ none. absurd (never-goes old (gone.none none).0 may);
-      once = λ few none. turn-bound keep (versions_in first) first old new so_sound (gone.once few none) turn;
-      twice = λ few. turn-bound keep (2 * versions_in first) first old new so_sound (gone.twice few) turn;
+      once = λ few none. let low = (gone.once few none).0 in omega arith;
+      twice = λ few. let low = (gone.twice few).0 in omega arith;
     }
+
+    round : (mid : State) × (Admits old mid × IsLed IsOfRound mid new) → SharesLap first new
+    round half =
+        let more = count-led IsOfRound half.0 new half.1.1 in
+        record {
+          cut = gone.cut + more.0;
+          led = cutting-joined IsDriven gone.cut more.0 first old new gone.led (halves-cut more.0 old half.0 new half.1.0.led more.1);
+          none = λ none. absurd (never-goes old (gone.none none).0 may);
+          once = λ few none. (gone-round keep (versions_in first) first old half.0 new gone more.0 so_sound (gone.once few none) half.1.0 more.1).0;
+          twice = λ few. (gone-round keep (2 * versions_in first) first old half.0 new gone more.0 so_sound (gone.twice few) half.1.0 more.1).0;
+        }
+
+-- the lap so far
+pub gone-shares : (first now : State) → HasGone first now → SharesLap first now
+gone-shares first now gone = record {
+  cut = gone.cut;
+  led = gone.led;
+  none = λ none. (gone.none none).1;
+  once = λ few none. (gone.once few none).0;
+  twice = λ few. (gone.twice few).0;
+}
 
 -- where queries may not go on, all is done
 pub gone-finishes : StepsKeep → (first now : State) → IsSound first → HasGone first now → (MayGoOn now → ⊥) → IsFinished now
 gone-finishes keep first now sound gone stops =
-    finishes now (led-sound keep IsDriven first now gone.driven sound) gone.landed
+    finishes now (led-sound keep IsDriven first now (gone-driven first now gone) sound) gone.landed
     (λ event is enabled. stops (event, (some-of-first kind.Reserve (kind.Build ∷ kind.Start ∷ kind.Cut ∷ []) event is, enabled)))
     (λ event is enabled. stops (
       event,
@@ -146,4 +222,4 @@ gone-finishes keep first now sound gone stops =
 -- and each query that was open is answered, or found no memory
 pub gone-answers : StepsKeep → (first now : State) → IsSound first → HasGone first now → (MayGoOn now → ⊥) → AnswersAll first now
 gone-answers keep first now sound gone stops =
-    answers-all keep first now sound gone.driven (gone-finishes keep first now sound gone stops)
+    answers-all keep first now sound (gone-driven first now gone) (gone-finishes keep first now sound gone stops)

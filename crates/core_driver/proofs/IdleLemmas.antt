@@ -1,8 +1,8 @@
 -- No batch comes into a hand but by an event that takes one.
-use Rattle.core_driver.proofs.Words.{◌≡◌, Abandon, All, All-filter, All-push, All-weaker, AreIdle, Build, Clear, Cut, cut_flight, Distribute, eqb, Event, EventKind, Finish, Flight, Give, IsLed, IsOfKind, IsReorder, IsThrough, None, not, refl, Release, Reorder, Reserve, Scan, Some, Start, State, Submit, subst, sym, Take, Took, ℕ, ⊎_elim}
+use Rattle.core_driver.proofs.Words.{◌≡◌, All, All-filter, All-push, All-weaker, AreIdle, Build, Clear, Cut, cut_flight, Distribute, eqb, Event, EventKind, Finish, Flight, IsLed, IsOfKind, IsReorder, IsStill, IsThrough, None, not, refl, Release, Reserve, Scan, Some, Start, State, subst, sym, Took, ℕ, ⊎_elim}
 use Rattle.core_state.specs.Events.{after_event}
 use Rattle.core_driver.proofs.LedLemmas.{led-holds}
-use Rattle.core_driver.proofs.TakenLemmas.{IsStill, distributes, still-leaves}
+use Rattle.core_driver.proofs.TakenLemmas.{distributes, still-leaves}
 
 -- the batch is in no hand
 abbrev IsIdle : Flight → Type 0

@@ -1,8 +1,7 @@
 -- Which events the kinds that are asked for make.
-use Rattle.core_driver.proofs.Words.{◌↔◌, ◌∙◌, ◌∷◌, ◌≡◌, [], Abandon, All, All-cons, All-nil, arith, Bool, Build, Clear, Cut, Distribute, Event, EventKind, false, Finish, Give, IfSome, is_some, IsEnabled, IsLed, IsOfAdmission, IsOfKind, IsOfRound, IsOfSome, IsTrue, kind_of, List, None, NoneOfMayCome, Option, refl, Release, Reorder, Reserve, Some, Start, State, Submit, subst, suc, sym, Take, true, zero}
+use Rattle.core_driver.proofs.Words.{◌↔◌, ◌∙◌, ◌∷◌, ◌≡◌, [], All, All-cons, All-nil, arith, Bool, Build, Clear, Event, EventKind, false, Finish, IfSome, is_some, IsEnabled, IsLed, IsOfAdmission, IsOfKind, IsOfSome, IsStill, IsTrue, kind_of, List, None, NoneOfMayCome, Option, refl, Release, Reserve, Some, Start, State, subst, suc, sym, true, zero}
 use Rattle.event_core.specs.declared.choosing.EventKind.TheVariants as kind
 use Rattle.core_driver.proofs.LedLemmas.{led-wider}
-use Rattle.core_driver.proofs.TakenLemmas.{IsStill}
 
 -- a kind of events by which queries are admitted
 abbrev pub IsAdmissionKind : EventKind → Type 0
@@ -10,13 +9,6 @@ IsAdmissionKind kind.Reserve = Unit {0}
 IsAdmissionKind kind.Build = Unit {0}
 IsAdmissionKind kind.Start = Unit {0}
 IsAdmissionKind other = ⊥
-
--- a kind of events of a round
-abbrev pub IsRoundKind : EventKind → Type 0
-IsRoundKind kind.Reserve = ⊥
-IsRoundKind kind.Build = ⊥
-IsRoundKind kind.Start = ⊥
-IsRoundKind other = Unit {0}
 
 -- a kind of events that move no batch
 abbrev pub IsStillKind : EventKind → Type 0
@@ -36,15 +28,6 @@ admission-event (Build query dimension) is = tt
 admission-event (Start query) is = tt
 admission-event other is = absurd is
 
--- or of a round
-round-event : (event : Event) → IsKindOf IsRoundKind (kind_of event) → IsOfRound event
-round-event Cut is = tt
-round-event (Distribute batch) is = tt
-round-event (Finish slot) is = tt
-round-event (Clear slot dimension) is = tt
-round-event (Release slot) is = tt
-round-event other is = absurd is
-
 -- or moves no batch
 still-event : (event : Event) → IsKindOf IsStillKind (kind_of event) → IsStill event
 still-event (Reserve query slot) is = tt
@@ -61,44 +44,32 @@ pub kind-of-some : (IsOne : EventKind → Type 0) (kinds : List EventKind) (even
 kind-of-some IsOne kinds event all some =
     subst (IsKindOf IsOne) (sym some.4) (subst IsOne some.3 (all some.0 some.1 some.2))
 
--- an event of kinds of an admission, or of a round
+-- an event of kinds of an admission
 pub admission-of-some : (kinds : List EventKind) (event : Event) → All IsAdmissionKind kinds → IsOfSome kinds event → IsOfAdmission event
 admission-of-some kinds event all some = admission-event event (kind-of-some IsAdmissionKind kinds event all some)
-
--- of a round
-pub round-of-some : (kinds : List EventKind) (event : Event) → All IsRoundKind kinds → IsOfSome kinds event → IsOfRound event
-round-of-some kinds event all some = round-event event (kind-of-some IsRoundKind kinds event all some)
 
 -- of kinds that move no batch
 pub still-of-some : (kinds : List EventKind) (event : Event) → All IsStillKind kinds → IsOfSome kinds event → IsStill event
 still-of-some kinds event all some = still-event event (kind-of-some IsStillKind kinds event all some)
 
--- the kinds of the phases of a turn
+-- the kinds of an admission
 pub admission-kinds : All IsAdmissionKind (kind.Reserve ∷ kind.Build ∷ kind.Start ∷ [])
 admission-kinds =
     All-cons IsAdmissionKind kind.Reserve (kind.Build ∷ kind.Start ∷ []) tt
     (All-cons IsAdmissionKind kind.Build (kind.Start ∷ []) tt
     (All-cons IsAdmissionKind kind.Start [] tt (All-nil IsAdmissionKind)))
 
--- a cut
-pub cut-kinds : All IsRoundKind (kind.Cut ∷ [])
-cut-kinds = All-cons IsRoundKind kind.Cut [] tt (All-nil IsRoundKind)
-
--- which move no batch
+-- and those that move no batch
 pub still-kinds : All IsStillKind (kind.Finish ∷ kind.Clear ∷ kind.Release ∷ [])
 still-kinds =
     All-cons IsStillKind kind.Finish (kind.Clear ∷ kind.Release ∷ []) tt
     (All-cons IsStillKind kind.Clear (kind.Release ∷ []) tt
     (All-cons IsStillKind kind.Release [] tt (All-nil IsStillKind)))
 
--- lists of events of these kinds are an admission, or of a round
+-- lists of events of these kinds are an admission
 pub admission-led : (kinds : List EventKind) → All IsAdmissionKind kinds → (old new : State) → IsLed (IsOfSome kinds) old new
     → IsLed IsOfAdmission old new
 admission-led kinds all = led-wider (IsOfSome kinds) IsOfAdmission (λ event some. admission-of-some kinds event all some)
-
--- of a round
-pub round-led : (kinds : List EventKind) → All IsRoundKind kinds → (old new : State) → IsLed (IsOfSome kinds) old new → IsLed IsOfRound old new
-round-led kinds all = led-wider (IsOfSome kinds) IsOfRound (λ event some. round-of-some kinds event all some)
 
 -- an event of one kind is of some, if that is among them
 pub some-of-first : (first : EventKind) (kinds : List EventKind) (event : Event) → IsOfKind first event → IsOfSome (first ∷ kinds) event

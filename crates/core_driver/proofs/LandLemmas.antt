@@ -1,9 +1,9 @@
 -- Batches that passed all filters are distributed until none is in flight.
-use Rattle.core_driver.proofs.Words.{◌∙◌, ◌∷◌, ◌≡◌, [], Abandon, All, All-filter, All-head, ap, Build, Clear, cond, Cut, Distribute, eq-eqb, eqb, Event, Finish, Flight, flight_at, Give, IfSome, is_some, IsLed, IsOfKind, IsThrough, List, None, NoneMayCome, not, Option, refl, Release, Reorder, Reserve, Scan, Some, Start, State, Submit, subst, sym, Take, Took, ℕ}
+use Rattle.core_driver.proofs.Words.{◌∙◌, ◌∷◌, ◌≡◌, [], All, All-filter, All-head, ap, Build, Clear, cond, Cut, Distribute, eq-eqb, eqb, Event, Finish, Flight, flight_at, IfSome, is_some, IsLed, IsOfKind, IsStill, IsThrough, List, None, NoneMayCome, not, Option, refl, Release, Reserve, Scan, Some, Start, State, subst, sym, Took, ℕ}
 use Rattle.core_state.specs.State.{Filters}
 use Rattle.event_core.specs.declared.choosing.EventKind.TheVariants as kind
 use Rattle.core_driver.proofs.LedLemmas.{led-holds}
-use Rattle.core_driver.proofs.TakenLemmas.{Distributes, IsStill, distributes, still-leaves}
+use Rattle.core_driver.proofs.TakenLemmas.{Distributes, distributes, still-leaves}
 
 -- all batches in flight are through
 abbrev pub AreThrough : State → Type 0

@@ -1,9 +1,9 @@
 -- An admission leaves the table and the scan; a query that begins to run begins where the scan stands, and there stays a slot
 -- for each query that waits.
-use Rattle.core_driver.proofs.Words.{◌+◌, ◌<◌, ◌∙◌, ◌≡◌, ◌≤◌, after_built, after_reserve, All, All-map, All-weaker, ap, arith, BeganAt, Bool, Build, Clearing, cond, count_by, Distribute, eq-eqb, eqb, Event, extent_in, false, find, first_in, Free, get_or, HasSlotsForAll, Held, inl, is_free, is_held_by, is_waiting, IsEnabled, IsOfAdmission, length, length-set, Life, List, Lives, None, not, oldest_waiting, Option, option_map, option_map_or, position-Some, QueryLife, refl, renewed, Reserve, set, slot_at, slot_of, SlotState, Some, Start, started, State, subst, sum_by-set, sym, Took, true, with_dimension, with_life, with_slot, ℕ, ⊎_elim}
+use Rattle.core_driver.proofs.Words.{◌+◌, ◌<◌, ◌∙◌, ◌≡◌, ◌≤◌, after_built, after_reserve, All, All-map, All-weaker, ap, arith, BeganAt, Bool, Build, Clearing, cond, count_by, Distribute, eq-eqb, eqb, Event, extent_in, false, find, first_in, Free, get_or, HasSlotsForAll, Held, inl, is_free, is_held_by, is_waiting, IsEnabled, IsOfAdmission, length, length-set, Life, List, Lives, lives_by, None, not, oldest_waiting, Option, option_map, option_map_or, position-Some, QueryLife, refl, renewed, Reserve, set, slot_at, slot_of, SlotState, Some, Spoils, Start, started, State, subst, sum_by-set, sym, Took, true, with_dimension, with_life, with_slot, ℕ, ⊎_elim}
 use Rattle.pipeline_manager.specs.declared.life.Life.TheVariants as life
 use Rattle.core_driver.proofs.LapCountLemmas.{count-map-le, count-map-less, one_if}
-use Rattle.core_driver.proofs.TakenLemmas.{IsStill, LeavesBatches, Spoils, lives_by, still-leaves, taken-lives}
+use Rattle.core_driver.proofs.TakenLemmas.{LeavesBatches, still-admission, still-leaves, taken-lives}
 use Rattle.core_driver.proofs.WaitLemmas.{started-rests}
 
 -- where the laps of all queries that run began
@@ -157,13 +157,6 @@ lives-spoilt (Build query dimension) start old new one spoils =
     subst (AdmitsLives start old) (sym spoils) (written-lives start query life.Spoiled old tt refl)
 lives-spoilt (Distribute batch) start old new one spoils = absurd one
 lives-spoilt event start old new one spoils = absurd spoils
-
--- an admission moves no batch
-still-admission : (event : Event) → IsOfAdmission event → IsStill event
-still-admission (Reserve query slot) one = tt
-still-admission (Build query dimension) one = tt
-still-admission (Start query) one = tt
-still-admission event one = absurd one
 
 -- what an admission that was taken leaves
 pub admitted : (event : Event) (old new : State) → IsOfAdmission event → Took event old new → Admitted old new

@@ -1,7 +1,8 @@
 -- Which events are those of a round other than a cut.
-use Rattle.core_driver.proofs.Words.{◌∷◌, [], All, All-cons, All-nil, Clear, Distribute, Event, EventKind, Finish, Give, IsLed, IsOfLanding, IsOfSome, kind_of, List, None, Option, Release, Some, State, subst, sym, Take}
+use Rattle.core_driver.proofs.Words.{◌∷◌, [], All, All-cons, All-nil, Clear, Distribute, Event, EventKind, Finish, Give, IsLed, IsOfLanding, IsOfSome, kind_of, List, Release, State, Take}
 use Rattle.event_core.specs.Chosen.{IsPassing}
 use Rattle.event_core.specs.declared.choosing.EventKind.TheVariants as kind
+use Rattle.core_driver.proofs.KindLemmas.{IsKindOf, kind-of-some}
 use Rattle.core_driver.proofs.LedLemmas.{led-wider}
 
 -- a kind of such events
@@ -12,13 +13,8 @@ IsLandingKind kind.Clear = Unit {0}
 IsLandingKind kind.Release = Unit {0}
 IsLandingKind other = ⊥
 
--- there is a kind, which is one of these
-abbrev HasLandingKind : Option EventKind → Type 0
-HasLandingKind None = ⊥
-HasLandingKind (Some kind) = IsLandingKind kind
-
 -- an event of such a kind
-landing-event : (event : Event) → HasLandingKind (kind_of event) → IsOfLanding event
+landing-event : (event : Event) → IsKindOf IsLandingKind (kind_of event) → IsOfLanding event
 landing-event (Distribute batch) is = tt
 landing-event (Finish slot) is = tt
 landing-event (Clear slot dimension) is = tt
@@ -27,8 +23,7 @@ landing-event event is = absurd is
 
 -- an event of some kinds, each of which is one of these
 pub landing-of-some : (kinds : List EventKind) (event : Event) → All IsLandingKind kinds → IsOfSome kinds event → IsOfLanding event
-landing-of-some kinds event all some =
-    landing-event event (subst HasLandingKind (sym some.4) (subst IsLandingKind some.3 (all some.0 some.1 some.2)))
+landing-of-some kinds event all some = landing-event event (kind-of-some IsLandingKind kinds event all some)
 
 -- an event by which the front takes a batch or gives it back
 pub landing-passing : (event : Event) → IsPassing event → IsOfLanding event

@@ -1,9 +1,10 @@
--- An event of a round other than a cut leaves the table and where the scan stands, cuts nothing, and begins no query.
-use Rattle.core_driver.proofs.Words.{◌∙◌, ◌∷◌, ◌≡◌, [], after_cleared, after_end, after_free, after_spoil, ap, Clear, Clearing, Distribute, Event, Finish, fold, Free, Give, given_up, Held, inr, IsLed, IsOfLanding, length, length-set, List, Lives, refl, Release, Reorder, Scan, slot_at, SlotState, State, subst, sym, Take, Took, without_dimension, ℕ, ⊎_elim}
+-- An event of a round other than a cut leaves the table and where the scan stands, and begins no query.
+use Rattle.core_driver.proofs.Words.{◌∙◌, ◌≡◌, after_cleared, after_end, after_free, after_spoil, ap, Clear, Clearing, Distribute, Event, Finish, fold, Free, Give, given_up, Held, inr, IsLed, IsOfLanding, IsStill, length, length-set, List, Lives, refl, Release, Reorder, Scan, slot_at, SlotState, State, subst, sym, Take, Took, without_dimension, ℕ, ⊎_elim}
+use Rattle.core_state.proofs.WholeLivesLemmas.{slots-spoiled}
 use Rattle.core_driver.proofs.LapEndsLemmas.{Ends, ends-answer, ends-both, ends-same, ends-spoiled}
 use Rattle.core_driver.proofs.LedLemmas.{led-holds}
 use Rattle.core_driver.proofs.PassedLemmas.{Passes, took-hands}
-use Rattle.core_driver.proofs.TakenLemmas.{Distributes, IsStill, LeavesBatches, distributes, still-leaves, taken-lives}
+use Rattle.core_driver.proofs.TakenLemmas.{Distributes, LeavesBatches, distributes, still-leaves, taken-lives}
 
 -- what such an event leaves of the lives and slots
 record LandsLives (old new : Lives) : Type 0 where
@@ -14,7 +15,6 @@ record LandsLives (old new : Lives) : Type 0 where
 pub record Lands (old new : State) : Type 0 where
   pub entries : new.entries ≡ old.entries
   pub position : new.scan.position ≡ old.scan.position
-  pub cut : new.scan.cut ≡ old.scan.cut
   pub slots : length new.lives.slots ≡ length old.lives.slots
   pub ends : Ends old.lives.queries new.lives.queries
 
@@ -42,11 +42,6 @@ lives-cleared slot dimension lives = record {
 lives-freed : (slot : ℕ) (lives : Lives) → LandsLives lives (after_free slot lives)
 lives-freed slot lives = record { slots = length-set lives.slots slot Free; ends = ends-same lives.queries }
 
--- queries that find no memory keep the slots
-slots-spoiled : (spoiled : List ℕ) (lives : Lives) → (fold (λ now query. after_spoil query now) lives spoiled).slots ≡ lives.slots
-slots-spoiled [] lives = refl
-slots-spoiled (query ∷ spoiled) lives = slots-spoiled spoiled (after_spoil query lives)
-
 -- what is left where queries find no memory
 lives-spoiled : (spoiled : List ℕ) (lives : Lives) → LandsLives lives (fold (λ now query. after_spoil query now) lives spoiled)
 lives-spoiled spoiled lives = record { slots = ap length (slots-spoiled spoiled lives); ends = ends-spoiled spoiled lives }
@@ -58,7 +53,6 @@ lands-still event old new still took lives =
     record {
       entries = left.entries;
       position = ap (λ (scan : Scan). scan.position) left.scan;
-      cut = ap (λ (scan : Scan). scan.cut) left.scan;
       slots = lives.slots;
       ends = lives.ends;
     }
@@ -67,7 +61,7 @@ lands-still event old new still took lives =
 lands-passes : (old new : State) → Passes old new → Lands old new
 lands-passes old new passes =
     let lives : LandsLives old.lives new.lives = subst (LandsLives old.lives) (sym passes.lives) (lives-same old.lives) in
-    record { entries = passes.entries; position = passes.position; cut = passes.cut; slots = lives.slots; ends = lives.ends }
+    record { entries = passes.entries; position = passes.position; slots = lives.slots; ends = lives.ends }
 
 -- a distribution
 lands-distributes : (batch : ℕ) (old new : State) → Distributes batch old new → Lands old new
@@ -76,7 +70,6 @@ lands-distributes batch old new done =
     record {
       entries = done.entries;
       position = ap (λ (scan : Scan). scan.position) done.scan;
-      cut = ap (λ (scan : Scan). scan.cut) done.scan;
       slots = lives.slots;
       ends = lives.ends;
     }
@@ -106,14 +99,13 @@ lands-taken event old new one took = absurd one
 
 -- nothing changes of it
 lands-same : (state : State) → Lands state state
-lands-same state = record { entries = refl; position = refl; cut = refl; slots = refl; ends = ends-same state.lives.queries }
+lands-same state = record { entries = refl; position = refl; slots = refl; ends = ends-same state.lives.queries }
 
 -- such events one after the other
 lands-both : (old mid new : State) → Lands old mid → Lands mid new → Lands old new
 lands-both old mid new first second = record {
   entries = second.entries ∙ first.entries;
   position = second.position ∙ first.position;
-  cut = second.cut ∙ first.cut;
   slots = second.slots ∙ first.slots;
   ends = ends-both old.lives.queries mid.lives.queries new.lives.queries first.ends second.ends;
 }

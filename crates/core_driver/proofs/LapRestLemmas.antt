@@ -1,5 +1,5 @@
 -- The events of a round begin no query, and leave the table and how many slots there are.
-use Rattle.core_driver.proofs.Words.{◌-◌, ◌∙◌, ◌≡◌, ◌≤◌, Abandon, after_cutting, All-map, All-weaker, ap, arith, Build, Clear, covered, Cut, cut_query, Distribute, end_in, Event, false, Finish, first_in, Give, is_to_start, is_unfinished, IsLed, IsOfLanding, IsOfRound, IsRunning, length, NoneIsToStart, refl, Release, Reorder, Reserve, SomeRuns, Start, State, Submit, subst, sym, tables_by, Take, Took, unfinished_in, versions_in, ⊎_elim}
+use Rattle.core_driver.proofs.Words.{◌-◌, ◌∙◌, ◌≡◌, ◌≤◌, after_cutting, All-map, All-weaker, ap, arith, covered, Cut, cut_query, end_in, Event, false, first_in, is_to_start, is_unfinished, IsLed, IsOfLanding, IsOfRound, IsRunning, length, NoneIsToStart, refl, SomeRuns, State, subst, sym, tables_by, Took, unfinished_in, versions_in, ⊎_elim}
 use Rattle.core_state.specs.Events.{after_event}
 use Rattle.core_driver.proofs.LapCountLemmas.{count-map-le}
 use Rattle.core_driver.proofs.LapEndsLemmas.{all-ends, count-ends, over-runs, over-start}
@@ -10,19 +10,8 @@ use Rattle.core_driver.proofs.LedLemmas.{led-holds}
 
 -- an event of a round is a cut, or another
 pub by-round : (P : Event → Type 0) → P Cut → ((event : Event) → IsOfLanding event → P event) → (event : Event) → IsOfRound event → P event
-by-round P cuts lands (Submit seat statement) one = absurd one
-by-round P cuts lands (Reserve query slot) one = absurd one
-by-round P cuts lands (Build query dimension) one = absurd one
-by-round P cuts lands (Start query) one = absurd one
 by-round P cuts lands Cut one = cuts
-by-round P cuts lands (Take worker batch) one = lands (Take worker batch) one
-by-round P cuts lands (Give worker) one = lands (Give worker) one
-by-round P cuts lands (Distribute batch) one = lands (Distribute batch) one
-by-round P cuts lands (Finish slot) one = lands (Finish slot) one
-by-round P cuts lands (Clear slot dimension) one = lands (Clear slot dimension) one
-by-round P cuts lands (Release slot) one = lands (Release slot) one
-by-round P cuts lands Reorder one = lands Reorder one
-by-round P cuts lands (Abandon query) one = absurd one
+by-round P cuts lands event one = lands event one
 
 -- a cut that was taken was done
 pub cut-done : (old new : State) → Took Cut old new → new ≡ after_cutting old

@@ -1,10 +1,11 @@
 -- The events of a round leave a scan that is on its way on its way.
-use Rattle.core_driver.proofs.Words.{◌-◌, ◌∙◌, ◌≡◌, ◌≤◌, after_cutting, All, ap, arith, BeganAt, CameRound, Cut, Event, first_in, first_of, inl, inr, IsEnd, IsLed, IsLeftBetween, IsOfRound, IsOnItsWay, IsSound, IsToComeRound, IsWithin, MayCut, State, StepsKeep, subst, sym, Took, versions_in, ℕ, ⊎_elim}
+use Rattle.core_driver.proofs.Words.{◌-◌, ◌∙◌, ◌≡◌, ◌≤◌, after_cutting, All, ap, arith, BeganAt, CameRound, Cut, first_in, first_of, inl, inr, IsEnd, IsLedCutting, IsLeftBetween, IsOfRound, IsOnItsWay, IsSound, IsToComeRound, IsWithin, MayCut, positions_of, State, StepsKeep, subst, sym, Took, versions_in, ℕ, ⊎_elim}
+use Rattle.core_driver.proofs.CuttingLemmas.{SpendsEach, landing-cuts, led-spends}
 use Rattle.core_driver.proofs.LapCutLemmas.{CutsOn, cut_of, cuts-on}
 use Rattle.core_driver.proofs.LapEndsLemmas.{all-ends, over-began, over-between}
 use Rattle.core_driver.proofs.LapLandingLemmas.{Lands, lands-taken}
 use Rattle.core_driver.proofs.LapRestLemmas.{by-round, cut-done, rests-land, runs-land}
-use Rattle.core_driver.proofs.LedLemmas.{led-keeps, took-sound}
+use Rattle.core_driver.proofs.LedLemmas.{took-sound}
 
 -- the table has as many versions
 versions-land : (old new : State) → Lands old new → versions_in new ≡ versions_in old
@@ -55,37 +56,42 @@ way-land end most old new lands way = ⊎_elim
     (λ came. inr (came-land end most old new lands came)) on)) way
 
 -- the way ends within as many positions
-within-land : (total : ℕ) (old new : State) → Lands old new → IsWithin total old → IsWithin total new
-within-land total old new lands within = record {
+within-land : (left : ℕ) (old new : State) → Lands old new → IsWithin left old → IsWithin left new
+within-land left old new lands within = record {
   end = within.end;
   most = within.most;
   way = way-land within.end within.most old new lands within.way;
-  enough = let cut = lands.cut in let all = within.enough in omega arith;
+  enough = within.enough;
 }
 
 -- a cut takes its positions from the way
-within-cut : (total : ℕ) (old : State) → IsSound old → MayCut old → IsSound (after_cutting old) → IsWithin total old
-    → IsWithin total (after_cutting old)
-within-cut total old sound may later within =
+within-cut : (left : ℕ) (old : State) → IsSound old → MayCut old → IsSound (after_cutting old) → IsWithin left old
+    → (positions_of Cut old ≤ left) × IsWithin (left - positions_of Cut old) (after_cutting old)
+within-cut left old sound may later within =
     let on : CutsOn within.end within.most old = cuts-on within.end within.most old sound may later within.way in
-    record {
-      end = within.end;
-      most = within.most - cut_of old;
-      way = on.way;
-      enough = let all = within.enough in let enough = on.enough in omega arith;
-    }
+    let all = within.enough in
+    let enough = on.enough in
+    ((omega arith), record { end = within.end; most = within.most - cut_of old; way = on.way; enough = omega arith })
 
 -- an event of a round
-within-round : StepsKeep → (total : ℕ) (event : Event) (old new : State) → IsOfRound event → IsSound old → Took event old new
-    → IsWithin total old → IsWithin total new
-within-round keep total event old new one sound =
-    by-round (λ event. Took event old new → IsWithin total old → IsWithin total new)
+within-round : StepsKeep → SpendsEach IsOfRound IsWithin
+within-round keep event left old new one sound =
+    by-round (λ event. Took event old new → IsWithin left old
+    → (positions_of event old ≤ left) × IsWithin (left - positions_of event old) new)
     (λ took within.
     let done = cut-done old new took in
     let later : IsSound (after_cutting old) = subst IsSound done (took-sound keep Cut old new took sound) in
-    subst (IsWithin total) (sym done) (within-cut total old sound took.enabled later within))
-    (λ other landing took within. within-land total old new (lands-taken other old new landing took) within) event one
+    let cut = within-cut left old sound took.enabled later within in
+    (cut.0, subst (IsWithin (left - positions_of Cut old)) (sym done) cut.1))
+    (λ other landing took within.
+    let none = landing-cuts other old landing in (
+      (omega arith),
+      subst (λ n. IsWithin n new) (let same : left ≡ left - positions_of other old = omega arith in same)
+          (within-land left old new (lands-taken other old new landing took) within),
+    ))
+    event one
 
--- a round leaves the scan on its way, at whose end no more positions were cut than before
-pub round-within : StepsKeep → (total : ℕ) (old new : State) → IsLed IsOfRound old new → IsSound old → IsWithin total old → IsWithin total new
-round-within keep total = led-keeps keep IsOfRound (IsWithin total) (within-round keep total)
+-- a round leaves the scan on its way, by as many positions as were cut
+pub round-within : StepsKeep → (cut left : ℕ) (old new : State) → IsLedCutting IsOfRound cut old new → IsSound old → IsWithin left old
+    → (cut ≤ left) × IsWithin (left - cut) new
+round-within keep = led-spends keep IsOfRound IsWithin (within-round keep)

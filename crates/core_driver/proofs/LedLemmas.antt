@@ -1,23 +1,14 @@
 -- Events that were taken, one after the other: what each keeps, all keep.
-use Rattle.core_driver.proofs.Words.{◌∷◌, ◌≡◌, [], Abandon, All, All-head, All-nil, All-push, All-tail, All-weaker, Build, Clear, Cut, Distribute, Event, Finish, Give, IsEnabled, IsLed, IsSound, IsSpoilt, List, refl, Release, Reorder, Reserve, Start, State, StepsKeep, Submit, subst, sym, Take, Took, TookAll, ⊎_elim}
+use Rattle.core_driver.proofs.Words.{◌∷◌, ◌≡◌, [], All, All-head, All-nil, All-push, All-tail, All-weaker, Event, IsLed, IsSound, List, refl, State, StepsKeep, subst, sym, Took, TookAll}
 use Rattle.std.proofs.Common.{◌++◌}
 use Rattle.std.proofs.lemmas.List.Elements.{All-append}
-use Rattle.core_state.specs.Steps.{Done, Wanting}
-
--- an event at which queries find no memory keeps a core sound
-spoilt-sound : StepsKeep → (event : Event) (old new : State) → IsEnabled old event → IsSpoilt event old new → IsSound old → IsSound new
-spoilt-sound keep (Build query dimension) old new enabled spoilt sound =
-    subst IsSound (sym spoilt) (keep (Wanting (Build query dimension) []) old (enabled, tt) sound)
-spoilt-sound keep (Distribute batch) old new enabled spoilt sound =
-    subst IsSound (sym spoilt.2) (keep (Wanting (Distribute batch) spoilt.0) old (enabled, spoilt.1) sound)
-spoilt-sound keep other old new enabled spoilt sound = absurd spoilt
+use Rattle.event_core.proofs.TakenStepLemmas.{StepFor, taken-step}
 
 -- an event that was taken keeps a core sound
 pub took-sound : StepsKeep → (event : Event) (old new : State) → Took event old new → IsSound old → IsSound new
-took-sound keep event old new took sound = ⊎_elim
-    (λ done. subst IsSound (sym done) (keep (Done event) old took.enabled sound))
-    (λ spoilt. spoilt-sound keep event old new took.enabled spoilt sound)
-    took.after
+took-sound keep event old new took sound =
+    let made : StepFor event old new = taken-step event old new took.enabled took.after in
+    subst IsSound (sym made.after) (keep made.step old made.may sound)
 
 -- what each event of some keeps
 abbrev pub EachHolds : (IsOne : Event → Type 0) (P : State → Type 0) → Type 0

@@ -1,4 +1,5 @@
 pub mod Words
+pub mod CuttingLemmas
 pub mod DoneLemmas
 pub mod FinishLemmas
 pub mod IdleLemmas

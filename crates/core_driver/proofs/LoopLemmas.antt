@@ -1,8 +1,8 @@
 -- What a loop that takes events of some kinds leaves.
-use Rattle.core_driver.proofs.Words.{◌<◌, ◌∙◌, ◌≡◌, [], All, ap, arith, Event, EventKind, inr, IsLed, IsOfSome, IsSound, List, Scan, State, subst, Took, TookSome, work_in, ⊎_elim}
+use Rattle.core_driver.proofs.Words.{◌<◌, ◌≡◌, [], All, arith, Event, EventKind, inr, IsLed, IsOfSome, IsSound, List, State, subst, Took, TookSome, work_in, ⊎_elim}
 use Rattle.core_driver.proofs.KindLemmas.{IsStillKind, still-of-some}
+use Rattle.core_driver.proofs.LandLemmas.{landed-stays}
 use Rattle.core_driver.proofs.LedLemmas.{led-holds}
-use Rattle.core_driver.proofs.TakenLemmas.{LeavesBatches, leaves-joined, same-batches, still-leaves}
 use Rattle.core_driver.proofs.WorkLemmas.{work-taken}
 
 -- an event of some kinds leaves less work
@@ -10,17 +10,11 @@ pub work-of-some : (kinds : List EventKind) (event : Event) (old new : State) �
     → work_in new < work_in old
 work-of-some kinds event old new sound some took = work-taken some.1 event old new sound some.4 took
 
--- kinds of events that move no batch leave the batches
-pub still-led : (kinds : List EventKind) → All IsStillKind kinds → (old new : State) → IsLed (IsOfSome kinds) old new → LeavesBatches old new
-still-led kinds all old new led = led-holds (IsOfSome kinds) (LeavesBatches old)
-    (λ event before after some took left.
-    leaves-joined old before after left (still-leaves event before after (still-of-some kinds event all some) took))
-    old new led (same-batches old)
-
 -- where none is in flight, none is then
 pub landed-led-on : (kinds : List EventKind) → All IsStillKind kinds → (old new : State) → IsLed (IsOfSome kinds) old new
     → old.scan.flights ≡ [] → new.scan.flights ≡ []
-landed-led-on kinds all old new led landed = ap (λ (scan : Scan). scan.flights) (still-led kinds all old new led).scan ∙ landed
+landed-led-on kinds all = led-holds (IsOfSome kinds) (λ state. state.scan.flights ≡ [])
+    (λ event before after some took landed. landed-stays event before after (still-of-some kinds event all some) took landed)
 
 -- where one more leaves less work, the loop left less
 pub some-more : (first old new : State) → TookSome first old → work_in new < work_in old → TookSome first new

@@ -1,5 +1,5 @@
 -- The query that waits the longest is admitted, where a slot is free.
-use Rattle.core_driver.proofs.Words.{◌<◌, ◌∙◌, ◌≡◌, ◌≢◌, ◌⊎◌, Abandon, ap, Build, Clear, Cut, Distribute, Event, extent_in, Finish, first_of, Free, Give, inl, inr, IsLed, IsOfAdmission, IsSound, length, life_of, Lives, NoneMayCome, oldest_waiting, refl, Release, Reorder, Reserve, slot_at, Some, Start, started, State, StepsKeep, Submit, subst, sym, Take, Took, versions_in, ℕ, ⊎_elim}
+use Rattle.core_driver.proofs.Words.{◌<◌, ◌∙◌, ◌≡◌, ◌≢◌, ◌⊎◌, ap, Build, Event, extent_in, first_of, Free, inl, inr, is_free, IsLed, IsOfAdmission, IsSound, length, life_of, Lives, NoneMayCome, oldest_waiting, refl, Reserve, slot_at, Some, Start, started, State, StepsKeep, subst, sym, Took, versions_in, ℕ, ⊎_elim}
 use Rattle.pipeline_manager.specs.declared.life.Life.TheVariants as life
 use Rattle.event_core.specs.declared.choosing.EventKind.TheVariants as kind
 use Rattle.core_driver.proofs.LedLemmas.{led-keeps}

@@ -1,10 +1,10 @@
 -- Events by which batches pass filters, and a new order, leave lives, tables and the scan, and as much work.
-use Rattle.core_driver.proofs.Words.{◌∙◌, ◌≡◌, Abandon, all_to_cut, ap, Build, Clear, Cut, Distribute, Event, find, Finish, Flight, Give, inr, IsSpoilt, length, List, Lives, refl, Release, Reorder, Reserve, Scan, Start, State, steps_to_free, Submit, subst, sum_by, sym, tables_by, Take, Took, with_flight, work_in, ℕ, ⊎_elim}
+use Rattle.core_driver.proofs.Words.{◌∙◌, ◌≡◌, all_to_cut, ap, Build, by-option, Distribute, Event, find, Give, inr, IsSpoilt, length, List, Lives, refl, Reorder, Scan, State, steps_to_free, subst, sum_by, sym, tables_by, Take, Took, work_in, ℕ, ⊎_elim}
 use Rattle.std.proofs.lemmas.List.{length-map}
 use Rattle.core_state.specs.Events.{after_event}
 use Rattle.core_state.specs.Found.{is_held_by}
 use Rattle.core_state.specs.State.{Entry}
-use Rattle.core_driver.proofs.TakenLemmas.{LeavesBatches, either-way, given_by, still-leaves, taken-lives}
+use Rattle.core_driver.proofs.TakenLemmas.{LeavesBatches, still-leaves, taken-lives}
 use Rattle.core_driver.proofs.WorkLifeLemmas.{steps_in}
 use Rattle.core_driver.proofs.WorkNumberLemmas.{work_of}
 
@@ -16,56 +16,21 @@ IsOfHand other = ⊥
 
 -- what is left where batches pass filters
 pub record Passes (old new : State) : Type 0 where
-  pub settings : new.settings ≡ old.settings
   pub entries : new.entries ≡ old.entries
-  pub accepted : new.accepted ≡ old.accepted
   pub lives : new.lives ≡ old.lives
   pub position : new.scan.position ≡ old.scan.position
   pub cut : new.scan.cut ≡ old.scan.cut
-  pub free : new.scan.free ≡ old.scan.free
   pub flights : length new.scan.flights ≡ length old.scan.flights
-
--- all is left of a core by itself
-same-passes : (state : State) → Passes state state
-same-passes state = record {
-  settings = refl;
-  entries = refl;
-  accepted = refl;
-  lives = refl;
-  position = refl;
-  cut = refl;
-  free = refl;
-  flights = refl;
-}
-
--- the batches in flight of which one is changed are as many
-as-many : (number : ℕ) (change : Flight → Flight) (flights : List Flight) → length (with_flight number change flights) ≡ length flights
-as-many number change flights = length-map flights _
 
 -- an event of a hand that is done
 event-passes : (event : Event) (state : State) → IsOfHand event → Passes state (after_event event state)
 unfolding after_event
-event-passes (Take worker batch) state passing = record {
-  settings = refl;
-  entries = refl;
-  accepted = refl;
-  lives = refl;
-  position = refl;
-  cut = refl;
-  free = refl;
-  flights = as-many batch _ state.scan.flights;
-}
+event-passes (Take worker batch) state passing =
+    record { entries = refl; lives = refl; position = refl; cut = refl; flights = length-map state.scan.flights _ }
 event-passes (Give worker) state passing =
-    either-way (Passes state) (given_by state) (find (is_held_by worker) state.scan.flights) state (same-passes state) (λ flight. record {
-      settings = refl;
-      entries = refl;
-      accepted = refl;
-      lives = refl;
-      position = refl;
-      cut = refl;
-      free = refl;
-      flights = as-many flight.rows.number _ state.scan.flights;
-    })
+    by-option (Passes state) (find (is_held_by worker) state.scan.flights) _ state
+    (record { entries = refl; lives = refl; position = refl; cut = refl; flights = refl })
+    (λ flight is. record { entries = refl; lives = refl; position = refl; cut = refl; flights = length-map state.scan.flights _ })
 event-passes other state passing = absurd passing
 
 -- no query finds no memory where a batch is taken or given back

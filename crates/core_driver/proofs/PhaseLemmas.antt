@@ -1,26 +1,23 @@
 -- What the phases of a turn leave.
-use Rattle.core_driver.proofs.Words.{◌<◌, ◌∷◌, ◌≡◌, ◌≤◌, [], All, All-head, All-tail, arith, Clear, Cut, Distribute, Event, EventKind, Finish, Give, inl, inr, IsDriven, IsFreeOrUnderWay, IsLanded, IsLed, IsOfLanding, IsOfRound, IsOfSome, IsReorder, IsSound, kind_of, List, MayCut, None, NoneOfMayCome, Option, refl, Release, Reorder, Rises, Some, State, StepsKeep, subst, sym, Take, Took, TookAll, TookSome, work_in, ⊎_elim}
+use Rattle.core_driver.proofs.Words.{◌<◌, ◌∷◌, ◌≡◌, ◌≤◌, [], All, All-head, All-tail, arith, Clear, Cut, CutsAll, Distribute, Event, EventKind, Finish, Give, inl, inr, IsCut, IsDriven, IsFreeOrUnderWay, IsLanded, IsLed, IsOfLanding, IsOfRound, IsOfSome, IsReorder, IsRound, IsSound, kind_of, List, MayCut, Option, refl, Release, Reorder, Rises, Some, State, StepsKeep, subst, sym, Take, Took, TookAll, TookSome, work_in, ⊎_elim}
 use Rattle.event_core.specs.declared.choosing.EventKind.TheVariants as kind
-use Rattle.core_driver.proofs.KindLemmas.{cut-kinds, round-of-some}
 use Rattle.core_driver.proofs.LandLemmas.{landed-stays}
 use Rattle.core_driver.proofs.LedLemmas.{led-holds, led-joined, led-keeps, led-sound, led-wider, took-sound}
 use Rattle.core_driver.proofs.PassedLemmas.{reordered-lives, same-work, took-hands, work-reordered}
 use Rattle.core_driver.proofs.RiseLemmas.{rises-cut, rises-stays}
-use Rattle.core_driver.proofs.RoundLemmas.{none-first, only-kind}
+use Rattle.core_driver.proofs.RoundLemmas.{only-kind}
 use Rattle.core_driver.proofs.WorkLemmas.{work-taken}
 
--- the events of a landing are of a round
-pub round-landing : (event : Event) → IsOfLanding event → IsOfRound event
-round-landing (Take worker batch) one = tt
-round-landing (Give worker) one = tt
-round-landing (Distribute batch) one = tt
-round-landing (Finish slot) one = tt
-round-landing (Clear slot dimension) one = tt
-round-landing (Release slot) one = tt
-round-landing Reorder one = tt
-round-landing event one = absurd one
+-- a cut is of a round
+pub round-cut : (event : Event) → IsCut event → IsOfRound event
+round-cut event is = subst IsOfRound (sym is) tt
 
--- and so is the one that orders the filters
+-- and so are the events of a landing
+pub round-landing : (event : Event) → IsOfLanding event → IsOfRound event
+round-landing Cut one = absurd one
+round-landing event one = one
+
+-- and the one that orders the filters
 pub round-reorder : (event : Event) → IsReorder event → IsOfRound event
 round-reorder event is = subst IsOfRound (sym is) tt
 
@@ -62,36 +59,32 @@ cut-event : (event : Event) → IsCutKind (kind_of event) → event ≡ Cut
 cut-event Cut is = refl
 cut-event event is = absurd is
 
+-- the events where cuts alone are asked for
+pub cuts-led : (old new : State) → IsLed (IsOfSome (kind.Cut ∷ [])) old new → IsLed IsCut old new
+cuts-led = led-wider (IsOfSome (kind.Cut ∷ [])) IsCut
+    (λ event some. cut-event event (subst IsCutKind (sym (only-kind kind.Cut event some)) tt))
+
 -- where a batch may be cut, cuts make the count of positions rise, as many as may come
-pub cuts-rise : StepsKeep → (old new : State) → IsSound old → IsLed (IsOfSome (kind.Cut ∷ [])) old new → NoneOfMayCome (kind.Cut ∷ []) new
-    → MayCut old → Rises old.scan.cut new.scan.cut
-cuts-rise keep old new sound led none may = by_events led.events led.each led.took
+pub cuts-rise : StepsKeep → (old new : State) → IsSound old → CutsAll old new → MayCut old → Rises old.scan.cut new.scan.cut
+cuts-rise keep old new sound cuts may = by_events cuts.led.events cuts.led.each cuts.led.took
   where
-    driven : (event : Event) → IsOfSome (kind.Cut ∷ []) event → IsDriven event
-    driven event some = inr (round-of-some (kind.Cut ∷ []) event cut-kinds some)
-
-    first-rises : (event : Event) (next : State) → IsOfSome (kind.Cut ∷ []) event → Took event old next → Rises old.scan.cut next.scan.cut
-    first-rises event next some took =
-        let of_kind : kind_of event ≡ Some kind.Cut = only-kind kind.Cut event some in
-        let is : event ≡ Cut = cut-event event (subst IsCutKind (sym of_kind) tt) in
-        rises-cut old next sound (subst (λ (one : Event). Took one old next) is took) old.scan.cut (inl (omega arith))
-
-    by_events : (events : List Event) → All (IsOfSome (kind.Cut ∷ [])) events → TookAll events old new → Rises old.scan.cut new.scan.cut
-    by_events [] each took = absurd (none-first kind.Cut [] new none Cut refl (subst MayCut (sym took) may))
+    by_events : (events : List Event) → All IsCut events → TookAll events old new → Rises old.scan.cut new.scan.cut
+    by_events [] each took = absurd (cuts.none Cut refl (subst MayCut (sym took) may))
     by_events (event ∷ events) each took =
         rises-stays keep old.scan.cut took.0 new
         (record {
           events = events;
-          each = λ place d low. driven _ (All-tail (IsOfSome (kind.Cut ∷ [])) event events each place d low);
+          each = λ place d low. inr (round-cut _ (All-tail IsCut event events each place d low));
           took = took.2;
         })
         (took-sound keep event old took.0 took.1 sound)
-        (first-rises event took.0 (All-head (IsOfSome (kind.Cut ∷ [])) event events each) took.1)
+        (rises-cut old took.0 sound (subst (λ (one : Event). Took one old took.0) (All-head IsCut event events each) took.1) old.scan.cut
+        (inl (omega arith)))
 
 -- and leave less work
-pub cuts-fall : (old new : State) → TookSome old new → NoneOfMayCome (kind.Cut ∷ []) new → MayCut old → work_in new < work_in old
-cuts-fall old new some none may = ⊎_elim
-    (λ same. absurd (none-first kind.Cut [] new none Cut refl (subst MayCut (sym same) may)))
+pub cuts-fall : (old new : State) → TookSome old new → CutsAll old new → MayCut old → work_in new < work_in old
+cuts-fall old new some cuts may = ⊎_elim
+    (λ same. absurd (cuts.none Cut refl (subst MayCut (sym same) may)))
     (λ less. less)
     some
 
@@ -111,11 +104,26 @@ landed-ordered = led-holds IsReorder IsLanded
 pub round-driven : (old new : State) → IsLed IsOfRound old new → IsLed IsDriven old new
 round-driven = led-wider IsOfRound IsDriven (λ event one. inr one)
 
+-- cuts are of a round
+pub cut-round : (old new : State) → IsLed IsCut old new → IsLed IsOfRound old new
+cut-round = led-wider IsCut IsOfRound round-cut
+
+-- and a landing behind them
+pub landing-round : (old cut new : State) → IsLed IsCut old cut → IsLed IsOfLanding cut new → IsLed IsOfRound old new
+landing-round old cut new first second =
+    led-joined IsOfRound old cut new (cut-round old cut first) (led-wider IsOfLanding IsOfRound round-landing cut new second)
+
 -- a landing and a new order are of a round
 pub rest-led : (old landed new : State) → IsLed IsOfLanding old landed → IsLed IsReorder landed new → IsLed IsOfRound old new
 rest-led old landed new first second =
     led-joined IsOfRound old landed new (led-wider IsOfLanding IsOfRound round-landing old landed first)
     (led-wider IsReorder IsOfRound round-reorder landed new second)
+
+-- the events of a round
+pub led-round : (old new : State) → IsRound old new → IsLed IsOfRound old new
+led-round old new round =
+    led-joined IsOfRound old round.cut new (cut-round old round.cut round.cuts.led)
+    (rest-led round.cut round.landed new round.lands round.orders.led)
 
 -- what cuts leave of the count of positions stays so through the rest of a round
 pub stays-risen : StepsKeep → (old mid new : State) → IsSound old → IsLed IsOfRound old mid → IsLed IsOfRound mid new

@@ -1,5 +1,5 @@
 -- Where a query runs and a frame is free, a batch is cut, and the count of positions rises.
-use Rattle.core_driver.proofs.Words.{◌+◌, ◌-◌, ◌<◌, ◌∙◌, ◌≡◌, ◌≤◌, ◌⊎◌, Abandon, ap, arith, Build, cases_lt, Clear, Cut, cuts, Distribute, end_in, Event, Finish, first_in, Give, inl, inr, IsDriven, IsLed, IsOfAdmission, IsRunning, IsSomeAnd, IsSound, life-runs, life_of, MayCut, refl, Release, Reorder, Reserve, Rises, Runs, Scan, Some, some-runs, Start, State, StepsKeep, Submit, subst, sym, Take, Took, ℕ, ⊎_elim}
+use Rattle.core_driver.proofs.Words.{◌+◌, ◌-◌, ◌<◌, ◌∙◌, ◌∷◌, ◌≡◌, ◌≤◌, ◌⊎◌, [], Abandon, All, All-head, All-tail, ap, arith, cases_lt, Cut, cuts, Distribute, end_in, Event, first_in, Give, inl, inr, IsDriven, IsLed, IsLedCutting, IsOfAdmission, IsRunning, IsSomeAnd, IsSound, life-runs, life_of, List, MayCut, positions_of, refl, Rises, Runs, Scan, Some, some-runs, State, StepsKeep, Submit, subst, sym, Take, Took, TookCutting, ℕ, ⊎_elim}
 use Rattle.pipeline_manager.specs.declared.life.Life.TheVariants as life
 use Rattle.core_state.specs.Events.{after_event}
 use Rattle.core_state.specs.Numbered.{counted, last_number}
@@ -7,20 +7,13 @@ use Rattle.core_driver.proofs.LedLemmas.{led-holds, led-keeps}
 use Rattle.core_driver.proofs.PassedLemmas.{took-hands}
 use Rattle.core_driver.proofs.SettleLemmas.{some-run}
 use Rattle.core_driver.proofs.StayLemmas.{runs-stays}
-use Rattle.core_driver.proofs.TakenLemmas.{IsStill, distributes, still-leaves}
-
--- an event of an admission moves no batch
-admission-still : (event : Event) → IsOfAdmission event → IsStill event
-admission-still (Reserve query slot) admits = tt
-admission-still (Build query dimension) admits = tt
-admission-still (Start query) admits = tt
-admission-still other admits = absurd admits
+use Rattle.core_driver.proofs.TakenLemmas.{distributes, still-admission, still-leaves}
 
 -- as many frames are free after an admission
 same-free : (old new : State) → IsLed IsOfAdmission old new → new.scan.free ≡ old.scan.free
 same-free old new led = led-holds IsOfAdmission (λ state. state.scan.free ≡ old.scan.free)
     (λ event before after admits took same.
-    ap (λ (scan : Scan). scan.free) (still-leaves event before after (admission-still event admits) took).scan ∙ same)
+    ap (λ (scan : Scan). scan.free) (still-leaves event before after (still-admission event admits) took).scan ∙ same)
     old new led refl
 
 -- where a batch may be cut, one may be cut after an admission
@@ -59,31 +52,52 @@ rises-cut old new sound took count so_far = ⊎_elim
 risen : (first now : ℕ) → Rises first now → (first ≤ now) ⊎ (now ≡ last_number)
 risen first now rises = ⊎_elim (λ more. inl (omega arith)) (λ most. inr most) rises
 
--- an event that moves no batch leaves it
-rises-still : (event : Event) (old new : State) → IsStill event → Took event old new → (count : ℕ) → Rises count old.scan.cut → Rises count new.scan.cut
-rises-still event old new still took count rises =
-    subst (λ (scan : Scan). Rises count scan.cut) (sym (still-leaves event old new still took).scan) rises
+-- no event of the driver but a cut changes it
+count-same : (event : Event) (old new : State) → IsDriven event → Took event old new → (event ≡ Cut) ⊎ (new.scan.cut ≡ old.scan.cut)
+count-same (Submit seat statement) old new driven took = absurd (⊎_elim (λ never. never) (λ never. never) driven)
+count-same Cut old new driven took = inl refl
+count-same (Take worker batch) old new driven took = inr (took-hands (Take worker batch) old new tt took).cut
+count-same (Give worker) old new driven took = inr (took-hands (Give worker) old new tt took).cut
+count-same (Distribute batch) old new driven took = inr (ap (λ (scan : Scan). scan.cut) (distributes batch old new took).scan)
+count-same (Abandon query) old new driven took = absurd (⊎_elim (λ never. never) (λ never. never) driven)
+count-same other old new driven took = inr (ap (λ (scan : Scan). scan.cut) (still-leaves other old new tt took).scan)
 
--- no event of the driver lowers it
+-- none lowers it
 rises-same : (event : Event) (old new : State) → IsDriven event → IsSound old → Took event old new → (count : ℕ) → Rises count old.scan.cut
     → Rises count new.scan.cut
-rises-same (Submit seat statement) old new driven sound took count rises = absurd (⊎_elim (λ never. never) (λ never. never) driven)
-rises-same (Reserve query slot) old new driven sound took count rises = rises-still (Reserve query slot) old new tt took count rises
-rises-same (Build query dimension) old new driven sound took count rises = rises-still (Build query dimension) old new tt took count rises
-rises-same (Start query) old new driven sound took count rises = rises-still (Start query) old new tt took count rises
-rises-same Cut old new driven sound took count rises = rises-cut old new sound took count (risen count old.scan.cut rises)
-rises-same (Take worker batch) old new driven sound took count rises = subst (Rises count) (sym (took-hands (Take worker batch) old new tt took).cut) rises
-rises-same (Give worker) old new driven sound took count rises = subst (Rises count) (sym (took-hands (Give worker) old new tt took).cut) rises
-rises-same (Distribute batch) old new driven sound took count rises =
-    subst (λ (scan : Scan). Rises count scan.cut) (sym (distributes batch old new took).scan) rises
-rises-same (Finish slot) old new driven sound took count rises = rises-still (Finish slot) old new tt took count rises
-rises-same (Clear slot dimension) old new driven sound took count rises = rises-still (Clear slot dimension) old new tt took count rises
-rises-same (Release slot) old new driven sound took count rises = rises-still (Release slot) old new tt took count rises
-rises-same Reorder old new driven sound took count rises = rises-still Reorder old new tt took count rises
-rises-same (Abandon query) old new driven sound took count rises = absurd (⊎_elim (λ never. never) (λ never. never) driven)
+rises-same event old new driven sound took count rises = ⊎_elim
+    (λ is. rises-cut old new sound (subst (λ (one : Event). Took one old new) is took) count (risen count old.scan.cut rises))
+    (λ same. subst (Rises count) (sym same) rises) (count-same event old new driven took)
 
 -- nor does a list of them
 pub rises-stays : StepsKeep → (count : ℕ) (old new : State) → IsLed IsDriven old new → IsSound old → Rises count old.scan.cut
     → Rises count new.scan.cut
 rises-stays keep count = led-keeps keep IsDriven (λ state. Rises count state.scan.cut)
     (λ event old new driven sound took rises. rises-same event old new driven sound took count rises)
+
+-- and none adds more to it than it cuts
+counts-cut : (old new : State) → Took Cut old new → new.scan.cut ≤ old.scan.cut + positions_of Cut old
+unfolding after_event
+counts-cut old new took = ⊎_elim
+    (λ done. subst (λ (state : State). state.scan.cut ≤ old.scan.cut + positions_of Cut old) (sym done) (omega arith))
+    (λ never. absurd never) took.after
+
+counts-taken : (event : Event) (old new : State) → IsDriven event → Took event old new → new.scan.cut ≤ old.scan.cut + positions_of event old
+counts-taken event old new driven took = ⊎_elim
+    (λ is. subst (λ (one : Event). new.scan.cut ≤ old.scan.cut + positions_of one old) (sym is)
+    (counts-cut old new (subst (λ (one : Event). Took one old new) is took)))
+    (λ same. omega arith) (count-same event old new driven took)
+
+counts-took : (events : List Event) (cut : ℕ) (old new : State) → All IsDriven events → TookCutting events cut old new
+    → new.scan.cut ≤ old.scan.cut + cut
+counts-took [] cut old new driven took =
+    let none = took.0 in let same = ap (λ (state : State). state.scan.cut) took.1 in omega arith
+counts-took (event ∷ events) cut old new driven took =
+    let first = counts-taken event old took.0 (All-head IsDriven event events driven) took.3 in
+    let rest = counts-took events took.1 took.0 new (All-tail IsDriven event events driven) took.4 in
+    let count = took.2 in
+    omega arith
+
+-- so that behind events it is no more than what they cut, and what it was
+pub counts-led : (cut : ℕ) (old new : State) → IsLedCutting IsDriven cut old new → new.scan.cut ≤ old.scan.cut + cut
+counts-led cut old new led = counts-took led.events cut old new led.each led.took

@@ -1,5 +1,5 @@
 -- What a round of the driver leaves, by its phases.
-use Rattle.core_driver.proofs.Words.{◌<◌, ◌∷◌, ◌≡◌, [], All-head, All-tail, All-weaker, arith, Clearing, Event, EventKind, Free, Held, IsFreeOrRuns, IsFreeOrUnderWay, IsLanded, IsLed, IsOfKind, IsOfSome, IsRunning, IsSettled, IsSomeAnd, IsSound, IsUnderWay, length, Life, life_in, List, None, NoneMayCome, NoneOfMayCome, Option, SlotState, Some, State, subst, suc, sym, zero, ℕ}
+use Rattle.core_driver.proofs.Words.{◌<◌, ◌∷◌, ◌≡◌, [], All-head, All-tail, All-weaker, arith, Clearing, Event, EventKind, Free, Held, IsFreeOrRuns, IsFreeOrUnderWay, IsLanded, IsLed, IsOfKind, IsOfSome, IsRunning, IsSettled, IsSomeAnd, IsSound, IsUnderWay, length, Life, life_in, List, NoneMayCome, NoneOfMayCome, Option, SlotState, Some, State, subst, suc, sym, zero, ℕ}
 use Rattle.std.specs.Prelude.{slice_index_or}
 use Rattle.pipeline_manager.specs.declared.life.Life.TheVariants as life
 use Rattle.event_core.specs.declared.choosing.EventKind.TheVariants as kind

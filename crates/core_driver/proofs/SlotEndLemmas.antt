@@ -1,5 +1,5 @@
 -- Which slots and lives are left where no more calls may come.
-use Rattle.core_driver.proofs.Words.{◌<◌, ◌∙◌, ◌∷◌, ◌≡◌, ◌≢◌, ◌≤◌, [], All, All-head, All-tail, All-weaker, ap, arith, bit_at, CanBuild, CanClear, CanEnd, CanFree, CanRun, cases_eq, Clearing, cond, eq-eqb, false, Free, get_or, Held, is_held_by, is_open, is_waiting, IsFreeOrRuns, IsFreeOrUnderWay, IsOver, IsRunning, IsSomeAnd, IsToClear, IsTrue, IsUnderWay, length, Life, life_in, life_of, List, Lives, None, Option, option_map, option_map_or, query_in, query_in-found, QueryLife, refl, slot_at, slots_held, SlotState, Some, subst, sum_by-cons, sym, true, ℕ, ⊎_elim}
+use Rattle.core_driver.proofs.Words.{◌<◌, ◌∙◌, ◌∷◌, ◌≡◌, ◌≢◌, ◌≤◌, [], All, All-head, All-tail, All-weaker, ap, arith, bit_at, CanBuild, CanClear, CanEnd, CanFree, CanRun, cases_eq, Clearing, cond, eq-eqb, false, Free, get_or, Held, is_held_by, is_open, is_waiting, IsFreeOrRuns, IsFreeOrUnderWay, IsOver, IsRunning, IsSomeAnd, IsToClear, IsTrue, IsUnderWay, length, Life, life_in, life_of, List, Lives, Option, option_map, option_map_or, query_in, query_in-found, QueryLife, refl, slot_at, slots_held, SlotState, Some, subst, sum_by-cons, sym, true, ℕ, ⊎_elim}
 use Rattle.std.proofs.lemmas.List.Elements.{All-from_get_or}
 use Rattle.std.proofs.lemmas.List.Sums.{get_or-le-sum_by}
 use Rattle.bit_words.proofs.SetLemmas.{no_members}

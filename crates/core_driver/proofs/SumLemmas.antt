@@ -1,6 +1,6 @@
 -- Sums over lists of which one member is another, or each is changed.
 use Rattle.core_driver.proofs.Words.{◌+◌, ◌<◌, ◌∷◌, ◌≡◌, ◌≤◌, [], ap, AreRising, arith, Bool, cond, eqb, eqb-true, false, get_or, length, Life, List, map, None, Option, query_in, QueryLife, refl, Some, suc, sum_by, sum_by-cons, true, with_life, zero, ℕ}
-use Rattle.pipeline_manager.proofs.QueryLemmas.{head_is_only, map-missing, tail_rises}
+use Rattle.star_lists.proofs.RisingLemmas.{head_is_only, map-missing, tail_rises}
 
 -- another life of the one query with this number changes the sum by what that query counts
 pub sum-written : (weight : QueryLife → ℕ) (query : ℕ) (life : Life) (queries : List QueryLife) (entry : QueryLife) → AreRising queries
@@ -8,7 +8,7 @@ pub sum-written : (weight : QueryLife → ℕ) (query : ℕ) (life : Life) (quer
     → sum_by weight (with_life query life queries) + weight entry ≡ sum_by weight queries + weight (record entry { life = life })
 sum-written weight query life [] entry rising found = absurd (let both : None ≡ Some entry = found in cc)
 sum-written weight query life (first ∷ queries) entry rising found =
-    by_test (eqb first.query query) refl found (sum-written weight query life queries entry (tail_rises first queries rising))
+    by_test (eqb first.query query) refl found (sum-written weight query life queries entry (tail_rises (λ (entry : QueryLife). entry.query) first queries rising))
   where
     whole : sum_by weight (first ∷ queries) ≡ weight first + sum_by weight queries
     whole = sum_by-cons weight first queries
@@ -21,7 +21,7 @@ sum-written weight query life (first ∷ queries) entry rising found =
     by_test true at is rest =
         let same : first ≡ entry = cc in
         let others : with_life query life queries ≡ queries =
-        map-missing queries query (λ e. record e { life = life }) (head_is_only first queries query rising (eqb-true first.query query at)) in
+        map-missing (λ (entry : QueryLife). entry.query) queries query (λ e. record e { life = life }) (head_is_only (λ (entry : QueryLife). entry.query) first queries query rising (eqb-true first.query query at)) in
         let written = sum_by-cons weight (record first { life = life }) (with_life query life queries) in
         let stay = ap (sum_by weight) others in
         let before = ap weight same in

@@ -1,5 +1,5 @@
 -- The query that waits the longest stays the one, while others are admitted.
-use Rattle.core_driver.proofs.Words.{◌<◌, ◌∙◌, ◌∷◌, ◌≡◌, [], after_built, after_reserve, All, All-head, All-tail, ap, AreRising, Bool, cases_eq, cond, eqb, eqb-true, false, find, Free, get_or, Held, is_waiting, length, length-set, Life, life_in, life_in-same, life_of, List, Lives, None, oldest-waits, oldest_waiting, Option, option_map, option_map_or, query_in-found, QueryLife, refl, set, slot_at, slot_of, Some, started, subst, sym, true, with_dimension, with_life, with_slot, ℕ, ⊎_elim}
+use Rattle.core_driver.proofs.Words.{◌<◌, ◌∙◌, ◌∷◌, ◌≡◌, [], after_built, after_reserve, All, All-head, All-tail, ap, AreRising, Bool, cases_eq, cond, eqb, eqb-true, false, find, Free, get_or, Held, is_free, is_waiting, length, length-set, Life, life_in, life_in-same, life_of, List, Lives, None, oldest-waits, oldest_waiting, Option, option_map, option_map_or, query_in-found, QueryLife, refl, set, slot_at, slot_of, Some, started, subst, sym, true, with_dimension, with_life, with_slot, ℕ, ⊎_elim}
 use Rattle.std.proofs.lemmas.List.{get_or-set_other, get_or-set_same}
 use Rattle.pipeline_manager.specs.Sound.{IsSound}
 use Rattle.pipeline_manager.specs.declared.life.Life.TheVariants as life

@@ -31,7 +31,8 @@ pub use Rattle.core_state.proofs.CutRunsLemmas.{Cuts, cuts, life-runs, Runs, som
 pub use Rattle.core_state.proofs.DistributeLemmas.{without_flight}
 pub use Rattle.core_state.proofs.FoundLemmas.{find-passes}
 pub use Rattle.core_state.proofs.StepLemmas.{StepsKeep}
-pub use Rattle.core_state.specs.Cutting.{after_cutting, end_in, first_in, with_flight}
+pub use Rattle.core_state.proofs.WholeFrameLemmas.{by-option, IsStill, lives_by, Spoils}
+pub use Rattle.core_state.specs.Cutting.{after_cutting, end_in, first_in}
 pub use Rattle.core_state.specs.Events.{IsEnabled, IsThrough, MayCut}
 pub use Rattle.core_state.specs.Found.{accepted_at, flight_at}
 pub use Rattle.core_state.specs.Sound.{IsNext, IsSound}
@@ -43,6 +44,6 @@ pub use Rattle.event_core.specs.Chosen.{AreIdle, IsOfKind, kind_of, NoneMayCome}
 pub use Rattle.event_core.specs.Seen.{state_of}
 pub use Rattle.event_core.specs.Took.{IsLed, IsSpoilt, Took, TookAll}
 pub use Rattle.event_core.specs.declared.choosing.EventKind.{EventKind}
-pub use Rattle.core_driver.specs.Driven.{Admits, AnswersAll, IsDriven, IsFinished, IsFreeOrRuns, IsFreeOrUnderWay, IsLanded, IsOfAdmission, IsOfRound, IsOfSome, IsReorder, IsSettled, IsTurn, IsUnderWay, MayGoOn, NoneOfMayCome, Rises}
-pub use Rattle.core_driver.specs.Lap.{BeganAt, CameRound, HasLap, HasSlotsForAll, is_to_start, is_unfinished, IsEnd, IsLeftBetween, IsOfLanding, IsOnItsWay, IsToComeRound, IsWithin, NoneIsToStart, SomeRuns, unfinished_in}
+pub use Rattle.core_driver.specs.Driven.{Admits, AnswersAll, AreTurns, CutsAll, IsCut, IsDriven, IsFinished, IsFreeOrRuns, IsFreeOrUnderWay, IsLanded, IsOfAdmission, IsOfLanding, IsOfRound, IsOfSome, IsReorder, IsRound, IsSettled, IsTurn, IsUnderWay, IsWholeTurn, LandsAndTurns, MayGoOn, NoneOfMayCome, Rises}
+pub use Rattle.core_driver.specs.Lap.{BeganAt, CameRound, HasLap, HasSlotsForAll, is_to_start, is_unfinished, IsEnd, IsLedCutting, IsLeftBetween, IsOnItsWay, IsToComeRound, IsWithin, NoneIsToStart, positions_of, SharesLap, SomeRuns, TookCutting, unfinished_in}
 pub use Rattle.core_driver.specs.Work.{all_to_cut, steps_to_free, TookSome, work_in}

@@ -1,12 +1,13 @@
 -- Each event that is taken by its kind leaves less work.
-use Rattle.core_driver.proofs.Words.{◌+◌, ◌<◌, ◌∙◌, ◌∷◌, ◌≡◌, [], Abandon, after_spoil, All, All-map, all_to_cut, ap, arith, Build, Clear, Cut, Distribute, Event, EventKind, false, Finish, first_of, Flight, flight_at, fold, Give, inl, inr, IsDriven, IsOfKind, IsSome, IsSound, length, List, Lives, None, Option, refl, Release, Reorder, Reserve, Scan, Some, Start, State, steps_to_free, Submit, subst, sum_by, sym, tables_of, Take, Took, true, versions_in, without_flight, work_in, ℕ, ⊎_elim}
+use Rattle.core_driver.proofs.Words.{◌+◌, ◌<◌, ◌∙◌, ◌≡◌, after_spoil, All, All-map, all_to_cut, ap, arith, Build, Clear, Cut, Distribute, Event, EventKind, false, Finish, first_of, Flight, flight_at, fold, inl, inr, IsDriven, IsOfKind, IsSome, IsSound, IsStill, length, Lives, lives_by, None, Option, refl, Release, Reserve, Scan, Some, Spoils, Start, State, steps_to_free, subst, sum_by, sym, tables_of, Took, true, versions_in, without_flight, work_in, ℕ, ⊎_elim}
 use Rattle.std.proofs.lemmas.List.Elements.{All-contains}
 use Rattle.core_state.specs.Events.{after_event}
 use Rattle.core_state.specs.State.{FilterVersion}
 use Rattle.core_state.specs.Tables.{filter_dimensions}
 use Rattle.core_state.proofs.DistributeLemmas.{length-landed}
+use Rattle.core_state.proofs.WholeLivesLemmas.{slots-spoiled}
 use Rattle.core_driver.proofs.PassedLemmas.{work_by}
-use Rattle.core_driver.proofs.TakenLemmas.{Distributes, IsStill, LeavesBatches, Spoils, distributes, lives_by, still-leaves, taken-lives}
+use Rattle.core_driver.proofs.TakenLemmas.{Distributes, LeavesBatches, distributes, still-leaves, taken-lives}
 use Rattle.core_driver.proofs.WorkCutLemmas.{work-cut}
 use Rattle.core_driver.proofs.WorkLifeLemmas.{no-more-spoiled, steps_in}
 use Rattle.core_driver.proofs.WorkLivesLemmas.{HaveLess, less-built, less-cleared, less-ended, less-released, less-reserved, less-spoiled, less-started}
@@ -43,11 +44,6 @@ work-stepped event old new still driven took less spoilt =
     (λ spoils. spoilt new.lives spoils)
     (taken-lives event old new driven took))
 
--- queries that find no memory keep their slots
-spoiled-slots : (spoiled : List ℕ) (lives : Lives) → (fold (λ now query. after_spoil query now) lives spoiled).slots ≡ lives.slots
-spoiled-slots [] lives = refl
-spoiled-slots (query ∷ spoiled) lives = spoiled-slots spoiled (after_spoil query lives)
-
 -- a batch less is in flight once it is distributed
 fewer-flights : (batch : ℕ) (state : State) → IsSound state → IsSome (flight_at state.scan.flights batch)
     → length state.scan.flights ≡ length (without_flight batch state.scan.flights) + 1
@@ -65,7 +61,7 @@ work-distributed batch old new sound took =
     let spoils : Lives = fold (λ now query. after_spoil query now) old.lives after.spoiled in
     let no_more = no-more-spoiled after.spoiled old.lives in
     let slots : sum_by steps_to_free spoils.slots ≡ sum_by steps_to_free old.lives.slots =
-    ap (sum_by steps_to_free) (spoiled-slots after.spoiled old.lives) in
+    ap (sum_by steps_to_free) (slots-spoiled after.spoiled old.lives) in
     let flights = fewer-flights batch old sound took.enabled.there in
     let falls = work-falls (all_to_cut old.lives.queries) (all_to_cut spoils.queries) (length (tables_of old).versions) old.scan.position
     (steps_in old.lives.queries) (sum_by steps_to_free old.lives.slots) (length old.scan.flights)

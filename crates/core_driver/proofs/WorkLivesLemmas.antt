@@ -1,5 +1,5 @@
 -- Fewer steps are left for the lives and slots after each call, and no more is to be cut.
-use Rattle.core_driver.proofs.Words.{◌+◌, ◌<◌, ◌≡◌, ◌≤◌, after_built, after_cleared, after_end, after_free, after_reserve, after_run, after_spoil, all_to_cut, arith, CanBuild, CanClear, CanEnd, CanFree, CanRun, Clearing, extent_in, Free, given_up, Held, IsOver, IsToClear, length, life_in, Lives, oldest-waits, oldest_waiting, option_map_or, refl, set, slot_at, SlotState, Some, started, steps_to_free, subst, sum_by, sym, with_dimension, with_life, with_slot, ℕ}
+use Rattle.core_driver.proofs.Words.{◌+◌, ◌<◌, ◌≡◌, ◌≤◌, after_built, after_cleared, after_end, after_free, after_reserve, after_run, after_spoil, all_to_cut, arith, CanBuild, CanClear, CanEnd, CanFree, CanRun, Clearing, extent_in, Free, given_up, Held, is_free, IsOver, IsToClear, length, life_in, Lives, oldest-waits, oldest_waiting, option_map_or, refl, set, slot_at, SlotState, Some, started, steps_to_free, subst, sum_by, sym, with_dimension, with_life, with_slot, ℕ}
 use Rattle.pipeline_manager.specs.Sound.{IsSound}
 use Rattle.pipeline_manager.specs.declared.life.Life.TheVariants as life
 use Rattle.core_driver.proofs.WorkLifeLemmas.{WritesOver, cut-started, no-more-answered, steps-started, steps_in, written-over}

@@ -1,4 +1,5 @@
 -- When the work that is left falls, in plain numbers.
+use Rattle.core_driver.proofs.Words.{}
 use Rattle.std.proofs.Common.{◌⊎◌, ℕ, ◌<◌, ◌≤◌, ◌+◌, ◌-◌, ◌*◌, ⊎_elim, arith}
 use Rattle.std.proofs.Math.Nat.{mul-le-mul_right}
 

@@ -9,6 +9,8 @@ use Rattle.pipeline_manager.specs.declared.life.SlotState.TheVariants.{Free, Hel
 use Rattle.core_state.specs.Events.{IsEnabled}
 use Rattle.core_state.specs.Numbered.{last_number}
 use Rattle.core_state.specs.State.{State}
+use Rattle.core_state.specs.Tables.{tables_of}
+use Rattle.core_parts.specs.Filtered.{order_by}
 use Rattle.core_state.specs.declared.event.Event.{Event}
 use Rattle.core_state.specs.declared.event.Event.TheVariants.{Submit, Reserve, Build, Start, Cut, Take, Give, Distribute, Finish, Clear, Release, Reorder, Abandon}
 use Rattle.event_core.specs.Chosen.{IsOfKind, NoneMayCome}
@@ -44,9 +46,23 @@ IsOfAdmission other = ⊥
 abbrev pub IsDriven : Event → Type 0
 IsDriven event = IsOfAdmission event ⊎ IsOfRound event
 
+-- the event that cuts a batch
+abbrev pub IsCut : Event → Type 0
+IsCut event = event ≡ Cut
+
 -- the event that orders the filters
 abbrev pub IsReorder : Event → Type 0
 IsReorder event = event ≡ Reorder
+
+-- an event of a round other than a cut
+abbrev pub IsOfLanding : Event → Type 0
+IsOfLanding (Submit seat statement) = ⊥
+IsOfLanding (Reserve query slot) = ⊥
+IsOfLanding (Build query dimension) = ⊥
+IsOfLanding (Start query) = ⊥
+IsOfLanding Cut = ⊥
+IsOfLanding (Abandon query) = ⊥
+IsOfLanding other = Unit {0}
 
 -- a slot in this state is free, or a query holds it that runs
 abbrev pub IsFreeOrRuns : Lives → SlotState → Type 0
@@ -108,10 +124,42 @@ pub record Admits (old new : State) : Type 0 where
   pub build : NoneMayCome kind.Build new
   pub start : NoneMayCome kind.Start new
 
--- a whole turn: queries are admitted, as far as they can be, and then events of a round come
-abbrev pub IsWholeTurn : (old new : State) → Type 0
-IsWholeTurn old new = (mid : State) × (Admits old mid × IsLed IsOfRound mid new)
+-- batches were cut, as many as could be
+pub record CutsAll (old new : State) : Type 0 where
+  pub led : IsLed IsCut old new
+  pub none : NoneMayCome kind.Cut new
 
--- a turn, which ends where memory is wanted
+-- the filters were ordered by their drop rates, where there are any
+pub record OrdersFilters (old new : State) : Type 0 where
+  pub led : IsLed IsReorder old new
+  pub order : IsSome (tables_of new).schema.fact → new.filters.order ≡ order_by new.filters
+
+-- a round: batches are cut, as many as can be, what is in flight lands, and the filters are ordered
+pub record IsRound (old new : State) : Type 0 where
+  pub cut : State
+  pub landed : State
+  pub cuts : CutsAll old cut
+  pub lands : IsLed IsOfLanding cut landed
+  pub orders : OrdersFilters landed new
+
+-- a whole turn: queries are admitted, as far as they can be, and a round follows
+pub record IsWholeTurn (old new : State) : Type 0 where
+  pub mid : State
+  pub admits : Admits old mid
+  pub round : IsRound mid new
+
+-- a turn, which ends where memory is wanted: as queries are admitted, or in the round that follows
 abbrev pub IsTurn : (old new : State) → Type 0
-IsTurn old new = IsLed IsOfAdmission old new ⊎ IsWholeTurn old new
+IsTurn old new = IsLed IsOfAdmission old new ⊎ ((mid : State) × (Admits old mid × IsLed IsOfRound mid new))
+
+-- whole turns, one after the other, through these states
+abbrev pub AreTurns : List State → (old new : State) → Type 0
+AreTurns [] old new = new ≡ old
+AreTurns (next ∷ rest) old new = IsWholeTurn old next × AreTurns rest next new
+
+-- what was in flight landed, and whole turns followed
+pub record LandsAndTurns (old new : State) : Type 0 where
+  pub landed : State
+  pub turns : List State
+  pub lands : IsLed IsOfLanding old landed
+  pub each : AreTurns turns landed new

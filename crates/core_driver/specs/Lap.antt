@@ -1,14 +1,16 @@
 -- How far the scan of a core goes until no query runs.
-use Rattle.std.specs.Prelude.{◌≡◌, ◌⊎◌, ℕ, ◌+◌, ◌-◌, ◌*◌, ◌<◌, ◌≤◌, Bool, true, false, not, All, Any, count_by, length, min}
+use Rattle.std.specs.Prelude.{◌≡◌, ◌⊎◌, ℕ, ◌+◌, ◌-◌, ◌*◌, ◌<◌, ◌≤◌, Bool, true, false, not, List, [], ◌∷◌, All, Any, count_by, length, min}
 use Rattle.pipeline_manager.specs.Conditions.{IsRunning}
 use Rattle.pipeline_manager.specs.Lives.{is_free, is_waiting}
 use Rattle.pipeline_manager.specs.declared.life.Life.{Life}
 use Rattle.pipeline_manager.specs.declared.life.Life.TheVariants.{Waiting, Building, Running, Ending, Answered, Spoiled, Abandoned}
-use Rattle.core_state.specs.Cutting.{first_in}
+use Rattle.core_state.specs.Cutting.{end_in, first_in}
 use Rattle.core_state.specs.State.{State}
 use Rattle.core_state.specs.Tables.{versions_in}
 use Rattle.core_state.specs.declared.event.Event.{Event}
-use Rattle.core_state.specs.declared.event.Event.TheVariants.{Submit, Reserve, Build, Start, Cut, Take, Give, Distribute, Finish, Clear, Release, Reorder, Abandon}
+use Rattle.core_state.specs.declared.event.Event.TheVariants.{Cut}
+use Rattle.event_core.specs.Took.{Took}
+use Rattle.core_driver.specs.Driven.{IsDriven}
 
 -- whether a query waits, is built for or runs
 abbrev pub is_unfinished : Life → Bool
@@ -70,46 +72,54 @@ pub record CameRound (end most : ℕ) (state : State) : Type 0 where
 abbrev pub IsOnItsWay : (end most : ℕ) → State → Type 0
 IsOnItsWay end most state = (SomeRuns state → ⊥) ⊎ (IsToComeRound end most state ⊎ CameRound end most state)
 
--- an event of a round other than a cut
-abbrev pub IsOfLanding : Event → Type 0
-IsOfLanding (Submit seat statement) = ⊥
-IsOfLanding (Reserve query slot) = ⊥
-IsOfLanding (Build query dimension) = ⊥
-IsOfLanding (Start query) = ⊥
-IsOfLanding Cut = ⊥
-IsOfLanding (Abandon query) = ⊥
-IsOfLanding other = Unit {0}
-
--- the scan is on its way, at whose end so many positions were cut in all at most
-pub record IsWithin (total : ℕ) (state : State) : Type 0 where
+-- the scan is on its way, at whose end at most so many positions more were cut
+pub record IsWithin (left : ℕ) (state : State) : Type 0 where
   pub end : ℕ
   pub most : ℕ
   pub way : IsOnItsWay end most state
-  pub enough : state.scan.cut + most ≤ total
+  pub enough : most ≤ left
 
 -- how many positions are cut of this table at most: twice its versions, or once, if no query runs
-abbrev pub IsBound : (bound : ℕ) → (from state : State) → Type 0
-IsBound bound from state = (bound ≡ 2 * versions_in from) ⊎ ((bound ≡ versions_in from) × (SomeRuns state → ⊥))
+abbrev pub IsBound : (bound : ℕ) → State → Type 0
+IsBound bound state = (bound ≡ 2 * versions_in state) ⊎ ((bound ≡ versions_in state) × (SomeRuns state → ⊥))
 
--- the lap is to begin: there is a slot for each query that waits, and nothing was cut since
-pub record IsToBegin (bound : ℕ) (from state : State) : Type 0 where
+-- the lap, in which at most so many positions are cut, is to begin: there is a slot for each query that waits
+pub record IsToBegin (left : ℕ) (state : State) : Type 0 where
   pub slots : HasSlotsForAll state
-  pub cut : state.scan.cut ≡ from.scan.cut
-  pub versions : versions_in state ≡ versions_in from
-  pub is_bound : IsBound bound from state
+  pub is_bound : IsBound left state
 
 -- the lap has begun: no query is to begin to run any more, and the scan is on its way
-pub record HasBegun (bound : ℕ) (from state : State) : Type 0 where
+pub record HasBegun (left : ℕ) (state : State) : Type 0 where
   pub none : NoneIsToStart state
-  pub within : IsWithin (from.scan.cut + bound) state
+  pub within : IsWithin left state
 
--- the lap in which at most so many positions are cut is to begin, or has begun
-abbrev pub HasLap : (bound : ℕ) → (from state : State) → Type 0
-HasLap bound from state = IsToBegin bound from state ⊎ HasBegun bound from state
+-- the lap in which at most so many positions more are cut is to begin, or has begun
+abbrev pub HasLap : (left : ℕ) → State → Type 0
+HasLap left state = IsToBegin left state ⊎ HasBegun left state
 
--- how many positions are cut until every query is answered: none where no query waits, is built for or runs; where these are
--- no more than the slots, as many as the table has versions at most, or twice as many where a query runs
+-- how many positions an event cuts
+abbrev pub positions_of : Event → State → ℕ
+positions_of Cut state = end_in state - first_in state
+positions_of other state = 0
+
+-- events were taken, one after the other, which cut so many positions together
+abbrev pub TookCutting : List Event → (cut : ℕ) → (old new : State) → Type 0
+TookCutting [] cut old new = (cut ≡ 0) × (new ≡ old)
+TookCutting (event ∷ events) cut old new =
+    (next : State) × (rest : ℕ) × (cut ≡ positions_of event old + rest) × Took event old next × TookCutting events rest next new
+
+-- events of which each is one of these were taken, which cut so many positions together
+pub record IsLedCutting (IsOne : Event → Type 0) (cut : ℕ) (old new : State) : Type 0 where
+  pub events : List Event
+  pub each : All IsOne events
+  pub took : TookCutting events cut old new
+
+-- the driver's events, and how many positions their cuts hold until every query is answered: none where no query waits, is
+-- built for or runs; where these are no more than the slots, as many as the table has versions at most, or twice as many
+-- where a query runs
 pub record SharesLap (old new : State) : Type 0 where
-  pub none : unfinished_in old ≡ 0 → new.scan.cut ≡ old.scan.cut
-  pub once : unfinished_in old ≤ length old.lives.slots → (SomeRuns old → ⊥) → new.scan.cut ≤ old.scan.cut + versions_in old
-  pub twice : unfinished_in old ≤ length old.lives.slots → new.scan.cut ≤ old.scan.cut + 2 * versions_in old
+  pub cut : ℕ
+  pub led : IsLedCutting IsDriven cut old new
+  pub none : unfinished_in old ≡ 0 → cut ≡ 0
+  pub once : unfinished_in old ≤ length old.lives.slots → (SomeRuns old → ⊥) → cut ≤ versions_in old
+  pub twice : unfinished_in old ≤ length old.lives.slots → cut ≤ 2 * versions_in old

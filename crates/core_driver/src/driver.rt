@@ -4,8 +4,8 @@ ghost use Rattle.core_state.specs.Events.{MayCut};
 ghost use Rattle.event_core.specs.Chosen.{AreIdle};
 ghost use Rattle.event_core.specs.Seen.{state_of};
 ghost use Rattle.event_core.specs.Took.{IsLed};
-ghost use Rattle.core_driver.specs.Driven.{Admits, AdmitsOldest, AnswersAll, IsDriven, IsFinished, IsLanded, IsOfAdmission, IsOfRound, IsReorder, IsSettled, IsTurn, IsWholeTurn, MayGoOn, Rises};
-ghost use Rattle.core_driver.specs.Lap.{IsOfLanding, SharesLap};
+ghost use Rattle.core_driver.specs.Driven.{Admits, AdmitsOldest, AnswersAll, CutsAll, IsCut, IsDriven, IsFinished, IsLanded, IsOfAdmission, IsOfLanding, IsOfRound, IsRound, IsSettled, IsTurn, IsWholeTurn, LandsAndTurns, MayGoOn, OrdersFilters, Rises};
+ghost use Rattle.core_driver.specs.Lap.{SharesLap};
 ghost use Rattle.core_driver.specs.Work.{TookSome, work_in};
 
 use crate::taking::{next_of, take_all};
@@ -55,6 +55,7 @@ pub fn turn<R: Threads + Sync>(rt: &R, core: &mut Core) -> Result<(), NoMemory>
 pub fn finish_all<R: Threads + Sync>(rt: &R, core: &mut Core) -> Result<(), NoMemory>
     requires { AreIdle (state_of core.old) }
     ensures driven { IsLed IsDriven (state_of core.old) (state_of core.new) }
+    ensures turns { OnOk result (LandsAndTurns (state_of core.old) (state_of core.new)) }
     ensures finished { OnOk result (IsFinished (state_of core.new)) }
     ensures answers { OnOk result (AnswersAll (state_of core.old) (state_of core.new)) }
     ensures lap { SharesLap (state_of core.old) (state_of core.new) }
@@ -84,6 +85,7 @@ fn admit(core: &mut Core) -> Result<(), NoMemory>
 fn go_round<R: Threads + Sync>(rt: &R, core: &mut Core) -> Result<(), NoMemory>
     requires { AreIdle (state_of core.old) }
     ensures led { IsLed IsOfRound (state_of core.old) (state_of core.new) }
+    ensures round { OnOk result (IsRound (state_of core.old) (state_of core.new)) }
     ensures landed { OnOk result (IsLanded (state_of core.new)) }
     ensures cuts { OnOk result (MayCut (state_of core.old) → Rises (state_of core.old).scan.cut (state_of core.new).scan.cut) }
     ensures less { OnOk result (MayCut (state_of core.old) → work_in (state_of core.new) < work_in (state_of core.old)) }
@@ -100,7 +102,8 @@ fn go_round<R: Threads + Sync>(rt: &R, core: &mut Core) -> Result<(), NoMemory>
 
 /// Cuts batches while a frame is free and a query runs.
 fn cut(core: &mut Core) -> Result<(), NoMemory>
-    ensures led { IsLed IsOfRound (state_of core.old) (state_of core.new) }
+    ensures led { IsLed IsCut (state_of core.old) (state_of core.new) }
+    ensures all { OnOk result (CutsAll (state_of core.old) (state_of core.new)) }
     ensures cuts { OnOk result (MayCut (state_of core.old) → Rises (state_of core.old).scan.cut (state_of core.new).scan.cut) }
     ensures less { OnOk result (MayCut (state_of core.old) → work_in (state_of core.new) < work_in (state_of core.old)) }
     ensures idle { AreIdle (state_of core.old) → AreIdle (state_of core.new) }
@@ -128,7 +131,7 @@ fn land<R: Threads + Sync>(rt: &R, core: &mut Core) -> Result<(), NoMemory>
 
 /// Orders the filters by their drop rates, where there are any.
 fn reorder(core: &mut Core)
-    ensures { IsLed IsReorder (state_of core.old) (state_of core.new) }
+    ensures { OrdersFilters (state_of core.old) (state_of core.new) }
 {
     // Before the fact table is declared there are no filters to order, and nothing has changed.
     let _ = core.step(Event::Reorder);

@@ -1,9 +1,8 @@
 -- A front whose core was given nothing.
-use Rattle.script_run.proofs.Words.{◌<◌, ◌∙◌, ◌≡◌, ◌≤◌, [], All, All-nil, ap, arith, count_by, empty_core, Front, is_query, IsCounted, Pending, refl, RunSettings, Seat, seat_at, State, state_of, subst, sym}
+use Rattle.script_run.proofs.Words.{◌<◌, ◌∙◌, ◌≡◌, ◌≤◌, All, All-nil, ap, arith, count_by, empty_core, Front, is_query, IsCounted, Pending, refl, RunSettings, Seat, seat_at, State, state_of, subst, sym}
 use Rattle.core_state.specs.Settings.{AreWithin}
-use Rattle.core_state.specs.Whole.{LosesNone}
 use Rattle.script_run.specs.Counted.{IsCalm}
-use Rattle.script_run.specs.Home.{AreApart, IsAtHome, IsWaitedFor}
+use Rattle.script_run.specs.Home.{IsAtHome}
 use Rattle.script_run.proofs.PlayedWholeLemmas.{new-seat}
 
 -- a core to which nothing was given, made for these settings
@@ -34,22 +33,14 @@ new-counted front new = record {
   few = subst (λ n. n ≤ front.settings.slots) (sym new.unfinished) (omega arith);
 }
 
--- it waits for what was given to it
-new-waited : ((settings : RunSettings) → LosesNone (empty_core settings)) → (settings : RunSettings) → IsWaitedFor (empty_core settings)
-new-waited first settings = record {
-  whole = first settings;
-  apart = subst (λ (s : Seat). AreApart [] s.taken) (sym (new-seat settings)) (All-nil _);
-}
-
-pub new-home : ((settings : RunSettings) → LosesNone (empty_core settings)) → (front : Front) → IsNew front → IsAtHome front
-new-home first front new = record {
+pub new-home : (front : Front) → IsNew front → IsAtHome front
+new-home front new = record {
   held = record {
     some = counted.some;
     settings = counted.settings;
     submitted = counted.submitted;
     hands = counted.calm.idle;
     own = subst (λ (s : State). All (λ accepted. accepted.seat ≡ 0) s.accepted) (sym new.core) (All-nil _);
-    waited = subst IsWaitedFor (sym new.core) (new-waited first front.settings);
   };
   counted = counted;
   none = new.unfinished;

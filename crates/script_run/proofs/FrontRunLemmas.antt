@@ -1,9 +1,8 @@
 -- The steps that a run makes: none, some and others behind them, a statement, a reply that is taken, and events of the driver.
-use Rattle.script_run.proofs.Words.{◌++◌, ◌+◌, ◌<◌, ◌∙◌, ◌∷◌, ◌≡◌, [], Abandon, after_step, after_steps, after_submitting, after_taking, All, All-append, All-cons, All-head, All-nil, All-tail, ap, AreIdle, Change, DimensionDeclared, Done, Event, fold-append, IsDriven, IsLed, IsOfRun, IsRun, IsSome, LeavesSeats, length, List, MayStep, MayStepAll, next_ready, None, Option, option_map_or, outcome_of, refl, Replying, Scan, Some, State, Statement, Step, Submit, subst, sym, tables_of, Told, TookAll, Wanting, with_change, with_query, with_seat, with_statement, ℕ}
-use Rattle.star_statement.specs.Outcome as outcome
+use Rattle.script_run.proofs.Words.{◌++◌, ◌<◌, ◌∙◌, ◌∷◌, ◌≡◌, [], Abandon, after_step, after_steps, after_submitting, after_taking, All, All-append, All-cons, All-head, All-nil, All-tail, ap, AreIdle, aside-outcome, Done, Event, fold-append, IsDriven, IsLed, IsOfRun, IsRun, IsSome, LeavesSeats, length, List, MayStep, MayStepAll, next_ready, None, outcome_of, refl, Replying, Scan, State, Statement, Step, Submit, subst, sym, tables_of, TookAll, Wanting}
 use Rattle.core_state.specs.Events.{after_event}
 use Rattle.event_core.specs.Took.{AreOf, IsOf, StepsFor}
-use Rattle.script_run.proofs.PlayedEventLemmas.{driven-leaves}
+use Rattle.core_driver.proofs.TakenLemmas.{driven-leaves}
 
 -- events that a core took are steps
 abbrev pub TakenAreSteps : Type 0
@@ -73,24 +72,9 @@ run-driven taken old new led =
     let made = taken led.events old new led.took in
     record { steps = made.0; may = made.1.0; each = steps-run led.events made.0 led.each made.1.1.0; is = made.1.1.1 }
 
--- what a statement changes and what is told of it leave the scan
-scan-change : (statement : ℕ) (change : Option Change) (state : State)
-    → (option_map_or (λ change. with_change 0 statement change state) change state).scan ≡ state.scan
-scan-change statement (Some (DimensionDeclared table)) state = refl
-scan-change statement other state = refl
-
-scan-query : (statement : ℕ) (told : Told) (state : State) → (with_query 0 statement told state).scan ≡ state.scan
-scan-query statement (outcome.Replied reply) state = refl
-scan-query statement (outcome.Accepted query snapshot) state = refl
-
 -- a statement leaves the scan
 pub scan-submitted : (statement : Statement) (state : State) → (after_submitting 0 statement state).scan ≡ state.scan
-scan-submitted statement state =
-    let found = outcome_of (tables_of state) statement in
-    let number = state.numbers.statement + 1 in
-    let seated : State = with_seat 0 (with_statement number found.told) (record state { numbers = record state.numbers { statement = number } }) in
-    let changed : State = option_map_or (λ change. with_change 0 number change seated) found.change seated in
-    scan-query number found.told changed ∙ scan-change number found.change seated
+scan-submitted statement state = (aside-outcome 0 (outcome_of (tables_of state) statement) state).scan
 
 -- where the scan is as it was, no batch is in a hand if none was
 pub idle-scan : (old new : State) → new.scan ≡ old.scan → AreIdle old → AreIdle new

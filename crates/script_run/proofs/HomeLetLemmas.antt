@@ -1,5 +1,5 @@
 -- What is left of a core where queries are abandoned and replies are taken.
-use Rattle.script_run.proofs.Words.{◌++◌, ◌<◌, ◌∙◌, ◌∷◌, ◌≡◌, ◌≤◌, [], Abandon, Abandoned, Accepted, accepted_at, accepted_by, after_abandoning, after_taking, All, Answered, ap, append-nil, append_assoc, arith, Bool, by-option, cond, count_by, Done, empty_seat, eq-eqb, eqb, Err, false, find, find-holds, first_open, forgets, forgotten, Front, get_or, get_or-set_same, is_open, is_query, IsCounted, IsEnabled, IsHeld, IsKnown, IsSome, IsSound, IsTrue, length, life_in, life_of, List, Lives, map, next_ready, None, Ok, OnOk, Option, option_map, option_map_or, part-stays, Pending, query_in, QueryLife, refl, Replying, Result, Seat, seat_at, Some, State, state_of, StepsKeep, StepsLoseNone, subst, sym, take, taken_by, Took, true, with_seat, without_pending, ℕ, ⊎_elim}
+use Rattle.script_run.proofs.Words.{◌++◌, ◌<◌, ◌∙◌, ◌∷◌, ◌≡◌, ◌≤◌, [], Abandon, Accepted, accepted_at, accepted_by, after_abandoning, after_taking, All, Answered, ap, append-nil, append_assoc, arith, Bool, by-option, cond, count_by, Done, empty_seat, eq-eqb, eqb, Err, false, find, find-holds, first_open, forgets, forgotten, Front, get_or, get_or-set_same, is_open, is_query, IsCounted, IsEnabled, IsHeld, IsKnown, IsSome, IsSound, IsTrue, length, life_of, List, Lives, map, next_ready, None, Ok, OnOk, Option, option_map, option_map_or, part-stays, Pending, query_in, QueryLife, refl, Replying, Result, Seat, seat_at, Some, State, state_of, subst, sym, take, taken_by, Took, true, with_seat, without_pending, ℕ, ⊎_elim, Abandoned, life_in}
 use Rattle.std.proofs.Common.{not, set}
 use Rattle.std.specs.Prelude.{◌↔◌, IsErrOf}
 use Rattle.std.specs.List.{filter}
@@ -9,6 +9,8 @@ use Rattle.core_state.specs.Events.{after_event}
 use Rattle.core_state.specs.Submitting.{Ready}
 use Rattle.core_state.proofs.FoundLemmas.{find-passes}
 use Rattle.core_state.proofs.ScannedOverLemmas.{life-accepted}
+use Rattle.core_state.proofs.WholeFrameLemmas.{bare-anew, bare-without}
+use Rattle.core_state.proofs.WholeLivesLemmas.{lives-abandoned}
 use Rattle.event_core.specs.Took.{MayWantMemory}
 use Rattle.event_core.specs.declared.stepping.StepFault.{StepFault}
 use Rattle.event_core.specs.declared.stepping.StepFault.TheVariants.{NotEnabled, Memory}
@@ -21,8 +23,7 @@ use Rattle.script_run.proofs.HomeStepLemmas.{Owns, owner-there, serves-abandoned
 use Rattle.script_run.proofs.HomeStepsLemmas.{held-after, served-itself, served-one, served-then}
 use Rattle.script_run.proofs.LapEventLemmas.{closed-count, closed-over}
 use Rattle.script_run.proofs.PlayedTakenLemmas.{WaitsForOpen, idle-next, seat-waits, taken-seat}
-use Rattle.script_run.proofs.ToldFollowLemmas.{asked-anew, asked-without}
-use Rattle.script_run.proofs.ToldLivesLemmas.{LivesOn, lives-written}
+use Rattle.script_run.proofs.ToldFollowLemmas.{asked-by}
 
 -- what is left is what is left of what was left
 lets-then : (old between new : State) → LetsGo old between → LetsGo between new → LetsGo old new
@@ -95,23 +96,15 @@ abbrev without_it : (query : ℕ) → State → Accepted → State
 without_it query state accepted = with_seat accepted.seat (without_pending query)
     (record state { accepted = map (forgotten query) state.accepted; lives = after_abandon query state.lives })
 
--- who may be abandoned was not answered
-open-never : (lives : Lives) (query : ℕ) → CanAbandon query lives → life_in lives.queries query ≡ Some Answered → ⊥
-open-never lives query can was =
-    let both : false ≡ true = sym (ap (λ o. option_map_or is_open o false) was) ∙ can in cc
-
 -- a query is abandoned
 lets-abandoned : (query : ℕ) (state : State) → IsSound state → CanAbandon query state.lives → LetsGo state (after_abandoning query state)
 lets-abandoned query state sound can =
     by-option (LetsGo state) (accepted_at state.accepted query) (without_it query state) state
     (record { entries = refl; accepted = refl; stay = λ q was. was; more = []; taken = sym (append-nil (seat_at state 0).taken) })
-    (λ accepted found.
-    let lives : LivesOn state.lives.queries (after_abandon query state.lives).queries =
-    lives-written query Abandoned state.lives.queries (open-never state.lives query can) sound.slots.lives.rising in
-    record {
+    (λ accepted found. record {
       entries = refl;
-      accepted = asked-anew (forgotten query) (forgets query) state.accepted;
-      stay = lives.stay;
+      accepted = asked-by state.accepted (map (forgotten query) state.accepted) (bare-anew (forgotten query) (forgets query) state.accepted);
+      stay = λ q was. (lives-abandoned query state.lives can).over q Answered refl was;
       more = [];
       taken = part-stays (λ s. s.taken) state.seats accepted.seat (without_pending query (seat_at state accepted.seat))
           (owner-there state accepted query sound found) refl 0 ∙ sym (append-nil (seat_at state 0).taken);
@@ -133,7 +126,7 @@ unfolding after_event
 leaves-abandoned query old new sound mine can is =
     let beside = beside-abandoned query old in record {
       lets = subst (LetsGo old) (sym is) (lets-abandoned query old sound can);
-      served = served-one (Done (Abandon query)) old new can tt is (serves-abandoned query old sound mine);
+      served = served-one (Done (Abandon query)) old new can tt is (serves-abandoned query old mine);
       settings = ap (λ state. state.settings) is ∙ beside.settings;
       scan = ap (λ state. state.scan) is ∙ beside.scan;
       numbers = ap (λ state. state.numbers) is ∙ beside.numbers;
@@ -141,22 +134,22 @@ leaves-abandoned query old new sound mine can is =
 
 -- the event was taken, since it may come and wants no memory
 took-abandon : {A : Type 0} (query : ℕ) (old new : State) (result : Result A StepFault) → CanAbandon query old.lives
-    → (IsErrOf result NotEnabled ↔ (IsEnabled old (Abandon query) → ⊥)) → (IsErrOf result Memory → MayWantMemory (Abandon query))
+    → (IsErrOf result NotEnabled ↔ (IsEnabled old (Abandon query) → ⊥)) → (IsErrOf result Memory → IsEnabled old (Abandon query) × MayWantMemory (Abandon query))
     → OnOk result (Took (Abandon query) old new) → new ≡ after_abandoning query old
 unfolding after_event
 took-abandon query old new (Ok x) can disabled memory took = ⊎_elim (λ done. done) (λ spoilt. absurd spoilt) took.after
 took-abandon query old new (Err NotEnabled) can disabled memory took = absurd (disabled.0 refl can)
-took-abandon query old new (Err Memory) can disabled memory took = absurd (memory refl)
+took-abandon query old new (Err Memory) can disabled memory took = absurd (memory refl).1
 
 pub abandons : {A : Type 0} (first old new : State) (query : ℕ) (result : Result A StepFault) → IsOnLeave first old → Some query ≡ first_open old.lives (seat_at old 0)
-    → (IsErrOf result NotEnabled ↔ (IsEnabled old (Abandon query) → ⊥)) → (IsErrOf result Memory → MayWantMemory (Abandon query))
+    → (IsErrOf result NotEnabled ↔ (IsEnabled old (Abandon query) → ⊥)) → (IsErrOf result Memory → IsEnabled old (Abandon query) × MayWantMemory (Abandon query))
     → OnOk result (Took (Abandon query) old new) → IsSound new → IsOnLeave first new
 abandons first old new query result way opens disabled memory took sound =
     let can = open-can old.lives (seat_at old 0) query (sym opens) in
     let is = took-abandon query old new result can disabled memory took in
     record {
       leaving = leaving-then first old new way.leaving (leaves-abandoned query old new way.sound way.own can is);
-      own = subst Owns (sym is) (serves-abandoned query old way.sound way.own).mine;
+      own = subst Owns (sym is) (serves-abandoned query old way.own).mine;
       sound = sound;
     }
 
@@ -216,7 +209,7 @@ abandoned-less query state sound mine opens =
         (filter-less (λ p. option_map_or is_open (life_of state.lives p.statement) false) query (seat_at state 0).pending opens)
 
 pub abandons-less : {A : Type 0} (first old new : State) (query : ℕ) (result : Result A StepFault) → IsOnLeave first old → Some query ≡ first_open old.lives (seat_at old 0)
-    → (IsErrOf result NotEnabled ↔ (IsEnabled old (Abandon query) → ⊥)) → (IsErrOf result Memory → MayWantMemory (Abandon query))
+    → (IsErrOf result NotEnabled ↔ (IsEnabled old (Abandon query) → ⊥)) → (IsErrOf result Memory → IsEnabled old (Abandon query) × MayWantMemory (Abandon query))
     → OnOk result (Took (Abandon query) old new) → length (seat_at new 0).pending < length (seat_at old 0).pending
 abandons-less first old new query result way opens disabled memory took =
     let can = open-can old.lives (seat_at old 0) query (sym opens) in
@@ -239,10 +232,11 @@ taken-more old new ready is =
 
 leaves-taken : (old new : State) → IsSound old → Owns old → IsSome (next_ready old 0) → new ≡ after_taking 0 old → IsLeaving old new
 leaves-taken old new sound mine ready is =
-    let serves = serves-taken old sound ready mine in record {
+    let serves = serves-taken old mine in record {
       lets = record {
         entries = ap (λ state. state.entries) is;
-        accepted = ap (λ state. map accepted_by state.accepted) is ∙ asked-without (take 1 (seat_at old 0).pending) old.accepted;
+        accepted = ap (λ state. map accepted_by state.accepted) is
+            ∙ asked-by old.accepted (after_taking 0 old).accepted (bare-without (take 1 (seat_at old 0).pending) old.accepted);
         stay = λ query was. ap (λ state. life_of state.lives query) is ∙ was;
         more = map taken_by (take 1 (seat_at old 0).pending);
         taken = taken-more old new ready is;
@@ -261,7 +255,7 @@ pub drops : (first old new : State) (x : Ready) → IsDropping first old → Som
 drops first old new x dropping may is sound = let ready = some-is x (next_ready old 0) may in record {
   way = record {
     leaving = leaving-then first old new dropping.way.leaving (leaves-taken old new dropping.way.sound dropping.way.own ready is);
-    own = subst Owns (sym is) (serves-taken old dropping.way.sound ready dropping.way.own).mine;
+    own = subst Owns (sym is) (serves-taken old dropping.way.own).mine;
     sound = sound;
   };
   closed = λ none. taken-closed old new ready is (dropping.closed none);
@@ -282,11 +276,11 @@ dropped-idle waits first now new dropping same none closed =
     ap (λ state. (seat_at state 0).pending) same ∙ idle-next waits now 0 dropping.way.sound (dropping.closed closed) (sym none)
 
 -- a front whose core was let go
-pub left-home : StepsKeep → StepsLoseNone → (old new : Front) (mid : State) → IsHeld old → IsSound (state_of old.core) → IsLeaving (state_of old.core) mid
+pub left-home : (old new : Front) (mid : State) → IsHeld old → IsLeaving (state_of old.core) mid
     → IsLeaving mid (state_of new.core) → IsSound (state_of new.core) → (seat_at (state_of new.core) 0).pending ≡ []
     → new.settings ≡ old.settings → new.submitted ≡ old.submitted → new.unfinished ≡ 0
     → IsAtHome new
-left-home keep lose old new mid held sound first second so_sound idle settings submitted unfinished =
+left-home old new mid held first second so_sound idle settings submitted unfinished =
     record { held = holds; counted = counted; none = unfinished; idle = idle }
   where
     now : State
@@ -304,10 +298,10 @@ left-home keep lose old new mid held sound first second so_sound idle settings s
     }
 
     holds : IsHeld new
-    holds = held-after keep lose old new sound held leaving.served known
+    holds = held-after old new held leaving.served known
 
     closed : All (λ entry. is_open entry.life ≡ false) now.lives.queries
-    closed = closed-all now so_sound holds.own holds.waited idle
+    closed = closed-all now so_sound holds.own idle
 
     counted : IsCounted new
     counted = record {

@@ -1,21 +1,13 @@
 -- What the steps of a session leave, one after the other, and that the front knows its core behind them.
-use Rattle.script_run.proofs.Words.{◌++◌, ◌∙◌, ◌∷◌, ◌≡◌, [], after_step, after_steps, All, All-append, All-cons, All-head, All-nil, All-tail, All-weaker, ap, append-nil, append_assoc, Done, Entry, fold-append, Front, IsHeld, IsKnown, IsOfRun, IsOfSession, IsRun, IsSound, List, MayStep, MayStepAll, refl, Replying, seat_at, State, state_of, Step, StepsKeep, StepsLoseNone, Submit, subst, sym}
-use Rattle.core_state.specs.Whole.{LosesNone}
-use Rattle.core_state.proofs.WholeRunLemmas.{steps-lose}
+use Rattle.script_run.proofs.Words.{◌++◌, ◌∙◌, ◌∷◌, ◌≡◌, [], after_step, after_steps, All, All-append, All-cons, All-head, All-nil, All-tail, All-weaker, ap, append-nil, append_assoc, Done, Entry, fold-append, Front, IsHeld, IsKnown, IsOfRun, IsOfSession, IsRun, List, MayStep, MayStepAll, refl, Replying, seat_at, State, state_of, Step, Submit, subst, sym}
+use Rattle.core_state.proofs.WholeFrameLemmas.{frame-all}
 use Rattle.script_run.specs.Home.{IsServed}
 use Rattle.script_run.proofs.FrontRunLemmas.{may-append}
-use Rattle.script_run.proofs.HomeStepLemmas.{IsApart, Owns, Serves, serves-step}
+use Rattle.script_run.proofs.HomeStepLemmas.{Owns, Serves, serves-frame, serves-step}
 
 -- no step
 serves-itself : (state : State) → Owns state → Serves state state
-serves-itself state mine = record {
-  more = [];
-  entries = sym (append-nil state.entries);
-  own = All-nil (λ (entry : Entry). entry.seat ≡ 0);
-  others = λ seat apart. refl;
-  mine = mine;
-  apart = λ is. is;
-}
+serves-itself state mine = serves-frame state state (frame-all state) mine
 
 -- one behind the other
 serves-then : (old between new : State) → Serves old between → Serves between new → Serves old new
@@ -25,16 +17,14 @@ serves-then old between new first second = record {
   own = All-append (λ (entry : Entry). entry.seat ≡ 0) first.more second.more first.own second.own;
   others = λ seat apart. second.others seat apart ∙ first.others seat apart;
   mine = second.mine;
-  apart = λ is. second.apart (first.apart is);
 }
 
-pub serves-steps : StepsKeep → (steps : List Step) (old : State) → MayStepAll old steps → All IsOfSession steps → IsSound old → Owns old
-    → Serves old (after_steps steps old)
-serves-steps keep [] old may each sound mine = serves-itself old mine
-serves-steps keep (step ∷ steps) old may each sound mine =
-    let first = serves-step step old may.0 (All-head IsOfSession step steps each) sound mine in
+pub serves-steps : (steps : List Step) (old : State) → MayStepAll old steps → All IsOfSession steps → Owns old → Serves old (after_steps steps old)
+serves-steps [] old may each mine = serves-itself old mine
+serves-steps (step ∷ steps) old may each mine =
+    let first = serves-step step old may.0 (All-head IsOfSession step steps each) mine in
     serves-then old (after_step step old) (after_steps steps (after_step step old)) first
-    (serves-steps keep steps (after_step step old) may.1 (All-tail IsOfSession step steps each) (keep step old may.0 sound) first.mine)
+    (serves-steps steps (after_step step old) may.1 (All-tail IsOfSession step steps each) first.mine)
 
 -- a step of a run is one of a session
 of-session : (step : Step) → IsOfRun step → IsOfSession step
@@ -57,10 +47,10 @@ served-by old new steps may each is serves = record {
 }
 
 -- a run
-pub served-run : StepsKeep → (old new : State) → IsSound old → Owns old → IsRun old new → IsServed old new
-served-run keep old new sound mine run =
+pub served-run : (old new : State) → Owns old → IsRun old new → IsServed old new
+served-run old new mine run =
     let each = All-weaker IsOfRun IsOfSession of-session run.steps run.each in
-    served-by old new run.steps run.may each run.is (serves-steps keep run.steps old run.may each sound mine)
+    served-by old new run.steps run.may each run.is (serves-steps run.steps old run.may each mine)
 
 -- nothing, one step, and one part behind another
 pub served-itself : (state : State) → IsServed state state
@@ -93,24 +83,12 @@ served-then old between new first second = record {
   others = λ seat apart. second.others seat apart ∙ first.others seat apart;
 }
 
--- what steps of a session leave of a core whose queries are waited for
-pub served-owns : StepsKeep → (old new : State) → IsSound old → Owns old → IsServed old new → Owns new
-served-owns keep old new sound mine served =
-    subst Owns (sym served.is) (serves-steps keep served.steps old served.may served.each sound mine).mine
-
 -- a front that knows its core behind them knows it wherever it was halted
-pub held-after : StepsKeep → StepsLoseNone → (old new : Front) → IsSound (state_of old.core) → IsHeld old
-    → IsServed (state_of old.core) (state_of new.core) → IsKnown new → IsHeld new
-held-after keep lose old new sound held served known =
-    let all = serves-steps keep served.steps (state_of old.core) served.may served.each sound held.own in
-    record {
-      some = known.some;
-      settings = known.settings;
-      submitted = known.submitted;
-      hands = known.hands;
-      own = subst Owns (sym served.is) all.mine;
-      waited = record {
-        whole = subst LosesNone (sym served.is) (steps-lose keep lose served.steps (state_of old.core) served.may sound held.waited.whole);
-        apart = subst IsApart (sym served.is) (all.apart held.waited.apart);
-      };
-    }
+pub held-after : (old new : Front) → IsHeld old → IsServed (state_of old.core) (state_of new.core) → IsKnown new → IsHeld new
+held-after old new held served known = record {
+  some = known.some;
+  settings = known.settings;
+  submitted = known.submitted;
+  hands = known.hands;
+  own = subst Owns (sym served.is) (serves-steps served.steps (state_of old.core) served.may served.each held.own).mine;
+}

@@ -1,5 +1,5 @@
 -- A statement that is given to a core: what it leaves, and what it counts.
-use Rattle.script_run.proofs.Words.{◌+◌, ◌<◌, ◌∙◌, ◌∷◌, ◌≡◌, ◌≤◌, [], Accepted, after_change, after_submitting, All, All-append, All-cons, All-head, All-map, All-nil, All-tail, All-weaker, ap, arith, awaited_by, Bool, Change, cond, count_by, CountsOne, DimensionDeclared, Ended, eq-eqb, eqb, false, if◌then◌else◌, is_open, is_query, IsOverOrWaits, IsSound, IsSoundQuery, length, length-append, life_in, List, Loaded, map, ne_eqb, None, one_if, Option, option_map, option_map_or, Outcome, outcome_of, Pending, queries_awaited, QueryLife, refl, Seat, seat_at, Some, State, Statement, Store, subst, sym, tables_of, Told, told_of, versions_in, Waiting, with_change, with_query, with_seat, with_statement, ℕ}
+use Rattle.script_run.proofs.Words.{◌+◌, ◌<◌, ◌∙◌, ◌∷◌, ◌≡◌, ◌≤◌, [], Accepted, after_change, after_submitting, All, All-append, All-cons, All-nil, All-weaker, ap, arith, aside-outcome, awaited_by, Bool, Change, cond, count_by, CountsOne, Ended, eq-eqb, eqb, false, if◌then◌else◌, is_open, is_query, IsOverOrWaits, IsSound, length, length-append, life_in, List, Loaded, ne_eqb, None, one_if, Option, option_map, option_map_or, Outcome, outcome_of, Pending, queries_awaited, QueryLife, refl, Seat, seat_at, Some, State, Statement, Store, subst, sym, tables_of, Told, told_of, versions_in, Waiting, with_query, ℕ}
 use Rattle.std.proofs.Common.{find}
 use Rattle.std.specs.Option.{option_or}
 use Rattle.std.proofs.lemmas.List.Folds.{find-append}
@@ -10,8 +10,10 @@ use Rattle.star_statement.specs.Effect.{store_by}
 use Rattle.star_statement.specs.Outcome as outcome
 use Rattle.core_state.proofs.CutFoundLemmas.{none-found}
 use Rattle.core_state.proofs.LoggedPlaceLemmas.{length-all-ended}
+use Rattle.core_state.proofs.WholeToldLemmas.{seated}
 use Rattle.script_run.proofs.FrontRunLemmas.{scan-submitted}
 use Rattle.script_run.proofs.PlayedSubmitLemmas.{submitted-seat, submitted-tables}
+use Rattle.script_run.proofs.ToldSubmitLemmas.{changed_by, is-new, lives-changed}
 
 -- no change takes versions away
 change-versions : (store : Store) (change : Change) → length store.versions ≤ length (after_change store change).versions
@@ -29,26 +31,6 @@ outcome-versions store found = by_change found.change
 submitted-versions : (statement : Statement) (old : State) → versions_in old ≤ versions_in (after_submitting 0 statement old)
 submitted-versions statement old = subst (λ (store : Store). versions_in old ≤ length store.versions) (sym (submitted-tables 0 statement old))
     (outcome-versions (tables_of old) (outcome_of (tables_of old) statement))
-
--- what a change leaves
-record Leaves (old new : State) : Type 0 where
-  settings : new.settings ≡ old.settings
-  statement : new.numbers.statement ≡ old.numbers.statement
-  queries : new.lives.queries ≡ old.lives.queries
-
-leaves-change : (statement : ℕ) (change : Option Change) (state : State)
-    → Leaves state (option_map_or (λ change. with_change 0 statement change state) change state)
-leaves-change statement (Some (DimensionDeclared table)) state = record { settings = refl; statement = refl; queries = refl }
-leaves-change statement other state = record { settings = refl; statement = refl; queries = refl }
-
--- what is told leaves the settings and the number
-query-settings : (statement : ℕ) (told : Told) (state : State) → (with_query 0 statement told state).settings ≡ state.settings
-query-settings statement (outcome.Replied reply) state = refl
-query-settings statement (outcome.Accepted query snapshot) state = refl
-
-query-number : (statement : ℕ) (told : Told) (state : State) → (with_query 0 statement told state).numbers.statement ≡ state.numbers.statement
-query-number statement (outcome.Replied reply) state = refl
-query-number statement (outcome.Accepted query snapshot) state = refl
 
 -- an accepted query waits behind the others
 record Asks (number : ℕ) (told : Told) (queries new : List QueryLife) : Type 0 where
@@ -78,35 +60,23 @@ query-asks number (outcome.Accepted query snapshot) state = record {
     last : QueryLife
     last = record { query = number; extent = versions_in state; life = Waiting }
 
--- no query has a number that was not given yet
-numbers-low : (state : State) → IsSound state → All (λ entry. entry.query ≤ state.numbers.statement) state.lives.queries
-numbers-low state sound = from-map state.lives.queries
-    (subst (All (λ n. n ≤ state.numbers.statement)) sound.queries.same
-    (All-map (λ n. n ≤ state.numbers.statement) (λ (a : Accepted). a.number) state.accepted
-    (All-weaker (IsSoundQuery state) (λ (a : Accepted). a.number ≤ state.numbers.statement) (λ a of. of.number) state.accepted sound.queries.each)))
-  where
-    from-map : (queries : List QueryLife) → All (λ n. n ≤ state.numbers.statement) (map (λ (e : QueryLife). e.query) queries)
-        → All (λ (e : QueryLife). e.query ≤ state.numbers.statement) queries
-    from-map [] low = All-nil (λ (e : QueryLife). e.query ≤ state.numbers.statement)
-    from-map (entry ∷ queries) low = All-cons (λ (e : QueryLife). e.query ≤ state.numbers.statement) entry queries
-        (All-head (λ n. n ≤ state.numbers.statement) entry.query (map (λ (e : QueryLife). e.query) queries) low)
-        (from-map queries (All-tail (λ n. n ≤ state.numbers.statement) entry.query (map (λ (e : QueryLife). e.query) queries) low))
-
+-- no query has the next number
 next-new : (state : State) → IsSound state → All (λ entry. eqb entry.query (state.numbers.statement + 1) ≡ false) state.lives.queries
-next-new state sound = All-weaker (λ (e : QueryLife). e.query ≤ state.numbers.statement) (λ (e : QueryLife). eqb e.query (state.numbers.statement + 1) ≡ false)
-    (λ e low. ne_eqb e.query (state.numbers.statement + 1) (λ same. omega arith)) state.lives.queries (numbers-low state sound)
+next-new state sound =
+    All-weaker (λ (e : QueryLife). e.query < state.numbers.statement + 1) (λ (e : QueryLife). eqb e.query (state.numbers.statement + 1) ≡ false)
+    (λ e low. ne_eqb e.query (state.numbers.statement + 1) (λ same. omega arith)) state.lives.queries (is-new state sound)
 
 -- a statement that a core is given
 pub counts-submitted : (statement : Statement) (old : State) → IsSound old → 0 < length old.seats → CountsOne statement old (after_submitting 0 statement old)
 counts-submitted statement old sound there = record {
-  settings = query-settings number found.told changed ∙ leaves.settings;
+  settings = (aside-outcome 0 found old).settings;
   scan = scan-submitted statement old;
   versions = submitted-versions statement old;
-  number = query-number number found.told changed ∙ leaves.statement;
+  number = (aside-outcome 0 found old).number;
   pending = ap (λ (s : Seat). s.pending) (submitted-seat 0 statement old there);
-  unfinished = asks.counts ∙ ap (λ queries. count_by (λ entry. is_open entry.life) queries + one_if (is_query (awaited_by found.told))) leaves.queries;
-  waits = λ waits. asks.waits (subst (All (λ entry. IsOverOrWaits entry.life)) (sym leaves.queries) waits);
-  life = asks.life (subst (All (λ entry. eqb entry.query number ≡ false)) (sym leaves.queries) (next-new old sound));
+  unfinished = asks.counts ∙ ap (λ queries. count_by (λ entry. is_open entry.life) queries + one_if (is_query (awaited_by found.told))) same;
+  waits = λ waits. asks.waits (subst (All (λ entry. IsOverOrWaits entry.life)) (sym same) waits);
+  life = asks.life (subst (All (λ entry. eqb entry.query number ≡ false)) (sym same) (next-new old sound));
 }
   where
     found : Outcome
@@ -115,14 +85,11 @@ counts-submitted statement old sound there = record {
     number : ℕ
     number = old.numbers.statement + 1
 
-    seated : State
-    seated = with_seat 0 (with_statement number found.told) (record old { numbers = record old.numbers { statement = number } })
-
     changed : State
-    changed = option_map_or (λ change. with_change 0 number change seated) found.change seated
+    changed = changed_by 0 number found.change (seated 0 found.told old)
 
-    leaves : Leaves seated changed
-    leaves = leaves-change number found.change seated
+    same : changed.lives.queries ≡ old.lives.queries
+    same = lives-changed 0 number found.change (seated 0 found.told old)
 
     asks : Asks number found.told changed.lives.queries (with_query 0 number found.told changed).lives.queries
     asks = query-asks number found.told changed

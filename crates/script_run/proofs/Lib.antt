@@ -3,7 +3,6 @@ pub mod Words
 mod NextLemmas
 mod WholeLemmas
 mod RunLemmas
-pub mod ToldLivesLemmas
 pub mod ToldFollowLemmas
 pub mod ToldSubmitLemmas
 pub mod PlayedQuietLemmas

@@ -2,7 +2,8 @@
 use Rattle.script_run.proofs.Words.{◌++◌, ◌<◌, ◌∙◌, ◌∷◌, ◌≡◌, [], after_taking, answer_reply, ap, Asked, Awaited, cases_lt, ComesTo, ComeTo, cond, drop, empty_seat, false, find, first_open, get_or, get_or-set_same, get_or_past, given_in, inl, inr, is_open, IsRight, IsSome, IsSomeAnd, IsSound, IsTakenAs, IsToldAs, IsTrue, Leads, length, Life, life_of, List, Lives, map, next_ready, None, Option, option_map, option_map_or, Pending, Played, played_as, Query, refl, Replied, Reply, Seat, seat_at, slice_get, Some, State, subst, sym, tables_of, take, taken_by, true, with_taken, ℕ, ⊎_elim}
 use Rattle.star_plan.specs.Answer.{answer_of}
 use Rattle.core_state.specs.Submitting.{Grouping, Ready, Whole, asked_by}
-use Rattle.script_run.proofs.ToldFollowLemmas.{asked-without, given-taken}
+use Rattle.core_state.proofs.WholeFrameLemmas.{bare-without}
+use Rattle.script_run.proofs.ToldFollowLemmas.{asked-by, given-taken}
 
 -- what a seat waits for comes to a reply that was taken, where what was taken is right
 comes-taken : (state : State) (statement : ℕ) (awaited : Awaited) (ready : Ready) (reply : Reply) → IsRight state statement awaited ready
@@ -60,7 +61,7 @@ leads-taken old pending ready reply is right taken = record {
     listed = record {
       since = listed.since;
       given = ap given_in seat_now ∙ given-taken here.taken here.pending ∙ listed.given;
-      queries = asked-without (take 1 here.pending) old.accepted ∙ listed.queries;
+      queries = asked-by old.accepted (after_taking 0 old).accepted (bare-without (take 1 here.pending) old.accepted) ∙ listed.queries;
       rising = listed.rising;
     };
     stay = λ query was. was;

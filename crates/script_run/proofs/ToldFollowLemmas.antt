@@ -1,9 +1,8 @@
 -- What follows where nothing changes, where one change comes behind another, and what stays asked whatever is kept of queries.
-use Rattle.script_run.proofs.Words.{◌++◌, ◌∙◌, ◌∷◌, ◌≡◌, [], Accepted, accepted_by, Answered, ap, append-nil, append_assoc, AreToldAs, drop, Follows, forgets, forgotten, had_of, inl, inr, IsListedBehind, life_of, List, Lives, map, Pending, Played, Query, refl, seat_at, Some, State, subst, sym, take, Taken, taken_by, ℕ, ⊎_elim}
+use Rattle.script_run.proofs.Words.{◌++◌, ◌∙◌, ◌∷◌, ◌≡◌, [], Accepted, accepted_by, Answered, ap, append-nil, append_assoc, AreToldAs, drop, Follows, had_of, inl, inr, IsListedBehind, life_of, List, Lives, map, Pending, Played, Query, refl, seat_at, Some, State, subst, sym, take, Taken, taken_by, ℕ, ⊎_elim}
 use Rattle.std.proofs.lemmas.List.Elements.{filter-append}
 use Rattle.std.proofs.lemmas.Option.{IfSome_then}
-use Rattle.core_state.specs.Submitting.{without_groups}
-use Rattle.core_state.proofs.AnewLemmas.{KeepsAsked, by-change}
+use Rattle.core_state.proofs.WholeFrameLemmas.{bare, read-bare}
 
 -- nothing changes, and the core has none of what was played
 pub follows-none : (others : List (ℕ × (Query × ℕ))) (before : List Taken) (state : State) (played : List Played) → had_of played ≡ []
@@ -52,35 +51,9 @@ follows-then others before old between new played more first second = record {
       (told-later between.lives new.lives second.stay first.since (had_of played) first.told) second.told);
 }
 
--- what is asked stays where other groups are kept
-pub asked-anew : (change : Accepted → Accepted) → KeepsAsked change → (accepted : List Accepted)
-    → map accepted_by (map change accepted) ≡ map accepted_by accepted
-asked-anew change keeps [] = refl
-asked-anew change keeps (first ∷ accepted) =
-    ap (λ asked. asked ∷ map accepted_by (map change accepted))
-    (by-change (λ a. accepted_by a ≡ accepted_by first) change keeps first (λ groups. refl))
-    ∙ ap (λ rest. accepted_by first ∷ rest) (asked-anew change keeps accepted)
-
--- and where nothing is kept any more of queries whose replies were taken
-pub asked-without : (pending : List Pending) (accepted : List Accepted) → map accepted_by (without_groups pending accepted) ≡ map accepted_by accepted
-asked-without [] accepted = refl
-asked-without (first ∷ pending) accepted =
-    asked-without pending (map (forgotten first.statement) accepted) ∙ asked-anew (forgotten first.statement) (forgets first.statement) accepted
-
--- and so does whose it is
-pub owners-anew : (change : Accepted → Accepted) → KeepsAsked change → (accepted : List Accepted)
-    → map (λ a. a.seat) (map change accepted) ≡ map (λ a. a.seat) accepted
-owners-anew change keeps [] = refl
-owners-anew change keeps (first ∷ accepted) =
-    ap (λ seat. seat ∷ map (λ (a : Accepted). a.seat) (map change accepted))
-    (by-change (λ a. a.seat ≡ first.seat) change keeps first (λ groups. refl))
-    ∙ ap (λ rest. first.seat ∷ rest) (owners-anew change keeps accepted)
-
-pub owners-without : (pending : List Pending) (accepted : List Accepted)
-    → map (λ a. a.seat) (without_groups pending accepted) ≡ map (λ a. a.seat) accepted
-owners-without [] accepted = refl
-owners-without (first ∷ pending) accepted =
-    owners-without pending (map (forgotten first.statement) accepted) ∙ owners-anew (forgotten first.statement) (forgets first.statement) accepted
+-- what is asked stays where queries are as they were but for what is kept of them
+pub asked-by : (old new : List Accepted) → map bare new ≡ map bare old → map accepted_by new ≡ map accepted_by old
+asked-by = read-bare accepted_by (λ accepted. refl)
 
 -- a seat was given the same where a reply is taken
 pub given-taken : (taken : List Taken) (pending : List Pending)

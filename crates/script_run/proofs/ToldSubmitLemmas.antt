@@ -1,12 +1,12 @@
 -- What a core tells where the front gives it a statement.
-use Rattle.script_run.proofs.Words.{◌++◌, ◌+◌, ◌<◌, ◌∙◌, ◌∷◌, ◌≡◌, [], accepted_by, after_submitting, All, All-weaker, ap, append-nil, append_assoc, AreRising, arith, awaited_by, Change, DimensionDeclared, Follows, given_in, IsListedBehind, IsSound, IsSoundQuery, List, map, map-append, of-numbers, Option, option_map_or, outcome_of, Pending, queries_among, Query, QueryLife, refl, Seat, seat_at, Some, State, Statement, subst, sym, tables_of, Taken, taken_by, Told, versions_in, Waiting, with_change, with_query, with_seat, with_statement, ℕ}
+use Rattle.script_run.proofs.Words.{◌++◌, ◌+◌, ◌<◌, ◌∙◌, ◌∷◌, ◌≡◌, [], accepted_by, after_submitting, All, All-weaker, Answered, ap, append-nil, append_assoc, AreRising, arith, aside-outcome, awaited_by, Change, DimensionDeclared, Follows, given_in, IsListedBehind, IsSound, IsSoundQuery, List, map, map-append, of-numbers, Option, option_map_or, outcome_of, Pending, queries_among, Query, refl, Seat, seat_at, Some, State, Statement, subst, sym, tables_of, Taken, taken_by, Told, versions_in, Waiting, with_change, with_query, with_statement, ℕ}
 use Rattle.std.proofs.lemmas.List.Elements.{filter_map-append}
 use Rattle.std.proofs.lemmas.List.Quantifiers.{all_pairs_push}
 use Rattle.star_statement.specs.Outcome as outcome
 use Rattle.aggregations.specs.Grouped.{grouped_of}
 use Rattle.pipeline_manager.specs.Conditions.{IsNew}
+use Rattle.core_state.proofs.WholeToldLemmas.{seated}
 use Rattle.script_run.specs.Played.{query_by}
-use Rattle.script_run.proofs.ToldLivesLemmas.{LivesOn, lives-behind, lives-same}
 
 -- a statement of this number, of which this is told
 abbrev pub waits_for : (statement : ℕ) → Told → Pending
@@ -20,7 +20,7 @@ pub accepted-changed : (seat statement : ℕ) (change : Option Change) (state : 
 accepted-changed seat statement (Some (DimensionDeclared table)) state = refl
 accepted-changed seat statement other state = refl
 
-lives-changed : (seat statement : ℕ) (change : Option Change) (state : State)
+pub lives-changed : (seat statement : ℕ) (change : Option Change) (state : State)
     → (changed_by seat statement change state).lives.queries ≡ state.lives.queries
 lives-changed seat statement (Some (DimensionDeclared table)) state = refl
 lives-changed seat statement other state = refl
@@ -33,40 +33,30 @@ accepted-asked seat statement (outcome.Accepted query snapshot) state =
     map-append accepted_by state.accepted
     (record { number = statement; seat = seat; query = query; snapshot = snapshot; groups = Some (grouped_of query []) } ∷ [])
 
--- and it waits
-lives-asked : (seat statement : ℕ) (told : Told) (state : State) → AreRising state.lives.queries → IsNew statement state.lives
-    → LivesOn state.lives.queries (with_query seat statement told state).lives.queries
-lives-asked seat statement (outcome.Replied reply) state rising new = lives-same state.lives.queries rising
-lives-asked seat statement (outcome.Accepted query snapshot) state rising new =
-    let added : QueryLife = record { query = statement; extent = versions_in state; life = Waiting } in
-    lives-behind state.lives.queries added
-    (all_pairs_push (λ entry later. entry.query < later.query) state.lives.queries added rising new)
+-- and its number is the last
+rising-asked : (seat statement : ℕ) (told : Told) (state : State) → AreRising state.lives.queries → IsNew statement state.lives
+    → AreRising (with_query seat statement told state).lives.queries
+rising-asked seat statement (outcome.Replied reply) state rising new = rising
+rising-asked seat statement (outcome.Accepted query snapshot) state rising new =
+    all_pairs_push (λ entry later. entry.query < later.query) state.lives.queries
+    (record { query = statement; extent = versions_in state; life = Waiting }) rising new
 
 -- the next number is that of no query
-is-new : (state : State) → IsSound state → IsNew (state.numbers.statement + 1) state.lives
+pub is-new : (state : State) → IsSound state → IsNew (state.numbers.statement + 1) state.lives
 is-new state sound =
     of-numbers (λ number. number < state.numbers.statement + 1) (λ accepted. accepted.number) (λ entry. entry.query) state.accepted state.lives.queries
     sound.queries.same
     (All-weaker (IsSoundQuery state) (λ accepted. accepted.number < state.numbers.statement + 1)
     (λ accepted is. let low = is.number in omega arith) state.accepted sound.queries.each)
 
--- the core in which a seat has the next statement
-abbrev pub seated : (seat : ℕ) → Told → State → State
-seated seat told state =
-    with_seat seat (with_statement (state.numbers.statement + 1) told)
-    (record state { numbers = record state.numbers { statement = state.numbers.statement + 1 } })
-
-pub lives-submitted : (seat : ℕ) (statement : Statement) (state : State) → IsSound state
-    → LivesOn state.lives.queries (after_submitting seat statement state).lives.queries
-lives-submitted seat statement state sound =
+rising-submitted : (seat : ℕ) (statement : Statement) (state : State) → IsSound state → AreRising (after_submitting seat statement state).lives.queries
+rising-submitted seat statement state sound =
     let found = outcome_of (tables_of state) statement in
     let number = state.numbers.statement + 1 in
-    let changed : State = changed_by seat number found.change (seated seat found.told state) in
-    let same : changed.lives.queries ≡ state.lives.queries = lives-changed seat number found.change (seated seat found.told state) in
-    subst (λ queries. LivesOn queries (with_query seat number found.told changed).lives.queries) same
-    (lives-asked seat number found.told changed
+    let same = lives-changed seat number found.change (seated seat found.told state) in
+    rising-asked seat number found.told (changed_by seat number found.change (seated seat found.told state))
     (subst AreRising (sym same) sound.slots.lives.rising)
-    (subst (All (λ entry. entry.query < number)) (sym same) (is-new state sound)))
+    (subst (All (λ entry. entry.query < number)) (sym same) (is-new state sound))
 
 pub accepted-submitted : (seat : ℕ) (statement : Statement) (state : State) → map accepted_by (after_submitting seat statement state).accepted
     ≡ map accepted_by state.accepted
@@ -96,7 +86,7 @@ follows-submitted statement old sound seat others before listed =
     let told = (outcome_of (tables_of old) statement).told in
     let number = old.numbers.statement + 1 in
     let last = taken_by (waits_for number told) in
-    let on = lives-submitted 0 statement old sound in record {
+    let leaves = aside-outcome 0 (outcome_of (tables_of old) statement) old in record {
       listed = record {
         since = listed.since ++ last ∷ [];
         given = ap given_in seat ∙ given-more number told (seat_at old 0) ∙ ap (λ given. given ++ last ∷ []) listed.given
@@ -104,9 +94,9 @@ follows-submitted statement old sound seat others before listed =
         queries = accepted-submitted 0 statement old ∙ ap (λ queries. queries ++ queries_among (last ∷ [])) listed.queries
             ∙ append_assoc others (queries_among listed.since) (queries_among (last ∷ []))
             ∙ ap (λ queries. others ++ queries) (sym (filter_map-append query_by listed.since (last ∷ [])));
-        rising = on.rising;
+        rising = rising-submitted 0 statement old sound;
       };
-      stay = on.stay;
+      stay = λ query was. leaves.over query Answered refl was;
       since = [];
       taken = ap (λ (s : Seat). s.taken) seat ∙ sym (append-nil (seat_at old 0).taken);
       told = tt;

@@ -18,7 +18,7 @@ pub use Rattle.script_reader.specs.declared.reader.TheConstants.{SCRIPT_LIMIT}
 pub use Rattle.script_reader.specs.declared.statement.Statement.{Statement}
 pub use Rattle.star_plan.specs.Test.{Query}
 pub use Rattle.pipeline_manager.specs.Conditions.{is_open}
-pub use Rattle.pipeline_manager.specs.Lives.{life_in, life_of, Lives, query_in, slot_of}
+pub use Rattle.pipeline_manager.specs.Lives.{life_in, life_of, Lives, query_in}
 pub use Rattle.pipeline_manager.specs.Sound.{AreRising}
 pub use Rattle.pipeline_manager.specs.declared.life.Life.{Life}
 pub use Rattle.pipeline_manager.specs.declared.life.Life.TheVariants.{Abandoned, Answered, Building, Spoiled, Waiting}
@@ -40,27 +40,23 @@ pub use Rattle.core_state.proofs.AnewLemmas.{forgets}
 pub use Rattle.core_state.proofs.AskLemmas.{of-numbers}
 pub use Rattle.core_state.proofs.LaterLemmas.{entries-by}
 pub use Rattle.core_state.proofs.SeatLemmas.{part-stays}
-pub use Rattle.core_state.proofs.StepLemmas.{StepsKeep}
-pub use Rattle.core_state.proofs.StepSeatLemmas.{aside-outcome}
 pub use Rattle.core_state.proofs.WholeFrameLemmas.{by-option}
-pub use Rattle.core_state.proofs.WholeRunLemmas.{StepsLoseNone}
-pub use Rattle.core_state.specs.Admitting.{after_build, with_built}
+pub use Rattle.core_state.proofs.WholeToldLemmas.{aside-outcome}
 pub use Rattle.core_state.specs.Answers.{IsRight}
-pub use Rattle.core_state.specs.Cutting.{after_distribute, after_give}
 pub use Rattle.core_state.specs.Events.{IsEnabled}
-pub use Rattle.core_state.specs.Found.{accepted_at, flight_at, is_held_by}
+pub use Rattle.core_state.specs.Found.{accepted_at}
 pub use Rattle.core_state.specs.Sound.{empty_core, IsAwaited, IsSound, IsSoundQuery, IsSoundSeat}
 pub use Rattle.core_state.specs.State.{Accepted, Asked, Awaited, Entry, Pending, Replied, Scan, Seat, State, Taken}
 pub use Rattle.core_state.specs.Steps.{after_step, after_steps, Done, MayStep, MayStepAll, Replying, Step, Wanting}
 pub use Rattle.core_state.specs.Submitting.{after_abandoning, after_outcome, after_submitting, after_taking, awaited_by, empty_seat, forgotten, next_ready, ready_to, seat_at, taken_by, with_change, with_query, with_seat, with_statement, with_taken, without_pending}
 pub use Rattle.core_state.specs.Tables.{changes_of, tables_by, tables_of, versions_in}
 pub use Rattle.core_state.specs.declared.event.Event.{Event}
-pub use Rattle.core_state.specs.declared.event.Event.TheVariants.{Abandon, Build, Clear, Cut, Distribute, Finish, Give, Release, Reorder, Reserve, Start, Submit, Take}
+pub use Rattle.core_state.specs.declared.event.Event.TheVariants.{Abandon, Submit}
 pub use Rattle.core_state.specs.declared.settings.RunSettings.{RunSettings}
 pub use Rattle.event_core.specs.Chosen.{AreIdle}
 pub use Rattle.event_core.specs.Replies.{first_open, IsReplyOf, ready_of}
 pub use Rattle.event_core.specs.Seen.{state_of}
-pub use Rattle.event_core.specs.Took.{IsLed, IsSpoilt, Took, TookAll}
+pub use Rattle.event_core.specs.Took.{IsLed, Took, TookAll}
 pub use Rattle.event_core.specs.declared.replies.Ready.{Ready}
 pub use Rattle.core_driver.proofs.LapCountLemmas.{count-cons}
 pub use Rattle.core_driver.specs.Driven.{IsDriven}

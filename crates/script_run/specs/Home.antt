@@ -1,14 +1,12 @@
 -- What sessions leave in a core, one after the other: a front at home between two reads, and what was given to a core where the replies halted.
-use Rattle.std.specs.Prelude.{◌≡◌, ◌≢◌, ℕ, ◌<◌, List, [], ◌++◌, All, map, Option, Some, None, Result, Ok, Err}
+use Rattle.std.specs.Prelude.{◌≡◌, ◌≢◌, ℕ, ◌<◌, List, [], ◌++◌, All, map, Option, Some, Result, Ok, Err}
 use Rattle.std.specs.Io.KnownBytes.{Appends}
 use Rattle.script_reader.specs.Reading.{Reading}
-use Rattle.star_plan.specs.Test.{Query}
 use Rattle.pipeline_manager.specs.Lives.{life_of}
 use Rattle.pipeline_manager.specs.declared.life.Life.TheVariants.{Answered}
 use Rattle.core_state.specs.State.{Entry, State, Taken}
 use Rattle.core_state.specs.Steps.{Done, MayStepAll, Replying, Step, Wanting, after_steps}
 use Rattle.core_state.specs.Submitting.{seat_at}
-use Rattle.core_state.specs.Whole.{LosesNone}
 use Rattle.core_state.specs.declared.event.Event.TheVariants.{Submit}
 use Rattle.event_core.specs.Chosen.{AreIdle}
 use Rattle.event_core.specs.Seen.{state_of}
@@ -21,16 +19,6 @@ use Rattle.script_run.specs.Played.{Played, accepted_by}
 use Rattle.script_run.specs.declared.front.Front.{Front}
 use Rattle.script_run.specs.declared.halt.Halt.{Halt}
 
--- one whose reply was taken and that asks no query has no number of a query
-abbrev pub AreApart : (asked : List (ℕ × (Query × ℕ))) → List Taken → Type 0
-AreApart asked taken = All (λ one. one.query ≡ None → All (λ query. query.0 ≢ one.statement) asked) taken
-
--- no statement is lost, and what was taken as the reply to no query is that to none: so a query that may still be answered is waited for
--- by its seat
-pub record IsWaitedFor (state : State) : Type 0 where
-  pub whole : LosesNone state
-  pub apart : AreApart (map accepted_by state.accepted) (seat_at state 0).taken
-
 -- the front knows its core, wherever it was halted: no batch is in a hand, and every query of the core is one of seat 0
 pub record IsHeld (front : Front) : Type 0 where
   pub some : 0 < front.settings.slots
@@ -38,7 +26,6 @@ pub record IsHeld (front : Front) : Type 0 where
   pub submitted : (state_of front.core).numbers.statement ≡ front.submitted
   pub hands : AreIdle (state_of front.core)
   pub own : All (λ accepted. accepted.seat ≡ 0) (state_of front.core).accepted
-  pub waited : IsWaitedFor (state_of front.core)
 
 -- a front at home: nothing is waited for, and no query is open
 pub record IsAtHome (front : Front) : Type 0 where

@@ -16,12 +16,12 @@ use Rattle.aggregations.specs.Grouped.{grouped_of}
 use Rattle.pipeline_manager.specs.Lives.{Lives, life_of}
 use Rattle.pipeline_manager.specs.Sound.{AreRising}
 use Rattle.pipeline_manager.specs.declared.life.Life.TheVariants.{Answered}
+-- an event that leaves the history and the seats
+pub use Rattle.core_state.specs.Events.{LeavesSeats}
 use Rattle.core_state.specs.State as state
 use Rattle.core_state.specs.State.{Accepted, Asked, Awaited, Pending, Seat, State, Taken}
 use Rattle.core_state.specs.Submitting.{Grouping, Ready, Whole, asked_by, awaited_by, seat_at, taken_by}
 use Rattle.core_state.specs.Tables.{changes_of, tables_of}
-use Rattle.core_state.specs.declared.event.Event.{Event}
-use Rattle.core_state.specs.declared.event.Event.TheVariants.{Submit, Abandon}
 
 -- what became of a statement: its reply, whether the core has it, and the query that it asks with its snapshot, where the core accepted one
 pub record Played : Type 0 where
@@ -130,9 +130,3 @@ pub record Leads (old : State) (statements : List Statement) (new : State) (play
   pub plays : (rest : List Statement) (more : List Played) (after : List Change) → MayPlay new rest more after
       → MayPlay old (statements ++ rest) (played ++ more) after
   pub follows : (others : List (ℕ × (Query × ℕ))) (before : List Taken) → IsListedBehind others before old → Follows others before old new played
-
--- an event that leaves the history and the seats: no statement is submitted, and no query abandoned
-abbrev pub LeavesSeats : Event → Type 0
-LeavesSeats (Submit seat statement) = ⊥
-LeavesSeats (Abandon query) = ⊥
-LeavesSeats other = Unit {0}

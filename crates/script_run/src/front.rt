@@ -26,7 +26,6 @@ use crate::waiting::is_wait;
 use core_driver::finish_all;
 use core_state::{
     Event, RunSettings, a_reply_that_may_be_taken_is_right, later_steps_change_no_answer,
-    no_step_loses_a_statement,
 };
 use event_core::{Core, StepFault, every_core_is_sound, taken_events_are_steps};
 use pipeline_manager::Life;
@@ -66,8 +65,6 @@ impl Front {
         ensures free { IfOk result (λ front. front.unfinished ≡ 0) }
         ensures home { IfOk result IsAtHome }
     {
-        // It is called for what it ensures.
-        no_step_loses_a_statement();
         let core = Core::new(alloc, settings)?;
         Ok(Front {
             alloc,

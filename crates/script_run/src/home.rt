@@ -12,10 +12,7 @@ ghost use Rattle.script_run.specs.Leaving.{IsLeaving};
 use crate::front::Front;
 use crate::halt::Halt;
 use crate::shared::play_whole;
-use core_state::{
-    Event, a_reply_that_may_be_taken_is_right, every_step_keeps_a_core_sound,
-    no_step_loses_a_statement,
-};
+use core_state::{Event, a_reply_that_may_be_taken_is_right};
 use event_core::{Core, every_core_is_sound};
 use script_reader::ScriptReader;
 use star_io::Sink;
@@ -41,10 +38,6 @@ impl Front {
         ensures faults { CountsHalt result (K.write_faults sink.old) (K.write_faults sink.new) (K.write_failed sink.new) }
         ensures apart { K.reading_side sink.new ≡ K.reading_side sink.old }
     {
-        // All three are called for what they ensure.
-        every_step_keeps_a_core_sound();
-        no_step_loses_a_statement();
-        every_core_is_sound(&self.core);
         play_whole(rt, self, reader, sink)?;
         self.play_out(rt, sink)?;
         Ok(())
@@ -58,10 +51,6 @@ impl Front {
         ensures served { IsServed (state_of self.old.core) (state_of self.new.core) }
         ensures settings { self.new.settings ≡ self.old.settings }
     {
-        // All three are called for what they ensure.
-        every_step_keeps_a_core_sound();
-        no_step_loses_a_statement();
-        every_core_is_sound(&self.core);
         abandon_open(&mut self.core);
         drop_ready(&mut self.core);
         self.unfinished = 0;

@@ -1,6 +1,6 @@
 -- What turn after turn leaves, where it breaks off and in the end.
 use Rattle.core_driver.proofs.Words.{◌↔◌, ◌∙◌, ◌≡◌, Bool, false, IsDriven, IsTrue, MayGoOn, State, state_of, sym, true}
-use Rattle.core_driver.proofs.FinishLemmas.{first-lap, gone-answers, gone-finishes, gone-first, gone-lap, gone-on}
+use Rattle.core_driver.proofs.FinishLemmas.{first-lap, gone-answers, gone-driven, gone-finishes, gone-first, gone-lap, gone-on, gone-shares}
 use Rattle.core_driver.proofs.LedLemmas.{led-joined}
 use Rattle.core_driver.proofs.driver.finish_all.Goals as goal
 
@@ -19,17 +19,26 @@ turns-init g c =
 pub turns-preserved : goal.turns-preserved
 turns-preserved g c =
     gone-on c.every_step_keeps_a_core_sound.ensures (state_of c.args.core.now) (state_of c.turns.core) (state_of c.turn.new.core)
-    c.every_core_is_sound.ensures c.turns.invariant (c.may_go_on.ensures.0 c.turns-test.true) c.turn.ensures.driven c.in_ok-turn.ensures.whole
-    c.in_ok-turn.ensures.settled
+    c.every_core_is_sound.ensures c.turns.invariant (c.may_go_on.ensures.0 c.turns-test.true) c.in_ok-turn.ensures.whole c.in_ok-turn.ensures.settled
 
 pub returns-in_err-turn-clause-driven : goal.returns-in_err-turn-clause-driven
 returns-in_err-turn-clause-driven g c =
-    led-joined IsDriven (state_of c.args.core.now) (state_of c.turns.core) (state_of c.turn.new.core) c.turns.invariant.driven c.turn.ensures.driven
+    led-joined IsDriven (state_of c.args.core.now) (state_of c.turns.core) (state_of c.turn.new.core)
+    (gone-driven (state_of c.args.core.now) (state_of c.turns.core) c.turns.invariant) c.turn.ensures.driven
 
 pub returns-in_err-turn-clause-lap : goal.returns-in_err-turn-clause-lap
 returns-in_err-turn-clause-lap g c =
     gone-lap c.every_step_keeps_a_core_sound.ensures (state_of c.args.core.now) (state_of c.turns.core) (state_of c.turn.new.core)
     c.every_core_is_sound.ensures c.turns.invariant (c.may_go_on.ensures.0 c.turns-test.true) c.turn.ensures.turn
+
+pub returns-clause-driven : goal.returns-clause-driven
+returns-clause-driven g c = gone-driven (state_of c.args.core.now) (state_of c.turns.core) c.turns.invariant
+
+pub returns-clause-lap : goal.returns-clause-lap
+returns-clause-lap g c = gone-shares (state_of c.args.core.now) (state_of c.turns.core) c.turns.invariant
+
+pub returns-clause-turns : goal.returns-clause-turns
+returns-clause-turns g c = c.turns.invariant.turns
 
 pub returns-clause-finished : goal.returns-clause-finished
 returns-clause-finished g c =

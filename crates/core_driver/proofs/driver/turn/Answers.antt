@@ -1,5 +1,5 @@
 -- A turn is an admission and a round.
-use Rattle.core_driver.proofs.Words.{IsOfAdmission, on_ok_weaker, state_of}
+use Rattle.core_driver.proofs.Words.{inr, IsOfAdmission, on_ok_weaker, state_of}
 use Rattle.core_driver.proofs.LedLemmas.{led-sound}
 use Rattle.core_driver.proofs.WholeLemmas.{halves-driven, turn-admits, turn-falls, turn-rises, turn-settles}
 use Rattle.core_driver.proofs.driver.turn.Goals as goal
@@ -8,10 +8,13 @@ pub returns-clause-driven : goal.returns-clause-driven
 returns-clause-driven g c =
     halves-driven (state_of c.args.core.now) (state_of c.admit.new.core) (state_of c.go_round.new.core) c.admit.ensures.led c.go_round.ensures.led
 
+pub returns-clause-turn : goal.returns-clause-turn
+returns-clause-turn g c = inr (state_of c.admit.new.core, (c.in_ok-admit.ensures.admits, c.go_round.ensures.led))
+
 pub returns-clause-whole : goal.returns-clause-whole
 returns-clause-whole g c = on_ok_weaker c.go_round.result
-    (λ landed. (state_of c.admit.new.core, (c.in_ok-admit.ensures.admits, c.go_round.ensures.led)))
-    c.go_round.ensures.landed
+    (λ round. record { mid = state_of c.admit.new.core; admits = c.in_ok-admit.ensures.admits; round = round })
+    c.go_round.ensures.round
 
 pub returns-clause-settled : goal.returns-clause-settled
 returns-clause-settled g c = on_ok_weaker c.go_round.result

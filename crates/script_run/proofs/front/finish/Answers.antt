@@ -1,8 +1,9 @@
 use Rattle.script_run.proofs.Words.{arith, on_ok_weaker, state_of}
+use Rattle.core_driver.proofs.TakenLemmas.{frame-driven}
 use Rattle.script_run.proofs.FrontCountLemmas.{awaited-some}
 use Rattle.script_run.proofs.FrontPlayLemmas.{on-err}
 use Rattle.script_run.proofs.FrontRunLemmas.{run-driven}
-use Rattle.script_run.proofs.LapEventLemmas.{goes-round, keeps-driven}
+use Rattle.script_run.proofs.LapEventLemmas.{goes-round}
 use Rattle.script_run.proofs.PlayedEventLemmas.{leads-driven}
 use Rattle.script_run.proofs.front.finish.Goals as goal
 
@@ -15,7 +16,7 @@ returns-clause-round g c =
     c.finish_all.ensures.driven c.finish_all.ensures.lap
 
 pub returns-clause-number : goal.returns-clause-number
-returns-clause-number g c = (keeps-driven (state_of c.args.core.now) (state_of c.finish_all.new.core) c.finish_all.ensures.driven).statement
+returns-clause-number g c = (frame-driven (state_of c.args.core.now) (state_of c.finish_all.new.core) c.finish_all.ensures.driven).number
 
 pub returns-clause-closed : goal.returns-clause-closed
 returns-clause-closed g c = on_ok_weaker c.finish_all.result (λ finished. finished.none_open) c.finish_all.ensures.finished

@@ -4,8 +4,7 @@ use Rattle.script_run.proofs.front.Front.let_go.Goals as goal
 
 pub returns-clause-home : goal.returns-clause-home
 returns-clause-home c =
-    left-home c.every_step_keeps_a_core_sound.ensures c.no_step_loses_a_statement.ensures.step c.args.self.now _ (state_of c.abandon_open.new.core)
-    c.requires.held c.every_core_is_sound.ensures c.abandon_open.ensures.leaves c.drop_ready.ensures.leaves c.drop_ready.ensures.sound
+    left-home c.args.self.now _ (state_of c.abandon_open.new.core) c.requires.held c.abandon_open.ensures.leaves c.drop_ready.ensures.leaves c.drop_ready.ensures.sound
     (c.drop_ready.ensures.all c.abandon_open.ensures.closed) refl refl refl
 
 pub returns-clause-lets_go : goal.returns-clause-lets_go

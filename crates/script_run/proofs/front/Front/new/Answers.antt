@@ -7,4 +7,4 @@ returns-clause-counted c = new-counted _ (record { within = c.requires; core = c
 
 pub returns-clause-home : goal.returns-clause-home
 returns-clause-home c =
-    new-home c.no_step_loses_a_statement.ensures.first _ (record { within = c.requires; core = c.in_ok-core.ensures; submitted = refl; unfinished = refl })
+    new-home _ (record { within = c.requires; core = c.in_ok-core.ensures; submitted = refl; unfinished = refl })

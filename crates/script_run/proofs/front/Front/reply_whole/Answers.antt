@@ -6,13 +6,13 @@ use Rattle.script_run.proofs.front.Front.reply_whole.Goals as goal
 
 pub returns-in_err-play_whole-clause-served : goal.returns-in_err-play_whole-clause-served
 returns-in_err-play_whole-clause-served g c =
-    served-run c.every_step_keeps_a_core_sound.ensures (state_of c.args.self.now.core) (state_of c.play_whole.new.front.core) c.every_core_is_sound.ensures
+    served-run (state_of c.args.self.now.core) (state_of c.play_whole.new.front.core)
     c.requires.home.held.own c.play_whole.ensures.run
 
 pub returns-in_err-play_whole-clause-held : goal.returns-in_err-play_whole-clause-held
 returns-in_err-play_whole-clause-held g c =
-    held-after c.every_step_keeps_a_core_sound.ensures c.no_step_loses_a_statement.ensures.step c.args.self.now c.play_whole.new.front
-    c.every_core_is_sound.ensures c.requires.home.held (returns-in_err-play_whole-clause-served g c) c.play_whole.ensures.known
+    held-after c.args.self.now c.play_whole.new.front
+    c.requires.home.held (returns-in_err-play_whole-clause-served g c) c.play_whole.ensures.known
 
 pub returns-in_err-play_out-clause-replies : goal.returns-in_err-play_out-clause-replies
 returns-in_err-play_out-clause-replies g c =
@@ -22,14 +22,14 @@ returns-in_err-play_out-clause-replies g c =
 
 pub returns-in_err-play_out-clause-served : goal.returns-in_err-play_out-clause-served
 returns-in_err-play_out-clause-served g c =
-    served-run c.every_step_keeps_a_core_sound.ensures (state_of c.args.self.now.core) (state_of c.play_out.new.self.core) c.every_core_is_sound.ensures
+    served-run (state_of c.args.self.now.core) (state_of c.play_out.new.self.core)
     c.requires.home.held.own
     (run-then (state_of c.args.self.now.core) (state_of c.play_whole.new.front.core) (state_of c.play_out.new.self.core) c.play_whole.ensures.run c.play_out.ensures.run)
 
 pub returns-in_err-play_out-clause-held : goal.returns-in_err-play_out-clause-held
 returns-in_err-play_out-clause-held g c =
-    held-after c.every_step_keeps_a_core_sound.ensures c.no_step_loses_a_statement.ensures.step c.args.self.now c.play_out.new.self
-    c.every_core_is_sound.ensures c.requires.home.held (returns-in_err-play_out-clause-served g c) c.play_out.ensures.known
+    held-after c.args.self.now c.play_out.new.self
+    c.requires.home.held (returns-in_err-play_out-clause-served g c) c.play_out.ensures.known
 
 pub returns-clause-replies : goal.returns-clause-replies
 returns-clause-replies g c =
@@ -38,14 +38,14 @@ returns-clause-replies g c =
 
 pub returns-clause-served : goal.returns-clause-served
 returns-clause-served g c =
-    served-run c.every_step_keeps_a_core_sound.ensures (state_of c.args.self.now.core) (state_of c.play_out.new.self.core) c.every_core_is_sound.ensures
+    served-run (state_of c.args.self.now.core) (state_of c.play_out.new.self.core)
     c.requires.home.held.own
     (run-then (state_of c.args.self.now.core) (state_of c.play_whole.new.front.core) (state_of c.play_out.new.self.core) c.play_whole.ensures.run c.play_out.ensures.run)
 
 pub returns-clause-held : goal.returns-clause-held
 returns-clause-held g c =
-    held-after c.every_step_keeps_a_core_sound.ensures c.no_step_loses_a_statement.ensures.step c.args.self.now c.play_out.new.self
-    c.every_core_is_sound.ensures c.requires.home.held (returns-clause-served g c) c.play_out.ensures.known
+    held-after c.args.self.now c.play_out.new.self
+    c.requires.home.held (returns-clause-served g c) c.play_out.ensures.known
 
 pub returns-clause-home : goal.returns-clause-home
 returns-clause-home g c = record {
