@@ -35,10 +35,29 @@ pub fn serve<R: Threads + Sync + Wait, D: Door>(
     let Ok(mut front) = Front::new(alloc, settings) else {
         return ServeEnd::NoMemory;
     };
+    listen(rt, alloc, &mut front, port, accept, door)
+}
+
+/// Listens at a port, and serves connections over a front that is made.
+fn listen<R: Threads + Sync + Wait, D: Door>(
+    rt: &R,
+    alloc: Global,
+    front: &mut Front,
+    port: u16,
+    accept: u32,
+    door: &mut D,
+) -> ServeEnd
+    requires { IsAtHome front.old }
+    ensures asked { D.asked door.new ≡ Some port }
+    ensures ended { result ≡ ServeEnd.Ended →
+        (D.ended door.new ≡ true) ⊎ ((accept ≢ 0) × HasGiven accept (D.given door.old) (D.given door.new)) }
+    ensures served { result ≢ ServeEnd.NoMemory }
+    ensures faults { CountsDoor result (D.door_faults door.old) (D.door_faults door.new) (D.door_failed door.new) }
+{
     match door.listen(port) {
         Err(Failed) => ServeEnd::DoorFault,
-        Ok(()) if accept == 0 => serve_all(rt, alloc, &mut front, door),
-        Ok(()) => serve_some(rt, alloc, &mut front, accept, door),
+        Ok(()) if accept == 0 => serve_all(rt, alloc, front, door),
+        Ok(()) => serve_some(rt, alloc, front, accept, door),
     }
 }
 

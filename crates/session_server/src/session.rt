@@ -1,6 +1,6 @@
 //! One session: the statements of a connection go to the core, and their replies come back.
 ghost use Rattle.std.specs.Prelude.{◌≡◌, ◌<◌, ◌≤◌, false, length, OnOk};
-ghost use Rattle.script_reader.specs.Reading.{StaysFed};
+ghost use Rattle.script_reader.specs.Reading.{StaysFed, no_reading};
 ghost use Rattle.script_reader.specs.declared.reader.TheConstants.{SCRIPT_LIMIT};
 ghost use Rattle.event_core.specs.Seen.{state_of};
 ghost use Rattle.script_run.specs.Answer.{CountsHalt};
@@ -81,12 +81,35 @@ fn play_session<R: Threads + Sync, K: Link>(
         (K.read_faults link.old) (K.read_faults link.new) (K.read_failed link.new)
         (K.write_faults link.old) (K.write_faults link.new) (K.write_failed link.new) }
 {
+    let mut reader = ScriptReader::new(alloc);
+    play_pieces(rt, front, &mut reader, link)
+}
+
+/// The same by a reader to which nothing was fed yet.
+fn play_pieces<R: Threads + Sync, K: Link>(
+    rt: &R,
+    front: &mut Front,
+    reader: &mut ScriptReader,
+    link: &mut K,
+) -> SessionEnd
+    requires home { IsAtHome front.old }
+    requires unfed { reader.old ≡ no_reading }
+    ensures answers { AnswersSession result (state_of front.old.core) (state_of front.new.core)
+        (K.ended link.old) (K.ended link.new) (K.read_faults link.old) (K.read_faults link.new)
+        (K.left link.old) (K.left link.new) (K.taken link.old) (K.taken link.new) }
+    ensures served { IsServed (state_of front.old.core) (state_of front.new.core) }
+    ensures home { EndsWhole result → IsAtHome front.new }
+    ensures held { IsHeld front.new }
+    ensures settings { front.new.settings ≡ front.old.settings }
+    ensures faults { CountsFaults result
+        (K.read_faults link.old) (K.read_faults link.new) (K.read_failed link.new)
+        (K.write_faults link.old) (K.write_faults link.new) (K.write_failed link.new) }
+{
     every_core_is_sound(&front.core);
     let mut piece = [0u8; PIECE_BYTES];
-    let mut reader = ScriptReader::new(alloc);
     'pieces: loop {
-        match read_link(link, &mut piece, &mut reader) {
-            Piece::Fed => match reply_link(rt, front, &mut reader, link) {
+        match read_link(link, &mut piece, reader) {
+            Piece::Fed => match reply_link(rt, front, reader, link) {
                 Ok(()) => {}
                 Err(halt) => return end_of_halt(halt),
             },
@@ -97,7 +120,7 @@ fn play_session<R: Threads + Sync, K: Link>(
         }
     }
     reader.finish();
-    match reply_link(rt, front, &mut reader, link) {
+    match reply_link(rt, front, reader, link) {
         Ok(()) => SessionEnd::Done,
         Err(halt) => end_of_halt(halt),
     }

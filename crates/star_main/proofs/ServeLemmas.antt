@@ -1,11 +1,10 @@
 -- What the program tells in the mode `serve`, from what the serving of connections tells by its end.
-use Rattle.std.specs.Prelude.{IfSome}
+use Rattle.std.specs.Prelude.{IfSome, IsSomeAnd}
 use Rattle.std.proofs.Common.{◌≡◌, ◌≢◌, ℕ, Bool, true, Option, Some, None, ◌⊎◌, inl, inr, refl, sym, subst, arith}
 use Rattle.star_io.specs.declared.serve_end.ServeEnd.{ServeEnd}
 use Rattle.star_io.specs.declared.serve_end.ServeEnd.TheVariants.{Ended, DoorFault, NoMemory}
 use Rattle.command_words.specs.declared.settings.Settings.{Settings}
 use Rattle.session_server.specs.Server.{CountsDoor, HasGiven}
-use Rattle.star_main.specs.Headline.{HasCause}
 use Rattle.star_main.specs.Modes.{Serves}
 use Rattle.star_main.specs.Serving.{ServeHeadline, serve_status_of}
 
@@ -42,32 +41,21 @@ module _ (port accept : ℕ) (asked' : Option ℕ) (ended' : Bool) (given given'
   serve_headline end status same asked ended counts =
       subst (λ s. ServeHeadline port accept s asked' ended' given given' faults faults' failed) (sym same) (serve_by end asked ended counts)
 
--- where no memory is left to read the words the door is not asked, whatever settings they name
-pub serve_unread : {X Y : Type 0} (source : X) (sink : Y) (named : Option Settings) (status : ℕ) (asked : Option ℕ) (ended : Bool) (given faults : ℕ) (failed : Bool)
-    → status ≡ 5 → IfSome named (λ settings. Serves settings → (source ≡ source) × (sink ≡ sink)
-    × ServeHeadline settings.port settings.accept status asked ended given given faults faults failed)
-serve_unread source sink None status asked ended given faults failed same = tt
-serve_unread source sink (Some settings) status asked ended given faults failed same = λ _. (
-  refl,
-  refl,
-  record {
-    asked = λ other. absurd (other same);
-    ended = λ is. absurd (omega arith);
-    unfailed = λ _. refl;
-    door_fault = λ is. absurd (omega arith);
-    known = inr (inl same);
-  },
-)
-
--- neither side of a script has a part in the serving
-pub serve_causes : (status port accept : ℕ) (asked' : Option ℕ) (ended' : Bool) (given given' faults faults' : ℕ) (failed : Bool)
-    → ServeHeadline port accept status asked' ended' given given' faults faults' failed
-    → (read : ℕ) (read_failed : Bool) (write : ℕ) (write_failed : Bool) → HasCause status read read read_failed write write write_failed
-serve_causes status port accept asked' ended' given given' faults faults' failed served read read_failed write write_failed = record {
-  unfailed = λ _. (refl, refl);
-  read_fault = λ is. let known = served.known in absurd (omega arith);
-  write_fault = λ is. let known = served.known in absurd (omega arith);
-  no_memory = λ _. (inl refl, refl);
-  past_limit = λ _. (refl, refl);
-  door_fault = λ _. (refl, refl);
-}
+-- where no memory was left to read the words, nothing was served, though they ask for it
+pub serve_unread : {A B : Type 0} (settings : Option Settings) (status : ℕ) (asked : Option ℕ) (ended : Bool) (given faults : ℕ) (failed : Bool)
+    → (IsSomeAnd settings Serves → (status ≡ 5) × A × B)
+    → IfSome settings (λ s. Serves s → A × B × ServeHeadline s.port s.accept status asked ended given given faults faults failed)
+serve_unread None status asked ended given faults failed ran = tt
+serve_unread (Some s) status asked ended given faults failed ran = λ serves.
+    let unread = ran serves in
+    let five = unread.0 in (
+      unread.1,
+      unread.2,
+      record {
+        asked = λ apart. absurd (apart five);
+        ended = λ zero. absurd (omega arith);
+        unfailed = λ apart. refl;
+        door_fault = λ seven. absurd (omega arith);
+        known = inr (inl five);
+      },
+    )

@@ -4,3 +4,4 @@ pub mod Made
 pub mod Serving
 pub mod Modes
 pub mod Fault
+pub mod Words

@@ -1,5 +1,5 @@
 //! The top call, on which the headline stands.
-ghost use Rattle.std.specs.Prelude.{◌≡◌, ◌↔◌, ◌⊎◌, ℕ, Bool, None, IfSome, IsNone, IsSomeAnd, map, string_bytes};
+ghost use Rattle.std.specs.Prelude.{◌≡◌, ◌↔◌, ◌⊎◌, ℕ, Bool, None, Some, IfSome, IsNone, IsSomeAnd, map, string_bytes};
 ghost use Rattle.command_words.specs.Ranges.{AreInRange};
 ghost use Rattle.command_words.specs.Table.{settings_of};
 ghost use Rattle.core_state.specs.Sound.{empty_core};
@@ -9,6 +9,7 @@ ghost use Rattle.star_main.specs.Headline.{Headline, HasCause, status_of as run_
 ghost use Rattle.star_main.specs.Made.{MadeHeadline, made_status_of};
 ghost use Rattle.star_main.specs.Modes.{HasScript, IsAlone, IsMade, Serves, run_settings_of};
 ghost use Rattle.star_main.specs.Serving.{ServeHeadline, serve_status_of};
+ghost use Rattle.star_main.specs.Words.{IfRan, IfServe};
 
 use command_words::{Mode, Settings, read_words};
 use core_state::RunSettings;
@@ -37,6 +38,16 @@ pub struct TopDone {
     /// The core that ran the script. There is none where the words name no settings or the mode `alone` or `serve`, or no memory
     /// was left for the words or for the run.
     pub core: Option<Core>,
+}
+
+/// What came of the words, before connections are served.
+#[derive(Debug, Drop)]
+pub enum Words {
+    /// A script or the made workload was run, or the words name no settings, or no memory was left for them.
+    Ran(TopDone),
+
+    /// Connections are to be served, by these settings.
+    Serve(Settings),
 }
 
 /// Runs a script or serves connections, as the words say, and answers the status with which the program ends, and the core that
@@ -88,15 +99,53 @@ pub fn cjoin<R: Threads + Sync + Wait, S: Source, K: Sink, D: Door>(
     ensures run { IfSome result.core (λ core. IfSome (settings_of (map string_bytes words.now)) (λ settings.
         IsRun (empty_core (run_settings_of settings)) (state_of core))) }
 {
+    match run_words(rt, alloc, words, source, sink) {
+        Words::Ran(done) => done,
+        Words::Serve(settings) => serve_connections(rt, alloc, &settings, door),
+    }
+}
+
+/// Runs a script or the made workload, as the words say. Words that ask for connections to be served are handed on, and nothing
+/// is touched. All that `cjoin` says of the modes `run`, `alone` and `make` holds here of a call that waits for no one, and so
+/// comes to its end, where source and sink do.
+pub fn run_words<R: Threads + Sync, S: Source, K: Sink>(
+    rt: &R,
+    alloc: Global,
+    words: &[String],
+    source: &mut S,
+    sink: &mut K,
+) -> Words
+    ensures serve { IfServe result (λ settings. (settings_of (map string_bytes words.now) ≡ Some settings)
+        × (Serves settings × AreInRange settings) × (source.new ≡ source.old) × (sink.new ≡ sink.old)) }
+    ensures ran { IfRan result (λ done. IsSomeAnd (settings_of (map string_bytes words.now)) Serves →
+        (done.status ≡ 5) × (source.new ≡ source.old) × (sink.new ≡ sink.old)) }
+    ensures settings { IfRan result (λ done. done.status ≡ 2 → IsNone (settings_of (map string_bytes words.now))) }
+    ensures untouched { IfRan result (λ done. IsNone (settings_of (map string_bytes words.now)) →
+        (source.new ≡ source.old) × (sink.new ≡ sink.old) × ((done.status ≡ 2) ⊎ (done.status ≡ 5))) }
+    ensures headline { IfRan result (λ done. IfSome (settings_of (map string_bytes words.now)) (λ settings. HasScript settings →
+        Headline settings.slots done.core done.status (S.ended source.old) (S.ended source.new)
+        (S.read_faults source.old) (S.read_faults source.new)
+        (S.left source.old) (S.left source.new) (K.taken sink.old) (K.taken sink.new))) }
+    ensures made { IfRan result (λ done. IfSome (settings_of (map string_bytes words.now)) (λ settings. IsMade settings →
+        (source.new ≡ source.old) × MadeHeadline settings.slots settings.seed settings.rows done.core done.status
+        (K.taken sink.old) (K.taken sink.new))) }
+    ensures causes { IfRan result (λ done. HasCause done.status
+        (S.read_faults source.old) (S.read_faults source.new) (S.read_failed source.new)
+        (K.write_faults sink.old) (K.write_faults sink.new) (K.write_failed sink.new)) }
+    ensures core { IfRan result (λ done. IsNone done.core ↔ (IsNone (settings_of (map string_bytes words.now))
+        ⊎ (IsSomeAnd (settings_of (map string_bytes words.now)) IsAlone ⊎ (done.status ≡ 5)))) }
+    ensures run { IfRan result (λ done. IfSome done.core (λ core. IfSome (settings_of (map string_bytes words.now)) (λ settings.
+        IsRun (empty_core (run_settings_of settings)) (state_of core)))) }
+{
     match read_words(alloc, words) {
         Ok(Some(settings)) => match settings.mode {
-            Mode::Run => run_shared(rt, alloc, &settings, source, sink),
-            Mode::Alone => run_each_alone(alloc, source, sink),
-            Mode::Make => run_workload(rt, alloc, &settings, sink),
-            Mode::Serve => serve_connections(rt, alloc, &settings, door),
+            Mode::Run => Words::Ran(run_shared(rt, alloc, &settings, source, sink)),
+            Mode::Alone => Words::Ran(run_each_alone(alloc, source, sink)),
+            Mode::Make => Words::Ran(run_workload(rt, alloc, &settings, sink)),
+            Mode::Serve => Words::Serve(settings),
         },
-        Ok(None) => without_core(FAULTY_WORDS),
-        Err(NoMemory) => without_core(OUT_OF_MEMORY),
+        Ok(None) => Words::Ran(without_core(FAULTY_WORDS)),
+        Err(NoMemory) => Words::Ran(without_core(OUT_OF_MEMORY)),
     }
 }
 

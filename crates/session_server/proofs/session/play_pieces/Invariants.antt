@@ -4,7 +4,7 @@ use Rattle.event_core.specs.Seen.{state_of}
 use Rattle.script_run.specs.Answer.{HasNoStatement}
 use Rattle.script_run.specs.Home.{IsAtHome, IsServed}
 use Rattle.session_server.proofs.SessionLemmas.{IsServing}
-use Rattle.session_server.proofs.session.play_session.Given as goal
+use Rattle.session_server.proofs.session.play_pieces.Given as goal
 
 -- every statement that was whole was replied to, the front is at home, and no read or write failed
 abbrev pub invariant-pieces : goal.invariant-pieces

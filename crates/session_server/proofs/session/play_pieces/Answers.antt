@@ -3,13 +3,13 @@ use Rattle.event_core.specs.Seen.{state_of}
 use Rattle.session_server.proofs.EndLemmas.{answers-apart, done-ends, ended-ends, fault-ends, halted-ends, limit-ends, unfed-ends}
 use Rattle.session_server.proofs.ServedLemmas.{served-itself, served-then}
 use Rattle.session_server.proofs.SessionLemmas.{fed-serving, replied-serving, serving-apart, starts-serving, starts-without}
-use Rattle.session_server.proofs.session.play_session.Goals as goal
+use Rattle.session_server.proofs.session.play_pieces.Goals as goal
 
 pub pieces-init : goal.pieces-init
 pieces-init g c = record {
-  serving = starts-serving _ _ _ _ c.new-reader.ensures;
-  none = starts-without _ c.new-reader.ensures;
-  home = c.requires;
+  serving = starts-serving _ _ _ _ c.requires.unfed;
+  none = starts-without _ c.requires.unfed;
+  home = c.requires.home;
   served = served-itself _;
   settings = refl;
   ended = refl;
@@ -40,7 +40,7 @@ returns-in-Err-clause-answers g c =
     let fed = fed-serving _ _ _ _ _ _ _ _ _ takes.0 c.pieces.invariant.serving takes.1 takes.2.0 takes.2.2 in
     let read = serving-apart _ _ _ _ _ _ _ _ _ c.in-Err.ensures.left c.in-Fed.ensures.taken fed in
     rw c.end_of_halt.ensures (halted-ends c.in-Err.halt _ _ (state_of c.reply_link.new.front.core) _ _ _ _ _ _ _ _ _ _ read
-    c.every_core_is_sound.ensures.slots.lives.rising c.requires.idle c.in-Err.ensures.replies
+    c.every_core_is_sound.ensures.slots.lives.rising c.requires.home.idle c.in-Err.ensures.replies
     (c.in-Err.ensures.ended ∙ c.in-Fed.ensures.end ∙ c.pieces.invariant.ended)
     (c.in-Err.ensures.read_faults ∙ c.in-Fed.ensures.faults ∙ c.pieces.invariant.unread))
 
@@ -52,21 +52,21 @@ returns-in-Fault-clause-answers g c =
     let takes = c.in-Fault.ensures.takes in
     answers-apart _ _ _ _ _ _ _ _ _ _ _ _ _ _ _ refl refl refl c.in-Fault.ensures.taken
     (fault-ends _ _ _ _ _ _ _ _ _ _ _ _ takes.0 c.pieces.invariant.serving c.pieces.invariant.none
-    c.every_core_is_sound.ensures.slots.lives.rising c.requires.idle c.pieces.invariant.home.idle takes.1 takes.2.1)
+    c.every_core_is_sound.ensures.slots.lives.rising c.requires.home.idle c.pieces.invariant.home.idle takes.1 takes.2.1)
 
 pub returns-in-Limit-clause-answers : goal.returns-in-Limit-clause-answers
 returns-in-Limit-clause-answers g c =
     let takes = c.in-Limit.ensures.takes in
     answers-apart _ _ _ _ _ _ _ _ _ _ _ _ _ _ _ refl refl refl c.in-Limit.ensures.taken
     (limit-ends _ _ _ _ _ _ _ _ _ _ _ _ takes.0 c.pieces.invariant.serving c.pieces.invariant.none
-    c.every_core_is_sound.ensures.slots.lives.rising c.requires.idle c.pieces.invariant.home.idle takes.1 takes.2.1 takes.2.2)
+    c.every_core_is_sound.ensures.slots.lives.rising c.requires.home.idle c.pieces.invariant.home.idle takes.1 takes.2.1 takes.2.2)
 
 pub returns-in-NoMemory-clause-answers : goal.returns-in-NoMemory-clause-answers
 returns-in-NoMemory-clause-answers g c =
     let takes = c.in-NoMemory.ensures.takes in
     answers-apart _ _ _ _ _ _ _ _ _ _ _ _ _ _ _ refl refl refl c.in-NoMemory.ensures.taken
     (unfed-ends _ _ _ _ _ _ _ _ _ _ _ _ takes.0 c.pieces.invariant.serving
-    c.every_core_is_sound.ensures.slots.lives.rising c.requires.idle takes.1 takes.2.1
+    c.every_core_is_sound.ensures.slots.lives.rising c.requires.home.idle takes.1 takes.2.1
     (c.in-NoMemory.ensures.end ∙ c.pieces.invariant.ended) (c.in-NoMemory.ensures.faults ∙ c.pieces.invariant.unread))
 
 pub returns-in-Ok-reply_link-clause-answers : goal.returns-in-Ok-reply_link-clause-answers
@@ -78,14 +78,14 @@ returns-in-Ok-reply_link-clause-answers g c =
     answers-apart _ _ _ _ _ _ _ _ _ _ _ _ _ _ _ c.in-Ok-reply_link.ensures.ended c.in-Ok-reply_link.ensures.read_faults
     c.in-Ok-reply_link.ensures.left refl
     (done-ends _ _ (state_of c.reply_link-2.new.front.core) _ c.reply_link-2.new.reader _ _ _ _ _ _ _ _ _ _ takes.0 read
-    c.every_core_is_sound.ensures.slots.lives.rising c.requires.idle c.in-Ok-reply_link.ensures.home.idle takes.1 takes.2.1
+    c.every_core_is_sound.ensures.slots.lives.rising c.requires.home.idle c.in-Ok-reply_link.ensures.home.idle takes.1 takes.2.1
     c.in-Ended.ensures.end replies stays)
 
 pub returns-in-Ok-reply_link-clause-served : goal.returns-in-Ok-reply_link-clause-served
 returns-in-Ok-reply_link-clause-served g c = served-then _ _ _ c.pieces.invariant.served c.in-Ok-reply_link.ensures.served
 
-pub returns-clause-answers : goal.returns-clause-answers
-returns-clause-answers g c =
+pub returns-in-Err-reply_link-clause-answers : goal.returns-in-Err-reply_link-clause-answers
+returns-in-Err-reply_link-clause-answers g c =
     let takes = c.in-Ended.ensures.takes in
     let read = serving-apart _ _ _ _ _ _ _ _ _ refl c.in-Ended.ensures.taken c.pieces.invariant.serving in
     let replies = rw (c.finish.ensures, takes.2.0) at c.in-Err-reply_link.ensures.replies in
@@ -93,7 +93,7 @@ returns-clause-answers g c =
     c.in-Err-reply_link.ensures.left refl
     (rw c.end_of_halt-in-Err-reply_link.ensures
     (ended-ends c.in-Err-reply_link.halt _ _ (state_of c.reply_link-2.new.front.core) _ _ _ _ _ _ _ _ _ _ _ takes.0 read
-    c.every_core_is_sound.ensures.slots.lives.rising c.requires.idle takes.1 takes.2.1 c.in-Ended.ensures.end.0 replies))
+    c.every_core_is_sound.ensures.slots.lives.rising c.requires.home.idle takes.1 takes.2.1 c.in-Ended.ensures.end.0 replies))
 
-pub returns-clause-served : goal.returns-clause-served
-returns-clause-served g c = served-then _ _ _ c.pieces.invariant.served c.in-Err-reply_link.ensures.served
+pub returns-in-Err-reply_link-clause-served : goal.returns-in-Err-reply_link-clause-served
+returns-in-Err-reply_link-clause-served g c = served-then _ _ _ c.pieces.invariant.served c.in-Err-reply_link.ensures.served
