@@ -1,5 +1,5 @@
 //! A set of numbers in W words. What rows of words do with such a set is in `rows`.
-ghost use Rattle.std.specs.Prelude.{◌≡◌, ◌≢◌, ℕ, ◌+◌, ◌*◌, ◌^◌, ◌<◌, ◌≤◌, ◌↔◌, ◌⊎◌, IsTrue, MatchOption, length, bit_and, slice_index};
+ghost use Rattle.std.specs.Prelude.{◌≡◌, ◌≢◌, ℕ, ◌+◌, ◌*◌, ◌^◌, ◌<◌, ◌≤◌, ◌↔◌, ◌⊎◌, IsTrue, MatchOption, length, bit_and, slice_index, if◌then◌else◌};
 ghost use Rattle.bit_words.specs.Words.{IsFirstWord};
 ghost use Rattle.bit_words.specs.Sets.{Has, with_number, without, IsLeast, members_below};
 
@@ -44,6 +44,18 @@ impl<const W: usize> Bits<W> {
         ensures members { (j : ℕ) → Has self.new j ↔ ((Has self.old j) ⊎ (j ≡ i)) }
     {
         self.words[i as usize / 64] |= 1u64 << (i % 64);
+    }
+
+    /// The set with a number more, if that is wanted.
+    pub fn with_if(&self, i: u32, wanted: bool) -> Bits<W>
+        requires { i < 64 * W }
+        ensures { result ≡ (if wanted then with_number self.now i else self.now) }
+    {
+        let mut more = *self;
+        if wanted {
+            more.set(i);
+        }
+        more
     }
 
     /// Takes a number out, if it is in.

@@ -1,6 +1,5 @@
 //! What runs in the slots of a scan. Which positions that gives is in `range`.
-ghost use Rattle.std.specs.Prelude.{◌≡◌, ◌<◌, ◌≤◌, length, map, replicate, slice_set, None, IfOk, if◌then◌else◌};
-ghost use Rattle.bit_words.specs.Sets.{with_number};
+ghost use Rattle.std.specs.Prelude.{◌≡◌, ◌<◌, ◌≤◌, length, map, replicate, slice_set, None, IfOk};
 ghost use Rattle.continuous_scan.specs.Range.{some_run, cut_slot};
 ghost use Rattle.continuous_scan.specs.Stamped.{roster_of};
 
@@ -36,19 +35,6 @@ pub(crate) fn some_run(running: &[Option<Runner>]) -> bool
     running.iter().any(|slot| slot.is_some())
 }
 
-/// A set of slots with one more, if that is taken.
-pub(crate) fn with_slot_if(taken: bool, slot: u32, slots: Bits<1>) -> Bits<1>
-    requires { slot < 64 }
-    ensures { result ≡ (if taken then with_number slots slot else slots) }
-{
-    if !taken {
-        return slots;
-    }
-    let mut more = slots;
-    more.set(slot);
-    more
-}
-
 /// The slots in which a query runs.
 pub(crate) fn roster_of(running: &[Option<Runner>]) -> Bits<1>
     requires { length running.now ≤ 64 }
@@ -56,7 +42,7 @@ pub(crate) fn roster_of(running: &[Option<Runner>]) -> Bits<1>
 {
     let mut roster = Bits::empty();
     for slot in 0..running.len() {
-        roster = with_slot_if(running[slot].is_some(), slot as u32, roster);
+        roster = roster.with_if(slot as u32, running[slot].is_some());
     }
     roster
 }

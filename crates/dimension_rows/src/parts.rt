@@ -1,15 +1,17 @@
 //! The parts that rows, their index and their columns consist of, and how one more row goes into each.
-ghost use Rattle.std.specs.Prelude.{◌≡◌, ℕ, ◌≤◌, ◌<◌, ◌+◌, [], ◌∷◌, ◌++◌, length, nat_eq, IsSome, IfSome, None, OnOk, OnErr};
+ghost use Rattle.std.specs.Prelude.{◌≡◌, ℕ, ◌≤◌, ◌<◌, ◌+◌, [], ◌∷◌, ◌++◌, List, length, nat_eq, IsSome, IfSome, None, OnOk, OnErr};
 ghost use Rattle.std.specs.HashMap.{get, spare};
 ghost use Rattle.dimension_rows.specs.Integers.{AreColumns};
 ghost use Rattle.dimension_rows.specs.Keys.{key_of, index_of};
 ghost use Rattle.dimension_rows.specs.Hash.{hash_of_key};
+ghost use Rattle.dimension_rows.specs.declared.dimension_row.DimensionRow.{DimensionRow};
+ghost use Rattle.value_columns.specs.First.{KeepCodes, KeepIntegers};
 ghost use Rattle.dimension_rows.specs.Parts.{AreIndexed, HaveRoom};
 
 use crate::dimension_row::{DimensionRow, MAX_DIMENSION_ROWS};
 use crate::key_hash::row_hash;
 use star_lists::ListWithRoom;
-use star_values::NoMemory;
+use star_values::{NoMemory, Row};
 use std::collections::HashMap;
 use value_columns::{CodeColumns, IntegerColumns};
 
@@ -19,8 +21,26 @@ pub(crate) type OlderRows = ListWithRoom<Option<u32>>;
 /// For each hash of a key the newest row that has it.
 pub(crate) type NewestRows = HashMap<u64, u32>;
 
+/// Puts the integers of a row, before which there are so many, and the codes of its texts behind those of
+/// their columns. Where one finds no memory the others are put there even so.
+fn append_to_columns(
+    integers: &mut IntegerColumns,
+    codes: &mut CodeColumns,
+    before: usize,
+    row: &Row,
+) -> Result<(), NoMemory>
+    ensures columns { (rows : List DimensionRow) → length rows ≡ before → AreColumns rows integers.old codes.old
+        → (commit : ℕ) → AreColumns (rows ++ record { row = row.now; commit = commit } ∷ []) integers.new codes.new }
+    ensures kept { OnOk result (KeepIntegers before row.now integers.old integers.new
+        × KeepCodes before row.now codes.old codes.new) }
+{
+    let of_integers = integers.append(before, row);
+    let of_codes = codes.append(before, row);
+    of_integers.and(of_codes)
+}
+
 /// Puts a row behind all others, into the room that each part has, and its integers and the codes of its
-/// texts into the columns, as far as there is memory.
+/// texts into the columns. An `Err` says that some of those found no memory, and nothing of the row.
 pub(crate) fn push_row(
     rows: &mut ListWithRoom<DimensionRow>,
     older: &mut OlderRows,
@@ -28,7 +48,7 @@ pub(crate) fn push_row(
     integers: &mut IntegerColumns,
     codes: &mut CodeColumns,
     entry: DimensionRow,
-)
+) -> Result<(), NoMemory>
     requires indexed { AreIndexed rows.old.items older.old.items (get nat_eq newest.old) }
     requires room { HaveRoom 1 rows.old.room older.old.room (spare newest.old) }
     requires few { length rows.old.items < MAX_DIMENSION_ROWS }
@@ -37,16 +57,18 @@ pub(crate) fn push_row(
     ensures items { rows.new.items ≡ rows.old.items ++ entry ∷ [] }
     ensures indexed { AreIndexed rows.new.items older.new.items (get nat_eq newest.new) }
     ensures columns { AreColumns rows.old.items integers.old codes.old → AreColumns rows.new.items integers.new codes.new }
+    ensures kept { OnOk result (KeepIntegers (length rows.old.items) entry.row integers.old integers.new
+        × KeepCodes (length rows.old.items) entry.row codes.old codes.new) }
     ensures rows_room { rows.new.room + 1 ≡ rows.old.room }
     ensures older_room { older.new.room + 1 ≡ older.old.room }
     ensures newest_room { spare newest.old ≤ spare newest.new + 1 }
 {
     let before = rows.len();
-    integers.append(before, &entry.row);
-    codes.append(before, &entry.row);
+    let kept = append_to_columns(integers, codes, before, &entry.row);
     let inserted: Result<Option<u32>, _> = newest.insert(row_hash(&entry.row), before as u32);
     older.push_reserved(inserted.unwrap());
     rows.push_reserved(entry);
+    kept
 }
 
 /// Makes room for this many more rows in each part. Where that fails, what each part has stays.

@@ -4,29 +4,29 @@
 ghost use Rattle.std.specs.Prelude.{◌≡◌, ℕ, List, ◌+◌, ◌-◌, ◌*◌, ◌/◌, ◌%◌, ◌<◌, ◌≤◌, length, slice_index};
 ghost use Rattle.std.specs.Int.{bit_at};
 ghost use Rattle.bit_words.specs.Words.{set_of};
-ghost use Rattle.row_columns.specs.declared.row_codes.TheConstants.{ROWS};
+ghost use Rattle.batch_flow.specs.declared.batch.TheConstants.{ROWS_IN_A_BLOCK};
 ghost use Rattle.distributor.specs.Masked.{AreMasks, IsMask, IsPartMask};
 ghost use Rattle.distributor.specs.Crossed.{IsDistance, crossed};
 
+use batch_flow::ROWS_IN_A_BLOCK;
 use bit_words::Bits;
-use row_columns::ROWS;
 
 /// How many rows make a part of a block, which is how many bits a word has.
 pub(crate) const ROWS_IN_A_PART: usize = 64;
 
 /// How many parts a block has, at most.
-pub(crate) const PARTS: usize = ROWS / ROWS_IN_A_PART;
+pub(crate) const PARTS: usize = ROWS_IN_A_BLOCK / ROWS_IN_A_PART;
 
 /// Up to how many slots their masks are made one by one.
 const FEW_SLOTS: u32 = 4;
 
 /// For each part of a block, one after another, and in it for each of 64 slots the set of the part's rows
 /// that have its bit, where each of at most 256 rows has a word.
-pub(crate) fn masks_of_block(bits: &[u64]) -> [u64; ROWS]
-    requires { length bits.now ≤ ROWS }
+pub(crate) fn masks_of_block(bits: &[u64]) -> [u64; ROWS_IN_A_BLOCK]
+    requires { length bits.now ≤ ROWS_IN_A_BLOCK }
     ensures { AreMasks result bits.now }
 {
-    let mut masks = [0; ROWS];
+    let mut masks = [0; ROWS_IN_A_BLOCK];
     for part in 0..PARTS {
         let first = part * ROWS_IN_A_PART;
         put_part(&mut masks, first, masks_of_part(bits, first));
@@ -35,7 +35,7 @@ pub(crate) fn masks_of_block(bits: &[u64]) -> [u64; ROWS]
 }
 
 /// The set of the rows of a block that have the bit of a slot, a word for each part.
-pub(crate) fn mask_of_slot(masks: &[u64; ROWS], slot: usize) -> [u64; PARTS]
+pub(crate) fn mask_of_slot(masks: &[u64; ROWS_IN_A_BLOCK], slot: usize) -> [u64; PARTS]
     requires { slot < 64 }
     ensures { (bits : List ℕ) → AreMasks masks.now bits → IsMask slot (set_of result) bits }
 {
@@ -47,8 +47,8 @@ pub(crate) fn mask_of_slot(masks: &[u64; ROWS], slot: usize) -> [u64; PARTS]
 }
 
 /// Writes the masks of a part, those of its 64 slots, from a number on.
-fn put_part(masks: &mut [u64; ROWS], first: usize, part: [u64; 64])
-    requires { first + 64 ≤ ROWS }
+fn put_part(masks: &mut [u64; ROWS_IN_A_BLOCK], first: usize, part: [u64; 64])
+    requires { first + 64 ≤ ROWS_IN_A_BLOCK }
     ensures written { (slot : ℕ) → slot < 64 →
         slice_index masks.new (first + slot) ≡ slice_index part slot }
     ensures before { (at : ℕ) → at < first → slice_index masks.new at ≡ slice_index masks.old at }
@@ -60,7 +60,7 @@ fn put_part(masks: &mut [u64; ROWS], first: usize, part: [u64; 64])
 
 /// The masks of the part from a row on. They are empty where there are no more rows.
 fn masks_of_part(bits: &[u64], first: usize) -> [u64; 64]
-    requires { first ≤ ROWS }
+    requires { first ≤ ROWS_IN_A_BLOCK }
     ensures { (slot : ℕ) → slot < 64 → IsPartMask slot (slice_index result slot) first bits.now }
 {
     if bits.len() <= first {
@@ -84,7 +84,7 @@ fn masks_of_rows(bits: &[u64]) -> [u64; 64]
 }
 
 /// The slots that have their bit in some of these rows.
-fn slots_in(bits: &[u64]) -> u64
+pub(crate) fn slots_in(bits: &[u64]) -> u64
     ensures { (row slot : ℕ) → bit_at result slot ≡ 0 → bit_at (slice_index bits.now row) slot ≡ 0 }
 {
     let mut slots = 0;

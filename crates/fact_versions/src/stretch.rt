@@ -82,11 +82,7 @@ impl<'a> Stretch<'a> {
     pub fn integers(&self, column: u8) -> Option<&'a [i64]>
         ensures { IfSome result (λ integers. HaveIntegers self.now column integers.now) }
     {
-        let kept = self.integers.column(column as usize);
         let end = self.first + self.versions.len();
-        if kept.len() < end {
-            return None;
-        }
-        Some(&kept[self.first..end])
+        self.integers.part(column as usize, self.first, end)
     }
 }

@@ -3,10 +3,8 @@
 
 mod bounds;
 mod condition;
-mod crossing;
 mod range_test;
 
 pub use bounds::Bounds;
 pub use condition::{Condition, condition_of, flattened};
-pub use crossing::{conditions_may_be_sent, conditions_may_be_shared};
 pub use range_test::{RangeTest, RangeTests};

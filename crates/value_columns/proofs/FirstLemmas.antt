@@ -2,9 +2,13 @@
 use Rattle.std.proofs.Common.{◌≡◌, ◌≢◌, ◌⊎◌, inl, inr, ℕ, zero, suc, ◌+◌, ◌<◌, ◌≤◌, List, [], ◌∷◌, ◌++◌, length, get_or, slice_get, slice_set, Some, refl, ap, sym, subst, ◌∙◌, arith}
 use Rattle.std.specs.List.{refill}
 use Rattle.std.proofs.lemmas.Bool.{cases_eq, cases_lt}
-use Rattle.std.proofs.lemmas.List.{get_or-set_other, get_or-set_same}
+use Rattle.std.proofs.lemmas.List.{get_or_default, get_or_past, get_or-set_other, get_or-set_same}
 use Rattle.star_values.specs.declared.value.Value.{Value}
-use Rattle.value_columns.specs.First.{AreFirst}
+use Rattle.std.specs.Prelude.{ℤ, Result, Ok, Err, OnOk}
+use Rattle.std.specs.Result.{result_and}
+use Rattle.star_values.specs.declared.value.Value.TheVariants.{Int, Str}
+use Rattle.value_columns.specs.First.{AreFirst, HasInteger, HasText, HaveOneMore}
+use Rattle.value_columns.specs.declared.lists.TheConstants.{MAX_COLUMNS}
 
 -- a member of a front is that of the whole list
 front_get : {X : Type 0} (xs ys : List X) (i : ℕ) → i < length xs → slice_get (xs ++ ys) i ≡ slice_get xs i
@@ -36,11 +40,6 @@ first_of_more has rows row entries first = record {
       first.each place other entry (sym (front_get rows (row ∷ []) place (let few = first.few in omega (arith, few, low))) ∙ at) there;
 }
 
-any_default : {X : Type 0} (xs : List X) (i : ℕ) (d e : X) → i < length xs → get_or xs i d ≡ get_or xs i e
-any_default [] i d e low = absurd (omega arith)
-any_default (x ∷ xs) zero d e low = refl
-any_default (x ∷ xs) (suc i) d e low = any_default xs i d e (omega arith)
-
 -- columns of which one has the entries of one row more, and those before it as well
 pub one_more_column : {T : Type 0} (has : ℕ → List Value → T → Type 0) (rows : List (List Value)) (row : List Value)
     (columns initial : List (List T)) (number : ℕ) (new read : List T) → number < length columns
@@ -55,7 +54,7 @@ one_more_column has rows row columns initial number new read within step first s
     by (inl here) =
         subst (λ k. AreFirst (has k) (rows ++ row ∷ []) (get_or (slice_set columns number new) k [])) (sym here)
         (subst (AreFirst (has number) (rows ++ row ∷ [])) (sym (get_or-set_same columns number new [] within))
-        (step (subst (AreFirst (has number) rows) (sym (any_default columns number read [] within ∙ same)) first)))
+        (step (subst (AreFirst (has number) rows) (sym (get_or_default columns number read [] within ∙ same)) first)))
     by (inr apart) =
         subst (AreFirst (has column) (rows ++ row ∷ [])) (sym (get_or-set_other columns number column new [] apart)) (done column (omega arith))
 
@@ -65,11 +64,6 @@ pub others_left : {T : Type 0} (columns initial : List (List T)) (number : ℕ) 
     → (column : ℕ) → number + 1 ≤ column → get_or (slice_set columns number new) column [] ≡ get_or initial column []
 others_left columns initial number new left column high =
     get_or-set_other columns number column new [] (λ e. omega arith) ∙ left column (omega arith)
-
-past_end : {X : Type 0} (xs : List X) (i : ℕ) (d : X) → length xs ≤ i → get_or xs i d ≡ d
-past_end [] i d high = refl
-past_end (x ∷ xs) zero d high = absurd (omega arith)
-past_end (x ∷ xs) (suc i) d high = past_end xs i d (omega arith)
 
 -- all columns have the entries of one row more: those that were walked over, and past the last one is none
 pub all_columns : {T : Type 0} (has : ℕ → List Value → T → Type 0) (rows : List (List Value)) (row : List Value)
@@ -84,12 +78,90 @@ all_columns has rows row columns initial number whole first left done column = b
     by (inl low) = done column low
     by (inr high) = first_of_more (has column) rows row (get_or columns column []) (subst (AreFirst (has column) rows) (sym (left column high)) (first column))
 
--- a column more of no entries
-pub no_entries_more : {T : Type 0} (columns : List (List T)) → ((column : ℕ) → get_or columns column [] ≡ []) → (column : ℕ) → get_or (columns ++ [] ∷ []) column [] ≡ []
-no_entries_more [] none zero = refl
-no_entries_more [] none (suc column) = refl
-no_entries_more (c ∷ columns) none zero = none zero
-no_entries_more (c ∷ columns) none (suc column) = no_entries_more columns (λ k. none (suc k)) column
+-- a column more of no entries shows nothing
+pub no_entries_more : {T : Type 0} (columns : List (List T)) (column : ℕ) → get_or (columns ++ [] ∷ []) column [] ≡ get_or columns column []
+no_entries_more [] zero = refl
+no_entries_more [] (suc column) = refl
+no_entries_more (c ∷ columns) zero = refl
+no_entries_more (c ∷ columns) (suc column) = no_entries_more columns column
+
+both_ok : {E P Q R : Type 0} (one other : Result (Unit {0}) E) → OnOk one P → OnOk other Q → (P → Q → R) → OnOk (result_and one other) R
+both_ok (Ok x) (Ok y) p q join = join p q
+both_ok (Ok x) (Err e) p q join = tt
+both_ok (Err e) other p q join = tt
+
+-- of two results that are both to be Ok
+pub joined_ok : {E P Q R : Type 0} (one other both : Result (Unit {0}) E) → both ≡ result_and one other
+    → OnOk one P → OnOk other Q → (P → Q → R) → OnOk both R
+joined_ok {R} one other both is p q join = subst (λ result. OnOk result R) (sym is) (both_ok one other p q join)
+
+-- the columns so far have one more, and so has the next
+pub next_one_more : {T : Type 0} (has : ℕ → List Value → T → Type 0) (before : ℕ) (row : List Value)
+    (columns initial : List (List T)) (number : ℕ) (new read : List T) → number < length columns
+    → get_or columns number [] ≡ get_or initial number []
+    → ((entry : T) → has number row entry → length (get_or columns number read) ≡ before → new ≡ get_or columns number read ++ entry ∷ [])
+    → HaveOneMore has number before row initial columns
+    → HaveOneMore has (number + 1) before row initial (slice_set columns number new)
+next_one_more has before row columns initial number new read within same step done column entry low had counted = by (cases_eq column number)
+  where
+    by : (column ≡ number) ⊎ (column ≢ number) → get_or (slice_set columns number new) column [] ≡ get_or initial column [] ++ entry ∷ []
+    by (inl here) =
+        let all = get_or_default columns number read [] within ∙ same in
+        subst (λ k. get_or (slice_set columns number new) k [] ≡ get_or initial k [] ++ entry ∷ []) (sym here)
+        (get_or-set_same columns number new [] within
+        ∙ step entry (subst (λ k. has k row entry) here had) (ap length all ∙ subst (λ k. length (get_or initial k []) ≡ before) here counted)
+        ∙ ap (λ front. front ++ entry ∷ []) all)
+    by (inr apart) = get_or-set_other columns number column new [] apart ∙ done column entry (omega arith) had counted
+
+-- so have fewer of them
+pub fewer_one_more : {T : Type 0} (has : ℕ → List Value → T → Type 0) (before : ℕ) (row : List Value) (columns initial : List (List T)) (number : ℕ)
+    → length columns ≡ length initial → length columns ≤ number
+    → HaveOneMore has number before row initial columns → HaveOneMore has (length initial) before row initial columns
+fewer_one_more has before row columns initial number same all done column entry low = done column entry (omega arith)
+
+-- all columns that are kept have one more: those that there were, and where there was no row those that were made
+pub all_one_more : {T : Type 0} (has : ℕ → List Value → T → Type 0) (before : ℕ) (row : List Value) (old made new : List (List T))
+    → ((column : ℕ) (entry : T) → has column row entry → column < length row)
+    → ((column : ℕ) → get_or made column [] ≡ get_or old column [])
+    → (before ≡ 0 → (column : ℕ) → column < length row → column < MAX_COLUMNS → column < length made)
+    → HaveOneMore has (length made) before row made new → HaveOneMore has MAX_COLUMNS before row old new
+all_one_more has before row old made new inside same are done column entry low had counted = by (cases_lt column (length made))
+  where
+    by : (column < length made) ⊎ (length made ≤ column) → get_or new column [] ≡ get_or old column [] ++ entry ∷ []
+    by (inl within) = done column entry within had (ap length (same column) ∙ counted) ∙ ap (λ front. front ++ entry ∷ []) (same column)
+    by (inr past) =
+        let none = ap length (sym (get_or_past made column [] past) ∙ same column) ∙ counted in
+        absurd (let within = are (sym none) column (inside column entry had) low in omega (arith, within, past))
+
+-- columns that show the same have the entries of the first rows, too
+pub made_first : {T : Type 0} (has : ℕ → List Value → T → Type 0) (rows : List (List Value)) (old made : List (List T))
+    → ((column : ℕ) → get_or made column [] ≡ get_or old column [])
+    → ((column : ℕ) → AreFirst (has column) rows (get_or old column [])) → (column : ℕ) → AreFirst (has column) rows (get_or made column [])
+made_first has rows old made same first column = subst (AreFirst (has column) rows) (sym (same column)) (first column)
+
+-- what is kept of a row, as it is put into the columns that are lent to be written over
+pub kept_of_row : {T E : Type 0} (has : ℕ → List Value → T → Type 0) (before count : ℕ) (row : List Value) (old inside made lent new refilled : List (List T))
+    (one other both : Result (Unit {0}) E)
+    → ((column : ℕ) (entry : T) → has column row entry → column < length row)
+    → both ≡ result_and one other → count ≡ length row → inside ≡ old → lent ≡ made → refilled ≡ new
+    → ((column : ℕ) → get_or made column [] ≡ get_or inside column [])
+    → OnOk one (before ≡ 0 → (column : ℕ) → column < count → column < MAX_COLUMNS → column < length made)
+    → OnOk other (HaveOneMore has (length lent) before row lent new)
+    → OnOk both (HaveOneMore has MAX_COLUMNS before row old refilled)
+kept_of_row has before count row old inside made lent new refilled one other both within all counted view lends wrote same one_ok other_ok =
+    joined_ok one other both all one_ok other_ok (λ are more.
+    subst (HaveOneMore has MAX_COLUMNS before row old) (sym wrote)
+    (all_one_more has before row old lent new within
+    (λ column. ap (λ columns. get_or columns column []) lends ∙ same column ∙ ap (λ columns. get_or columns column []) view)
+    (λ none column low few. subst (λ columns. column < length columns) (sym lends) (are none column (subst (λ n. column < n) (sym counted) low) few))
+    more))
+
+-- where a row has a value it has a column
+pub integer_inside : (row : List Value) (column : ℕ) (integer : ℤ) → HasInteger column row integer → column < length row
+integer_inside row column integer had = got_low row column (Int integer) had
+
+pub text_inside : (row : List Value) (column code : ℕ) → HasText column row code → column < length row
+text_inside row column code had = got_low row column (Str had.0) had.1
 
 -- as many members as a list has replace all of them
 pub refill_all : {X : Type 0} (old members : List X) → length members ≡ length old → refill (length old) old members ≡ members
@@ -97,3 +169,10 @@ refill_all [] [] same = refl
 refill_all [] (x ∷ members) same = absurd (omega arith)
 refill_all (y ∷ old) [] same = absurd (omega arith)
 refill_all (y ∷ old) (x ∷ members) same = ap (λ rest. x ∷ rest) (refill_all old members (omega arith))
+
+-- members that are written over, and once more by the same
+pub refill_twice : {X : Type 0} (old members lent again : List X) → length members ≡ length old → lent ≡ refill (length old) old members → again ≡ lent
+    → refill (length (refill (length old) old members)) (refill (length old) old members) again ≡ members
+refill_twice old members lent again long lends same =
+    let once = refill_all old members long in
+    refill_all (refill (length old) old members) again (ap length (same ∙ lends)) ∙ same ∙ lends ∙ once

@@ -1,19 +1,19 @@
 //! The codes of the texts of the first rows of a table, column by column.
-ghost use Rattle.std.specs.Prelude.{◌≡◌, ◌∷◌, ◌++◌, List, [], length, slice_index_or};
+ghost use Rattle.std.specs.Prelude.{◌≡◌, ◌∷◌, ◌++◌, ℕ, List, [], length, slice_index_or, OnOk};
 ghost use Rattle.star_values.specs.declared.value.Value as cell;
-ghost use Rattle.value_columns.specs.First.{AreFirstCodes, AreCodeColumns};
+ghost use Rattle.value_columns.specs.First.{AreFirstCodes, AreCodeColumns, HasText, HaveOneMore, KeepCodes};
 
 use crate::codes::code_of;
-use crate::lists::make_lists;
+use crate::lists::make_columns;
 use star_lists::ListOf;
-use star_values::{Row, Value};
+use star_values::{NoMemory, Row, Value};
 use std::alloc::Global;
 use std::marker::Model;
 
 /// For each column of a table the codes of the texts of its first rows, in their order. They may be fewer
 /// than there are rows, and none of a column of integers.
 ///
-/// Where no memory is left, codes are gone without: that is no error.
+/// Where no memory is left, codes are gone without: `append` says so, and a caller may let that go.
 #[derive(Debug, Drop)]
 pub struct CodeColumns {
     alloc: Global,
@@ -50,51 +50,56 @@ impl CodeColumns {
     }
 
     /// Puts the codes of the texts of a row, before which a table has so many, behind those of their
-    /// columns. A column that has not the codes of all rows before stays as it is.
-    pub fn append(&mut self, before: usize, row: &Row)
-        ensures { (rows : List (List cell.Value)) → length rows ≡ before →
+    /// columns. A column that has not the codes of all rows before stays as it is, and so does one for whose
+    /// code there is no memory. The others get theirs even so.
+    pub fn append(&mut self, before: usize, row: &Row) -> Result<(), NoMemory>
+        ensures first { (rows : List (List cell.Value)) → length rows ≡ before →
             AreCodeColumns rows self.old → AreCodeColumns (rows ++ row.now ∷ []) self.new }
+        ensures kept { OnOk result (KeepCodes before row.now self.old self.new) }
     {
-        make_columns(&mut self.columns, self.alloc, before, row);
-        append_to_columns(self.columns.as_mut_slice(), before, row);
+        let made = make_columns(&mut self.columns, self.alloc, before, row.len());
+        let kept = append_to_columns(self.columns.as_mut_slice(), before, row);
+        made.and(kept)
     }
 }
 
-/// Makes a column of no codes for each value of a row, where there are no rows before it and no columns.
-fn make_columns(columns: &mut ListOf<ListOf<u128>>, alloc: Global, before: usize, row: &Row)
-    ensures { (rows : List (List cell.Value)) →
-        AreCodeColumns rows columns.old → AreCodeColumns rows columns.new }
-{
-    if before == 0 && columns.is_empty() {
-        make_lists(columns, alloc, row.len());
-    }
-}
-
-/// Puts the codes of a row behind those of the columns that have the codes of all rows before.
-fn append_to_columns(columns: &mut [ListOf<u128>], before: usize, row: &Row)
+/// Puts the codes of a row behind those of the columns that have the codes of all rows before, as far as
+/// there is memory.
+fn append_to_columns(columns: &mut [ListOf<u128>], before: usize, row: &Row) -> Result<(), NoMemory>
     ensures count { length columns.new ≡ length columns.old }
-    ensures kept { (rows : List (List cell.Value)) → length rows ≡ before →
+    ensures first { (rows : List (List cell.Value)) → length rows ≡ before →
         AreCodeColumns rows columns.old → AreCodeColumns (rows ++ row.now ∷ []) columns.new }
+    ensures kept { OnOk result (HaveOneMore HasText (length columns.old) before row.now columns.old columns.new) }
 {
+    let mut kept = Ok(());
     for number in 0..columns.len() {
-        append_to_column(&mut columns[number], number, before, row);
+        kept = append_to_column(&mut columns[number], number, before, row).and(kept);
     }
+    kept
 }
 
-/// Puts the code of a row's text in a column behind the others, if the row has one there, the column has
-/// those of all rows before, and there is memory.
-fn append_to_column(column: &mut ListOf<u128>, number: usize, before: usize, row: &Row)
-    ensures { (rows : List (List cell.Value)) → length rows ≡ before →
+/// Puts the code of a row's text in a column behind the others, if the row has one there, and the column has
+/// those of all rows before. An `Err` changes nothing.
+fn append_to_column(
+    column: &mut ListOf<u128>,
+    number: usize,
+    before: usize,
+    row: &Row,
+) -> Result<(), NoMemory>
+    ensures first { (rows : List (List cell.Value)) → length rows ≡ before →
         AreFirstCodes rows number column.old
         → AreFirstCodes (rows ++ row.now ∷ []) number column.new }
+    ensures kept { OnOk result ((code : ℕ) → HasText number row.now code → length column.old ≡ before
+        → column.new ≡ column.old ++ code ∷ []) }
 {
     if column.len() != before {
-        return;
+        return Ok(());
     }
     let Some(value) = row.as_slice().get(number) else {
-        return;
+        return Ok(());
     };
-    if let Value::Str(_) = value {
-        let _ = column.push(code_of(value));
+    match value {
+        Value::Str(_) => column.push(code_of(value)),
+        Value::Int(_) => Ok(()),
     }
 }

@@ -12,3 +12,4 @@ pub use code_columns::CodeColumns;
 pub use codes::{NO_CODE, NO_PLACE, code_of, code_of_integer};
 pub use integer_columns::IntegerColumns;
 pub use laws::codes_tell_values_apart;
+pub use lists::MAX_COLUMNS;

@@ -1,18 +1,44 @@
-//! Lists of a column each, as they are made and given room.
-ghost use Rattle.std.specs.Prelude.{◌≡◌, ℕ, [], slice_index_or};
+//! Lists of a column each, as they are made.
+ghost use Rattle.std.specs.Prelude.{◌≡◌, ◌<◌, ℕ, [], length, slice_index_or, OnOk};
 
 use star_lists::ListOf;
+use star_values::NoMemory;
 use std::alloc::Global;
 
 /// How many columns are kept at most: as many as a table may have.
-const MAX_COLUMNS: usize = 16;
+pub const MAX_COLUMNS: usize = 16;
 
-/// Makes an empty list for each of so many columns, up to `MAX_COLUMNS` and as long as there is memory.
-pub(crate) fn make_lists<T: Drop>(columns: &mut ListOf<ListOf<T>>, alloc: Global, count: usize)
-    requires { columns.old ≡ [] }
-    ensures { (column : ℕ) → slice_index_or columns.new column [] ≡ [] }
+/// Makes an empty list for each column that has none, of so many columns and at most `MAX_COLUMNS`, as long
+/// as there is memory. It does so where there are no rows before the one at hand, and nothing elsewhere.
+pub(crate) fn make_columns<T: Drop>(
+    columns: &mut ListOf<ListOf<T>>,
+    alloc: Global,
+    before: usize,
+    count: usize,
+) -> Result<(), NoMemory>
+    ensures same { (column : ℕ) → slice_index_or columns.new column [] ≡ slice_index_or columns.old column [] }
+    ensures made { OnOk result (before ≡ 0 → (column : ℕ) → column < count → column < MAX_COLUMNS
+        → column < length columns.new) }
 {
-    for _column in 0..count.min(MAX_COLUMNS) {
-        let _ = columns.push(ListOf::new(alloc));
+    if before > 0 {
+        return Ok(());
     }
+    make_lists(columns, alloc, count)
+}
+
+/// Makes an empty list for each column that has none, of so many columns and at most `MAX_COLUMNS`, as long
+/// as there is memory.
+fn make_lists<T: Drop>(
+    columns: &mut ListOf<ListOf<T>>,
+    alloc: Global,
+    count: usize,
+) -> Result<(), NoMemory>
+    ensures same { (column : ℕ) → slice_index_or columns.new column [] ≡ slice_index_or columns.old column [] }
+    ensures made { OnOk result ((column : ℕ) → column < count → column < MAX_COLUMNS
+        → column < length columns.new) }
+{
+    'lists: while columns.len() < count.min(MAX_COLUMNS) {
+        columns.push(ListOf::new(alloc))?;
+    }
+    Ok(())
 }

@@ -1,7 +1,6 @@
-use Rattle.std.proofs.Common.{nat_eq, sym, subst, ◌∙◌}
+use Rattle.std.proofs.Common.{nat_eq, sym, subst}
 use Rattle.std.specs.HashMap.{get}
-use Rattle.dimension_rows.specs.Integers.{AreColumns, values_of}
-use Rattle.dimension_rows.proofs.ColumnLemmas.{AreColumns-append, values_of-length}
+use Rattle.dimension_rows.specs.Integers.{AreColumns}
 use Rattle.dimension_rows.proofs.PartLemmas.{AreIndexed-append}
 use Rattle.dimension_rows.proofs.parts.push_row.Goals as goal
 
@@ -16,8 +15,5 @@ returns-clause-indexed c =
 
 pub returns-clause-columns : goal.returns-clause-columns
 returns-clause-columns c = λ columns.
-    let rows = c.args.rows.now.items in
-    let before = values_of-length rows ∙ sym c.len-before.ensures in
-    subst (λ rows. AreColumns rows c.append.new.self c.append-2.new.self) (sym c.push_reserved-2.ensures.items)
-    (AreColumns-append rows c.args.entry c.append.new.self c.append-2.new.self
-    (c.append.ensures (values_of rows) before columns.of_integers) (c.append-2.ensures (values_of rows) before columns.of_codes))
+    subst (λ rows. AreColumns rows c.append_to_columns-kept.new.integers c.append_to_columns-kept.new.codes) (sym c.push_reserved-2.ensures.items)
+    (c.append_to_columns-kept.ensures.columns c.args.rows.now.items (sym c.len-before.ensures) columns c.args.entry.commit)

@@ -1,6 +1,10 @@
-use Rattle.std.proofs.Common.{◌≡◌, ℕ, []}
+use Rattle.std.proofs.Common.{◌≡◌, ◌-◌, ℕ, [], length}
 use Rattle.std.specs.Prelude.{slice_index_or}
+use Rattle.value_columns.specs.declared.lists.TheConstants.{MAX_COLUMNS}
 use Rattle.value_columns.proofs.lists.make_lists.Given as goal
 
-abbrev pub invariant-loop-column : goal.invariant-loop-column
-invariant-loop-column g l = (column : ℕ) → slice_index_or l.columns column [] ≡ []
+abbrev pub invariant-lists : goal.invariant-lists
+invariant-lists g l = (column : ℕ) → slice_index_or l.columns column [] ≡ slice_index_or l.initial.columns column []
+
+abbrev pub decreases-lists : goal.decreases-lists
+decreases-lists g l = MAX_COLUMNS - length l.columns
