@@ -18,12 +18,12 @@ use Rattle.star_binder.specs.Fault.{Binds, BindsSelect, is_select}
 use Rattle.star_binder.specs.Named.{where_conjuncts}
 use Rattle.star_binder.specs.Refused.{bound_delete, bound_select}
 use Rattle.star_binder.specs.Select.{SelectParts, select_of}
-use Rattle.star_binder.specs.declared.fault.BindFault.{BindFault}
-use Rattle.star_binder.specs.declared.fault.BindFault.TheVariants.{Refused, Memory}
+use Rattle.star_values.specs.declared.statement_fault.StatementFault.{StatementFault}
+use Rattle.star_values.specs.declared.statement_fault.StatementFault.TheVariants.{Refused, Memory}
 use Rattle.star_binder.proofs.OverLemmas.{bound_delete-fits, bound_select-IsOver}
 
 -- a select is bound by its parts
-pub select-binds : (result : Result StarQuery BindFault) (schema : Schema) (statement : Ast)
+pub select-binds : (result : Result StarQuery StatementFault) (schema : Schema) (statement : Ast)
     (items : List AstItem) (names : List (List ℕ)) (condition : Option Tree) (groups : List Column)
     (given : List AstItem) (tables : List (List ℕ)) (conjuncts : List Condition) (columns : List Column)
     → statement ≡ ast.Select items names condition groups → given ≡ items → tables ≡ names
@@ -48,7 +48,7 @@ some_item statement [] names condition groups is h =
 some_item statement (item ∷ items) names condition groups is h = omega arith
 
 -- the query that it is bound to keeps to its schema
-pub select-over : (result : Result StarQuery BindFault) (schema : Schema) (select : SelectParts) (statement : Ast)
+pub select-over : (result : Result StarQuery StatementFault) (schema : Schema) (select : SelectParts) (statement : Ast)
     (items : List AstItem) (names : List (List ℕ)) (condition : Option Tree) (groups : List Column)
     → statement ≡ ast.Select items names condition groups → is_select (statement_of statement) ≡ true → select.items ≡ items
     → Binds query_of result (bound_select schema select) → IfOk result (λ query. IsOver schema (query_of query))
@@ -60,7 +60,7 @@ select-over (Err (Refused reason)) schema select statement items names condition
 select-over (Err Memory) schema select statement items names condition groups is h e binds = tt
 
 -- the test of a delete fits the fact table
-pub delete-fits : (result : Result (Option Predicate) BindFault) (schema : Schema) (name : List ℕ) (conjuncts : List Condition)
+pub delete-fits : (result : Result (Option Predicate) StatementFault) (schema : Schema) (name : List ℕ) (conjuncts : List Condition)
     → Binds (option_map test_of) result (bound_delete schema name conjuncts)
     → IfOk result (λ condition. some_test_fits (kinds_of (fact_columns schema)) (option_map test_of condition) ≡ true)
 delete-fits (Ok condition) schema name conjuncts h = bound_delete-fits schema name conjuncts (option_map test_of condition) h

@@ -1,7 +1,6 @@
 -- What binding a statement answers.
-use Rattle.std.specs.Prelude.{◌≡◌, ℕ, Bool, true, false, List, ◌∷◌, codes, Option, option_map, Result, Ok, Err}
+use Rattle.std.specs.Prelude.{◌≡◌, Bool, true, false, List, ◌∷◌, Option, option_map, Result, Ok, Err}
 use Rattle.star_values.specs.declared.refusal.Refusal.{Refusal}
-use Rattle.star_values.specs.Refusal.{words_of}
 use Rattle.star_parser.specs.Statement.{Statement, Delete, Select}
 use Rattle.star_plan.specs.Test.{query_of, test_of}
 use Rattle.star_plan.specs.declared.predicate.Predicate.{Predicate}
@@ -10,28 +9,23 @@ use Rattle.star_plan.specs.declared.star_query.StarQuery.{StarQuery}
 use Rattle.star_binder.specs.Named.{where_conjuncts}
 use Rattle.star_binder.specs.Refused.{bound_select, bound_delete}
 use Rattle.star_binder.specs.Select.{select_of}
-use Rattle.star_binder.specs.declared.fault.BindFault.{BindFault}
-use Rattle.star_binder.specs.declared.fault.BindFault.TheVariants.{Refused, Memory}
-
--- the words of a fault
-abbrev pub words_of_fault : BindFault → List ℕ
-words_of_fault (Refused reason) = words_of reason
-words_of_fault Memory = codes "out of memory"
+use Rattle.star_values.specs.declared.statement_fault.StatementFault.{StatementFault}
+use Rattle.star_values.specs.declared.statement_fault.StatementFault.TheVariants.{Refused, Memory}
 
 -- the answer is what is bound or the reason that refuses it, unless memory ran out
-abbrev pub Binds : {A B : Type 0} → (A → B) → Result A BindFault → Result B Refusal → Type 0
+abbrev pub Binds : {A B : Type 0} → (A → B) → Result A StatementFault → Result B Refusal → Type 0
 Binds view (Ok value) bound = bound ≡ Ok (view value)
 Binds view (Err (Refused reason)) bound = bound ≡ Err reason
 Binds view (Err Memory) bound = Unit {0}
 
 -- the answer says what query a select is, and nothing is said of another statement
-abbrev pub BindsSelect : Result StarQuery BindFault → Schema → Statement → Type 0
+abbrev pub BindsSelect : Result StarQuery StatementFault → Schema → Statement → Type 0
 BindsSelect result schema (Select items names condition groups) =
     Binds query_of result (bound_select schema (select_of items names condition groups))
 BindsSelect result schema other = Unit {0}
 
 -- the answer says what test a delete has
-abbrev pub BindsDelete : Result (Option Predicate) BindFault → Schema → Statement → Type 0
+abbrev pub BindsDelete : Result (Option Predicate) StatementFault → Schema → Statement → Type 0
 BindsDelete result schema (Delete name condition) =
     Binds (option_map test_of) result (bound_delete schema name (where_conjuncts condition))
 BindsDelete result schema other = Unit {0}

@@ -4,7 +4,6 @@
 
 mod bound;
 mod conjuncts;
-mod fault;
 mod grouped;
 mod joined;
 mod kinds;
@@ -17,7 +16,6 @@ mod select;
 mod statement;
 mod table;
 
-pub use fault::BindFault;
 pub use laws::{
     bound_queries_keep_to_their_schema, bound_queries_keep_what_the_where_keeps,
     selects_have_their_limits,

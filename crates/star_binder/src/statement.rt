@@ -15,7 +15,6 @@ ghost use Rattle.star_binder.specs.Places.{tables_named};
 ghost use Rattle.star_binder.specs.Refused.{bound_delete, bound_over, bound_select};
 
 use crate::bound::{choices, groups, items, test_on};
-use crate::fault::BindFault;
 use crate::named::conjuncts_of;
 use crate::refused::{refusal_of, refusal_of_delete};
 use crate::scope::Scope;
@@ -23,11 +22,11 @@ use crate::select::Select;
 use star_parser::{Ast, Tree};
 use star_plan::{PlaceList, Predicate, Schema, StarQuery, Table};
 use star_schema::find_table;
-use star_values::{NoMemory, SmallText};
+use star_values::{NoMemory, SmallText, StatementFault};
 use std::alloc::Global;
 
 /// The query of a select of some item.
-pub fn bind(alloc: Global, ast: &Ast, schema: &Schema) -> Result<StarQuery, BindFault>
+pub fn bind(alloc: Global, ast: &Ast, schema: &Schema) -> Result<StarQuery, StatementFault>
     requires limits { IsWithinLimits schema.now }
     requires select { is_select (statement_of ast.now) ≡ true }
     ensures binds { BindsSelect result schema.now (statement_of ast.now) }
@@ -61,7 +60,7 @@ pub fn bind_delete(
     alloc: Global,
     ast: &Ast,
     schema: &Schema,
-) -> Result<Option<Predicate>, BindFault>
+) -> Result<Option<Predicate>, StatementFault>
     requires limits { IsWithinLimits schema.now }
     requires delete { is_delete (statement_of ast.now) ≡ true }
     ensures binds { BindsDelete result schema.now (statement_of ast.now) }
@@ -81,7 +80,7 @@ pub fn bind_delete(
 }
 
 #[tactic(auto, unfolding(crate::specs::Refused::bound_select))]
-fn bind_select(alloc: Global, schema: &Schema, select: &Select) -> Result<StarQuery, BindFault>
+fn bind_select(alloc: Global, schema: &Schema, select: &Select) -> Result<StarQuery, StatementFault>
     requires { IsWithinLimits schema.now }
     ensures { Binds query_of result (bound_select schema.now (parts_of select.now)) }
 {
@@ -108,11 +107,11 @@ fn tables_named(alloc: Global, schema: &Schema, names: &[SmallText]) -> Result<V
 }
 
 /// The query of a select over tables that are found.
-fn bind_over(alloc: Global, scope: &Scope, select: &Select) -> Result<StarQuery, BindFault>
+fn bind_over(alloc: Global, scope: &Scope, select: &Select) -> Result<StarQuery, StatementFault>
     ensures { Binds query_of result (bound_over scope.now (parts_of select.now)) }
 {
     match refusal_of(alloc, scope, select)? {
-        Some(reason) => Err(BindFault::Refused(reason)),
+        Some(reason) => Err(StatementFault::Refused(reason)),
         None => Ok(query_in(alloc, scope, select)?),
     }
 }
@@ -139,7 +138,7 @@ fn bind_conjuncts(
     schema: &Schema,
     name: &SmallText,
     conjuncts: &[Tree],
-) -> Result<Option<Predicate>, BindFault>
+) -> Result<Option<Predicate>, StatementFault>
     requires { IsWithinLimits schema.now }
     ensures { Binds (option_map test_of) result
         (bound_delete schema.now name.now (map condition_of conjuncts.now)) }
@@ -150,7 +149,7 @@ fn bind_conjuncts(
         tables: tables.as_slice(),
     };
     match refusal_of_delete(alloc, &scope, name, conjuncts)? {
-        Some(reason) => Err(BindFault::Refused(reason)),
+        Some(reason) => Err(StatementFault::Refused(reason)),
         None => Ok(test_on(alloc, &scope, conjuncts, Table::Fact)?),
     }
 }

@@ -6,19 +6,18 @@ ghost use Rattle.star_schema.specs.Fault.{Declares, DeclaresFact, Refuses};
 ghost use Rattle.star_schema.specs.Limits.{IsWithinLimits};
 ghost use Rattle.star_schema.specs.Schemas.{IsDeclared, ReferencesNothing};
 
-use crate::fault::DeclareFault;
 use crate::find::{columns_of, find_table};
 use crate::names::has_repeated_name;
 use crate::{MAX_COLUMNS, MAX_DIMENSIONS};
 use star_plan::{ColumnDef, Schema, Table, TableDef};
-use star_values::{Kind, Refusal};
+use star_values::{Kind, Refusal, StatementFault};
 
 /// Adds a dimension behind those that were declared. Its first column is its key.
 ///
 /// It is refused after the fact table was declared, for a name that is taken or stands twice, and as a
 /// ninth dimension or with more than 16 columns: for the first of these reasons. Memory is wanted
 /// only for what nothing refuses.
-pub fn declare_dimension(schema: &mut Schema, table: TableDef) -> Result<(), DeclareFault>
+pub fn declare_dimension(schema: &mut Schema, table: TableDef) -> Result<(), StatementFault>
     requires declared { IsDeclared schema.old }
     requires columns { 0 < length table.columns }
     requires plain { ReferencesNothing table }
@@ -27,7 +26,7 @@ pub fn declare_dimension(schema: &mut Schema, table: TableDef) -> Result<(), Dec
 {
     let mut table = table;
     if let Some(reason) = refusal_of_dimension(schema, &mut table) {
-        return Err(DeclareFault::Refused(reason));
+        return Err(StatementFault::Refused(reason));
     }
     schema.dimensions.push(table)?;
     Ok(())

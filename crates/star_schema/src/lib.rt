@@ -3,14 +3,12 @@
 #![tactic(auto)]
 
 mod declare;
-mod fault;
 mod find;
 mod laws;
 mod names;
 mod repeat;
 
 pub use declare::{declare_dimension, declare_fact};
-pub use fault::DeclareFault;
 pub use find::{columns_of, find_column, find_dimension, find_table, is_table_named};
 pub use laws::{
     accepted_tables_keep_a_schema_declared, empty_schemas_are_declared, repeats_are_pairs,

@@ -18,8 +18,8 @@ use Rattle.star_history.specs.Store.{Store}
 use Rattle.star_store.specs.Deletes.{delete_change, positions_of}
 use Rattle.star_store.specs.Done.{Commits}
 use Rattle.star_store.specs.declared.done.Done.{Done}
-use Rattle.star_store.specs.declared.fault.StoreFault.{StoreFault}
-use Rattle.star_store.specs.declared.fault.StoreFault.TheVariants.{Refused, Memory}
+use Rattle.star_values.specs.declared.statement_fault.StatementFault.{StatementFault}
+use Rattle.star_values.specs.declared.statement_fault.StatementFault.TheVariants.{Refused, Memory}
 use Rattle.reply_text.specs.declared.reply.Reply.{Reply}
 use Rattle.reply_text.specs.declared.reply.Reply.TheVariants as reply
 use Rattle.star_statement.specs.Applied.{Follows, IsAsked, TellsDone, kind_by, told_by}
@@ -42,7 +42,7 @@ asks_none old new applied answer e = subst (λ (a : Applied). IsAsked old new a)
 changed_asks_none : (old new : KeyedStore) (applied : Applied) (kind : ChangeKind) (answer : Reply) → applied ≡ Changed kind answer → IsAsked old new applied
 changed_asks_none old new applied kind answer e = subst (λ (a : Applied). IsAsked old new a) (sym e) tt
 
-pub follows_committed : (kind : ChangeKind) (old new : KeyedStore) (found : Result Change Refusal) (done : Result Done StoreFault) (result : Result Applied NoMemory)
+pub follows_committed : (kind : ChangeKind) (old new : KeyedStore) (found : Result Change Refusal) (done : Result Done StatementFault) (result : Result Applied NoMemory)
     → IsOfKind kind found → Commits found old new done → TellsDone kind done result → Follows old new result (committed (plain old) found)
 follows_committed kind old new (Ok change) (Ok done) (Ok applied) is commits told = (
   ap told_by told ∙ ap (λ (d : Done). outcome.Replied (reply.Commit d.commit d.rows)) commits.1,

@@ -21,7 +21,8 @@ use Rattle.star_statement.specs.Text.{is_dimension}
 use Rattle.star_statement.specs.declared.applied.Applied.TheVariants.{Replied, Changed}
 use Rattle.star_statement.specs.declared.applied.ChangeKind.{ChangeKind}
 
-no_targets : (s : Schema) (columns : List AstColumn) → HaveNoTargets columns → All (λ (column : ColumnDef). column.target ≡ None) (map (defined_column s) columns)
+-- the columns of a dimension as they are declared reference nothing
+pub no_targets : (s : Schema) (columns : List AstColumn) → HaveNoTargets columns → All (λ (column : ColumnDef). column.target ≡ None) (map (defined_column s) columns)
 no_targets s [] plain = All-nil (λ (column : ColumnDef). column.target ≡ None)
 no_targets s (column ∷ columns) plain =
     All-cons (λ (column : ColumnDef). column.target ≡ None) (defined_column s column) (map (defined_column s) columns)

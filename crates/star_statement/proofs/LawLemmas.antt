@@ -41,13 +41,10 @@ use Rattle.star_statement.specs.Laws.{AgreesWith}
 use Rattle.star_statement.specs.Outcome.{Outcome, block_bytes, committed, declared, deleted, meaning_outcome, outcome_by, outcome_of, refused, select_outcome, selected}
 use Rattle.star_statement.specs.Script.{history_after, is_wanted_at, replies_after, replies_at}
 use Rattle.star_statement.specs.Text.{meaning_of}
+use Rattle.star_statement.proofs.ValueLemmas.{either}
 
 abbrev Agrees : Store → Outcome → Type 0
 Agrees store outcome = AgreesWith store (store_by store outcome) (effect_by store outcome).reply
-
-either : {A : Type 0} (P : A → Type 0) (test : Bool) (yes_case no_case : A) → P yes_case → P no_case → P (if test then yes_case else no_case)
-either P true a b h k = h
-either P false a b h k = k
 
 dimension_agrees : (store : Store) (name : List ℕ) (result : Result TableDef Refusal) → Agrees store (declared DimensionDeclared name result)
 dimension_agrees store name (Ok table) = refl
@@ -139,7 +136,7 @@ effect_agrees store statement = by_agrees store statement.block (meaning_of stat
 -- The replies by tables.
 
 -- a history with a change more, or none, has the tables after it
-grown : (history : List Change) (change : Option Change) → store_of (history ++ option_to_list change) ≡ option_map_or (after_change (store_of history)) change (store_of history)
+pub grown : (history : List Change) (change : Option Change) → store_of (history ++ option_to_list change) ≡ option_map_or (after_change (store_of history)) change (store_of history)
 grown history None = ap store_of (append-nil history)
 grown history (Some change) = fold-append after_change empty_store history (change ∷ [])
 

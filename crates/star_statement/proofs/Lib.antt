@@ -4,3 +4,15 @@ mod ApplyLemmas
 mod LoadLemmas
 mod DeclareLemmas
 mod LawLemmas
+mod FittingLemmas
+pub mod HistoryLemmas
+mod MemoryLemmas
+mod JoinedLemmas
+mod ValueLemmas
+mod AnswerLemmas
+mod StoreLemmas
+mod NameLemmas
+mod LineLemmas
+mod ReasonLemmas
+mod FormedLemmas
+mod ScriptLemmas

@@ -5,8 +5,8 @@ use Rattle.star_plan.specs.Over.{IsOver}
 use Rattle.star_plan.specs.Test.{query_of}
 use Rattle.star_history.specs.Keyed.{KeyedStore, plain}
 use Rattle.star_store.specs.declared.done.Done.{Done}
-use Rattle.star_store.specs.declared.fault.StoreFault.{StoreFault}
-use Rattle.star_store.specs.declared.fault.StoreFault.TheVariants.{Refused, Memory}
+use Rattle.star_values.specs.declared.statement_fault.StatementFault.{StatementFault}
+use Rattle.star_values.specs.declared.statement_fault.StatementFault.TheVariants.{Refused, Memory}
 use Rattle.reply_text.specs.declared.reply.Reply.TheVariants as reply
 use Rattle.star_statement.specs.Effect.{store_by}
 use Rattle.star_statement.specs.Kinds.{kind_of_change}
@@ -44,7 +44,7 @@ Follows old new (Err none) found = new ≡ old
 
 -- what is answered to a load or delete of this kind that was carried out or refused: its commit, the reason, or that
 -- memory was wanted
-abbrev pub TellsDone : ChangeKind → Result Done StoreFault → Result Applied NoMemory → Type 0
+abbrev pub TellsDone : ChangeKind → Result Done StatementFault → Result Applied NoMemory → Type 0
 TellsDone kind (Ok done) (Ok applied) = applied ≡ Changed kind (reply.Commit done.commit done.rows)
 TellsDone kind (Ok done) (Err none) = ⊥
 TellsDone kind (Err (Refused reason)) (Ok applied) = applied ≡ Replied (reply.Refused reason)

@@ -1,5 +1,7 @@
 -- What a statement does, and the replies to a list of statements.
 pub mod Script
+pub mod Memory
+pub mod Fitting
 pub mod Effect
 pub mod Outcome
 pub mod Kinds

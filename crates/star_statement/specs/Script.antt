@@ -1,5 +1,6 @@
--- The replies to a list of statements: their effects one after the other, from the empty history. A statement for which
--- memory was wanted changes nothing, and is told so.
+-- The replies to a list of statements, and the history that they make: their effects one after the
+-- other, from the empty history. A statement for which memory was wanted changes nothing, and is
+-- told so.
 use Rattle.std.specs.Prelude.{ℕ, suc, Bool, ◌==◌, List, [], ◌∷◌, ◌++◌, option_to_list, if◌then◌else◌}
 use Rattle.std.specs.List.{list_any}
 use Rattle.script_reader.specs.declared.statement.Statement.{Statement}
@@ -29,7 +30,19 @@ replies_after wanted place history (statement ∷ statements) =
 abbrev pub replies_of : (wanted : List ℕ) → List Statement → List Reply
 replies_of wanted statements = replies_after wanted 0 [] statements
 
--- the same where these are the tables
+-- the history at which statements end, from a place on, where memory was wanted at these places
+abbrev pub history_from : (wanted : List ℕ) → (place : ℕ) → List Change → List Statement
+    → List Change
+history_from wanted place history [] = history
+history_from wanted place history (statement ∷ statements) =
+    if is_wanted_at wanted place then history_from wanted (suc place) history statements
+    else history_from wanted (suc place) (history_after history statement) statements
+
+-- the history at which the statements of a script end
+abbrev pub history_of : (wanted : List ℕ) → List Statement → List Change
+history_of wanted statements = history_from wanted 0 [] statements
+
+-- the replies where these are the tables
 abbrev pub replies_at : (wanted : List ℕ) → (place : ℕ) → Store → List Statement → List Reply
 replies_at wanted place store [] = []
 replies_at wanted place store (statement ∷ statements) =

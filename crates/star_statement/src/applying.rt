@@ -19,11 +19,11 @@ use crate::applied::{Applied, ChangeKind};
 use crate::text::read_text;
 use reply_text::Reply;
 use script_reader::{Block, Statement};
-use star_binder::{BindFault, bind, bind_delete, bind_table};
+use star_binder::{bind, bind_delete, bind_table};
 use star_parser::Ast;
 use star_schema::find_table;
-use star_store::{Done, Store, StoreFault};
-use star_values::{NoMemory, Refusal, SmallText};
+use star_store::{Done, Store};
+use star_values::{NoMemory, Refusal, SmallText, StatementFault};
 use std::alloc::Global;
 
 /// Does what a statement says to the tables, and tells its reply, or the query that it asks.
@@ -86,8 +86,8 @@ fn declare_dimension(
             kind: ChangeKind::DeclaresDimension,
             reply: Reply::Table(name),
         }),
-        Err(StoreFault::Refused(reason)) => Ok(refused(reason)),
-        Err(StoreFault::Memory) => Err(NoMemory),
+        Err(StatementFault::Refused(reason)) => Ok(refused(reason)),
+        Err(StatementFault::Memory) => Err(NoMemory),
     }
 }
 
@@ -110,8 +110,8 @@ fn declare_fact(
             kind: ChangeKind::DeclaresFact,
             reply: Reply::Table(name),
         }),
-        Err(StoreFault::Refused(reason)) => Ok(refused(reason)),
-        Err(StoreFault::Memory) => Err(NoMemory),
+        Err(StatementFault::Refused(reason)) => Ok(refused(reason)),
+        Err(StatementFault::Memory) => Err(NoMemory),
     }
 }
 
@@ -146,8 +146,8 @@ fn delete(alloc: Global, store: &mut Store, ast: &Ast) -> Result<Applied, NoMemo
     }
     match bind_delete(alloc, ast, store.schema()) {
         Ok(condition) => committed(ChangeKind::Ends, store.apply_delete(condition.as_ref())),
-        Err(BindFault::Refused(reason)) => Ok(refused(reason)),
-        Err(BindFault::Memory) => Err(NoMemory),
+        Err(StatementFault::Refused(reason)) => Ok(refused(reason)),
+        Err(StatementFault::Memory) => Err(NoMemory),
     }
 }
 
@@ -165,8 +165,8 @@ fn select(alloc: Global, store: &mut Store, ast: &Ast) -> Result<Applied, NoMemo
             query,
             snapshot: store.commits(),
         }),
-        Err(BindFault::Refused(reason)) => Ok(refused(reason)),
-        Err(BindFault::Memory) => Err(NoMemory),
+        Err(StatementFault::Refused(reason)) => Ok(refused(reason)),
+        Err(StatementFault::Memory) => Err(NoMemory),
     }
 }
 
@@ -178,7 +178,7 @@ fn refused(reason: Refusal) -> Applied
 }
 
 /// The answer to a load or delete of this kind that was carried out or refused.
-fn committed(kind: ChangeKind, done: Result<Done, StoreFault>) -> Result<Applied, NoMemory>
+fn committed(kind: ChangeKind, done: Result<Done, StatementFault>) -> Result<Applied, NoMemory>
     ensures { TellsDone kind done result }
 {
     match done {
@@ -189,7 +189,7 @@ fn committed(kind: ChangeKind, done: Result<Done, StoreFault>) -> Result<Applied
                 rows: done.rows,
             },
         }),
-        Err(StoreFault::Refused(reason)) => Ok(refused(reason)),
-        Err(StoreFault::Memory) => Err(NoMemory),
+        Err(StatementFault::Refused(reason)) => Ok(refused(reason)),
+        Err(StatementFault::Memory) => Err(NoMemory),
     }
 }

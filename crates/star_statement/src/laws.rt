@@ -13,14 +13,18 @@ ghost use Rattle.star_plan.specs.declared.table_def.TableDef.{TableDef};
 ghost use Rattle.star_binder.specs.Refused.{bound_select};
 ghost use Rattle.star_binder.specs.Select.{select_of};
 ghost use Rattle.star_history.specs.History.{Change, store_of};
+ghost use Rattle.star_history.specs.Settled.{IsSettled};
 ghost use Rattle.star_history.specs.Store.{Store, empty_store};
 ghost use Rattle.star_statement.specs.Effect.{effect_of, store_after};
+ghost use Rattle.star_statement.specs.Fitting.{FitsTables};
 ghost use Rattle.star_statement.specs.Laws.{AgreesWith};
 ghost use Rattle.star_statement.specs.Outcome.{Accepted, only_tells, outcome_of, refused};
 ghost use Rattle.star_statement.specs.Script.{replies_after, replies_at, replies_of};
 ghost use Rattle.star_statement.specs.Text.{IsWhole, IsWithin, StopsAt, meaning_of};
 
-use star_parser::lines_are_what_the_grammar_says;
+use star_binder::bound_queries_keep_to_their_schema;
+use star_parser::{lines_are_what_the_grammar_says, statements_have_their_shapes};
+use star_store::changes_of_statements_are_taken;
 
 /// A refused statement, a query and a `wait` change nothing, and an accepted load or delete is the next commit.
 pub fn replies_agree_with_the_tables()
@@ -71,3 +75,15 @@ pub fn selects_are_refused_by_the_schema()
         bound_select store.schema (select_of items names condition groups) ≡ Ok query →
         outcome_of store statement ≡ only_tells (Accepted query store.commits) }
 {}
+
+/// A statement over settled tables is a reply alone, a query over the schema at the last commit, or a
+/// change that the tables take.
+pub fn outcomes_fit_the_tables()
+    ensures { (store : Store) (statement : Statement) → IsSettled store →
+        FitsTables store (outcome_of store statement).change (outcome_of store statement).told }
+{
+    bound_queries_keep_to_their_schema();
+    changes_of_statements_are_taken();
+    statements_have_their_shapes();
+    texts_are_refused_for_the_first_reason();
+}

@@ -20,8 +20,8 @@ use Rattle.star_history.specs.Keyed.{HasKeyNumbers, IsKeyed, plain, plain_versio
 use Rattle.star_history.specs.Settled.{AreRowsOf, IsSettled}
 use Rattle.star_history.specs.Store.{Store, rows_in}
 use Rattle.star_store.specs.declared.done.Done.{Done}
-use Rattle.star_store.specs.declared.fault.StoreFault.{StoreFault}
-use Rattle.star_store.specs.declared.fault.StoreFault.TheVariants.{Refused, Memory}
+use Rattle.star_values.specs.declared.statement_fault.StatementFault.{StatementFault}
+use Rattle.star_values.specs.declared.statement_fault.StatementFault.TheVariants.{Refused, Memory}
 use Rattle.star_store.specs.Deletes.{delete_change, positions_of}
 use Rattle.star_store.specs.Done.{Commits}
 use Rattle.star_history.specs.Kept.{rows_of_all, tables_of}
@@ -69,7 +69,7 @@ KeepsKeyNumbers = (schema : Schema) (dimensions : List (List DimensionRow)) (num
 
 -- the versions have their key numbers where the rows of a dimension have grown, or nothing changed
 pub keyed_after : KeepsKeyNumbers → (schema : Schema) (dims grown : List (Roomy DimensionRow)) (facts : Roomy Version) (commits next number : ℕ)
-    (found : Result Change Refusal) (result : Result Done StoreFault)
+    (found : Result Change Refusal) (result : Result Done StatementFault)
     → Commits found (tables_of schema dims facts commits) (tables_of schema grown facts next) result
     → OnOk result ((more : List DimensionRow) × (rows_of_all grown ≡ grown_at number more (rows_of_all dims)))
     → IsKeyed (tables_of schema dims facts commits) → IsKeyed (tables_of schema grown facts next)

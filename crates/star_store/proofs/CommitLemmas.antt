@@ -12,14 +12,14 @@ use Rattle.dimension_rows.specs.declared.dimension_row.DimensionRow.{DimensionRo
 use Rattle.star_history.specs.History.{Change, Loaded, grown_at, rows_by, versions_by}
 use Rattle.star_history.specs.Keyed.{KeyedStore, plain_version}
 use Rattle.star_store.specs.declared.done.Done.{Done}
-use Rattle.star_store.specs.declared.fault.StoreFault.{StoreFault}
-use Rattle.star_store.specs.declared.fault.StoreFault.TheVariants.{Refused, Memory}
+use Rattle.star_values.specs.declared.statement_fault.StatementFault.{StatementFault}
+use Rattle.star_values.specs.declared.statement_fault.StatementFault.TheVariants.{Refused, Memory}
 use Rattle.star_store.specs.Done.{Commits}
 use Rattle.star_history.specs.Kept.{rows_of_all, tables_of}
 use Rattle.star_store.specs.Fault.{Tells}
 
 -- a fault that tells its reason, where the tables are as they were
-pub commits_told : (found : Result Change Refusal) (old new : KeyedStore) (fault : StoreFault) → Tells found fault → new ≡ old
+pub commits_told : (found : Result Change Refusal) (old new : KeyedStore) (fault : StatementFault) → Tells found fault → new ≡ old
     → Commits found old new (Err fault)
 commits_told found old new (Refused reason) tells same = (tells, same)
 commits_told found old new Memory tells same = same

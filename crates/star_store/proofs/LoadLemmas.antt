@@ -23,8 +23,8 @@ use Rattle.csv_load.specs.Rows.{typed_rows}
 use Rattle.star_history.specs.History.{Loaded, grown_at, versions_by}
 use Rattle.star_history.specs.Keyed.{plain_version}
 use Rattle.star_history.specs.Store.{Store}
-use Rattle.star_store.specs.declared.fault.StoreFault.{StoreFault}
-use Rattle.star_store.specs.declared.fault.StoreFault.TheVariants.{Refused, Memory}
+use Rattle.star_values.specs.declared.statement_fault.StatementFault.{StatementFault}
+use Rattle.star_values.specs.declared.statement_fault.StatementFault.TheVariants.{Refused, Memory}
 use Rattle.star_history.specs.Kept.{rows_of_all}
 use Rattle.star_store.specs.Fault.{Tells}
 use Rattle.star_store.specs.Loads.{count_in, dangles, loaded_records, loaded_rows, most_in}
@@ -146,7 +146,7 @@ found_versions : (store : Store) (records : List (List (List ℕ))) (rows : List
     → loaded_records store Fact records ≡ loaded_rows store Fact rows
 found_versions store records rows room typed = rw (room, typed) refl
 
-pub accepted_versions : {V : Type 0} (items : V → List Version) (result : Result V StoreFault) (store : Store) (records : List (List (List ℕ)))
+pub accepted_versions : {V : Type 0} (items : V → List Version) (result : Result V StatementFault) (store : Store) (records : List (List (List ℕ)))
     (rows : List (List cell.Value)) (commit : ℕ) → nat_lt (most_in Fact) (count_in store Fact + length records) ≡ false
     → typed_rows (kinds_of (columns_of store.schema Fact)) records ≡ Some rows
     → IfOk result (λ versions. map plain_version (items versions) ≡ versions_by commit rows)
@@ -156,7 +156,7 @@ accepted_versions items (Ok versions) store records rows commit room typed made 
     found_versions store records rows room typed ∙ rw none (ap (λ found. Ok (Loaded Fact found)) (sym (rows_of_versions (items versions) commit rows made)))
 accepted_versions items (Err fault) store records rows commit room typed made none = tt
 
-pub versions_of_rows : {V : Type 0} (items : V → List Version) (result : Result V StoreFault) (rows : List (List cell.Value)) (commit : ℕ)
+pub versions_of_rows : {V : Type 0} (items : V → List Version) (result : Result V StatementFault) (rows : List (List cell.Value)) (commit : ℕ)
     → IfOk result (λ versions. map plain_version (items versions) ≡ versions_by commit rows)
     → IfOk result (λ versions. map plain_version (items versions) ≡ versions_by commit (map (λ version. version.row) (items versions)))
 versions_of_rows items (Ok versions) rows commit made = made ∙ ap (versions_by commit) (sym (rows_of_versions (items versions) commit rows made))
@@ -165,7 +165,7 @@ versions_of_rows items (Err fault) rows commit made = tt
 few_by : (most count more : ℕ) → nat_lt most (count + more) ≡ false → count + more ≤ most
 few_by most count more room = grind (arith, nat_tests)
 
-pub few_versions : {V : Type 0} (items : V → List Version) (result : Result V StoreFault) (rows : List (List cell.Value)) (commit most count records : ℕ)
+pub few_versions : {V : Type 0} (items : V → List Version) (result : Result V StatementFault) (rows : List (List cell.Value)) (commit most count records : ℕ)
     → length rows ≡ records → nat_lt most (count + records) ≡ false
     → IfOk result (λ versions. map plain_version (items versions) ≡ versions_by commit rows)
     → IfOk result (λ versions. count + length (items versions) ≤ most)
@@ -176,7 +176,7 @@ few_versions items (Ok versions) rows commit most count records all room made =
     rw (same ∙ all) few
 few_versions items (Err fault) rows commit most count records all room made = tt
 
-dangling_fault : (store : Store) (records : List (List (List ℕ))) (rows : List (List cell.Value)) (fault : StoreFault)
+dangling_fault : (store : Store) (records : List (List (List ℕ))) (rows : List (List cell.Value)) (fault : StatementFault)
     → nat_lt (most_in Fact) (count_in store Fact + length records) ≡ false → typed_rows (kinds_of (columns_of store.schema Fact)) records ≡ Some rows
     → (fault ≡ Memory) ⊎ ((fault ≡ Refused DanglingReference) × (list_any (dangles store.schema store.dimensions) rows ≡ true))
     → Tells (loaded_records store Fact records) fault
@@ -184,7 +184,7 @@ dangling_fault store records rows fault room typed (inl memory) = rw memory tt
 dangling_fault store records rows fault room typed (inr dangling) =
     rw dangling.0 (found_versions store records rows room typed ∙ rw dangling.1 refl)
 
-pub tells_dangling : {V : Type 0} (result : Result V StoreFault) (store : Store) (records : List (List (List ℕ))) (rows : List (List cell.Value))
+pub tells_dangling : {V : Type 0} (result : Result V StatementFault) (store : Store) (records : List (List (List ℕ))) (rows : List (List cell.Value))
     → nat_lt (most_in Fact) (count_in store Fact + length records) ≡ false → typed_rows (kinds_of (columns_of store.schema Fact)) records ≡ Some rows
     → IfErr result (λ fault. (fault ≡ Memory) ⊎ ((fault ≡ Refused DanglingReference) × (list_any (dangles store.schema store.dimensions) rows ≡ true)))
     → IfErr result (Tells (loaded_records store Fact records))

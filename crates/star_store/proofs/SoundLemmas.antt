@@ -21,8 +21,8 @@ use Rattle.star_history.specs.Keyed.{HasKeyNumbers, KeyedStore, plain, plain_ver
 use Rattle.star_history.specs.Settled.{IsSettled}
 use Rattle.star_history.specs.Store.{PlainVersion, Store}
 use Rattle.star_store.specs.declared.done.Done.{Done}
-use Rattle.star_store.specs.declared.fault.StoreFault.{StoreFault}
-use Rattle.star_store.specs.declared.fault.StoreFault.TheVariants.{Refused, Memory}
+use Rattle.star_values.specs.declared.statement_fault.StatementFault.{StatementFault}
+use Rattle.star_values.specs.declared.statement_fault.StatementFault.TheVariants.{Refused, Memory}
 use Rattle.star_store.specs.Done.{Commits}
 use Rattle.star_history.specs.Kept.{AreSound, rows_of_all, tables_of}
 
@@ -32,7 +32,7 @@ StaysSettled = (store : Store) (change : Change) → IsSettled store → Accepts
 
 -- Loads and deletes.
 
-pub settled_by : StaysSettled → (found : Result Change Refusal) (old new : KeyedStore) (result : Result Done StoreFault)
+pub settled_by : StaysSettled → (found : Result Change Refusal) (old new : KeyedStore) (result : Result Done StatementFault)
     → ((change : Change) → found ≡ Ok change → Accepts (plain old) change) → IsSettled (plain old) → Commits found old new result → IsSettled (plain new)
 settled_by stays (Ok change) old new (Ok done) takes settled is =
     subst IsSettled (sym is.0) (stays (plain old) change settled (takes change refl))
@@ -104,7 +104,7 @@ dimension_declared stays schema grown dims more facts commits table (Ok declared
     )
 
 pub dimension_sound : StaysSettled → (schema grown : Schema) (dims more : List (Roomy DimensionRow)) (facts : Roomy Version) (commits : ℕ) (table : TableDef)
-    (result : Result (Unit {0}) StoreFault) → 0 < length table.columns → ReferencesNothing table
+    (result : Result (Unit {0}) StatementFault) → 0 < length table.columns → ReferencesNothing table
     → OnOk result (IsOkAnd (declared_dimension schema table) (λ declared. grown ≡ with_dimension schema declared))
     → OnOk result (rows_of_all more ≡ rows_of_all dims ++ [] ∷ []) → OnErr result ((grown ≡ schema) × (more ≡ dims))
     → AreSound (tables_of schema dims facts commits) → AreSound (tables_of grown more facts commits)

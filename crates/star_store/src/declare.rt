@@ -6,11 +6,11 @@ ghost use Rattle.star_schema.specs.Schemas.{IsDeclared, ReferencesNothing};
 ghost use Rattle.star_history.specs.Kept.{rows_of_all};
 ghost use Rattle.star_store.specs.Fault.{Tells};
 
-use crate::fault::StoreFault;
 use dimension_rows::{DimensionRows, Dims};
 use star_lists::ListOf;
 use star_plan::{Schema, TableDef};
 use star_schema::declare_dimension;
+use star_values::StatementFault;
 use std::alloc::Global;
 use std::mem;
 
@@ -20,14 +20,14 @@ pub(crate) fn add_dimension(
     schema: &mut Schema,
     dims: &mut Dims,
     table: TableDef,
-) -> Result<(), StoreFault>
+) -> Result<(), StatementFault>
     requires declared { IsDeclared schema.old }
     requires columns { 0 < length table.columns }
     requires plain { ReferencesNothing table }
     ensures schema { OnOk result (IsOkAnd (declared_dimension schema.old table) (λ declared. schema.new ≡ with_dimension schema.old declared)) }
     ensures rows { OnOk result (rows_of_all dims.new ≡ rows_of_all dims.old ++ [] ∷ []) }
     ensures tells { IfErr result (Tells (declared_dimension schema.old table)) }
-    ensures memory { IsErrOf result StoreFault.Memory → IsOk (declared_dimension schema.old table) }
+    ensures memory { IsErrOf result StatementFault.Memory → IsOk (declared_dimension schema.old table) }
     ensures err { OnErr result ((schema.new ≡ schema.old) × (dims.new ≡ dims.old)) }
 {
     declare_dimension(schema, table)?;

@@ -12,10 +12,9 @@ ghost use Rattle.star_history.specs.Kept.{tables_of};
 
 use crate::done::Done;
 use crate::ends::end_versions;
-use crate::fault::StoreFault;
 use fact_versions::FactVersions;
 use star_plan::{Predicate, Schema, rows_fit_by_their_kinds};
-use star_values::Refusal;
+use star_values::{Refusal, StatementFault};
 
 /// Ends every version that no commit ended and on which the condition, if there is one, holds, as the
 /// next commit.
@@ -24,7 +23,7 @@ pub(crate) fn delete(
     facts: &mut FactVersions,
     commits: &mut u64,
     condition: Option<&Predicate>,
-) -> Result<Done, StoreFault>
+) -> Result<Done, StatementFault>
     requires fit { IfSome schema.now.fact (λ table. All (λ version. IsTrue (fits_table table version.row)) facts.old.items) }
     requires condition { IfSome schema.now.fact (λ table. some_test_fits (kinds_of table.columns) (option_map (λ p. test_of p.now) condition) ≡ true) }
     ensures commits { (dims : List (Roomy DimensionRow)) → Commits
@@ -32,14 +31,14 @@ pub(crate) fn delete(
         (tables_of schema.now dims facts.old commits.old) (tables_of schema.now dims facts.new commits.new) result }
     ensures keyed { (dimensions : List (List DimensionRow)) →
         All (HasKeyNumbers schema.now dimensions) facts.old.items → All (HasKeyNumbers schema.now dimensions) facts.new.items }
-    ensures memory { IsErrOf result StoreFault.Memory → commits.old ≡ 2 ^ 64 - 1 }
+    ensures memory { IsErrOf result StatementFault.Memory → commits.old ≡ 2 ^ 64 - 1 }
 {
     rows_fit_by_their_kinds();
     if schema.fact.is_none() {
-        return Err(StoreFault::Refused(Refusal::OutOfOrder));
+        return Err(StatementFault::Refused(Refusal::OutOfOrder));
     }
     let Some(commit) = commits.checked_add(1) else {
-        return Err(StoreFault::Memory);
+        return Err(StatementFault::Memory);
     };
     let rows = end_versions(facts, condition, commit);
     *commits = commit;

@@ -6,7 +6,6 @@ mod declare;
 mod delete;
 mod done;
 mod ends;
-mod fault;
 mod laws;
 mod load;
 mod rows;
@@ -15,6 +14,5 @@ mod versions;
 
 pub use crossing::{store_may_be_sent, store_may_be_shared};
 pub use done::Done;
-pub use fault::StoreFault;
 pub use laws::changes_of_statements_are_taken;
 pub use store::Store;

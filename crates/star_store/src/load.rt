@@ -20,10 +20,9 @@ ghost use Rattle.star_history.specs.Kept.{AreSound, rows_of_all, tables_of};
 ghost use Rattle.star_store.specs.Fault.{Tells};
 ghost use Rattle.star_store.specs.Loads.{load_change, loaded_records, repeats_a_key};
 ghost use Rattle.star_store.specs.declared.done.Done.{Done};
-ghost use Rattle.star_store.specs.declared.fault.StoreFault.TheVariants.{Refused, Memory};
+ghost use Rattle.star_values.specs.declared.statement_fault.StatementFault.TheVariants.{Refused, Memory};
 
 use crate::done::Done;
-use crate::fault::StoreFault;
 use crate::rows::{append_rows, kinds_of, repeats_a_key};
 use crate::versions::{append_versions, versions_of};
 use csv_load::{BlockFault, LoadRows, count_records, each_record_is_a_row, read_block};
@@ -32,7 +31,7 @@ use fact_versions::{FactVersions, MAX_VERSIONS, Version};
 use star_history::later_rows_move_no_key_number;
 use star_plan::{ColumnDef, Schema, Table, rows_fit_by_their_kinds};
 use star_schema::{columns_of, find_table};
-use star_values::{NoMemory, Refusal, SmallText};
+use star_values::{NoMemory, Refusal, SmallText, StatementFault};
 use std::alloc::Global;
 
 /// The rows of a block for a table with these columns, where each of its records is one.
@@ -76,7 +75,7 @@ fn checked_rows(
     number: u8,
     header: bool,
     block: &[u8],
-) -> Result<LoadRows, StoreFault>
+) -> Result<LoadRows, StatementFault>
     requires declared { IsDeclared schema.now }
     requires there { number < length schema.now.dimensions }
     requires count { length dims.now ≡ length schema.now.dimensions }
@@ -92,14 +91,14 @@ fn checked_rows(
     each_record_is_a_row();
     let dimension = &dims.as_slice()[number as usize];
     if !has_room(alloc, dimension.len(), MAX_DIMENSION_ROWS, header, block)? {
-        return Err(StoreFault::Refused(Refusal::Limit));
+        return Err(StatementFault::Refused(Refusal::Limit));
     }
     let columns = columns_of(schema, Table::Dimension(number));
     let Some(rows) = read_rows(alloc, columns, header, block)? else {
-        return Err(StoreFault::Refused(Refusal::BadRecord));
+        return Err(StatementFault::Refused(Refusal::BadRecord));
     };
     if repeats_a_key(alloc, dimension, rows.as_slice())? {
-        return Err(StoreFault::Refused(Refusal::DuplicateKey));
+        return Err(StatementFault::Refused(Refusal::DuplicateKey));
     }
     Ok(rows)
 }
@@ -141,7 +140,7 @@ fn load_dimension(
     number: u8,
     header: bool,
     block: &[u8],
-) -> Result<Done, StoreFault>
+) -> Result<Done, StatementFault>
     requires declared { IsDeclared schema.now }
     requires there { number < length schema.now.dimensions }
     requires count { length dims.old ≡ length schema.now.dimensions }
@@ -176,7 +175,7 @@ fn checked_versions(
     commit: u64,
     header: bool,
     block: &[u8],
-) -> Result<Vec<Version>, StoreFault>
+) -> Result<Vec<Version>, StatementFault>
     requires declared { IsDeclared schema.now }
     requires count { length dims.now ≡ length schema.now.dimensions }
     requires loaded { (dimension : ℕ) → All (λ entry. entry.commit ≤ commit) (rows_in (rows_of_all dims.now) dimension) }
@@ -193,11 +192,11 @@ fn checked_versions(
     rows_fit_by_their_kinds();
     each_record_is_a_row();
     if !has_room(alloc, facts.len(), MAX_VERSIONS, header, block)? {
-        return Err(StoreFault::Refused(Refusal::Limit));
+        return Err(StatementFault::Refused(Refusal::Limit));
     }
     let columns = columns_of(schema, Table::Fact);
     let Some(rows) = read_rows(alloc, columns, header, block)? else {
-        return Err(StoreFault::Refused(Refusal::BadRecord));
+        return Err(StatementFault::Refused(Refusal::BadRecord));
     };
     versions_of(alloc, schema, dims, rows, commit)
 }
@@ -238,7 +237,7 @@ fn load_facts(
     commits: &mut u64,
     header: bool,
     block: &[u8],
-) -> Result<Done, StoreFault>
+) -> Result<Done, StatementFault>
     requires declared { IsDeclared schema.now }
     requires count { length dims.now ≡ length schema.now.dimensions }
     requires loaded { (dimension : ℕ) → All (λ entry. entry.commit ≤ commits.old) (rows_in (rows_of_all dims.now) dimension) }
@@ -262,20 +261,20 @@ pub(crate) fn load(
     name: &SmallText,
     header: bool,
     block: &[u8],
-) -> Result<Done, StoreFault>
+) -> Result<Done, StatementFault>
     requires sound { AreSound (tables_of schema.now dims.old facts.old commits.old) }
     ensures commits { Commits
         (load_change (plain (tables_of schema.now dims.old facts.old commits.old)) name.now header block.now)
         (tables_of schema.now dims.old facts.old commits.old) (tables_of schema.now dims.new facts.new commits.new) result }
     ensures keyed { IsKeyed (tables_of schema.now dims.new facts.new commits.new) }
-    ensures known { IsErrOf result StoreFault.Memory → IsSome schema.now.fact × IsSome (table_named schema.now name.now) }
+    ensures known { IsErrOf result StatementFault.Memory → IsSome schema.now.fact × IsSome (table_named schema.now name.now) }
 {
     later_rows_move_no_key_number();
     if schema.fact.is_none() {
-        return Err(StoreFault::Refused(Refusal::OutOfOrder));
+        return Err(StatementFault::Refused(Refusal::OutOfOrder));
     }
     let Some(table) = find_table(schema, name) else {
-        return Err(StoreFault::Refused(Refusal::UnknownName));
+        return Err(StatementFault::Refused(Refusal::UnknownName));
     };
     match table {
         Table::Fact => load_facts(alloc, schema, dims, facts, commits, header, block),

@@ -18,7 +18,6 @@ ghost use Rattle.star_store.specs.Loads.{load_change};
 use crate::declare::add_dimension;
 use crate::delete::delete;
 use crate::done::Done;
-use crate::fault::StoreFault;
 use crate::laws::changes_of_statements_are_taken;
 use crate::load::load;
 use dimension_rows::Dims;
@@ -27,7 +26,7 @@ use star_history::accepted_histories_are_settled;
 use star_lists::ListOf;
 use star_plan::{Predicate, Schema, TableDef};
 use star_schema::{declare_fact, empty_schemas_are_declared};
-use star_values::SmallText;
+use star_values::{SmallText, StatementFault};
 use std::alloc::Global;
 use std::marker::Model;
 
@@ -100,7 +99,7 @@ impl Store {
     ///
     /// It is refused for the first reason that the schema gives, and takes memory only where nothing
     /// refuses it.
-    pub fn declare_dimension(&mut self, table: TableDef) -> Result<(), StoreFault>
+    pub fn declare_dimension(&mut self, table: TableDef) -> Result<(), StatementFault>
         requires columns { 0 < length table.columns }
         requires plain { ReferencesNothing table }
         ensures { Declares DimensionDeclared (declared_dimension self.old.schema table) self.old self.new result }
@@ -110,10 +109,10 @@ impl Store {
     }
 
     /// Adds the fact table. It is refused for the first reason that the schema gives, and takes no memory.
-    pub fn declare_fact(&mut self, table: TableDef) -> Result<(), StoreFault>
+    pub fn declare_fact(&mut self, table: TableDef) -> Result<(), StatementFault>
         requires columns { 0 < length table.columns }
         ensures declares { Declares FactDeclared (declared_fact self.old.schema table) self.old self.new result }
-        ensures known { ¬ (IsErrOf result StoreFault.Memory) }
+        ensures known { ¬ (IsErrOf result StatementFault.Memory) }
     {
         accepted_histories_are_settled();
         Ok(declare_fact(&mut self.schema, table)?)
@@ -131,9 +130,9 @@ impl Store {
         table: &SmallText,
         block: &[u8],
         header: bool,
-    ) -> Result<Done, StoreFault>
+    ) -> Result<Done, StatementFault>
         ensures commits { Commits (load_change (plain self.old) table.now header block.now) self.old self.new result }
-        ensures known { IsErrOf result StoreFault.Memory → IsSome self.old.schema.fact × IsSome (table_named self.old.schema table.now) }
+        ensures known { IsErrOf result StatementFault.Memory → IsSome self.old.schema.fact × IsSome (table_named self.old.schema table.now) }
     {
         accepted_histories_are_settled();
         changes_of_statements_are_taken();
@@ -154,11 +153,11 @@ impl Store {
     ///
     /// It is refused before the fact table was declared. It takes no memory, and answers want of it
     /// only where there is no number for one commit more.
-    pub fn apply_delete(&mut self, predicate: Option<&Predicate>) -> Result<Done, StoreFault>
+    pub fn apply_delete(&mut self, predicate: Option<&Predicate>) -> Result<Done, StatementFault>
         requires fits { IfSome self.old.schema.fact (λ table.
             some_test_fits (kinds_of table.columns) (option_map (λ p. test_of p.now) predicate) ≡ true) }
         ensures commits { Commits (delete_change (plain self.old) (option_map (λ p. test_of p.now) predicate.entry)) self.old self.new result }
-        ensures memory { IsErrOf result StoreFault.Memory → self.old.commits ≡ 2 ^ 64 - 1 }
+        ensures memory { IsErrOf result StatementFault.Memory → self.old.commits ≡ 2 ^ 64 - 1 }
     {
         accepted_histories_are_settled();
         changes_of_statements_are_taken();

@@ -5,5 +5,6 @@ pub mod Integer
 pub mod Cell
 pub mod Refusal
 pub mod TextFault
+pub mod StatementFault
 pub mod OrderLaws
 pub mod Lends

@@ -11,6 +11,7 @@ mod no_memory;
 mod refusal;
 mod row;
 mod small_text;
+mod statement_fault;
 mod value;
 
 pub use byte_text::ByteText;
@@ -24,4 +25,5 @@ pub use row::{Row, rows_are_in_order};
 pub use small_text::{
     MAX_TEXT_BYTES, SmallText, TextFault, small_text_rule_is_tested, texts_have_their_limit,
 };
+pub use statement_fault::StatementFault;
 pub use value::{Kind, Value, values_are_in_order};
