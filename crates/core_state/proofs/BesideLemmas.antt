@@ -1,5 +1,5 @@
 -- What stays sound beside the seats where a seat submits a statement: queries are accepted behind the others.
-use Rattle.core_state.proofs.Words.{◌<◌, ◌∙◌, ◌≡◌, ◌≤◌, Accepted, accepted_at, All, ap, AreSoundQueries, arith, Encodes, filter, Filter, FitsSlot, frame_words, get_or, gets_rows, Has, Held, IfSome, IsOnRoster, IsQuietBefore, IsSoundBeside, IsSoundHand, IsSoundQuery, IsTrue, length, List, MayBeOnRoster, OnRoster, option_map, option_map_or, query_in, QueryLife, refl, rows_in, Seat, set, slot_at, SlotState, State, subst, sym, tables_of, ℕ}
+use Rattle.core_state.proofs.Words.{◌<◌, ◌∙◌, ◌≡◌, ◌≤◌, Accepted, accepted_at, All, ap, AreSoundQueries, arith, Encodes, filter, Filter, FitsSlot, frame_words, get_or, gets_rows, Has, Held, IfSome, IsOnRoster, IsQuietBefore, IsSoundBeside, IsSoundHand, IsSoundQuery, IsTrue, length, List, MayBeOnRoster, OnRoster, option_map, option_map_or, query_in, QueryLife, refl, rows_in, Seat, slot_at, SlotState, State, subst, sym, tables_of, ℕ}
 use Rattle.pipeline_manager.specs.Sound as managed
 use Rattle.core_state.proofs.AcceptedLemmas.{accepted-lives, held-life, of-accepted}
 use Rattle.core_state.proofs.FoundLemmas.{some-by, some-of}

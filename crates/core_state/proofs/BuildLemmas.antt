@@ -1,5 +1,5 @@
 -- A filter that is built for a query keeps a core sound.
-use Rattle.core_state.proofs.Words.{◌<◌, ◌↔◌, ◌∙◌, ◌≡◌, ◌≤◌, [], Accepted, accepted_at, after_build, ap, built_of-holder, CanBuild, DimensionRow, Encodes, false, filter, Filter, filter_with, FitsSlot, Free, gets_rows, Has, Has-with, Held, IfSome, inl, inr, is_begun, IsClearOf, IsSound, IsSoundFilter, IsTrue, length, life_in, List, MayBeOnRoster, None, Option, option_map_or, Query, refl, rows_in, Selection, selection_in, set, slice_get, slot_at, slot_of, slot_of-begun, SlotState, Some, State, subst, sym, tables_of, takes, vector_of, with_dimension, with_number, with_slot, with_version, ℕ, ⊎_elim}
+use Rattle.core_state.proofs.Words.{◌<◌, ◌↔◌, ◌∙◌, ◌≡◌, ◌≤◌, [], Accepted, accepted_at, after_build, ap, built_of-holder, CanBuild, DimensionRow, Encodes, false, filter, Filter, filter_with, FitsSlot, Free, gets_rows, Has, Has-with, Held, IfSome, inl, inr, is_begun, IsClearOf, IsSound, IsSoundFilter, IsTrue, length, life_in, List, MayBeOnRoster, None, Option, option_map_or, Query, refl, rows_in, Selection, selection_in, slice_get, slot_at, slot_of, slot_of-begun, SlotState, Some, State, subst, sym, tables_of, takes, vector_of, with_dimension, with_number, with_slot, with_version, ℕ, ⊎_elim}
 use Rattle.std.proofs.lemmas.Option.{slice_get_within}
 use Rattle.dimension_filter.proofs.AddLemmas.{added-ascends, added-encoded, added-others, added-sound, added-stored}
 use Rattle.dimension_filter.proofs.SlotLemmas.{complement-here, complement-other}

@@ -1,5 +1,5 @@
 -- A slot that is taken from its query keeps a core sound.
-use Rattle.core_state.proofs.Words.{◌++◌, ◌<◌, ◌||◌, ◌↔◌, ◌∙◌, ◌∷◌, ◌≡◌, ◌≢◌, ◌≤◌, [], Accepted, after_finish, All, All-cons, All-contains, All-nil, ap, append-nil, AreSoundQueries, Bool, Clearing, cond, covered, eq-eqb, eqb, extent_in, false, filter, FitsSlot, flat_map, Flight, Free, get_or, gets_rows, given_up, Has, Held, IfSome, inr, is_ending, is_on_roster, IsKept, IsOnRoster, IsPermutation, IsSound, IsTrue, kept_at, length, length-set, Life, life_in, life_in-other, List, list_any, MayBeOnRoster, MayFinish, None, Option, option_map_or, positions_for, QueryLife, range_with_len, refl, set, slice_get, slot_at, SlotState, Some, State, subst, sym, tables_of, true, versions_in, with_life, ℕ, ⊎_elim}
+use Rattle.core_state.proofs.Words.{◌++◌, ◌<◌, ◌||◌, ◌↔◌, ◌∙◌, ◌∷◌, ◌≡◌, ◌≢◌, ◌≤◌, [], Accepted, after_finish, All, All-cons, All-contains, All-nil, ap, append-nil, AreSoundQueries, Bool, Clearing, cond, covered, eq-eqb, eqb, extent_in, false, FitsSlot, flat_map, Flight, Free, get_or, gets_rows, given_up, Has, Held, IfSome, inr, is_ending, is_on_roster, IsKept, IsOnRoster, IsPermutation, IsSound, IsTrue, kept_at, length, length-set, Life, life_in, life_in-other, List, list_any, MayBeOnRoster, MayFinish, None, Option, option_map_or, positions_for, QueryLife, range_with_len, refl, set, slice_get, slot_at, SlotState, Some, State, subst, sym, tables_of, true, versions_in, with_life, ℕ, ⊎_elim}
 use Rattle.std.proofs.Common.{find}
 use Rattle.pipeline_manager.specs.Conditions.{IsOver}
 use Rattle.pipeline_manager.specs.Sound as managed

@@ -1,5 +1,6 @@
 -- Rows that are loaded, and versions that are ended, leave everything sound that a core keeps beside its seats.
-use Rattle.core_state.proofs.Words.{◌++◌, ◌∙◌, ◌∷◌, ◌≡◌, ◌≤◌, [], Accepts, AcceptsAll, after_change, All, All-push, ap, arith, Change, changes_of, empty_store, EndsAscending, Entry, fold, fold-append, IsOfRows, IsSettled, IsSound, IsSoundBeside, kept, List, map-append, Query, State, Store, store_of, subst, sym, tables_by, tables_of, with_entry, ℕ}
+use Rattle.core_state.proofs.Words.{◌++◌, ◌∙◌, ◌∷◌, ◌≡◌, ◌≤◌, [], Accepts, AcceptsAll, after_change, All, All-push, ap, arith, Change, changes_of, empty_store, EndsAscending, Entry, fold-append, IsOfRows, IsSettled, IsSound, IsSoundBeside, kept, List, map-append, Query, State, Store, store_of, subst, sym, tables_by, tables_of, with_entry, ℕ}
+use Rattle.star_statement.proofs.HistoryLemmas.{accepts-more}
 use Rattle.core_state.proofs.GivenLemmas.{Settles}
 use Rattle.core_state.proofs.GrownBatchLemmas.{batches-grown}
 use Rattle.core_state.proofs.GrownFilterLemmas.{filters-grown, hands-grown}
@@ -25,12 +26,6 @@ ends-with entries entry ends last =
 pub tables-with : (entries : List Entry) (entry : Entry) → tables_by (entries ++ entry ∷ []) ≡ after_change (tables_by entries) entry.change
 tables-with entries entry =
     ap store_of (changes-with entries entry) ∙ fold-append after_change empty_store (changes_of entries) (entry.change ∷ [])
-
--- a history takes a change more, which its tables take
-pub accepts-more : (store : Store) (history : List Change) (change : Change) → AcceptsAll store history
-    → Accepts (fold after_change store history) change → AcceptsAll store (history ++ change ∷ [])
-accepts-more store [] change all accepted = (accepted, tt)
-accepts-more store (first ∷ history) change all accepted = (all.0, accepts-more (after_change store first) history change all.1 accepted)
 
 pub sound-grown : Settles → AreNotSeen → (seat statement : ℕ) (change : Change) (state : State) → IsOfRows change
     → Accepts (tables_of state) change → IsSound state → IsSoundBeside (with_entry seat statement change state)

@@ -1,6 +1,6 @@
 -- What a worker took stays right while it holds it, whatever is committed meanwhile.
 use Rattle.core_state.proofs.Words.{◌*◌, ◌++◌, ◌+◌, ◌<◌, ◌↔◌, ◌∙◌, ◌≡◌, AcceptsAll, All, All-contains, ap, arith, changes_of, Contains, empty_store, Entry, filter_dimensions, Flight, frame_words, Hand, Has, IfSome, IfSome_then, IsOnRoster, IsSome, IsSound, IsSoundBatch, IsSoundHand, length, List, None, Option, refl, slice_get, Some, State, subst, sym, TableDef, tables_by, tables_of, ℕ}
-use Rattle.core_state.specs.Hands.{IsInHandAs}
+use Rattle.core_state.specs.Hands.{StandsFor}
 use Rattle.core_state.proofs.FoundLemmas.{some-at}
 use Rattle.core_state.proofs.GivenLemmas.{Settles}
 use Rattle.core_state.proofs.GrownBatchLemmas.{batch-grown}
@@ -37,10 +37,12 @@ same-filters before after sound later grows dimension = (
 )
 
 -- a batch that a worker took is sound in a later core
-batch-held : Settles → (before after : State) (flight : Flight) (hand : Hand) (home : Flight) → IsSound before → IsSound after → after.settings ≡ before.settings
-    → Grows (tables_of before) (tables_of after) → IsSoundBatch (frame_words before) (tables_of before) before.lives before.accepted flight → IsSoundBatch (frame_words after) (tables_of after) after.lives after.accepted home → IsInHandAs flight hand home
+batch-held : Settles → (before after : State) (flight home : Flight) → IsSound before → IsSound after
+    → after.settings ≡ before.settings → Grows (tables_of before) (tables_of after)
+    → IsSoundBatch (frame_words before) (tables_of before) before.lives before.accepted flight
+    → IsSoundBatch (frame_words after) (tables_of after) after.lives after.accepted home → StandsFor flight home
     → IsSoundBatch (frame_words after) (tables_of after) after.lives after.accepted flight
-batch-held settles before after flight hand home sound later settings grows old now alike = record {
+batch-held settles before after flight home sound later settings grows old now alike = record {
   within = let low = now.within in let first = alike.first in let count = alike.count in omega arith;
   bits = old.bits;
   keys = old.keys;
@@ -76,11 +78,11 @@ hand-held before after flight hand sound later settings grows roster old = recor
 
 pub took-stays : Settles → (before after : State) (flight home : Flight) (hand : Hand) (more : List Entry) → IsSound before → IsSound after
     → after.settings ≡ before.settings → after.entries ≡ before.entries ++ more
-    → Contains before.scan.flights flight → flight.hand ≡ Some hand → Contains after.scan.flights home → IsInHandAs flight hand home
+    → Contains before.scan.flights flight → flight.hand ≡ Some hand → Contains after.scan.flights home → StandsFor flight home
     → IsSoundBatch (frame_words after) (tables_of after) after.lives after.accepted flight
     × IsSoundHand (length after.seats) after.lives.filters (tables_of after) flight hand
 took-stays settles before after flight home hand more sound later settings entries flies held at_home alike = (
-  batch-held settles before after flight hand home sound later settings grows of_batch
+  batch-held settles before after flight home sound later settings grows of_batch
       (All-contains (IsSoundBatch (frame_words after) (tables_of after) after.lives after.accepted) after.scan.flights home later.batches at_home) alike,
   hand-held before after flight hand sound later settings grows of_batch.roster
       (some-at (IsSoundHand (length before.seats) before.lives.filters (tables_of before) flight) flight.hand hand held

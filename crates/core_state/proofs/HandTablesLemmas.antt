@@ -88,7 +88,7 @@ grows-through store (change ∷ history) ready accepted =
     (grows-through (after_change store change) history (subst (λ schema. IsSome schema.fact) (sym grows.schema) ready) accepted.1)
 
 -- the tables after a part of a history take the rest
-accepts-rest : (store : Store) (history rest : List Change) → AcceptsAll store (history ++ rest)
+pub accepts-rest : (store : Store) (history rest : List Change) → AcceptsAll store (history ++ rest)
     → AcceptsAll (fold after_change store history) rest
 accepts-rest store [] rest all = all
 accepts-rest store (change ∷ history) rest all = accepts-rest (after_change store change) history rest all.1

@@ -1,5 +1,5 @@
 -- Which rows of a batch a query keeps, position by position.
-use Rattle.core_state.proofs.Words.{◌&&◌, ◌+◌, ◌<◌, ◌∙◌, ◌∷◌, ◌≡◌, ap, arith, bit_at, Bool, cond, cons_option, eqb, false, filter, filter_map, Flight, get_or, is_kept, is_visible, Joined, joined, kept_at, length, List, map, nat_lt, None, OnRoster, Option, PlainVersion, range_with_len, refl, rows_for, slice_get, Some, Store, subst, suc, sym, true, version_at, zero, ℕ}
+use Rattle.core_state.proofs.Words.{◌&&◌, ◌+◌, ◌<◌, ◌∙◌, ◌∷◌, ◌≡◌, ap, arith, bit_at, Bool, cond, cons_option, eqb, false, filter, filter_map, Flight, get_or, is_kept, is_visible, Joined, joined, kept_at, length, List, map, nat_lt, None, OnRoster, Option, PlainVersion, range_with_len, refl, rows_for, slice_get, Some, Store, subst, suc, sym, true, zero, ℕ}
 use Rattle.star_plan.specs.Joined.{kept_of}
 
 -- a position below the extent has what is kept of its version, where the test of its row says so

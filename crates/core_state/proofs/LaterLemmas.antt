@@ -15,7 +15,7 @@ AnswersStay = (store : Store) (change : Change) (query : Query) (snapshot : ℕ)
     → snapshot ≤ store.commits → alone (after_change store change) query snapshot ≡ alone store query snapshot
 
 -- the tables stay as they are, or take one change
-abbrev NextTables : Store → (next : Store) → Type 0
+abbrev pub NextTables : Store → (next : Store) → Type 0
 NextTables store next = (next ≡ store) ⊎ ((change : Change) × (next ≡ after_change store change) × Accepts store change)
 
 -- commits are never taken back
@@ -56,7 +56,7 @@ step-tables outcomes step state may sound settled =
     (λ seat. inl refl)
 
 -- an answer at a snapshot so far is that after the next step, and the snapshot is still one so far
-one-later : AnswersStay → (query : Query) (snapshot : ℕ) (store next : Store) → IsSettled store → snapshot ≤ store.commits → NextTables store next
+pub one-later : AnswersStay → (query : Query) (snapshot : ℕ) (store next : Store) → IsSettled store → snapshot ≤ store.commits → NextTables store next
     → (snapshot ≤ next.commits) × (alone next query snapshot ≡ alone store query snapshot)
 one-later stays query snapshot store next settled low (inl same) =
     (subst (λ s. snapshot ≤ s.commits) (sym same) low, ap (λ s. alone s query snapshot) same)

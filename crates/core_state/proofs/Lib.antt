@@ -47,7 +47,6 @@ pub mod CutRowsLemmas
 pub mod CutRunsLemmas
 pub mod CutKeptLemmas
 pub mod CutLemmas
-pub mod OutcomeLemmas
 pub mod SubmitSeatLemmas
 pub mod SubmitSeatsLemmas
 pub mod BesideLemmas
@@ -59,6 +58,9 @@ pub mod SubmitLemmas
 pub mod HandPresentLemmas
 pub mod HandTablesLemmas
 pub mod HandHeldLemmas
+pub mod RowReplyLemmas
+pub mod RowLemmas
+pub mod FrontLemmas
 pub mod StepLemmas
 pub mod AnswerLemmas
 pub mod LaterLemmas

@@ -3,7 +3,7 @@ pub use Rattle.std.proofs.Common.{◌&&◌, ◌*◌, ◌++◌, ◌+◌, ◌-◌,
 pub use Rattle.std.proofs.lemmas.Bool.{cases_eq, cases_lt, eqb-false, eqb-true, ltb-false, ltb-true, ne_eqb}
 pub use Rattle.std.proofs.lemmas.Bool.Decides.{nat_tests}
 pub use Rattle.std.proofs.lemmas.List.{ext_get_or, get_or-map, get_or-replicate, get_or-set_other, get_or-set_same, get_or_append_left, get_or_default, get_or_past, length-map, length-replicate, length-set, length-take-le, map-append, map_push}
-pub use Rattle.std.proofs.lemmas.List.Elements.{All-append, All-cons, All-contains, All-contains_itself, All-filter, All-head, All-map, All-nil, All-push, All-set, All-tail, All-weaker, Contains-append_cases, Contains-append_left, Contains-append_right, Contains-get_or, Contains-push, Contains-push_cases, filter-append, filter_map-append, filter_passes}
+pub use Rattle.std.proofs.lemmas.List.Elements.{All-append, All-cons, All-contains, All-contains_itself, All-filter, All-head, All-map, All-nil, All-push, All-set, All-tail, All-weaker, Contains-append_left, Contains-append_right, Contains-get_or, Contains-push, Contains-push_cases, filter-append, filter_map-append, filter_passes}
 pub use Rattle.std.proofs.lemmas.List.Folds.{Any-from_list_any, list_any-from_Any, list_any_at}
 pub use Rattle.std.proofs.lemmas.List.FromFn.{get_or-map-range_with_len, get_or-range_with_len, length-map-range_with_len, length-range_with_len}
 pub use Rattle.std.proofs.lemmas.List.Kept.{AllPairs-cons, AllPairs-filter}
@@ -78,14 +78,14 @@ pub use Rattle.aggregations.specs.Folding.{with_row}
 pub use Rattle.aggregations.specs.Grouped.{Grouped, grouped_of}
 pub use Rattle.distributor.specs.Folded.{versions_for, versions_of, with_batch, with_versions}
 pub use Rattle.reply_text.specs.declared.reply.Reply.{Reply}
+pub use Rattle.star_statement.specs.Fitting.{FitsTables}
 pub use Rattle.star_statement.specs.Outcome.{block_bytes, committed, declared, deleted, meaning_outcome, Outcome, outcome_by, outcome_of, refused, selected, Told}
 pub use Rattle.star_statement.specs.Text.{meaning_of}
 pub use Rattle.core_state.specs.Admitting.{after_build, after_build_wants, after_clear, after_finish, after_release, after_reserving, after_start, selection_in, versions_in_hands, with_built, with_version}
 pub use Rattle.core_state.specs.Answers.{IsRight}
 pub use Rattle.core_state.specs.Beside.{IsOfRows, IsSoundBeside, with_entry}
-pub use Rattle.core_state.specs.Cutting.{after_cutting, after_distribute, after_give, after_reorder, after_take, bits_of, end_in, fed, first_in, frame_words, gets_rows, given_back, passed_by, roster_of, rows_for, rows_of, slots_of, starts_of, takes_version, tallies_after, unkept, versions_from, with_flight, with_rows}
+pub use Rattle.core_state.specs.Cutting.{after_cutting, after_distribute, after_give, after_reorder, after_take, bits_of, end_in, fed, first_in, frame_words, gets_rows, given_back, passed_by, roster_of, rows_for, rows_of, slots_of, starts_of, takes_version, tallies_after, unkept, versions_from, with_rows}
 pub use Rattle.core_state.specs.Events.{AreFed, IsEnabled, IsFed, IsThrough, MayCut, MayDistribute, MayFinish, MayReserve, MayTake}
-pub use Rattle.core_state.specs.Fitting.{FitsTables}
 pub use Rattle.core_state.specs.Flown.{Encodes, FitsSlot, IsClearOf, IsOnRoster, IsSoundBatch, IsSoundFilter, IsSoundHand, IsSoundRow, keeps_so_far, MayBeOnRoster}
 pub use Rattle.core_state.specs.Found.{accepted_at, entry_of, flight_at, has_passed, has_passed_all, held_by, holder_of, is_empty, is_held_by, is_on_roster, running_at, start_at, start_in, version_at}
 pub use Rattle.core_state.specs.Handed.{AreKeyedTablesOf, attached_at, attached_to, fed_at, fed_in}

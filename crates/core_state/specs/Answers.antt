@@ -30,6 +30,13 @@ IsRight state statement (Asked query snapshot) (Whole reply) =
 IsRight state statement (Asked query snapshot) (Grouping at groups) =
     (at ≡ snapshot) × (life_of state.lives statement ≡ Some Answered) × AnswersAlone (tables_of state) query snapshot groups
 
+-- the reply that a taken one is: a whole one as it is, or the answer of its groups at its snapshot, whichever rows they are
+-- of; where that finds no memory it is `memory`
+abbrev pub IsTakenAs : Ready → Reply → Type 0
+IsTakenAs (Whole ready) reply = reply ≡ ready
+IsTakenAs (Grouping snapshot groups) reply = (reply ≡ Memory) ⊎
+    ((query : Query) (rows : List Joined) → groups ≡ grouped_of query rows → reply ≡ answer_reply snapshot (answer_of query rows))
+
 -- what a seat may take gives this reply, or `memory` where the query found none: it is the reply, or groups of rows whose
 -- answer at the snapshot is
 abbrev pub Gives : State → (statement : ℕ) → Reply → Ready → Type 0

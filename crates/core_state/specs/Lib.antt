@@ -5,11 +5,13 @@ pub mod Steps
 pub mod Answers
 pub mod Whole
 pub mod Submitting
+pub mod Rows
+pub mod Sent
+pub mod Fronts
 pub mod Admitting
 pub mod Cutting
 pub mod Sound
 pub mod Beside
-pub mod Fitting
 pub mod Flown
 pub mod Hands
 pub mod Handed

@@ -4,7 +4,7 @@ ghost use Rattle.dimension_filter.specs.Pass.{filtered};
 ghost use Rattle.core_state.specs.Cutting.{frame_words};
 ghost use Rattle.core_state.specs.Flown.{IsSoundBatch, IsSoundHand};
 ghost use Rattle.core_state.specs.Found.{version_at};
-ghost use Rattle.core_state.specs.Hands.{IsInHandAs};
+ghost use Rattle.core_state.specs.Hands.{StandsFor};
 ghost use Rattle.core_state.specs.Sound.{IsSound};
 ghost use Rattle.core_state.specs.State.{Entry, FilterVersion, Flight, Hand, State};
 ghost use Rattle.core_state.specs.Tables.{tables_of};
@@ -23,13 +23,13 @@ pub fn a_version_in_a_hand_passes_as_the_present_one()
     accepted_histories_are_settled();
 }
 
-/// What a worker took stays right while it holds it: its batch and its version are sound in each later core in which the
-/// worker's hand is as it left it, whatever was committed meanwhile.
+/// What a worker took stays right: its batch and its version are sound in each later core in which a batch of its positions and
+/// its roster is in flight, whatever was committed meanwhile.
 pub fn what_a_worker_took_stays_right()
     ensures { (before after : State) (flight home : Flight) (hand : Hand) (more : List Entry) → IsSound before → IsSound after →
         after.settings ≡ before.settings → after.entries ≡ before.entries ++ more →
         Contains before.scan.flights flight → flight.hand ≡ Some hand →
-        Contains after.scan.flights home → IsInHandAs flight hand home →
+        Contains after.scan.flights home → StandsFor flight home →
         IsSoundBatch (frame_words after) (tables_of after) after.lives after.accepted flight
         × IsSoundHand (length after.seats) after.lives.filters (tables_of after) flight hand }
 {

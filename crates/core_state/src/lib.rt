@@ -13,6 +13,7 @@ mod laws_of_order;
 mod laws_of_parts;
 mod laws_of_queries;
 mod laws_of_replies;
+mod laws_of_rows;
 mod laws_of_runs;
 mod laws_of_slots;
 mod laws_of_statements;
@@ -52,14 +53,16 @@ pub use laws_of_replies::{
     a_statement_is_told_at_its_submission, a_step_leaves_what_is_told,
     replies_come_in_the_order_of_statements, the_reply_to_a_statement_is_that_of_its_effect,
 };
+pub use laws_of_rows::{
+    a_row_tells_the_reply, a_statement_and_a_reply_move_the_row_of_their_seat, a_work_stays_right,
+    other_events_leave_what_seats_see, rows_past_the_seats_are_empty, the_course_of_a_seat_goes_on,
+};
 pub use laws_of_runs::{every_core_is_sound, every_step_keeps_a_core_sound};
 pub use laws_of_slots::{
     a_finish_keeps_a_core_sound, a_release_keeps_a_core_sound, a_reservation_keeps_a_core_sound,
     a_start_keeps_a_core_sound,
 };
-pub use laws_of_statements::{
-    a_declaration_keeps_what_is_kept, a_statement_keeps_a_core_sound, outcomes_fit_the_tables,
-};
+pub use laws_of_statements::{a_declaration_keeps_what_is_kept, a_statement_keeps_a_core_sound};
 pub use laws_of_tables::a_change_of_rows_keeps_what_is_kept;
 pub use laws_of_the_log::{
     changes_follow_from_the_tables, deletes_name_ascending_positions,

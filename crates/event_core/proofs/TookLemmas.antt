@@ -41,6 +41,7 @@ pub record AreTaken (at : ℕ) (events left : List Event) (old now : State) : Ty
 
 -- an event that is left comes next
 pub record ComesNext (at : ℕ) (events rest : List Event) (event : Event) : Type 0 where
+  pub there : slice_get events at ≡ Some event
   pub front : take (suc at) events ≡ take at events ++ event ∷ []
   pub back : drop (suc at) events ≡ rest
 
@@ -50,10 +51,10 @@ comes-next (suc at) [] rest event is = absurd (let both : event ∷ rest ≡ [] 
 comes-next zero (first ∷ events) rest event is =
     let same : event ≡ first = cc in
     let left : rest ≡ events = cc in
-    record { front = ap (λ e. e ∷ []) (sym same); back = sym left }
+    record { there = ap Some (sym same); front = ap (λ e. e ∷ []) (sym same); back = sym left }
 comes-next (suc at) (first ∷ events) rest event is =
     let next = comes-next at events rest event is in
-    record { front = ap (λ list. first ∷ list) next.front; back = next.back }
+    record { there = next.there; front = ap (λ list. first ∷ list) next.front; back = next.back }
 
 -- an event that is left is taken
 pub taken-next : (at : ℕ) (events left rest : List Event) (event : Event) (old now next : State) → AreTaken at events left old now
@@ -68,20 +69,13 @@ taken-next at events left rest event old now next taken is took sound =
     comes : ComesNext at events rest event
     comes = comes-next at events rest event (sym is ∙ taken.rest)
 
--- the event that comes next stands at its place
-next-there : (at : ℕ) (events rest : List Event) (event : Event) → event ∷ rest ≡ drop at events → slice_get events at ≡ Some event
-next-there zero [] rest event is = absurd (let both : event ∷ rest ≡ [] = is in cc)
-next-there (suc at) [] rest event is = absurd (let both : event ∷ rest ≡ [] = is in cc)
-next-there zero (first ∷ events) rest event is = let same : first ≡ event = cc in ap Some same
-next-there (suc at) (first ∷ events) rest event is = next-there at events rest event is
-
 -- why the event that comes next was not taken
 pub refused-next : {T : Type 0} (at : ℕ) (events left rest : List Event) (event : Event) (now next : State) (cause : StepFault)
     (result : Result T StepFault) → left ≡ drop at events → left ≡ event ∷ rest → result ≡ Err cause → next ≡ now
     → IsErrOf result NotEnabled ↔ (IsEnabled now event → ⊥) → (IsErrOf result Memory → IsEnabled now event × MayWantMemory event)
     → IfSome (slice_get events at) (IsRefused cause next)
 refused-next at events left rest event now next cause result is steps failed same disabled memory =
-    subst (λ o. IfSome o (IsRefused cause next)) (sym (next-there at events rest event (sym steps ∙ is)))
+    subst (λ o. IfSome o (IsRefused cause next)) (sym (comes-next at events rest event (sym steps ∙ is)).there)
     (subst (λ state. IsRefused cause state event) (sym same) (by_cause cause failed))
   where
     by_cause : (cause : StepFault) → result ≡ Err cause → IsRefused cause now event

@@ -1,8 +1,7 @@
 //! What becomes of the parts of a core is what becomes of its state: statements and replies.
-ghost use Rattle.std.specs.Prelude.{◌≡◌, true, false, ◌⊎◌, ℕ, ◌+◌, ◌<◌, List, [], ◌∷◌, ◌++◌, length, find, slice_get, Some, None, IsSome};
+ghost use Rattle.std.specs.Prelude.{◌≡◌, true, false, ℕ, ◌+◌, ◌<◌, List, [], ◌∷◌, ◌++◌, length, find, Some, None, IsSome};
 ghost use Rattle.std.specs.Option.{option_map_or};
 ghost use Rattle.script_reader.specs.declared.statement.Statement.{Statement};
-ghost use Rattle.star_plan.specs.Over.{IsOver};
 ghost use Rattle.star_plan.specs.Test.{query_of};
 ghost use Rattle.star_plan.specs.declared.star_query.StarQuery.{StarQuery};
 ghost use Rattle.star_history.specs.History.{Change, after_change};
@@ -31,9 +30,10 @@ ghost use Rattle.event_core.specs.Taking.{kept_for, ready_with, snapshot_for};
 use core_state::{
     a_distributor_follows_the_core, a_reply_that_may_be_taken_is_right,
     changes_follow_from_the_tables, deletes_name_ascending_positions,
-    every_step_keeps_a_core_sound, other_events_leave_a_scan, outcomes_fit_the_tables,
+    every_step_keeps_a_core_sound, other_events_leave_a_scan,
 };
 use star_history::accepted_histories_are_settled;
+use star_statement::outcomes_fit_the_tables;
 
 /// A statement that a seat submits stands behind its others, with what is told of it; a change is logged, and a query
 /// waits.
