@@ -4,8 +4,8 @@ ghost use Rattle.make_load.specs.Summary.{summary_of, summary_text};
 ghost use Rattle.script_reader.specs.declared.reader.TheConstants.{SCRIPT_LIMIT};
 ghost use Rattle.script_run.specs.Run.{script_replies, script_text};
 
-use crate::laws::replies_are_well_formed;
 use make_load::{print_summary, summary};
+use star_statement::replies_are_well_formed;
 use star_values::{ByteText, NoMemory};
 use std::alloc::Global;
 

@@ -46,9 +46,9 @@ pub fn run_made<R: Threads + Sync, K: Sink>(
 ) -> MadeDone
     requires settings { AreWithin settings }
     requires few { rows ≤ 1000000 }
-    ensures answers { AnswersMade settings.slots seed rows result.core result.end (K.taken sink.old) (K.taken sink.new) }
-    ensures faults { CountsMade result.end
-        (K.write_faults sink.old) (K.write_faults sink.new) (K.write_failed sink.new) }
+    ensures answers { AnswersMade settings.slots seed rows result.core result.end
+        (K.writing sink.old) (K.writing sink.new) }
+    ensures faults { CountsMade result.end (K.writing sink.old) (K.writing sink.new) }
     ensures core { IsNone result.core ↔ (result.end ≡ end.NoMemory) }
     ensures run { IfSome result.core (λ core. IsRun (empty_core settings) (state_of core)) }
 {

@@ -26,13 +26,7 @@ impl<'a> TextSource<'a> {
 impl<'a> Source for TextSource<'a> {
     ghost use Rattle.std.specs.Prelude.{Some, false};
 
-    ghost left = { λ s. Some s.rest.now };
-
-    ghost read_faults = { λ _. 0 };
-
-    ghost read_failed = { λ _. false };
-
-    ghost ended = { λ s. s.ended };
+    ghost reading = { λ s. record { left = Some s.rest.now; faults = 0; failed = false; ended = s.ended } };
 
     fn read(&mut self, into: &mut [u8]) -> Result<usize, Failed> {
         let n = into.len().min(self.rest.len());

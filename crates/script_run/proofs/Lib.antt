@@ -2,7 +2,8 @@ pub mod Words
 -- Lemmas on runs of scripts.
 mod NextLemmas
 mod WholeLemmas
-mod RunLemmas
+pub mod BetweenLemmas
+pub mod RunLemmas
 pub mod ToldFollowLemmas
 pub mod ToldSubmitLemmas
 pub mod PlayedQuietLemmas
@@ -38,6 +39,6 @@ mod HomeReplyLemmas
 mod SharedReadLemmas
 mod SharedWholeLemmas
 mod SharedScriptLemmas
-mod SharedRunLemmas
-mod SharedEndLemmas
+pub mod SharedRunLemmas
+pub mod SharedEndLemmas
 mod SharedDoneLemmas

@@ -1,11 +1,13 @@
 -- A run, from what was read and written so far.
-use Rattle.script_run.proofs.Words.{◌++◌, ◌+◌, ◌||◌, ◌∙◌, ◌≡◌, ◌≤◌, [], ap, append-nil, append_assoc, Appends, Appends-nil, Appends-trans, arith, Bool, Consumes, Consumes-nil, Consumes-trans, end_of_all, end_of_halt, Err, false, fed_with, Halt, HaltsBehind, HasEnded, HasNoStatement, inl, inr, is_refusal, IsFront, IsProperFront, length, length-append, List, list_any, MayCome, NoMemory, Ok, Option, Reading, refl, refused_left, Replies, replies_at, replies_of, RepliesInPart, SCRIPT_LIMIT, script_text, some_refused, Statement, statements_of, StaysFed, Store, subst, sym, text_left, text_of_all, true, within_limit, WriteFault, ℕ}
+use Rattle.script_run.proofs.Words.{◌++◌, ◌+◌, ◌||◌, ◌∙◌, ◌≡◌, ◌≤◌, [], ap, append-nil, append_assoc, Appends, Appends-nil, Appends-trans, arith, Bool, Consumes, Consumes-nil, Consumes-trans, end_of_all, end_of_halt, Err, false, fed_with, Halt, HaltsBehind, HasEnded, HasNoStatement, inl, is_refusal, IsFront, IsProperFront, length, length-append, List, list_any, MayCome, NoMemory, Ok, Option, Reading, refl, refused_left, Replies, replies_at, replies_of, RepliesInPart, SCRIPT_LIMIT, script_text, some_refused, Statement, statements_of, StaysFed, Store, subst, sym, text_left, text_of_all, true, within_limit, WriteFault, ℕ}
 use Rattle.std.proofs.lemmas.List.{take_all, take-append-le}
 use Rattle.star_io.specs.declared.run_end.RunEnd.TheVariants as end
 use Rattle.star_history.specs.Store.{empty_store}
 use Rattle.star_io.specs.Faults.{FailedOnce}
+use Rattle.star_io.specs.Link.{ReadingSide, WritingSide}
 use Rattle.script_run.specs.Answer.{AnswersWhole, CountsHalt}
-use Rattle.script_run.specs.Run.{AnswersAlone, CountsFaults}
+use Rattle.script_run.specs.Run.{AnswersAlone, CountsFaults, RepliesBetween}
+use Rattle.script_run.proofs.BetweenLemmas.{all-between, fault-between, front-between, limit-between, part-between, refused-all, refused-halted}
 use Rattle.script_run.proofs.WholeLemmas.{follows}
 
 -- a script of which these bytes came, and whose input has not ended
@@ -113,62 +115,60 @@ whole_text law store waits refused left0 left taken0 taken run none =
     sym (script_text-left law false run.given ∙ all ∙ ap (λ text. run.written ++ text) (no_reply store waits none run.not_ended) ∙ append-nil run.written)
 
 -- a read failed
-pub fault_run : IsLaw → (store : Store) (waits : Reading) (refused was ended : Bool) (read read' : ℕ) (left0 left left' taken0 taken : Option (List ℕ)) (piece : List ℕ)
-    → IsRunning store waits refused left0 left taken0 taken → HasNoStatement waits → Consumes left left' piece → piece ≡ []
-    → AnswersAlone end.ReadFault was ended read read' left0 left' taken0 taken
-fault_run law store waits refused was ended read read' left0 left left' taken0 taken piece run none gave nothing =
+pub fault_run : IsLaw → (store : Store) (waits : Reading) (refused : Bool) (from from' : ReadingSide) (left : Option (List ℕ)) (to to' : WritingSide) (piece : List ℕ)
+    → IsRunning store waits refused from.left left to.taken to'.taken → HasNoStatement waits → Consumes left from'.left piece → piece ≡ []
+    → AnswersAlone end.ReadFault from from' to to'
+fault_run law store waits refused from from' left to to' piece run none gave nothing =
     let within = run.within in let counted = run.counted in (
       record {
         given = run.given;
         written = run.written;
         wanted = [];
-        gave = rw (append-nil run.given) at (Consumes-trans left0 left left' run.given [] run.gave (rw nothing at gave));
-        took = run.took;
-        reads = omega arith;
-        writes = whole_text law store waits refused left0 left taken0 taken run none;
-        memory = λ h. cc;
+        replies = fault-between (script_text []) from from' to to' run.given run.written
+            (rw (append-nil run.given) at (Consumes-trans from.left left from'.left run.given [] run.gave (rw nothing at gave))) run.took (omega arith)
+            (whole_text law store waits refused from.left left to.taken to'.taken run none);
+        refused = tt;
       },
       refl,
     )
 
 -- the byte past the limit came
-pub limit_run : IsLaw → (store : Store) (waits : Reading) (refused was ended : Bool) (read read' : ℕ) (left0 left left' taken0 taken : Option (List ℕ)) (piece : List ℕ)
-    → IsRunning store waits refused left0 left taken0 taken → HasNoStatement waits → Consumes left left' piece → waits.fed ≡ SCRIPT_LIMIT → length piece ≡ 1
-    → AnswersAlone end.ScriptLimit was ended read read' left0 left' taken0 taken
-limit_run law store waits refused was ended read read' left0 left left' taken0 taken piece run none gave full one =
+pub limit_run : IsLaw → (store : Store) (waits : Reading) (refused : Bool) (from from' : ReadingSide) (left : Option (List ℕ)) (to to' : WritingSide) (piece : List ℕ)
+    → IsRunning store waits refused from.left left to.taken to'.taken → HasNoStatement waits → Consumes left from'.left piece → waits.fed ≡ SCRIPT_LIMIT → length piece ≡ 1
+    → AnswersAlone end.ScriptLimit from from' to to'
+limit_run law store waits refused from from' left to to' piece run none gave full one =
     let counted = run.counted in (
       record {
         given = run.given ++ piece;
         written = run.written;
         wanted = [];
-        gave = Consumes-trans left0 left left' run.given piece run.gave gave;
-        took = run.took;
-        reads = omega (arith, length-append run.given piece);
-        writes = whole_text law store waits refused left0 left taken0 taken run none ∙ ap (script_text [] false) (sym (within_more run.given piece (omega arith)));
-        memory = λ h. cc;
+        replies = limit-between (script_text []) from from' to to' (run.given ++ piece) run.written
+            (Consumes-trans from.left left from'.left run.given piece run.gave gave) run.took (omega (arith, length-append run.given piece))
+            (whole_text law store waits refused from.left left to.taken to'.taken run none
+            ∙ ap (script_text [] false) (sym (within_more run.given piece (omega arith))));
+        refused = tt;
       },
       refl,
     )
 
 -- no memory was left for a piece
-pub unfed_run : IsLaw → (store : Store) (waits : Reading) (refused was ended : Bool) (read read' : ℕ) (left0 left left' taken0 taken : Option (List ℕ)) (piece : List ℕ)
-    → IsRunning store waits refused left0 left taken0 taken → Consumes left left' piece → waits.fed + length piece ≤ SCRIPT_LIMIT
-    → ended ≡ was → read' ≡ read → AnswersAlone end.NoMemory was ended read read' left0 left' taken0 taken
-unfed_run law store waits refused was ended read read' left0 left left' taken0 taken piece run gave few same unfailed =
+pub unfed_run : IsLaw → (store : Store) (waits : Reading) (refused : Bool) (from from' : ReadingSide) (left : Option (List ℕ)) (to to' : WritingSide) (piece : List ℕ)
+    → IsRunning store waits refused from.left left to.taken to'.taken → Consumes left from'.left piece → waits.fed + length piece ≤ SCRIPT_LIMIT
+    → from'.ended ≡ from.ended → from'.faults ≡ from.faults → AnswersAlone end.NoMemory from from' to to'
+unfed_run law store waits refused from from' left to to' piece run gave few same unfailed =
     let counted = run.counted in
     let within : length (run.given ++ piece) ≤ SCRIPT_LIMIT = omega (arith, length-append run.given piece) in (
       record {
         given = run.given ++ piece;
         written = run.written;
         wanted = [];
-        gave = Consumes-trans left0 left left' run.given piece run.gave gave;
-        took = run.took;
-        reads = omega (arith, within);
-        writes = (
-          text_left store ended (waits.waiting ++ piece),
-          ap (script_text [] ended) (within_all (run.given ++ piece) within) ∙ script_text-left law ended (run.given ++ piece) ∙ run.replies.text piece ended (λ e. cc),
-        );
-        memory = λ h. inr (same, unfailed, within);
+        replies = front-between (script_text []) from from' to to' (run.given ++ piece) run.written
+            (Consumes-trans from.left left from'.left run.given piece run.gave gave) run.took (same, unfailed, within) (
+              text_left store from'.ended (waits.waiting ++ piece),
+              ap (script_text [] from'.ended) (within_all (run.given ++ piece) within) ∙ script_text-left law from'.ended (run.given ++ piece)
+                  ∙ run.replies.text piece from'.ended (λ e. cc),
+            );
+        refused = tt;
       },
       refl,
     )
@@ -176,10 +176,10 @@ unfed_run law store waits refused was ended read read' left0 left left' taken0 t
 -- Where the replies halt.
 
 -- a front of what is still to come, behind what was written
-front_on : IsLaw → (ended last : Bool) (store : Store) (waits : Reading) (given front written : List ℕ) (refused : Bool)
+front_on : IsLaw → (last : Bool) (store : Store) (waits : Reading) (given front written : List ℕ) (refused : Bool)
     → Replies empty_store (came given) store waits front refused → IsFront written (text_left store last (waits.waiting ++ []))
     → IsFront (front ++ written) (script_text [] last given)
-front_on law ended last store waits given front written refused way part = (
+front_on law last store waits given front written refused way part = (
   part.0,
   script_text-left law last given ∙ sym (ap (text_left empty_store last) (append-nil given)) ∙ way.text [] last (λ e. cc)
       ∙ ap (λ text. front ++ text) part.1 ∙ sym (append_assoc front written part.0),
@@ -196,41 +196,27 @@ proper_on law last store waits given front written refused way part = (
 )
 
 -- the replies halt before the input has ended
-pub halted_run : IsLaw → (halt : Halt) (store store' : Store) (waits waits' : Reading) (refused was ended : Bool) (read read' : ℕ) (left0 left taken0 taken taken' : Option (List ℕ))
-    → IsRunning store waits refused left0 left taken0 taken → AnswersWhole (Err halt) store waits store' waits' taken taken'
-    → ended ≡ was → read' ≡ read → AnswersAlone (end_of_halt halt) was ended read read' left0 left taken0 taken'
-halted_run law WriteFault store store' waits waits' refused was ended read read' left0 left taken0 taken taken' run answers same unfailed =
-    let counted = run.counted in let within = run.within in
-    let few : length run.given ≤ SCRIPT_LIMIT = omega arith in (
-      record {
-        given = run.given;
-        written = run.written ++ answers.0;
-        wanted = [];
-        gave = run.gave;
-        took = Appends-trans taken0 taken taken' run.written answers.0 run.took answers.1;
-        reads = omega arith;
-        writes = rw (within_all run.given few) (proper_on law ended store waits run.given run.written answers.0 refused run.replies
-            (answers.2 [] ended (λ e. let wrong = sym run.not_ended ∙ e in cc)));
-        memory = λ h. cc;
-      },
-      refl,
-    )
-halted_run law NoMemory store store' waits waits' refused was ended read read' left0 left taken0 taken taken' run answers same unfailed =
-    let counted = run.counted in let within = run.within in
-    let few : length run.given ≤ SCRIPT_LIMIT = omega arith in (
-      record {
-        given = run.given;
-        written = run.written ++ answers.0;
-        wanted = [];
-        gave = run.gave;
-        took = Appends-trans taken0 taken taken' run.written answers.0 run.took answers.1;
-        reads = omega arith;
-        writes = rw (within_all run.given few) (front_on law ended ended store waits run.given run.written answers.0 refused run.replies
-            (answers.2.0 [] ended (λ e. let wrong = sym run.not_ended ∙ e in cc)));
-        memory = λ h. inr (same, unfailed, few);
-      },
-      refl,
-    )
+pub halted_run : IsLaw → (halt : Halt) (store store' : Store) (waits waits' : Reading) (refused : Bool) (from from' : ReadingSide) (to : WritingSide) (taken : Option (List ℕ)) (to' : WritingSide)
+    → IsRunning store waits refused from.left from'.left to.taken taken → AnswersWhole (Err halt) store waits store' waits' taken to'.taken
+    → from'.ended ≡ from.ended → from'.faults ≡ from.faults → AnswersAlone (end_of_halt halt) from from' to to'
+halted_run law halt store store' waits waits' refused from from' to taken to' run answers same unfailed =
+    (record { given = run.given; written = run.written ++ answers.0; wanted = []; replies = by_halt halt answers.2; refused = refused-halted halt (some_refused [] true run.given) }, refl)
+  where
+    few : length run.given ≤ SCRIPT_LIMIT
+    few = let counted = run.counted in let within = run.within in omega arith
+
+    took : Appends to.taken to'.taken (run.written ++ answers.0)
+    took = Appends-trans to.taken taken to'.taken run.written answers.0 run.took answers.1
+
+    by_halt : (why : Halt) → HaltsBehind why store waits answers.0 → RepliesBetween (script_text []) (end_of_halt why) from from' to to' run.given (run.written ++ answers.0)
+    by_halt WriteFault part =
+        part-between (script_text []) from from' to to' run.given (run.written ++ answers.0) WriteFault run.gave took (omega (arith, few))
+        (rw (within_all run.given few) (proper_on law from'.ended store waits run.given run.written answers.0 refused run.replies
+        (part [] from'.ended (λ e. let wrong = sym run.not_ended ∙ e in cc))))
+    by_halt NoMemory part =
+        front-between (script_text []) from from' to to' run.given (run.written ++ answers.0) run.gave took (same, unfailed, few)
+        (rw (within_all run.given few) (front_on law from'.ended store waits run.given run.written answers.0 refused run.replies
+        (part.0 [] from'.ended (λ e. let wrong = sym run.not_ended ∙ e in cc))))
 
 -- The end of the input.
 
@@ -242,12 +228,23 @@ finished waits = record waits { ended = true }
 pub at_end : (waits : Reading) → MayCome (finished waits) [] true
 at_end waits e = (refl, refl)
 
-pub ended_run : IsLaw → (store store' : Store) (waits waits' : Reading) (refused some was ended : Bool) (read read' : ℕ) (left0 left left' taken0 taken taken' : Option (List ℕ)) (piece : List ℕ)
-    → IsRunning store waits refused left0 left taken0 taken → Consumes left left' piece → piece ≡ [] → HasEnded ended left'
-    → AnswersWhole (Ok some) store (finished waits) store' waits' taken taken' → StaysFed (finished waits) waits'
-    → AnswersAlone (end_of_all (refused || some)) was ended read read' left0 left' taken0 taken'
-ended_run law store store' waits waits' refused some was ended read read' left0 left left' taken0 taken taken' piece run gave nothing has_ended answers stays =
-    by_refused (refused || some) refl
+pub ended_run : IsLaw → (store store' : Store) (waits waits' : Reading) (refused some : Bool) (from from' : ReadingSide) (left : Option (List ℕ)) (to : WritingSide) (taken : Option (List ℕ)) (to' : WritingSide) (piece : List ℕ)
+    → IsRunning store waits refused from.left left to.taken taken → Consumes left from'.left piece → piece ≡ [] → HasEnded from'
+    → AnswersWhole (Ok some) store (finished waits) store' waits' taken to'.taken → StaysFed (finished waits) waits'
+    → AnswersAlone (end_of_all (refused || some)) from from' to to'
+ended_run law store store' waits waits' refused some from from' left to taken to' piece run gave nothing has_ended answers stays = (
+  record {
+    given = run.given;
+    written = run.written ++ answers.0;
+    wanted = [];
+    replies = all-between (script_text []) from from' to to' run.given (run.written ++ answers.0) (refused || some)
+        (rw (append-nil run.given) at (Consumes-trans from.left left from'.left run.given [] run.gave (rw nothing at gave)))
+        (Appends-trans to.taken taken to'.taken run.written answers.0 run.took answers.1)
+        (let counted = run.counted in let within = run.within in omega arith) has_ended text;
+    refused = refused-all (refused || some) (some_refused [] true run.given) refusals;
+  },
+  refl,
+)
   where
     none : statements_of true waits'.waiting ≡ []
     none = subst (λ e. statements_of e waits'.waiting ≡ []) stays.1 answers.3
@@ -270,96 +267,41 @@ ended_run law store store' waits waits' refused some was ended read read' left0 
         or_false true = refl
         or_false false = refl
 
-    gave_all : Consumes left0 left' run.given
-    gave_all = rw (append-nil run.given) at (Consumes-trans left0 left left' run.given [] run.gave (rw nothing at gave))
-
-    few : length run.given ≤ SCRIPT_LIMIT
-    few = let counted = run.counted in let within = run.within in omega arith
-
-    by_refused : (test : Bool) → (refused || some) ≡ test → AnswersAlone (end_of_all test) was ended read read' left0 left' taken0 taken'
-    by_refused false e = (
-      record {
-        given = run.given;
-        written = run.written ++ answers.0;
-        wanted = [];
-        gave = gave_all;
-        took = Appends-trans taken0 taken taken' run.written answers.0 run.took answers.1;
-        reads = few;
-        writes = (has_ended, text, refusals ∙ e);
-        memory = λ h. cc;
-      },
-      refl,
-    )
-    by_refused true e = (
-      record {
-        given = run.given;
-        written = run.written ++ answers.0;
-        wanted = [];
-        gave = gave_all;
-        took = Appends-trans taken0 taken taken' run.written answers.0 run.took answers.1;
-        reads = few;
-        writes = (has_ended, text, refusals ∙ e);
-        memory = λ h. cc;
-      },
-      refl,
-    )
-
 -- the replies halt behind the end of the input
-pub ended_halted : IsLaw → (halt : Halt) (store store' : Store) (waits waits' : Reading) (refused was ended : Bool) (read read' : ℕ) (left0 left left' taken0 taken taken' : Option (List ℕ)) (piece : List ℕ)
-    → IsRunning store waits refused left0 left taken0 taken → Consumes left left' piece → piece ≡ [] → HasEnded ended left'
-    → AnswersWhole (Err halt) store (finished waits) store' waits' taken taken'
-    → AnswersAlone (end_of_halt halt) was ended read read' left0 left' taken0 taken'
-ended_halted law halt store store' waits waits' refused was ended read read' left0 left left' taken0 taken taken' piece run gave nothing has_ended answers =
-    by_halt halt answers.2
+pub ended_halted : IsLaw → (halt : Halt) (store store' : Store) (waits waits' : Reading) (refused : Bool) (from from' : ReadingSide) (left : Option (List ℕ)) (to : WritingSide) (taken : Option (List ℕ)) (to' : WritingSide) (piece : List ℕ)
+    → IsRunning store waits refused from.left left to.taken taken → Consumes left from'.left piece → piece ≡ [] → HasEnded from'
+    → AnswersWhole (Err halt) store (finished waits) store' waits' taken to'.taken
+    → AnswersAlone (end_of_halt halt) from from' to to'
+ended_halted law halt store store' waits waits' refused from from' left to taken to' piece run gave nothing has_ended answers = (
+  record {
+    given = run.given;
+    written = run.written ++ answers.0;
+    wanted = [];
+    replies = part-between (script_text []) from from' to to' run.given (run.written ++ answers.0) halt
+        (rw (append-nil run.given) at (Consumes-trans from.left left from'.left run.given [] run.gave (rw nothing at gave)))
+        (Appends-trans to.taken taken to'.taken run.written answers.0 run.took answers.1) (omega (arith, few))
+        (rw (within_all run.given few, has_ended.0) (proper_on law true store waits run.given run.written answers.0 refused run.replies
+        (part_of halt answers.2 [] true (at_end waits))));
+    refused = refused-halted halt (some_refused [] true run.given);
+  },
+  refl,
+)
   where
-    gave_all : Consumes left0 left' run.given
-    gave_all = rw (append-nil run.given) at (Consumes-trans left0 left left' run.given [] run.gave (rw nothing at gave))
-
     few : length run.given ≤ SCRIPT_LIMIT
     few = let counted = run.counted in let within = run.within in omega arith
 
-    proper : RepliesInPart store (finished waits) answers.0 → IsProperFront (run.written ++ answers.0) (script_text [] ended (within_limit run.given))
-    proper part = rw (within_all run.given few, has_ended.0)
-        (proper_on law true store waits run.given run.written answers.0 refused run.replies (part [] true (at_end waits)))
-
-    by_halt : (why : Halt) → HaltsBehind why store (finished waits) answers.0 → AnswersAlone (end_of_halt why) was ended read read' left0 left' taken0 taken'
-    by_halt WriteFault part = (
-      record {
-        given = run.given;
-        written = run.written ++ answers.0;
-        wanted = [];
-        gave = gave_all;
-        took = Appends-trans taken0 taken taken' run.written answers.0 run.took answers.1;
-        reads = omega (arith, few);
-        writes = proper part;
-        memory = λ h. cc;
-      },
-      refl,
-    )
-    by_halt NoMemory part =
-        let whole = proper (part.1 refl) in (
-          record {
-            given = run.given;
-            written = run.written ++ answers.0;
-            wanted = [];
-            gave = gave_all;
-            took = Appends-trans taken0 taken taken' run.written answers.0 run.took answers.1;
-            reads = omega (arith, few);
-            writes = (whole.0, whole.2);
-            memory = λ h. inl whole;
-          },
-          refl,
-        )
+    part_of : (why : Halt) → HaltsBehind why store (finished waits) answers.0 → RepliesInPart store (finished waits) answers.0
+    part_of WriteFault part = part
+    part_of NoMemory part = part.1 refl
 
 -- The faults that came.
 
-pub counts_halted : (halt : Halt) (read read' : ℕ) (read_failed : Bool) (write0 write write' : ℕ) (write_failed : Bool) → read' ≡ read → write ≡ write0
-    → CountsHalt {A = Bool} (Err halt) write write' write_failed → CountsFaults (end_of_halt halt) read read' read_failed write0 write' write_failed
-counts_halted WriteFault read read' read_failed write0 write write' write_failed unread unwritten h =
-    (inl unread, subst (λ w. FailedOnce w write' write_failed) unwritten h)
-counts_halted NoMemory read read' read_failed write0 write write' write_failed unread unwritten h = (inl unread, h ∙ unwritten)
+pub counts_halted : (halt : Halt) (from from' : ReadingSide) (to between to' : WritingSide) → from'.faults ≡ from.faults → between.faults ≡ to.faults
+    → CountsHalt {A = Bool} (Err halt) between to' → CountsFaults (end_of_halt halt) from from' to to'
+counts_halted WriteFault from from' to between to' unread unwritten h = (inl unread, subst (λ w. FailedOnce w to'.faults to'.failed) unwritten h)
+counts_halted NoMemory from from' to between to' unread unwritten h = (inl unread, h ∙ unwritten)
 
-pub counts_all : (refused : Bool) (read read' : ℕ) (read_failed : Bool) (write0 write write' : ℕ) (write_failed : Bool) → read' ≡ read → write ≡ write0
-    → write' ≡ write → CountsFaults (end_of_all refused) read read' read_failed write0 write' write_failed
-counts_all false read read' read_failed write0 write write' write_failed unread unwritten h = (unread, h ∙ unwritten)
-counts_all true read read' read_failed write0 write write' write_failed unread unwritten h = (unread, h ∙ unwritten)
+pub counts_all : (refused : Bool) (from from' : ReadingSide) (to : WritingSide) (between : ℕ) (to' : WritingSide) → from'.faults ≡ from.faults
+    → between ≡ to.faults → to'.faults ≡ between → CountsFaults (end_of_all refused) from from' to to'
+counts_all false from from' to between to' unread unwritten h = (unread, h ∙ unwritten)
+counts_all true from from' to between to' unread unwritten h = (unread, h ∙ unwritten)

@@ -2,7 +2,10 @@
 use Rattle.script_run.proofs.Words.{◌*◌, ◌++◌, ◌<◌, ◌||◌, ◌∙◌, ◌≡◌, ◌≤◌, [], AnswersBy, ap, append-nil, Appends, Appends-trans, arith, Bool, Consumes, Consumes-trans, empty_core, end_of_all, Err, false, GoesRound, Halt, HasEnded, HasNoStatement, laps_of, length, length-append, List, MayCome, Ok, OnOk, Option, Played, PlaysOn, PlaysWhole, Reading, refl, refused_of_played, Result, RunSettings, SCRIPT_LIMIT, seat_at, State, statements_of, StaysFed, subst, sym, Tells, text_of_played, true, versions_in, ℕ}
 use Rattle.star_io.specs.declared.run_end.RunEnd.TheVariants as end
 use Rattle.script_run.specs.End.{end_behind, end_of_rest}
-use Rattle.script_run.specs.Shared.{TellsScript}
+use Rattle.star_io.specs.Link.{ReadingSide, WritingSide}
+use Rattle.script_run.specs.Run.{some_refused, script_text}
+use Rattle.script_run.specs.Shared.{TellsOf, TellsRun}
+use Rattle.script_run.proofs.BetweenLemmas.{all-between, fault-between, limit-between, refused-all}
 use Rattle.script_run.proofs.FrontHaltLemmas.{refused-append, text-append}
 use Rattle.script_run.proofs.LapLemmas.{laps-end}
 use Rattle.script_run.proofs.RunLemmas.{at_end, came, finished, within_all, within_more}
@@ -18,7 +21,7 @@ record IsDone (settings : RunSettings) (new : State) (ended : Bool) (script : Li
   appended : Appends taken0 taken (text_of_played played)
   refusals : refused ≡ refused_of_played played
   script_is : IsScript ended script played
-  tells : TellsScript script_is.wanted ended script settings.slots new
+  tells : TellsOf script_is.wanted (record { ended = ended; script = script }) settings.slots new
 
 -- so it is once the queries came to their end and no statement is left
 done-shared : (settings : RunSettings) (mid new : State) (waits waits' : Reading) (refused some last : Bool) (taken0 taken taken' : Option (List ℕ)) → 0 < settings.slots
@@ -32,11 +35,11 @@ done-shared settings mid new waits waits' refused some last taken0 taken taken' 
   refusals = ap (λ test. test || some) way.refusals ∙ ap (λ test. refused_of_played way.played || test) told
       ∙ sym (refused-append way.played more);
   script_is = script.0;
-  tells = record {
-    tells = script.1;
-    laps = subst (λ replies. new.scan.cut ≤ versions_in new * laps_of settings.slots replies) script.0.replies
-        (laps-end (empty_core settings) mid new way.played more slots refl way.laps round leads idle);
-  };
+  tells = (
+    script.1,
+    subst (λ replies. new.scan.cut ≤ versions_in new * laps_of settings.slots replies) script.0.replies
+        (laps-end (empty_core settings) mid new way.played more slots refl way.laps round leads idle),
+  );
 }
   where
     script : (script : IsScript last waits.waiting (way.played ++ more)) × Tells script.wanted (statements_of last waits.waiting) new
@@ -52,108 +55,89 @@ open-done settings mid new given waits refused some taken0 taken taken' slots wa
     (subst (λ ended. statements_of ended waits.waiting ≡ []) way.stays.1 none)
 
 -- a read failed
-pub fault-shared : (settings : RunSettings) (now new : State) (waits : Reading) (written : Result Bool Halt) (refused was ended : Bool) (read read' : ℕ) (left0 left left' taken0 taken taken' : Option (List ℕ)) (piece : List ℕ) → 0 < settings.slots
-    → IsShared settings now waits refused left0 left taken0 taken → HasNoStatement waits → Consumes left left' piece → piece ≡ []
-    → PlaysOn written now [] new taken taken' → OnOk written (GoesRound now new) → OnOk written ((seat_at new 0).pending ≡ [])
-    → AnswersBy settings.slots new (end_behind written end.ReadFault) was ended read read' left0 left' taken0 taken'
-fault-shared settings now new waits (Ok some) refused was ended read read' left0 left left' taken0 taken taken' piece slots run none gave nothing plays round idle =
-    let done = open-done settings now new run.given waits refused some taken0 taken taken' slots run.way none plays round idle in (
+pub fault-shared : (settings : RunSettings) (now new : State) (waits : Reading) (written : Result Bool Halt) (refused : Bool) (from from' : ReadingSide) (left : Option (List ℕ)) (to : WritingSide) (taken : Option (List ℕ)) (to' : WritingSide) (piece : List ℕ) → 0 < settings.slots
+    → IsShared settings now waits refused from.left left to.taken taken → HasNoStatement waits → Consumes left from'.left piece → piece ≡ []
+    → PlaysOn written now [] new taken to'.taken → OnOk written (GoesRound now new) → OnOk written ((seat_at new 0).pending ≡ [])
+    → AnswersBy settings.slots new (end_behind written end.ReadFault) from from' to to'
+fault-shared settings now new waits (Ok some) refused from from' left to taken to' piece slots run none gave nothing plays round idle =
+    let done = open-done settings now new run.given waits refused some to.taken taken to'.taken slots run.way none plays round idle in (
       record {
         given = run.given;
         written = text_of_played done.played;
         wanted = done.script_is.wanted;
-        gave = rw (append-nil run.given) at (Consumes-trans left0 left left' run.given [] run.gave (rw nothing at gave));
-        took = done.appended;
-        reads = few-given settings now waits refused left0 left taken0 taken run;
-        writes = done.script_is.text;
-        memory = λ h. cc;
+        replies = fault-between (script_text done.script_is.wanted) from from' to to' run.given (text_of_played done.played)
+            (rw (append-nil run.given) at (Consumes-trans from.left left from'.left run.given [] run.gave (rw nothing at gave))) done.appended
+            (few-given settings now waits refused from.left left to.taken taken run) done.script_is.text;
+        refused = tt;
       },
       done.tells,
     )
-fault-shared settings now new waits (Err halt) refused was ended read read' left0 left left' taken0 taken taken' piece slots run none gave nothing plays round idle =
-    let few = few-given settings now waits refused left0 left taken0 taken run in
-    halts-by halt settings.slots new was ended read read' left0 left' taken0 taken'
-    (out-halted halt settings now new waits refused was ended read read' left0 left left' taken0 taken taken' run.given run plays
-    (rw (append-nil run.given) at (Consumes-trans left0 left left' run.given [] run.gave (rw nothing at gave))) (omega (arith, few))
+fault-shared settings now new waits (Err halt) refused from from' left to taken to' piece slots run none gave nothing plays round idle =
+    let few = few-given settings now waits refused from.left left to.taken taken run in
+    halts-by halt settings.slots new from from' to to'
+    (out-halted halt settings now new waits refused from from' left to taken to' run.given run plays
+    (rw (append-nil run.given) at (Consumes-trans from.left left from'.left run.given [] run.gave (rw nothing at gave))) (omega (arith, few))
     (within_all run.given few))
 
 -- the byte past the limit came
-pub limit-shared : (settings : RunSettings) (now new : State) (waits : Reading) (written : Result Bool Halt) (refused was ended : Bool) (read read' : ℕ) (left0 left left' taken0 taken taken' : Option (List ℕ)) (piece : List ℕ) → 0 < settings.slots
-    → IsShared settings now waits refused left0 left taken0 taken → HasNoStatement waits → Consumes left left' piece → waits.fed ≡ SCRIPT_LIMIT → length piece ≡ 1
-    → PlaysOn written now [] new taken taken' → OnOk written (GoesRound now new) → OnOk written ((seat_at new 0).pending ≡ [])
-    → AnswersBy settings.slots new (end_behind written end.ScriptLimit) was ended read read' left0 left' taken0 taken'
-limit-shared settings now new waits (Ok some) refused was ended read read' left0 left left' taken0 taken taken' piece slots run none gave full one plays round idle =
+pub limit-shared : (settings : RunSettings) (now new : State) (waits : Reading) (written : Result Bool Halt) (refused : Bool) (from from' : ReadingSide) (left : Option (List ℕ)) (to : WritingSide) (taken : Option (List ℕ)) (to' : WritingSide) (piece : List ℕ) → 0 < settings.slots
+    → IsShared settings now waits refused from.left left to.taken taken → HasNoStatement waits → Consumes left from'.left piece → waits.fed ≡ SCRIPT_LIMIT → length piece ≡ 1
+    → PlaysOn written now [] new taken to'.taken → OnOk written (GoesRound now new) → OnOk written ((seat_at new 0).pending ≡ [])
+    → AnswersBy settings.slots new (end_behind written end.ScriptLimit) from from' to to'
+limit-shared settings now new waits (Ok some) refused from from' left to taken to' piece slots run none gave full one plays round idle =
     let counted = run.way.stays.0 in
-    let done = open-done settings now new run.given waits refused some taken0 taken taken' slots run.way none plays round idle in
+    let done = open-done settings now new run.given waits refused some to.taken taken to'.taken slots run.way none plays round idle in
     let within = within_more run.given piece (omega arith) in (
       record {
         given = run.given ++ piece;
         written = text_of_played done.played;
         wanted = done.script_is.wanted;
-        gave = Consumes-trans left0 left left' run.given piece run.gave gave;
-        took = done.appended;
-        reads = omega (arith, length-append run.given piece);
-        writes = rw within done.script_is.text;
-        memory = λ h. cc;
+        replies = limit-between (script_text done.script_is.wanted) from from' to to' (run.given ++ piece) (text_of_played done.played)
+            (Consumes-trans from.left left from'.left run.given piece run.gave gave) done.appended (omega (arith, length-append run.given piece))
+            (rw within done.script_is.text);
+        refused = tt;
       },
-      subst (λ script. TellsScript done.script_is.wanted false script settings.slots new) (sym within) done.tells,
+      subst (λ script. TellsOf done.script_is.wanted (record { ended = false; script = script }) settings.slots new) (sym within) done.tells,
     )
-limit-shared settings now new waits (Err halt) refused was ended read read' left0 left left' taken0 taken taken' piece slots run none gave full one plays round idle =
+limit-shared settings now new waits (Err halt) refused from from' left to taken to' piece slots run none gave full one plays round idle =
     let counted = run.way.stays.0 in
-    halts-by halt settings.slots new was ended read read' left0 left' taken0 taken'
-    (out-halted halt settings now new waits refused was ended read read' left0 left left' taken0 taken taken' (run.given ++ piece) run plays
-    (Consumes-trans left0 left left' run.given piece run.gave gave) (omega (arith, length-append run.given piece))
+    halts-by halt settings.slots new from from' to to'
+    (out-halted halt settings now new waits refused from from' left to taken to' (run.given ++ piece) run plays
+    (Consumes-trans from.left left from'.left run.given piece run.gave gave) (omega (arith, length-append run.given piece))
     (within_more run.given piece (omega arith)))
 
+-- what a core tells of all of a script, whether some reply is a refusal or none is
+tells-all : (test : Bool) (wanted given : List ℕ) (slots : ℕ) (core : State) → TellsOf wanted (record { ended = true; script = given }) slots core
+    → TellsRun (end_of_all test) wanted given slots core
+tells-all false wanted given slots core tells = tells
+tells-all true wanted given slots core tells = tells
+
 -- the input has ended
-pub ended-shared : (settings : RunSettings) (now mid new : State) (waits waits' : Reading) (written : Result Bool Halt) (refused some was ended : Bool) (read read' : ℕ) (left0 left left' taken0 taken taken' taken'' : Option (List ℕ)) (piece : List ℕ) → 0 < settings.slots
-    → IsShared settings now waits refused left0 left taken0 taken → Consumes left left' piece → piece ≡ [] → HasEnded ended left'
+pub ended-shared : (settings : RunSettings) (now mid new : State) (waits waits' : Reading) (written : Result Bool Halt) (refused some : Bool) (from from' : ReadingSide) (left : Option (List ℕ)) (to : WritingSide) (taken taken' : Option (List ℕ)) (to' : WritingSide) (piece : List ℕ) → 0 < settings.slots
+    → IsShared settings now waits refused from.left left to.taken taken → Consumes left from'.left piece → piece ≡ [] → HasEnded from'
     → PlaysWhole (Ok some) now (finished waits) mid waits' taken taken' → StaysFed (finished waits) waits'
-    → PlaysOn written mid [] new taken' taken'' → OnOk written (GoesRound mid new) → OnOk written ((seat_at new 0).pending ≡ [])
-    → AnswersBy settings.slots new (end_of_rest (refused || some) written) was ended read read' left0 left' taken0 taken''
-ended-shared settings now mid new waits waits' (Ok others) refused some was ended read read' left0 left left' taken0 taken taken' taken'' piece slots run gave nothing has_ended whole stays plays round idle =
-    by_refused ((refused || some) || others) (sym done.refusals)
+    → PlaysOn written mid [] new taken' to'.taken → OnOk written (GoesRound mid new) → OnOk written ((seat_at new 0).pending ≡ [])
+    → AnswersBy settings.slots new (end_of_rest (refused || some) written) from from' to to'
+ended-shared settings now mid new waits waits' (Ok others) refused some from from' left to taken taken' to' piece slots run gave nothing has_ended whole stays plays round idle =
+    let test = (refused || some) || others in (
+      record {
+        given = run.given;
+        written = text_of_played done.played;
+        wanted = done.script_is.wanted;
+        replies = all-between (script_text done.script_is.wanted) from from' to to' run.given (text_of_played done.played) test
+            (rw (append-nil run.given) at (Consumes-trans from.left left from'.left run.given [] run.gave (rw nothing at gave))) done.appended
+            (few-given settings now waits refused from.left left to.taken taken run) has_ended done.script_is.text;
+        refused = refused-all test (some_refused done.script_is.wanted true run.given) (sym done.script_is.refusals ∙ sym done.refusals);
+      },
+      tells-all test done.script_is.wanted run.given settings.slots new done.tells,
+    )
   where
-    way : IsPlaying (empty_core settings) mid (finished (came run.given)) waits' (refused || some) taken0 taken'
-    way = ended-way settings now mid waits waits' refused some left0 left taken0 taken taken' run whole stays
+    way : IsPlaying (empty_core settings) mid (finished (came run.given)) waits' (refused || some) to.taken taken'
+    way = ended-way settings now mid waits waits' refused some from.left left to.taken taken taken' run whole stays
 
-    done : IsDone settings new true run.given ((refused || some) || others) taken0 taken''
-    done = done-shared settings mid new (finished (came run.given)) waits' (refused || some) others true taken0 taken' taken'' slots way plays round idle
+    done : IsDone settings new true run.given ((refused || some) || others) to.taken to'.taken
+    done = done-shared settings mid new (finished (came run.given)) waits' (refused || some) others true to.taken taken' to'.taken slots way plays round idle
         (at_end (came run.given)) (subst (λ e. statements_of e waits'.waiting ≡ []) stays.1 whole.4)
-
-    gave_all : Consumes left0 left' run.given
-    gave_all = rw (append-nil run.given) at (Consumes-trans left0 left left' run.given [] run.gave (rw nothing at gave))
-
-    few : length run.given ≤ SCRIPT_LIMIT
-    few = few-given settings now waits refused left0 left taken0 taken run
-
-    by_refused : (test : Bool) → refused_of_played done.played ≡ test → AnswersBy settings.slots new (end_of_all test) was ended read read' left0 left' taken0 taken''
-    by_refused false e = (
-      record {
-        given = run.given;
-        written = text_of_played done.played;
-        wanted = done.script_is.wanted;
-        gave = gave_all;
-        took = done.appended;
-        reads = few;
-        writes = (has_ended, done.script_is.text, sym done.script_is.refusals ∙ e);
-        memory = λ h. cc;
-      },
-      done.tells,
-    )
-    by_refused true e = (
-      record {
-        given = run.given;
-        written = text_of_played done.played;
-        wanted = done.script_is.wanted;
-        gave = gave_all;
-        took = done.appended;
-        reads = few;
-        writes = (has_ended, done.script_is.text, sym done.script_is.refusals ∙ e);
-        memory = λ h. cc;
-      },
-      done.tells,
-    )
-ended-shared settings now mid new waits waits' (Err halt) refused some was ended read read' left0 left left' taken0 taken taken' taken'' piece slots run gave nothing has_ended whole stays plays round idle =
-    halts-by halt settings.slots new was ended read read' left0 left' taken0 taken''
-    (rest-halted halt settings now mid new waits waits' refused some was ended read read' left0 left left' taken0 taken taken' taken'' piece run gave nothing has_ended whole stays plays)
+ended-shared settings now mid new waits waits' (Err halt) refused some from from' left to taken taken' to' piece slots run gave nothing has_ended whole stays plays round idle =
+    halts-by halt settings.slots new from from' to to'
+    (rest-halted halt settings now mid new waits waits' refused some from from' left to taken taken' to' piece run gave nothing has_ended whole stays plays)

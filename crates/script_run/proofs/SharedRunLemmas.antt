@@ -31,7 +31,7 @@ whole-shared settings now new waits waits' refused some left0 left taken0 taken 
 }
 
 -- what was read of some bytes was read of them and those behind them
-fed-reads : (old now : State) (given piece : List ℕ) (waits : Reading) (played : List Played) → ReadsOn old (came given) now waits played
+pub fed-reads : (old now : State) (given piece : List ℕ) (waits : Reading) (played : List Played) → ReadsOn old (came given) now waits played
     → ReadsOn old (came (given ++ piece)) now (fed_with waits piece) played
 fed-reads old now given piece waits played reads = record {
   statements = reads.statements;

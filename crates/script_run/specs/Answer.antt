@@ -3,6 +3,7 @@ use Rattle.std.specs.Prelude.{◌≡◌, ◌≢◌, ℕ, Bool, true, ◌||◌, L
 use Rattle.std.specs.List.{list_any}
 use Rattle.std.specs.Io.KnownBytes.{Appends}
 use Rattle.star_io.specs.Faults.{FailedOnce}
+use Rattle.star_io.specs.Link.{WritingSide}
 use Rattle.star_values.specs.declared.no_memory.NoMemory as values
 use Rattle.script_reader.specs.Reading.{MayCome, Reading}
 use Rattle.script_reader.specs.Script.{statements_of}
@@ -65,10 +66,10 @@ AnswersWhole (Err halt) old waits new waits' taken taken' =
     (written : List ℕ) × Appends taken taken' written × HaltsBehind halt old waits written
 
 -- one write failed, the last one, where that is why the run halts, and else none did
-abbrev pub CountsHalt : {A : Type 0} → Result A Halt → ℕ → ℕ → Bool → Type 0
-CountsHalt (Ok x) old new failed = new ≡ old
-CountsHalt (Err WriteFault) old new failed = FailedOnce old new failed
-CountsHalt (Err NoMemory) old new failed = new ≡ old
+abbrev pub CountsHalt : {A : Type 0} → Result A Halt → (to to' : WritingSide) → Type 0
+CountsHalt (Ok x) to to' = to'.faults ≡ to.faults
+CountsHalt (Err WriteFault) to to' = FailedOnce to.faults to'.faults to'.failed
+CountsHalt (Err NoMemory) to to' = to'.faults ≡ to.faults
 
 -- the first statement that waits was replied to
 pub record RepliesFirst (old : Store) (waits : Reading) (new : Store) (waits' : Reading) (answered : Answered) : Type 0 where

@@ -1,9 +1,11 @@
 -- What one read does to a run: which bytes it gave, and what became of them.
-use Rattle.std.specs.Prelude.{◌≡◌, ℕ, ◌+◌, ◌<◌, ◌≤◌, List, [], ◌++◌, Bool, true, Option, length}
-use Rattle.std.specs.Io.KnownBytes.{Consumes, IsAtEnd}
+use Rattle.std.specs.Prelude.{◌≡◌, ℕ, ◌+◌, ◌<◌, ◌≤◌, List, [], ◌++◌, length}
+use Rattle.std.specs.Io.KnownBytes.{Consumes}
 use Rattle.star_io.specs.Faults.{FailedOnce}
+use Rattle.star_io.specs.Link.{ReadingSide}
 use Rattle.script_reader.specs.Reading.{Reading}
 use Rattle.script_reader.specs.declared.reader.TheConstants.{SCRIPT_LIMIT}
+use Rattle.script_run.specs.Run.{HasEnded}
 use Rattle.script_run.specs.declared.piece.Piece.{Piece}
 use Rattle.script_run.specs.declared.piece.Piece.TheVariants.{Fed, Ended, Fault, Limit, NoMemory}
 
@@ -20,23 +22,23 @@ TakesGiven Limit old new given = (new ≡ old) × (old.fed ≡ SCRIPT_LIMIT) × 
 TakesGiven NoMemory old new given = (new ≡ old) × (old.fed + length given ≤ SCRIPT_LIMIT)
 
 -- the next bytes of the source were read
-abbrev pub TakesPiece : Piece → Reading → Reading → (left left' : Option (List ℕ)) → Type 0
-TakesPiece piece old new left left' = (given : List ℕ) × Consumes left left' given × TakesGiven piece old new given
+abbrev pub TakesPiece : Piece → Reading → Reading → (from from' : ReadingSide) → Type 0
+TakesPiece piece old new from from' = (given : List ℕ) × Consumes from.left from'.left given × TakesGiven piece old new given
 
 -- the source has ended at the end of its input alone
-abbrev pub FindsEnd : Piece → (ended ended' : Bool) → (left' : Option (List ℕ)) → Type 0
-FindsEnd Ended ended ended' left' = (ended' ≡ true) × IsAtEnd left'
-FindsEnd other ended ended' left' = ended' ≡ ended
+abbrev pub FindsEnd : Piece → (from from' : ReadingSide) → Type 0
+FindsEnd Ended from from' = HasEnded from'
+FindsEnd other from from' = from'.ended ≡ from.ended
 
 -- one read failed, the last one, at a fault alone
-abbrev pub CountsFault : Piece → ℕ → ℕ → Bool → Type 0
-CountsFault Fault old new failed = FailedOnce old new failed
-CountsFault other old new failed = new ≡ old
+abbrev pub CountsFault : Piece → (from from' : ReadingSide) → Type 0
+CountsFault Fault from from' = FailedOnce from.faults from'.faults from'.failed
+CountsFault other from from' = from'.faults ≡ from.faults
 
 -- the byte past the limit was read, or nothing
-abbrev pub ReadsPast : Piece → (left left' : Option (List ℕ)) → Type 0
-ReadsPast Ended left left' = Consumes left left' []
-ReadsPast Fault left left' = Consumes left left' []
-ReadsPast Limit left left' = (given : List ℕ) × Consumes left left' given × (length given ≡ 1)
-ReadsPast Fed left left' = ⊥
-ReadsPast NoMemory left left' = ⊥
+abbrev pub ReadsPast : Piece → (from from' : ReadingSide) → Type 0
+ReadsPast Ended from from' = Consumes from.left from'.left []
+ReadsPast Fault from from' = Consumes from.left from'.left []
+ReadsPast Limit from from' = (given : List ℕ) × Consumes from.left from'.left given × (length given ≡ 1)
+ReadsPast Fed from from' = ⊥
+ReadsPast NoMemory from from' = ⊥

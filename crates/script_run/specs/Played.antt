@@ -1,8 +1,6 @@
 -- What becomes of the statements that a core is given, one after the other.
 use Rattle.std.specs.Prelude.{◌≡◌, ◌⊎◌, ℕ, Bool, true, false, List, [], ◌∷◌, ◌++◌, filter, filter_map, map, Option, Some, None, option_map, IfSome}
 use Rattle.script_reader.specs.declared.statement.Statement.{Statement}
-use Rattle.star_plan.specs.Answer.{answer_of}
-use Rattle.star_plan.specs.Joined.{Joined}
 use Rattle.star_plan.specs.Test.{Query}
 use Rattle.star_history.specs.Alone.{alone}
 use Rattle.star_history.specs.History.{Change, store_of}
@@ -12,15 +10,16 @@ use Rattle.reply_text.specs.declared.reply.Reply.TheVariants.{Memory}
 use Rattle.star_statement.specs.Effect.{answer_reply}
 use Rattle.star_statement.specs.Outcome.{outcome_of}
 use Rattle.star_statement.specs.Script.{history_after}
-use Rattle.aggregations.specs.Grouped.{grouped_of}
 use Rattle.pipeline_manager.specs.Lives.{Lives, life_of}
 use Rattle.pipeline_manager.specs.Sound.{AreRising}
 use Rattle.pipeline_manager.specs.declared.life.Life.TheVariants.{Answered}
+-- the reply that a taken one is
+pub use Rattle.core_state.specs.Answers.{IsTakenAs}
 -- an event that leaves the history and the seats
 pub use Rattle.core_state.specs.Events.{LeavesSeats}
 use Rattle.core_state.specs.State as state
 use Rattle.core_state.specs.State.{Accepted, Asked, Awaited, Pending, Seat, State, Taken}
-use Rattle.core_state.specs.Submitting.{Grouping, Ready, Whole, asked_by, awaited_by, seat_at, taken_by}
+use Rattle.core_state.specs.Submitting.{asked_by, awaited_by, seat_at, taken_by}
 use Rattle.core_state.specs.Tables.{changes_of, tables_of}
 
 -- what became of a statement: its reply, whether the core has it, and the query that it asks with its snapshot, where the core accepted one
@@ -36,13 +35,6 @@ lost = record { reply = Memory; had = false; asked = None }
 -- a statement that the core has, of which a seat waited for this, and to which this is the reply
 abbrev pub played_as : Awaited → Reply → Played
 played_as awaited reply = record { reply = reply; had = true; asked = asked_by awaited }
-
--- the reply that a taken one is: a whole one as it is, or the answer of its groups at its snapshot, whichever rows they are
--- of; where that finds no memory it is `memory`
-abbrev pub IsTakenAs : Ready → Reply → Type 0
-IsTakenAs (Whole ready) reply = reply ≡ ready
-IsTakenAs (Grouping snapshot groups) reply = (reply ≡ Memory) ⊎
-    ((query : Query) (rows : List Joined) → groups ≡ grouped_of query rows → reply ≡ answer_reply snapshot (answer_of query rows))
 
 -- what the core has told of a statement comes to this: the reply itself, and to a query its answer alone over these tables, or `memory`
 abbrev pub ComesTo : Store → Awaited → Played → Type 0

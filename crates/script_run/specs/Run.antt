@@ -1,8 +1,9 @@
 -- What a run of a script writes, and why it ends.
-use Rattle.std.specs.Prelude.{◌≡◌, ℕ, ◌+◌, ◌<◌, ◌≤◌, ◌⊎◌, Bool, true, false, List, [], ◌++◌, length, take, Option}
+use Rattle.std.specs.Prelude.{◌≡◌, ℕ, ◌+◌, ◌<◌, ◌≤◌, ◌⊎◌, Bool, true, false, List, [], ◌++◌, length, take}
 use Rattle.std.specs.List.{list_any}
 use Rattle.std.specs.Io.KnownBytes.{Appends, Consumes, IsAtEnd}
 use Rattle.star_io.specs.Faults.{FailedOnce, FailedOnceAtMost}
+use Rattle.star_io.specs.Link.{ReadingSide, WritingSide}
 use Rattle.star_io.specs.declared.run_end.RunEnd.{RunEnd}
 use Rattle.star_io.specs.declared.run_end.RunEnd.TheVariants.{Clean, SomeRefused, ReadFault, WriteFault, NoMemory, ScriptLimit}
 use Rattle.script_reader.specs.Script.{statements_of}
@@ -43,21 +44,18 @@ abbrev pub IsProperFront : List ℕ → List ℕ → Type 0
 IsProperFront front bytes = (rest : List ℕ) × (0 < length rest) × (bytes ≡ front ++ rest)
 
 -- the source has ended, and no known byte is left
-abbrev pub HasEnded : Bool → Option (List ℕ) → Type 0
-HasEnded ended left = (ended ≡ true) × IsAtEnd left
+abbrev pub HasEnded : ReadingSide → Type 0
+HasEnded source = (source.ended ≡ true) × IsAtEnd source.left
 
--- what a run wrote, by the bytes that its source gave, by whether the source has ended and by what is left at it: at
--- `Clean` and `SomeRefused` all replies of a script whose input has ended, at a read fault or the limit all replies of
--- one whose input has not, at a write fault a proper front of the replies, and where no memory was left a front
-abbrev pub Writes : (wanted : List ℕ) → RunEnd → Bool → Option (List ℕ) → List ℕ → List ℕ → Type 0
-Writes wanted Clean ended left given written =
-    HasEnded ended left × (written ≡ script_text wanted true given) × (some_refused wanted true given ≡ false)
-Writes wanted SomeRefused ended left given written =
-    HasEnded ended left × (written ≡ script_text wanted true given) × (some_refused wanted true given ≡ true)
-Writes wanted ReadFault ended left given written = written ≡ script_text wanted false given
-Writes wanted ScriptLimit ended left given written = written ≡ script_text wanted false (within_limit given)
-Writes wanted WriteFault ended left given written = IsProperFront written (script_text wanted ended (within_limit given))
-Writes wanted NoMemory ended left given written = IsFront written (script_text wanted ended (within_limit given))
+-- what was written, by the text of all replies to bytes whose input has ended or not, by the bytes that the source gave, and by what
+-- it tells then: at `Clean` and `SomeRefused` all replies to bytes whose input has ended, at a read fault or the limit all replies to
+-- those whose input has not, at a write fault a proper front of the replies, and where no memory was left a front
+abbrev pub Writes : (text : (ended : Bool) → List ℕ → List ℕ) → RunEnd → ReadingSide → (given written : List ℕ) → Type 0
+Writes text ReadFault source given written = written ≡ text false given
+Writes text ScriptLimit source given written = written ≡ text false (within_limit given)
+Writes text WriteFault source given written = IsProperFront written (text source.ended (within_limit given))
+Writes text NoMemory source given written = IsFront written (text source.ended (within_limit given))
+Writes text other source given written = HasEnded source × (written ≡ text true given)
 
 -- how many bytes were read: the byte past the limit at `ScriptLimit`, and at each end that is no fault of the
 -- sink and no want of memory only there
@@ -68,35 +66,45 @@ ReadsBytes NoMemory count = count ≤ SCRIPT_LIMIT + 1
 ReadsBytes other count = count ≤ SCRIPT_LIMIT
 
 -- the reading met no end: the source has ended no more than before, no read failed, and the limit was not passed
-abbrev pub MetNoEnd : Bool → Bool → ℕ → ℕ → List ℕ → Type 0
-MetNoEnd ended ended' read read' given = (ended' ≡ ended) × (read' ≡ read) × (length given ≤ SCRIPT_LIMIT)
+abbrev pub MetNoEnd : ReadingSide → ReadingSide → List ℕ → Type 0
+MetNoEnd from from' given = (from'.ended ≡ from.ended) × (from'.faults ≡ from.faults) × (length given ≤ SCRIPT_LIMIT)
 
--- which faults came: the count of reads that failed, before and after, and whether the last read failed, and the same
--- of the writes. Nothing was read after a read that failed, and nothing was written after a write that failed
-abbrev pub CountsFaults : RunEnd → ℕ → ℕ → Bool → ℕ → ℕ → Bool → Type 0
-CountsFaults ReadFault read read' read_failed write write' write_failed =
-    FailedOnce read read' read_failed × (write' ≡ write)
-CountsFaults WriteFault read read' read_failed write write' write_failed =
-    FailedOnceAtMost read read' read_failed × FailedOnce write write' write_failed
-CountsFaults NoMemory read read' read_failed write write' write_failed =
-    FailedOnceAtMost read read' read_failed × (write' ≡ write)
-CountsFaults other read read' read_failed write write' write_failed = (read' ≡ read) × (write' ≡ write)
+-- what stands between a source and a sink before and after statements were read from the one, and replies, which have this text,
+-- written to the other: the source gave these bytes and the sink took those, and they belong together as the end says. Want of
+-- memory of the run itself is told in place of no other end: some reply was still to be written, or the reading met no end
+pub record RepliesBetween (text : (ended : Bool) → List ℕ → List ℕ) (end : RunEnd) (from from' : ReadingSide) (to to' : WritingSide)
+    (given written : List ℕ) : Type 0 where
+  pub gave : Consumes from.left from'.left given
+  pub took : Appends to.taken to'.taken written
+  pub reads : ReadsBytes end (length given)
+  pub writes : Writes text end from' given written
+  pub memory : end ≡ NoMemory → IsProperFront written (text from'.ended (within_limit given)) ⊎ MetNoEnd from from' given
 
--- in a run the source gave these bytes and the sink took those, and they belong together as its end says, where memory was
--- wanted for the statements at some places, which the replies tell. Want of memory of the run itself is told in place of no
--- other end: some reply was still to be written, or the reading met no end
-pub record AnswersScript (end : RunEnd) (ended ended' : Bool) (read read' : ℕ) (left left' taken taken' : Option (List ℕ)) : Type 0 where
+-- whether some reply is a refusal is what tells the two ends apart at which all was read and written
+abbrev pub TellsRefused : RunEnd → (refused : Bool) → Type 0
+TellsRefused Clean refused = refused ≡ false
+TellsRefused SomeRefused refused = refused ≡ true
+TellsRefused ReadFault refused = Unit {0}
+TellsRefused WriteFault refused = Unit {0}
+TellsRefused NoMemory refused = Unit {0}
+TellsRefused ScriptLimit refused = Unit {0}
+
+-- a run answered a script, where memory was wanted for the statements at some places, which the replies tell
+pub record AnswersScript (end : RunEnd) (from from' : ReadingSide) (to to' : WritingSide) : Type 0 where
   pub given : List ℕ
   pub written : List ℕ
   pub wanted : List ℕ
-  pub gave : Consumes left left' given
-  pub took : Appends taken taken' written
-  pub reads : ReadsBytes end (length given)
-  pub writes : Writes wanted end ended' left' given written
-  pub memory : end ≡ NoMemory → IsProperFront written (script_text wanted ended' (within_limit given))
-      ⊎ MetNoEnd ended ended' read read' given
+  pub replies : RepliesBetween (script_text wanted) end from from' to to' given written
+  pub refused : TellsRefused end (some_refused wanted true given)
 
 -- the same of a run that replies to no statement that memory was wanted for it: where it was, such a run ends
-abbrev pub AnswersAlone : (end : RunEnd) → (ended ended' : Bool) → (read read' : ℕ) → (left left' taken taken' : Option (List ℕ)) → Type 0
-AnswersAlone end ended ended' read read' left left' taken taken' =
-    (answers : AnswersScript end ended ended' read read' left left' taken taken') × (answers.wanted ≡ [])
+abbrev pub AnswersAlone : (end : RunEnd) → (from from' : ReadingSide) → (to to' : WritingSide) → Type 0
+AnswersAlone end from from' to to' = (answers : AnswersScript end from from' to to') × (answers.wanted ≡ [])
+
+-- which faults came. Nothing was read after a read that failed, and nothing was written after a write that failed
+abbrev pub CountsFaults : RunEnd → (from from' : ReadingSide) → (to to' : WritingSide) → Type 0
+CountsFaults ReadFault from from' to to' = FailedOnce from.faults from'.faults from'.failed × (to'.faults ≡ to.faults)
+CountsFaults WriteFault from from' to to' =
+    FailedOnceAtMost from.faults from'.faults from'.failed × FailedOnce to.faults to'.faults to'.failed
+CountsFaults NoMemory from from' to to' = FailedOnceAtMost from.faults from'.faults from'.failed × (to'.faults ≡ to.faults)
+CountsFaults other from from' to to' = (from'.faults ≡ from.faults) × (to'.faults ≡ to.faults)

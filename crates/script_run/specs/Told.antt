@@ -1,26 +1,17 @@
 -- What a core tells of the statements of a script: the history that they make, and its queries.
-use Rattle.std.specs.Prelude.{◌≡◌, ◌⊎◌, ℕ, suc, Bool, true, false, List, [], ◌∷◌, Some, if◌then◌else◌}
+use Rattle.std.specs.Prelude.{◌≡◌, ◌⊎◌, ℕ, suc, Bool, true, false, List, [], ◌∷◌, Some}
 use Rattle.script_reader.specs.declared.statement.Statement.{Statement}
 use Rattle.star_plan.specs.Test.{Query}
 use Rattle.star_history.specs.History.{Change, store_of}
 use Rattle.star_statement.specs.Outcome as outcome
 use Rattle.star_statement.specs.Outcome.{Told, outcome_of}
 use Rattle.star_statement.specs.Script.{history_after, is_wanted_at}
+-- both stand with the script, and are passed on here to those who read what a core tells
+pub use Rattle.star_statement.specs.Script.{history_from, history_of}
 use Rattle.pipeline_manager.specs.Lives.{Lives, life_of}
 use Rattle.pipeline_manager.specs.declared.life.Life.TheVariants.{Answered}
 use Rattle.core_state.specs.State.{Accepted, State}
 use Rattle.core_state.specs.Tables.{changes_of}
-
--- the history at which statements end, from a place on, where memory was wanted at these places
-abbrev pub history_from : (wanted : List ℕ) → (place : ℕ) → List Change → List Statement → List Change
-history_from wanted place history [] = history
-history_from wanted place history (statement ∷ statements) =
-    if is_wanted_at wanted place then history_from wanted (suc place) history statements
-    else history_from wanted (suc place) (history_after history statement) statements
-
--- the history at which the statements of a script end
-abbrev pub history_of : (wanted : List ℕ) → List Statement → List Change
-history_of wanted statements = history_from wanted 0 [] statements
 
 -- the first query of a core is this one at this snapshot, with a number like this, and those behind it are the others
 abbrev pub BeginWith : Query → (snapshot : ℕ) → (IsNumber : ℕ → Type 0) → (AreOthers : List Accepted → Type 0) → List Accepted → Type 0

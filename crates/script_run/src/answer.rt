@@ -1,5 +1,4 @@
 //! The replies to the statements that are whole, written one after the other.
-ghost use Rattle.std.specs.Prelude.{◌≡◌, OnErr};
 ghost use Rattle.script_reader.specs.Reading.{StaysFed};
 ghost use Rattle.star_history.specs.Keyed.{plain};
 ghost use Rattle.script_run.specs.Answer.{AnswersWhole, CountsHalt, GivesNext};
@@ -20,10 +19,9 @@ pub(crate) fn answer_whole<K: Sink>(
     sink: &mut K,
 ) -> Result<bool, Halt>
     ensures answers { AnswersWhole result (plain store.old) reader.old (plain store.new) reader.new
-        (K.taken sink.old) (K.taken sink.new) }
+        (K.writing sink.old).taken (K.writing sink.new).taken }
     ensures stays { StaysFed reader.old reader.new }
-    ensures faults { CountsHalt result
-        (K.write_faults sink.old) (K.write_faults sink.new) (K.write_failed sink.new) }
+    ensures faults { CountsHalt result (K.writing sink.old) (K.writing sink.new) }
 {
     let mut refused = false;
     'statements: loop {

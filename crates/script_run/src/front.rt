@@ -87,13 +87,13 @@ impl Front {
         requires counted { IsCounted self.old }
         requires free { self.old.unfinished < self.old.settings.slots }
         ensures plays { PlaysIn result (state_of self.old.core) (statement ∷ []) (state_of self.new.core)
-            (K.taken sink.old) (K.taken sink.new) }
+            (K.writing sink.old).taken (K.writing sink.new).taken }
         ensures run { IsRun (state_of self.old.core) (state_of self.new.core) }
         ensures counted { OnOk result (IsCounted self.new) }
         ensures free { OnOk result (self.new.unfinished < self.new.settings.slots) }
         ensures settings { self.new.settings ≡ self.old.settings }
         ensures known { IsKnown self.new }
-        ensures faults { CountsHalt result (K.write_faults sink.old) (K.write_faults sink.new) (K.write_failed sink.new) }
+        ensures faults { CountsHalt result (K.writing sink.old) (K.writing sink.new) }
         ensures apart { K.reading_side sink.new ≡ K.reading_side sink.old }
     {
         let waits = self.waits_at(&statement)?;
@@ -149,13 +149,13 @@ impl Front {
     fn lose<R: Threads + Sync, K: Sink>(&mut self, rt: &R, sink: &mut K) -> Result<bool, Halt>
         requires counted { IsCounted self.old }
         ensures plays { (statement : Statement) → PlaysIn result (state_of self.old.core) (statement ∷ []) (state_of self.new.core)
-            (K.taken sink.old) (K.taken sink.new) }
+            (K.writing sink.old).taken (K.writing sink.new).taken }
         ensures run { IsRun (state_of self.old.core) (state_of self.new.core) }
         ensures counted { OnOk result (IsCounted self.new) }
         ensures free { OnOk result (self.new.unfinished ≡ 0) }
         ensures settings { self.new.settings ≡ self.old.settings }
         ensures known { IsKnown self.new }
-        ensures faults { CountsHalt result (K.write_faults sink.old) (K.write_faults sink.new) (K.write_failed sink.new) }
+        ensures faults { CountsHalt result (K.writing sink.old) (K.writing sink.new) }
         ensures apart { K.reading_side sink.new ≡ K.reading_side sink.old }
     {
         self.play_out(rt, sink)?;
@@ -169,7 +169,8 @@ impl Front {
         sink: &mut K,
     ) -> Result<bool, Halt>
         requires counted { IsCounted self.old }
-        ensures plays { PlaysOn result (state_of self.old.core) [] (state_of self.new.core) (K.taken sink.old) (K.taken sink.new) }
+        ensures plays { PlaysOn result (state_of self.old.core) [] (state_of self.new.core)
+            (K.writing sink.old).taken (K.writing sink.new).taken }
         ensures all { OnOk result ((seat_at (state_of self.new.core) 0).pending ≡ []) }
         ensures round { OnOk result (GoesRound (state_of self.old.core) (state_of self.new.core)) }
         ensures run { IsRun (state_of self.old.core) (state_of self.new.core) }
@@ -177,7 +178,7 @@ impl Front {
         ensures free { OnOk result (self.new.unfinished ≡ 0) }
         ensures settings { self.new.settings ≡ self.old.settings }
         ensures known { IsKnown self.new }
-        ensures faults { CountsHalt result (K.write_faults sink.old) (K.write_faults sink.new) (K.write_failed sink.new) }
+        ensures faults { CountsHalt result (K.writing sink.old) (K.writing sink.new) }
         ensures apart { K.reading_side sink.new ≡ K.reading_side sink.old }
     {
         self.finish_open(rt)?;
@@ -255,13 +256,14 @@ fn finish<R: Threads + Sync>(rt: &R, core: &mut Core) -> Result<(), NoMemory>
 
 /// Writes the replies that may be taken, in their order, and tells whether one of them is a refusal.
 fn write_ready<K: Sink>(alloc: Global, core: &mut Core, sink: &mut K) -> Result<bool, Halt>
-    ensures plays { PlaysOn result (state_of core.old) [] (state_of core.new) (K.taken sink.old) (K.taken sink.new) }
+    ensures plays { PlaysOn result (state_of core.old) [] (state_of core.new)
+        (K.writing sink.old).taken (K.writing sink.new).taken }
     ensures none { OnOk result (next_ready (state_of core.new) 0 ≡ None) }
     ensures all { OnOk result (first_open (state_of core.old).lives (seat_at (state_of core.old) 0) ≡ None →
         (seat_at (state_of core.new) 0).pending ≡ []) }
     ensures run { IsRun (state_of core.old) (state_of core.new) }
     ensures beside { Beside (state_of core.old) (state_of core.new) }
-    ensures faults { CountsHalt result (K.write_faults sink.old) (K.write_faults sink.new) (K.write_failed sink.new) }
+    ensures faults { CountsHalt result (K.writing sink.old) (K.writing sink.new) }
     ensures apart { K.reading_side sink.new ≡ K.reading_side sink.old }
 {
     a_reply_that_may_be_taken_is_right();
@@ -278,9 +280,11 @@ fn write_ready<K: Sink>(alloc: Global, core: &mut Core, sink: &mut K) -> Result<
 /// Writes a reply, and tells whether it is a refusal. Where that halts, not all of it was written.
 fn write_reply<K: Sink>(alloc: Global, reply: &Reply, sink: &mut K) -> Result<bool, Halt>
     ensures refused { IfOk result (λ refused. refused ≡ is_refusal reply.now) }
-    ensures ok { OnOk result (Appends (K.taken sink.old) (K.taken sink.new) (text_of reply.now)) }
-    ensures err { OnErr result (AppendsFront (K.taken sink.old) (K.taken sink.new) (text_of reply.now)) }
-    ensures faults { CountsHalt result (K.write_faults sink.old) (K.write_faults sink.new) (K.write_failed sink.new) }
+    ensures ok { OnOk result (Appends
+        (K.writing sink.old).taken (K.writing sink.new).taken (text_of reply.now)) }
+    ensures err { OnErr result (AppendsFront
+        (K.writing sink.old).taken (K.writing sink.new).taken (text_of reply.now)) }
+    ensures faults { CountsHalt result (K.writing sink.old) (K.writing sink.new) }
     ensures apart { K.reading_side sink.new ≡ K.reading_side sink.old }
 {
     let text = text_of(alloc, reply)?;

@@ -29,13 +29,13 @@ impl Front {
     ) -> Result<(), Halt>
         requires home { IsAtHome self.old }
         ensures replies { RepliesWhole result (state_of self.old.core) reader.old (state_of self.new.core) reader.new
-            (K.taken sink.old) (K.taken sink.new) }
+            (K.writing sink.old).taken (K.writing sink.new).taken }
         ensures stays { StaysFed reader.old reader.new }
         ensures served { IsServed (state_of self.old.core) (state_of self.new.core) }
         ensures home { OnOk result (IsAtHome self.new) }
         ensures held { IsHeld self.new }
         ensures settings { self.new.settings ≡ self.old.settings }
-        ensures faults { CountsHalt result (K.write_faults sink.old) (K.write_faults sink.new) (K.write_failed sink.new) }
+        ensures faults { CountsHalt result (K.writing sink.old) (K.writing sink.new) }
         ensures apart { K.reading_side sink.new ≡ K.reading_side sink.old }
     {
         play_whole(rt, self, reader, sink)?;

@@ -27,10 +27,10 @@ pub fn read_piece<S: Source>(source: &mut S, piece: &mut [u8], reader: &mut Scri
     requires piece { 0 < length piece.old }
     requires within { reader.old.fed ≤ SCRIPT_LIMIT }
     requires not_ended { reader.old.ended ≡ false }
-    ensures takes { TakesPiece result reader.old reader.new (S.left source.old) (S.left source.new) }
-    ensures end { FindsEnd result (S.ended source.old) (S.ended source.new) (S.left source.new) }
-    ensures faults { CountsFault result
-        (S.read_faults source.old) (S.read_faults source.new) (S.read_failed source.new) }
+    ensures takes { TakesPiece result reader.old reader.new
+        (S.reading source.old) (S.reading source.new) }
+    ensures end { FindsEnd result (S.reading source.old) (S.reading source.new) }
+    ensures faults { CountsFault result (S.reading source.old) (S.reading source.new) }
     ensures apart { S.writing_side source.new ≡ S.writing_side source.old }
 {
     let room = (SCRIPT_LIMIT - reader.fed()).min(piece.len());
@@ -51,10 +51,9 @@ pub fn read_piece<S: Source>(source: &mut S, piece: &mut [u8], reader: &mut Scri
 
 /// Reads the byte past the limit, if there is one.
 fn read_past_the_limit<S: Source>(source: &mut S) -> Piece
-    ensures reads { ReadsPast result (S.left source.old) (S.left source.new) }
-    ensures end { FindsEnd result (S.ended source.old) (S.ended source.new) (S.left source.new) }
-    ensures faults { CountsFault result
-        (S.read_faults source.old) (S.read_faults source.new) (S.read_failed source.new) }
+    ensures reads { ReadsPast result (S.reading source.old) (S.reading source.new) }
+    ensures end { FindsEnd result (S.reading source.old) (S.reading source.new) }
+    ensures faults { CountsFault result (S.reading source.old) (S.reading source.new) }
     ensures apart { S.writing_side source.new ≡ S.writing_side source.old }
 {
     let mut one = [0u8];

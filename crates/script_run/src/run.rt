@@ -25,12 +25,10 @@ pub const PIECE_BYTES: usize = 64 * 1024;
 /// At a read that fails, and at the byte past the limit, the statements that are whole before it
 /// are answered. After a write that fails nothing more is written or read.
 pub fn run_alone<S: Source, K: Sink>(alloc: Global, source: &mut S, sink: &mut K) -> RunEnd
-    ensures answers { AnswersAlone result (S.ended source.old) (S.ended source.new)
-        (S.read_faults source.old) (S.read_faults source.new)
-        (S.left source.old) (S.left source.new) (K.taken sink.old) (K.taken sink.new) }
+    ensures answers { AnswersAlone result (S.reading source.old) (S.reading source.new)
+        (K.writing sink.old) (K.writing sink.new) }
     ensures faults { CountsFaults result
-        (S.read_faults source.old) (S.read_faults source.new) (S.read_failed source.new)
-        (K.write_faults sink.old) (K.write_faults sink.new) (K.write_failed sink.new) }
+        (S.reading source.old) (S.reading source.new) (K.writing sink.old) (K.writing sink.new) }
 {
     let mut store = Store::new(alloc);
     let mut reader = ScriptReader::new(alloc);
@@ -47,12 +45,10 @@ fn answer_script<S: Source, K: Sink>(
 ) -> RunEnd
     requires store { plain store.old ≡ empty_store }
     requires reader { reader.old ≡ no_reading }
-    ensures answers { AnswersAlone result (S.ended source.old) (S.ended source.new)
-        (S.read_faults source.old) (S.read_faults source.new)
-        (S.left source.old) (S.left source.new) (K.taken sink.old) (K.taken sink.new) }
+    ensures answers { AnswersAlone result (S.reading source.old) (S.reading source.new)
+        (K.writing sink.old) (K.writing sink.new) }
     ensures faults { CountsFaults result
-        (S.read_faults source.old) (S.read_faults source.new) (S.read_failed source.new)
-        (K.write_faults sink.old) (K.write_faults sink.new) (K.write_failed sink.new) }
+        (S.reading source.old) (S.reading source.new) (K.writing sink.old) (K.writing sink.new) }
 {
     replies_follow_from_the_tables();
     let mut piece = [0u8; PIECE_BYTES];

@@ -47,12 +47,11 @@ pub fn run_script<R: Threads + Sync, S: Source, K: Sink>(
     sink: &mut K,
 ) -> RunDone
     requires { AreWithin settings }
-    ensures answers { AnswersShared settings.slots result.core result.end (S.ended source.old) (S.ended source.new)
-        (S.read_faults source.old) (S.read_faults source.new)
-        (S.left source.old) (S.left source.new) (K.taken sink.old) (K.taken sink.new) }
+    ensures answers { AnswersShared settings.slots result.core result.end
+        (S.reading source.old) (S.reading source.new)
+        (K.writing sink.old) (K.writing sink.new) }
     ensures faults { CountsFaults result.end
-        (S.read_faults source.old) (S.read_faults source.new) (S.read_failed source.new)
-        (K.write_faults sink.old) (K.write_faults sink.new) (K.write_failed sink.new) }
+        (S.reading source.old) (S.reading source.new) (K.writing sink.old) (K.writing sink.new) }
     ensures apart { K.reading_side sink.new ≡ K.reading_side sink.old }
     ensures core { IsNone result.core ↔ (result.end ≡ end.NoMemory) }
     ensures run { IfSome result.core (λ core. IsRun (empty_core settings) (state_of core)) }
@@ -98,12 +97,11 @@ fn play_script<R: Threads + Sync, S: Source, K: Sink>(
     requires counted { IsCounted front.old }
     requires free { front.old.unfinished ≡ 0 }
     requires reader { reader.old ≡ no_reading }
-    ensures answers { AnswersBy front.old.settings.slots (state_of front.new.core) result (S.ended source.old) (S.ended source.new)
-        (S.read_faults source.old) (S.read_faults source.new)
-        (S.left source.old) (S.left source.new) (K.taken sink.old) (K.taken sink.new) }
+    ensures answers { AnswersBy front.old.settings.slots (state_of front.new.core) result
+        (S.reading source.old) (S.reading source.new)
+        (K.writing sink.old) (K.writing sink.new) }
     ensures faults { CountsFaults result
-        (S.read_faults source.old) (S.read_faults source.new) (S.read_failed source.new)
-        (K.write_faults sink.old) (K.write_faults sink.new) (K.write_failed sink.new) }
+        (S.reading source.old) (S.reading source.new) (K.writing sink.old) (K.writing sink.new) }
     ensures apart { K.reading_side sink.new ≡ K.reading_side sink.old }
     ensures run { IsRun (state_of front.old.core) (state_of front.new.core) }
 {
@@ -140,14 +138,14 @@ pub(crate) fn play_whole<R: Threads + Sync, K: Sink>(
     requires counted { IsCounted front.old }
     requires free { front.old.unfinished < front.old.settings.slots }
     ensures plays { PlaysWhole result (state_of front.old.core) reader.old (state_of front.new.core) reader.new
-        (K.taken sink.old) (K.taken sink.new) }
+        (K.writing sink.old).taken (K.writing sink.new).taken }
     ensures stays { StaysFed reader.old reader.new }
     ensures run { IsRun (state_of front.old.core) (state_of front.new.core) }
     ensures counted { OnOk result (IsCounted front.new) }
     ensures free { OnOk result (front.new.unfinished < front.new.settings.slots) }
     ensures settings { front.new.settings ≡ front.old.settings }
     ensures known { IsKnown front.new }
-    ensures faults { CountsHalt result (K.write_faults sink.old) (K.write_faults sink.new) (K.write_failed sink.new) }
+    ensures faults { CountsHalt result (K.writing sink.old) (K.writing sink.new) }
     ensures apart { K.reading_side sink.new ≡ K.reading_side sink.old }
 {
     let mut refused = false;

@@ -2,7 +2,6 @@
 use Rattle.std.proofs.Common.{◌≡◌, ℕ, ◌+◌, ◌≤◌, Bool, true, false, List, [], ◌++◌, length, Option, refl, sym, ap, subst, ◌∙◌, append_assoc, append-nil, length-append, arith}
 use Rattle.std.specs.Io.KnownBytes.{Appends, Consumes}
 use Rattle.std.proofs.KnownBytes.{Appends-nil, Appends-trans, Consumes-nil, Consumes-trans}
-use Rattle.std.proofs.lemmas.List.{take_all, take-append-le}
 use Rattle.script_reader.specs.Reading.{Reading, StaysFed, no_reading}
 use Rattle.script_reader.specs.Script.{statements_of}
 use Rattle.script_reader.specs.declared.reader.TheConstants.{SCRIPT_LIMIT}
@@ -11,17 +10,10 @@ use Rattle.script_run.specs.Answer.{HasNoStatement}
 use Rattle.script_run.specs.Front.{ReadsOn, text_of_played}
 use Rattle.script_run.specs.Pieces.{fed_with}
 use Rattle.script_run.specs.Played.{Played}
-use Rattle.script_run.specs.Run.{within_limit}
 use Rattle.script_run.proofs.PlayedLeadLemmas.{leads-itself, leads-then}
+use Rattle.script_run.proofs.RunLemmas.{came, finished}
+use Rattle.script_run.proofs.SharedRunLemmas.{fed-reads}
 use Rattle.session_server.proofs.PartLemmas.{text-both}
-
--- an input of which these bytes came, and which has not ended
-abbrev pub came : List ℕ → Reading
-came given = record { waiting = given; fed = length given; ended = false }
-
--- the same where it has ended
-abbrev pub finished : Reading → Reading
-finished waits = record waits { ended = true }
 
 -- these bytes were given, the statements that are whole were given to a core, and these were replied to
 pub record IsServing (old now : State) (waits : Reading) (left0 left taken0 taken : Option (List ℕ)) : Type 0 where
@@ -59,16 +51,6 @@ starts-serving state waits left taken is = rw is (record {
 -- nothing that was not read is a statement
 pub starts-without : (waits : Reading) → waits ≡ no_reading → HasNoStatement waits
 starts-without waits is = rw is refl
-
--- what was read of some bytes was read of them and those behind them
-fed-reads : (old now : State) (given piece : List ℕ) (waits : Reading) (played : List Played) → ReadsOn old (came given) now waits played
-    → ReadsOn old (came (given ++ piece)) now (fed_with waits piece) played
-fed-reads old now given piece waits played reads = record {
-  statements = reads.statements;
-  reads = λ more last comes. ap (statements_of last) (append_assoc given piece more) ∙ reads.reads (piece ++ more) last (λ e. cc)
-      ∙ ap (λ bytes. reads.statements ++ statements_of last bytes) (sym (append_assoc waits.waiting piece more));
-  leads = reads.leads;
-}
 
 -- a piece more was fed
 pub fed-serving : (old now : State) (waits waits' : Reading) (left0 left left' taken0 taken : Option (List ℕ)) (piece : List ℕ)
@@ -113,14 +95,6 @@ replied-serving old now new waits waits' left0 left taken0 taken taken' run (mor
 pub few-given : (old now : State) (waits : Reading) (left0 left taken0 taken : Option (List ℕ))
     → (run : IsServing old now waits left0 left taken0 taken) → length run.given ≤ SCRIPT_LIMIT
 few-given old now waits left0 left taken0 taken run = subst (λ n. n ≤ SCRIPT_LIMIT) run.counted run.within
-
-pub within-all : (given : List ℕ) → length given ≤ SCRIPT_LIMIT → within_limit given ≡ given
-within-all given few = take_all SCRIPT_LIMIT given few
-
-pub within-more : (given piece : List ℕ) → length given ≡ SCRIPT_LIMIT → within_limit (given ++ piece) ≡ given
-within-more given piece full =
-    let fits : SCRIPT_LIMIT ≤ length given = omega arith in
-    take-append-le SCRIPT_LIMIT given piece fits ∙ take_all SCRIPT_LIMIT given (omega arith)
 
 -- What was given of some bytes.
 

@@ -1,9 +1,10 @@
 -- What a session reads and writes, why it ends, and what the core tells of it then.
-use Rattle.std.specs.Prelude.{◌≡◌, ℕ, suc, ◌+◌, ◌≤◌, ◌⊎◌, Bool, true, false, List, [], ◌∷◌, ◌++◌, length, map, Option}
-use Rattle.std.specs.Io.KnownBytes.{Appends, Consumes}
+use Rattle.std.specs.Prelude.{◌≡◌, ℕ, suc, ◌⊎◌, Bool, true, false, List, [], ◌∷◌, ◌++◌, map, Option}
 use Rattle.star_io.specs.Faults.{FailedOnce}
+use Rattle.star_io.specs.Link.{ReadingSide, WritingSide}
+use Rattle.star_io.specs.declared.run_end.RunEnd.{RunEnd}
+use Rattle.star_io.specs.declared.run_end.RunEnd.TheVariants as run_end
 use Rattle.script_reader.specs.Script.{statements_of}
-use Rattle.script_reader.specs.declared.reader.TheConstants.{SCRIPT_LIMIT}
 use Rattle.script_reader.specs.declared.statement.Statement.{Statement}
 use Rattle.star_plan.specs.Test.{Query}
 use Rattle.star_history.specs.History.{Change, store_of}
@@ -15,7 +16,7 @@ use Rattle.core_state.specs.State.{Accepted, State, Taken}
 use Rattle.core_state.specs.Submitting.{asked_by, awaited_by, seat_at}
 use Rattle.core_state.specs.Tables.{changes_of}
 use Rattle.script_run.specs.Played.{accepted_by, queries_among}
-use Rattle.script_run.specs.Run.{HasEnded, IsFront, IsProperFront, MetNoEnd, within_limit}
+use Rattle.script_run.specs.Run.{IsFront, RepliesBetween, within_limit}
 use Rattle.script_run.specs.Told.{AreQueriesOf, ByWanted, history_from}
 use Rattle.script_run.specs.declared.halt.Halt.{Halt}
 use Rattle.script_run.specs.declared.halt.Halt.TheVariants as halt
@@ -35,34 +36,20 @@ session_replies wanted history ended bytes = replies_after wanted 0 history (sta
 abbrev pub session_text : (wanted : List ℕ) → List Change → (ended : Bool) → List ℕ → List ℕ
 session_text wanted history ended bytes = text_of_all (session_replies wanted history ended bytes)
 
--- what a session behind a history wrote, by the bytes that its link gave, by whether the input has ended and by what is left at
--- it: all replies to a script whose input has ended, at a read fault or the limit all replies to one whose input has not, at a
--- write fault a proper front of the replies, and where no memory was left a front
-abbrev pub Writes : (wanted : List ℕ) → List Change → SessionEnd → Bool → Option (List ℕ) → List ℕ → List ℕ → Type 0
-Writes wanted history Done ended left given written = HasEnded ended left × (written ≡ session_text wanted history true given)
-Writes wanted history ReadFault ended left given written = written ≡ session_text wanted history false given
-Writes wanted history WriteFault ended left given written =
-    IsProperFront written (session_text wanted history ended (within_limit given))
-Writes wanted history Limit ended left given written = written ≡ session_text wanted history false (within_limit given)
-Writes wanted history Memory ended left given written = IsFront written (session_text wanted history ended (within_limit given))
+-- the end of a run that says of bytes what this end of a session says. `Done` says what `Clean` does: of what a session wrote,
+-- that some reply is a refusal is not told
+abbrev pub run_end_of : SessionEnd → RunEnd
+run_end_of Done = run_end.Clean
+run_end_of ReadFault = run_end.ReadFault
+run_end_of WriteFault = run_end.WriteFault
+run_end_of Limit = run_end.ScriptLimit
+run_end_of Memory = run_end.NoMemory
 
--- how many bytes were read: the byte past the limit at `Limit`, and at each end that is no fault of the writes and no want of
--- memory only there
-abbrev pub ReadsBytes : SessionEnd → ℕ → Type 0
-ReadsBytes Done count = count ≤ SCRIPT_LIMIT
-ReadsBytes ReadFault count = count ≤ SCRIPT_LIMIT
-ReadsBytes WriteFault count = count ≤ SCRIPT_LIMIT + 1
-ReadsBytes Limit count = count ≡ SCRIPT_LIMIT + 1
-ReadsBytes Memory count = count ≤ SCRIPT_LIMIT + 1
-
--- which faults came: the count of reads that failed, before and after, and whether the last read failed, and the same of the
--- writes. Nothing was read after a read that failed, and nothing was written after a write that failed
-abbrev pub CountsFaults : SessionEnd → ℕ → ℕ → Bool → ℕ → ℕ → Bool → Type 0
-CountsFaults Done read read' read_failed write write' write_failed = (read' ≡ read) × (write' ≡ write)
-CountsFaults ReadFault read read' read_failed write write' write_failed = FailedOnce read read' read_failed × (write' ≡ write)
-CountsFaults WriteFault read read' read_failed write write' write_failed = (read' ≡ read) × FailedOnce write write' write_failed
-CountsFaults Limit read read' read_failed write write' write_failed = (read' ≡ read) × (write' ≡ write)
-CountsFaults Memory read read' read_failed write write' write_failed = (read' ≡ read) × (write' ≡ write)
+-- which faults came. Nothing was read after a read that failed, and nothing was written after a write that failed
+abbrev pub CountsFaults : SessionEnd → (from from' : ReadingSide) → (to to' : WritingSide) → Type 0
+CountsFaults ReadFault from from' to to' = FailedOnce from.faults from'.faults from'.failed × (to'.faults ≡ to.faults)
+CountsFaults WriteFault from from' to to' = (from'.faults ≡ from.faults) × FailedOnce to.faults to'.faults to'.failed
+CountsFaults other from from' to to' = (from'.faults ≡ from.faults) × (to'.faults ≡ to.faults)
 
 -- the query that a statement asks of which this is told, with its snapshot, if it asks one
 abbrev pub asked_of : Told → Option (Query × ℕ)
@@ -128,20 +115,14 @@ TellsSession Limit wanted given ended written old new = TellsStatements wanted (
 TellsSession Memory wanted given ended written old new =
     TellsPart wanted (statements_of ended (within_limit given)) written old new
 
--- in a session from one core to another the link gave these bytes and took those, and they belong together as its end says, where
--- memory was wanted for the statements at some places, which the replies tell. Want of memory of the session itself is told in place
--- of no other end: some reply was still to be written, or the reading met no end
-pub record AnswersSession (end : SessionEnd) (old new : State) (ended ended' : Bool) (read read' : ℕ) (left left' taken taken' : Option (List ℕ)) : Type 0 where
+-- a session from one core to another replied to the statements that its link gave, where memory was wanted for the statements at some
+-- places, which the replies tell, and the core tells of the same statements
+pub record AnswersSession (end : SessionEnd) (old new : State) (from from' : ReadingSide) (to to' : WritingSide) : Type 0 where
   pub given : List ℕ
   pub written : List ℕ
   pub wanted : List ℕ
-  pub gave : Consumes left left' given
-  pub took : Appends taken taken' written
-  pub reads : ReadsBytes end (length given)
-  pub writes : Writes wanted (changes_of old.entries) end ended' left' given written
-  pub memory : end ≡ Memory → IsProperFront written (session_text wanted (changes_of old.entries) ended' (within_limit given))
-      ⊎ MetNoEnd ended ended' read read' given
-  pub tells : TellsSession end wanted given ended' written old new
+  pub replies : RepliesBetween (session_text wanted (changes_of old.entries)) (run_end_of end) from from' to to' given written
+  pub tells : TellsSession end wanted given from'.ended written old new
 
 -- every whole statement was replied to
 abbrev pub EndsWhole : SessionEnd → Type 0

@@ -29,16 +29,15 @@ pub fn serve_session<R: Threads + Sync, K: Link>(
 ) -> SessionEnd
     requires { IsAtHome front.old }
     ensures answers { AnswersSession result (state_of front.old.core) (state_of front.new.core)
-        (K.ended link.old) (K.ended link.new) (K.read_faults link.old) (K.read_faults link.new)
-        (K.left link.old) (K.left link.new) (K.taken link.old) (K.taken link.new) }
+        (K.reading link.old) (K.reading link.new) (K.writing link.old) (K.writing link.new) }
     ensures served { IsServed (state_of front.old.core) (state_of front.new.core) }
     ensures home { IsAtHome front.new }
     ensures settings { front.new.settings ≡ front.old.settings }
     ensures faults { CountsFaults result
-        (K.read_faults link.old) (K.read_faults link.new) (K.read_failed link.new)
-        (K.write_faults link.old) (K.write_faults link.new) (K.write_failed link.new) }
+        (K.reading link.old) (K.reading link.new) (K.writing link.old) (K.writing link.new) }
 {
-    match play_session(rt, alloc, front, link) {
+    let mut reader = ScriptReader::new(alloc);
+    match play_session(rt, front, &mut reader, link) {
         SessionEnd::WriteFault => {
             let_go(front);
             SessionEnd::WriteFault
@@ -62,31 +61,8 @@ fn let_go(front: &mut Front)
     front.let_go();
 }
 
-/// The session up to its end. Where it was cut short, queries may still be open.
+/// The session up to its end, by a reader to which nothing was fed yet. Where it was cut short, queries may still be open.
 fn play_session<R: Threads + Sync, K: Link>(
-    rt: &R,
-    alloc: Global,
-    front: &mut Front,
-    link: &mut K,
-) -> SessionEnd
-    requires { IsAtHome front.old }
-    ensures answers { AnswersSession result (state_of front.old.core) (state_of front.new.core)
-        (K.ended link.old) (K.ended link.new) (K.read_faults link.old) (K.read_faults link.new)
-        (K.left link.old) (K.left link.new) (K.taken link.old) (K.taken link.new) }
-    ensures served { IsServed (state_of front.old.core) (state_of front.new.core) }
-    ensures home { EndsWhole result → IsAtHome front.new }
-    ensures held { IsHeld front.new }
-    ensures settings { front.new.settings ≡ front.old.settings }
-    ensures faults { CountsFaults result
-        (K.read_faults link.old) (K.read_faults link.new) (K.read_failed link.new)
-        (K.write_faults link.old) (K.write_faults link.new) (K.write_failed link.new) }
-{
-    let mut reader = ScriptReader::new(alloc);
-    play_pieces(rt, front, &mut reader, link)
-}
-
-/// The same by a reader to which nothing was fed yet.
-fn play_pieces<R: Threads + Sync, K: Link>(
     rt: &R,
     front: &mut Front,
     reader: &mut ScriptReader,
@@ -95,15 +71,13 @@ fn play_pieces<R: Threads + Sync, K: Link>(
     requires home { IsAtHome front.old }
     requires unfed { reader.old ≡ no_reading }
     ensures answers { AnswersSession result (state_of front.old.core) (state_of front.new.core)
-        (K.ended link.old) (K.ended link.new) (K.read_faults link.old) (K.read_faults link.new)
-        (K.left link.old) (K.left link.new) (K.taken link.old) (K.taken link.new) }
+        (K.reading link.old) (K.reading link.new) (K.writing link.old) (K.writing link.new) }
     ensures served { IsServed (state_of front.old.core) (state_of front.new.core) }
     ensures home { EndsWhole result → IsAtHome front.new }
     ensures held { IsHeld front.new }
     ensures settings { front.new.settings ≡ front.old.settings }
     ensures faults { CountsFaults result
-        (K.read_faults link.old) (K.read_faults link.new) (K.read_failed link.new)
-        (K.write_faults link.old) (K.write_faults link.new) (K.write_failed link.new) }
+        (K.reading link.old) (K.reading link.new) (K.writing link.old) (K.writing link.new) }
 {
     every_core_is_sound(&front.core);
     let mut piece = [0u8; PIECE_BYTES];
@@ -131,11 +105,11 @@ fn read_link<K: Link>(link: &mut K, piece: &mut [u8], reader: &mut ScriptReader)
     requires piece { 0 < length piece.old }
     requires within { reader.old.fed ≤ SCRIPT_LIMIT }
     requires not_ended { reader.old.ended ≡ false }
-    ensures takes { TakesPiece result reader.old reader.new (K.left link.old) (K.left link.new) }
-    ensures end { FindsEnd result (K.ended link.old) (K.ended link.new) (K.left link.new) }
-    ensures faults { CountsFault result (K.read_faults link.old) (K.read_faults link.new) (K.read_failed link.new) }
-    ensures taken { K.taken link.new ≡ K.taken link.old }
-    ensures write_faults { K.write_faults link.new ≡ K.write_faults link.old }
+    ensures takes { TakesPiece result reader.old reader.new
+        (K.reading link.old) (K.reading link.new) }
+    ensures end { FindsEnd result (K.reading link.old) (K.reading link.new) }
+    ensures faults { CountsFault result (K.reading link.old) (K.reading link.new) }
+    ensures written { K.writing link.new ≡ K.writing link.old }
 {
     read_piece(link, piece, reader)
 }
@@ -149,16 +123,14 @@ fn reply_link<R: Threads + Sync, K: Link>(
 ) -> Result<(), Halt>
     requires home { IsAtHome front.old }
     ensures replies { RepliesWhole result (state_of front.old.core) reader.old (state_of front.new.core) reader.new
-        (K.taken link.old) (K.taken link.new) }
+        (K.writing link.old).taken (K.writing link.new).taken }
     ensures stays { StaysFed reader.old reader.new }
     ensures served { IsServed (state_of front.old.core) (state_of front.new.core) }
     ensures home { OnOk result (IsAtHome front.new) }
     ensures held { IsHeld front.new }
     ensures settings { front.new.settings ≡ front.old.settings }
-    ensures faults { CountsHalt result (K.write_faults link.old) (K.write_faults link.new) (K.write_failed link.new) }
-    ensures left { K.left link.new ≡ K.left link.old }
-    ensures read_faults { K.read_faults link.new ≡ K.read_faults link.old }
-    ensures ended { K.ended link.new ≡ K.ended link.old }
+    ensures faults { CountsHalt result (K.writing link.old) (K.writing link.new) }
+    ensures read { K.reading link.new ≡ K.reading link.old }
 {
     front.reply_whole(rt, reader, link)
 }

@@ -1,5 +1,6 @@
 -- What it means that a case is right.
-use Rattle.std.specs.Prelude.{◌≡◌, ℕ, Bool, true, List, [], Option, is_none}
+use Rattle.std.specs.Prelude.{◌≡◌, ℕ, Bool, true, List, [], is_none}
+use Rattle.star_io.specs.Link.{ReadingSide, WritingSide}
 use Rattle.star_io.specs.declared.run_end.RunEnd.{RunEnd}
 use Rattle.script_run.specs.Run.{AnswersAlone, AnswersScript, script_text, some_refused}
 use Rattle.star_cases.specs.Judge.{has_refusal}
@@ -20,10 +21,9 @@ Answers Alone script replies = AnswersWanting [] script replies
 Answers (Shared settings) script replies = (wanted : List ℕ) × AnswersWanting wanted script replies
 
 -- what a run in a way writes, and why it ends
-abbrev pub Runs : Way → (end : RunEnd) → (ended ended' : Bool) → (read read' : ℕ) → (left left' taken taken' : Option (List ℕ)) → Type 0
-Runs Alone end ended ended' read read' left left' taken taken' = AnswersAlone end ended ended' read read' left left' taken taken'
-Runs (Shared settings) end ended ended' read read' left left' taken taken' =
-    AnswersScript end ended ended' read read' left left' taken taken'
+abbrev pub Runs : Way → (end : RunEnd) → (from from' : ReadingSide) → (to to' : WritingSide) → Type 0
+Runs Alone end from from' to to' = AnswersAlone end from from' to to'
+Runs (Shared settings) end from from' to to' = AnswersScript end from from' to to'
 
 -- nothing is wrong with the case
 abbrev pub is_right : Outcome → Bool

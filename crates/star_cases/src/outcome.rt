@@ -182,9 +182,8 @@ fn run<R: Threads + Sync, S: Source, K: Sink>(
     sink: &mut K,
 ) -> RunEnd
     requires { IsWithin way }
-    ensures { Runs way result (S.ended source.old) (S.ended source.new)
-        (S.read_faults source.old) (S.read_faults source.new)
-        (S.left source.old) (S.left source.new) (K.taken sink.old) (K.taken sink.new) }
+    ensures { Runs way result
+        (S.reading source.old) (S.reading source.new) (K.writing sink.old) (K.writing sink.new) }
 {
     match way {
         Way::Alone => run_alone(alloc, source, sink),

@@ -8,7 +8,6 @@ pub mod PieceSource
 pub mod ListSink
 pub mod StdSource
 pub mod StdSink
-pub mod SureSource
 pub mod PairLink
 pub mod ListDoor
 pub mod TcpLink

@@ -15,9 +15,7 @@ pub fn one_more_is_a_rise()
 /// A read of a link leaves its writing side.
 pub fn a_read_leaves_the_writes<L: Link>(link: &mut L, into: &mut [u8]) -> Result<usize, Failed>
     requires { 0 < length into.old }
-    ensures taken { L.taken link.new ≡ L.taken link.old }
-    ensures faults { L.write_faults link.new ≡ L.write_faults link.old }
-    ensures last { L.write_failed link.new ≡ L.write_failed link.old }
+    ensures { L.writing link.new ≡ L.writing link.old }
 {
     link.read(into)
 }
@@ -25,10 +23,7 @@ pub fn a_read_leaves_the_writes<L: Link>(link: &mut L, into: &mut [u8]) -> Resul
 /// A write to a link leaves its reading side.
 pub fn a_write_leaves_the_reads<L: Link>(link: &mut L, bytes: &[u8]) -> Result<usize, Failed>
     requires { 0 < length bytes.now }
-    ensures left { L.left link.new ≡ L.left link.old }
-    ensures faults { L.read_faults link.new ≡ L.read_faults link.old }
-    ensures last { L.read_failed link.new ≡ L.read_failed link.old }
-    ensures ended { L.ended link.new ≡ L.ended link.old }
+    ensures { L.reading link.new ≡ L.reading link.old }
 {
     link.write(bytes)
 }

@@ -76,11 +76,7 @@ impl ListSink {
 impl Sink for ListSink {
     ghost use Rattle.star_io.specs.ListSink.{after_write};
 
-    ghost taken = { λ s. Some s.taken };
-
-    ghost write_faults = { λ s. s.faults };
-
-    ghost write_failed = { λ s. s.failed };
+    ghost writing = { λ s. record { taken = Some s.taken; faults = s.faults; failed = s.failed } };
 
     fn write(&mut self, bytes: &[u8]) -> Result<usize, Failed>
         requires { 0 < length bytes.now }

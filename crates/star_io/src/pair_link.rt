@@ -45,15 +45,9 @@ impl PairLink {
 
 impl Source for PairLink {
     ghost use Rattle.star_io.specs.PieceSource.{after_read};
-    ghost use Rattle.star_io.specs.PairLink.{writing_of};
+    ghost use Rattle.star_io.specs.PairLink.{reading_of, writing_of};
 
-    ghost left = { λ s. Some s.source.left };
-
-    ghost read_faults = { λ s. s.source.faults };
-
-    ghost read_failed = { λ s. s.source.failed };
-
-    ghost ended = { λ s. s.source.ended };
+    ghost reading = { reading_of };
 
     ghost writing_side = { λ s. Some (writing_of s) };
 
@@ -80,13 +74,9 @@ impl Source for PairLink {
 
 impl Sink for PairLink {
     ghost use Rattle.star_io.specs.ListSink.{after_write};
-    ghost use Rattle.star_io.specs.PairLink.{reading_of};
+    ghost use Rattle.star_io.specs.PairLink.{reading_of, writing_of};
 
-    ghost taken = { λ s. Some s.sink.taken };
-
-    ghost write_faults = { λ s. s.sink.faults };
-
-    ghost write_failed = { λ s. s.sink.failed };
+    ghost writing = { writing_of };
 
     ghost reading_side = { λ s. Some (reading_of s) };
 
@@ -117,17 +107,7 @@ impl Sink for PairLink {
 impl Link for PairLink {
     ghost use Rattle.std.proofs.Common.{rules};
 
-    ghost taken_apart = { Prim.search rules };
+    ghost writing_apart = { Prim.search rules };
 
-    ghost write_faults_apart = { Prim.search rules };
-
-    ghost write_failed_apart = { Prim.search rules };
-
-    ghost left_apart = { Prim.search rules };
-
-    ghost read_faults_apart = { Prim.search rules };
-
-    ghost read_failed_apart = { Prim.search rules };
-
-    ghost ended_apart = { Prim.search rules };
+    ghost reading_apart = { Prim.search rules };
 }

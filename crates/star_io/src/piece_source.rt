@@ -73,13 +73,7 @@ impl PieceSource {
 impl Source for PieceSource {
     ghost use Rattle.star_io.specs.PieceSource.{after_read};
 
-    ghost left = { λ s. Some s.left };
-
-    ghost read_faults = { λ s. s.faults };
-
-    ghost read_failed = { λ s. s.failed };
-
-    ghost ended = { λ s. s.ended };
+    ghost reading = { λ s. record { left = Some s.left; faults = s.faults; failed = s.failed; ended = s.ended } };
 
     fn read(&mut self, into: &mut [u8]) -> Result<usize, Failed>
         requires { 0 < length into.old }
@@ -113,7 +107,7 @@ impl Source for PieceSource {
 }
 
 /// Copies the first bytes of `from` to the front of `to`, at most `piece` of them.
-pub(crate) fn copy_piece(from: &[u8], piece: usize, to: &mut [u8]) -> usize
+fn copy_piece(from: &[u8], piece: usize, to: &mut [u8]) -> usize
     ensures count { result ≡ min (min piece (length to.old)) (length from.now) }
     ensures copied { take result to.new ≡ take result from.now }
 {

@@ -20,9 +20,7 @@ pub struct StdSink<W> {
 impl<W: Write> StdSink<W> {
     /// A sink into `writer`, to which no write was made yet.
     pub fn new(writer: W) -> StdSink<W>
-        ensures taken { ⟦<StdSink<W> as Sink>⟧.taken result ≡ W.contents writer }
-        ensures faults { ⟦<StdSink<W> as Sink>⟧.write_faults result ≡ 0 }
-        ensures last { ⟦<StdSink<W> as Sink>⟧.write_failed result ≡ false }
+        ensures { ⟦<StdSink<W> as Sink>⟧.writing result ≡ record { taken = W.contents writer; faults = 0; failed = false } }
     {
         StdSink {
             writer,
@@ -33,7 +31,7 @@ impl<W: Write> StdSink<W> {
 
     /// How many writes failed so far.
     pub fn faults(&self) -> u64
-        ensures { result ≡ ⟦<StdSink<W> as Sink>⟧.write_faults self.now }
+        ensures { result ≡ (⟦<StdSink<W> as Sink>⟧.writing self.now).faults }
     {
         self.faults
     }
@@ -42,11 +40,11 @@ impl<W: Write> StdSink<W> {
 impl<W: Write> Sink for StdSink<W> {
     ghost use Rattle.star_io.specs.StdSink.{writer_of, failed_writes, last_write_failed};
 
-    ghost taken = { λ s. W.contents (writer_of s) };
-
-    ghost write_faults = { failed_writes };
-
-    ghost write_failed = { last_write_failed };
+    ghost writing = { λ s. record {
+      taken = W.contents (writer_of s);
+      faults = failed_writes s;
+      failed = last_write_failed s;
+    } };
 
     fn write(&mut self, bytes: &[u8]) -> Result<usize, Failed> {
         match self.writer.write(bytes) {

@@ -19,10 +19,8 @@ pub struct StdSource<R> {
 impl<R: Read> StdSource<R> {
     /// A source of what `reader` still has, of which no read was made yet.
     pub fn new(reader: R) -> StdSource<R>
-        ensures left { ⟦<StdSource<R> as Source>⟧.left result ≡ R.remaining reader }
-        ensures faults { ⟦<StdSource<R> as Source>⟧.read_faults result ≡ 0 }
-        ensures last { ⟦<StdSource<R> as Source>⟧.read_failed result ≡ false }
-        ensures ended { ⟦<StdSource<R> as Source>⟧.ended result ≡ false }
+        ensures { ⟦<StdSource<R> as Source>⟧.reading result
+            ≡ record { left = R.remaining reader; faults = 0; failed = false; ended = false } }
     {
         StdSource {
             reader,
@@ -34,7 +32,7 @@ impl<R: Read> StdSource<R> {
 
     /// How many reads failed so far.
     pub fn faults(&self) -> u64
-        ensures { result ≡ ⟦<StdSource<R> as Source>⟧.read_faults self.now }
+        ensures { result ≡ (⟦<StdSource<R> as Source>⟧.reading self.now).faults }
     {
         self.faults
     }
@@ -43,13 +41,12 @@ impl<R: Read> StdSource<R> {
 impl<R: Read> Source for StdSource<R> {
     ghost use Rattle.star_io.specs.StdSource.{reader_of, failed_reads, last_read_failed, has_ended};
 
-    ghost left = { λ s. R.remaining (reader_of s) };
-
-    ghost read_faults = { failed_reads };
-
-    ghost read_failed = { last_read_failed };
-
-    ghost ended = { has_ended };
+    ghost reading = { λ s. record {
+      left = R.remaining (reader_of s);
+      faults = failed_reads s;
+      failed = last_read_failed s;
+      ended = has_ended s;
+    } };
 
     fn read(&mut self, into: &mut [u8]) -> Result<usize, Failed> {
         match self.reader.read(into) {

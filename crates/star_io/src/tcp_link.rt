@@ -35,15 +35,12 @@ impl TcpLink {
 }
 
 impl Source for TcpLink {
-    ghost use Rattle.star_io.specs.TcpLink.{tcp_failed_reads, tcp_last_read_failed, tcp_has_ended, tcp_writing};
+    ghost use Rattle.std.specs.Prelude.{Some};
+    ghost use Rattle.star_io.specs.TcpLink.{tcp_reading, tcp_writing};
 
-    ghost read_faults = { tcp_failed_reads };
+    ghost reading = { tcp_reading };
 
-    ghost read_failed = { tcp_last_read_failed };
-
-    ghost ended = { tcp_has_ended };
-
-    ghost writing_side = { tcp_writing };
+    ghost writing_side = { λ link. Some (tcp_writing link) };
 
     fn read(&mut self, into: &mut [u8]) -> Result<usize, Failed> {
         match self.stream.read(into) {
@@ -62,13 +59,12 @@ impl Source for TcpLink {
 }
 
 impl Sink for TcpLink {
-    ghost use Rattle.star_io.specs.TcpLink.{tcp_failed_writes, tcp_last_write_failed, tcp_reading};
+    ghost use Rattle.std.specs.Prelude.{Some};
+    ghost use Rattle.star_io.specs.TcpLink.{tcp_reading, tcp_writing};
 
-    ghost write_faults = { tcp_failed_writes };
+    ghost writing = { tcp_writing };
 
-    ghost write_failed = { tcp_last_write_failed };
-
-    ghost reading_side = { tcp_reading };
+    ghost reading_side = { λ link. Some (tcp_reading link) };
 
     fn write(&mut self, bytes: &[u8]) -> Result<usize, Failed> {
         match self.stream.write(bytes) {
@@ -88,17 +84,7 @@ impl Sink for TcpLink {
 impl Link for TcpLink {
     ghost use Rattle.std.proofs.Common.{rules};
 
-    ghost taken_apart = { Prim.search rules };
+    ghost writing_apart = { Prim.search rules };
 
-    ghost write_faults_apart = { Prim.search rules };
-
-    ghost write_failed_apart = { Prim.search rules };
-
-    ghost left_apart = { Prim.search rules };
-
-    ghost read_faults_apart = { Prim.search rules };
-
-    ghost read_failed_apart = { Prim.search rules };
-
-    ghost ended_apart = { Prim.search rules };
+    ghost reading_apart = { Prim.search rules };
 }

@@ -1,5 +1,6 @@
 //! The top call, on which the headline stands.
-ghost use Rattle.std.specs.Prelude.{◌≡◌, ◌↔◌, ◌⊎◌, ℕ, Bool, None, Some, IfSome, IsNone, IsSomeAnd, map, string_bytes};
+ghost use Rattle.std.specs.Prelude.{◌≡◌, ◌↔◌, ◌⊎◌, ℕ, None, Some, IfSome, IsNone, IsSomeAnd, map, string_bytes};
+ghost use Rattle.star_io.specs.Link.{ReadingSide};
 ghost use Rattle.command_words.specs.Ranges.{AreInRange};
 ghost use Rattle.command_words.specs.Table.{settings_of};
 ghost use Rattle.core_state.specs.Sound.{empty_core};
@@ -79,19 +80,17 @@ pub fn cjoin<R: Threads + Sync + Wait, S: Source, K: Sink, D: Door>(
     ensures untouched { IsNone (settings_of (map string_bytes words.now)) →
         (source.new ≡ source.old) × (sink.new ≡ sink.old) × ((result.status ≡ 2) ⊎ (result.status ≡ 5)) }
     ensures headline { IfSome (settings_of (map string_bytes words.now)) (λ settings. HasScript settings →
-        Headline settings.slots result.core result.status (S.ended source.old) (S.ended source.new)
-        (S.read_faults source.old) (S.read_faults source.new)
-        (S.left source.old) (S.left source.new) (K.taken sink.old) (K.taken sink.new)) }
+        Headline settings.slots result.core result.status (S.reading source.old) (S.reading source.new)
+        (K.writing sink.old) (K.writing sink.new)) }
     ensures made { IfSome (settings_of (map string_bytes words.now)) (λ settings. IsMade settings →
         (source.new ≡ source.old) × MadeHeadline settings.slots settings.seed settings.rows result.core result.status
-        (K.taken sink.old) (K.taken sink.new)) }
+        (K.writing sink.old) (K.writing sink.new)) }
     ensures served { IfSome (settings_of (map string_bytes words.now)) (λ settings. Serves settings →
         (source.new ≡ source.old) × (sink.new ≡ sink.old) × ServeHeadline settings.port settings.accept result.status
         (D.asked door.new) (D.ended door.new) (D.given door.old) (D.given door.new)
         (D.door_faults door.old) (D.door_faults door.new) (D.door_failed door.new)) }
-    ensures causes { HasCause result.status
-        (S.read_faults source.old) (S.read_faults source.new) (S.read_failed source.new)
-        (K.write_faults sink.old) (K.write_faults sink.new) (K.write_failed sink.new) }
+    ensures causes { HasCause result.status (S.reading source.old) (S.reading source.new)
+        (K.writing sink.old) (K.writing sink.new) }
     ensures door { ¬ IsSomeAnd (settings_of (map string_bytes words.now)) Serves → door.new ≡ door.old }
     ensures core { IsNone result.core ↔ (IsNone (settings_of (map string_bytes words.now))
         ⊎ (IsSomeAnd (settings_of (map string_bytes words.now)) IsAlone
@@ -123,15 +122,14 @@ pub fn run_words<R: Threads + Sync, S: Source, K: Sink>(
     ensures untouched { IfRan result (λ done. IsNone (settings_of (map string_bytes words.now)) →
         (source.new ≡ source.old) × (sink.new ≡ sink.old) × ((done.status ≡ 2) ⊎ (done.status ≡ 5))) }
     ensures headline { IfRan result (λ done. IfSome (settings_of (map string_bytes words.now)) (λ settings. HasScript settings →
-        Headline settings.slots done.core done.status (S.ended source.old) (S.ended source.new)
-        (S.read_faults source.old) (S.read_faults source.new)
-        (S.left source.old) (S.left source.new) (K.taken sink.old) (K.taken sink.new))) }
+        Headline settings.slots done.core done.status (S.reading source.old) (S.reading source.new)
+        (K.writing sink.old) (K.writing sink.new))) }
     ensures made { IfRan result (λ done. IfSome (settings_of (map string_bytes words.now)) (λ settings. IsMade settings →
         (source.new ≡ source.old) × MadeHeadline settings.slots settings.seed settings.rows done.core done.status
-        (K.taken sink.old) (K.taken sink.new))) }
+        (K.writing sink.old) (K.writing sink.new))) }
     ensures causes { IfRan result (λ done. HasCause done.status
-        (S.read_faults source.old) (S.read_faults source.new) (S.read_failed source.new)
-        (K.write_faults sink.old) (K.write_faults sink.new) (K.write_failed sink.new)) }
+        (S.reading source.old) (S.reading source.new)
+        (K.writing sink.old) (K.writing sink.new)) }
     ensures core { IfRan result (λ done. IsNone done.core ↔ (IsNone (settings_of (map string_bytes words.now))
         ⊎ (IsSomeAnd (settings_of (map string_bytes words.now)) IsAlone ⊎ (done.status ≡ 5)))) }
     ensures run { IfRan result (λ done. IfSome done.core (λ core. IfSome (settings_of (map string_bytes words.now)) (λ settings.
@@ -158,12 +156,11 @@ fn run_shared<R: Threads + Sync, S: Source, K: Sink>(
     sink: &mut K,
 ) -> TopDone
     requires { AreInRange settings.now }
-    ensures headline { Headline settings.now.slots result.core result.status (S.ended source.old) (S.ended source.new)
-        (S.read_faults source.old) (S.read_faults source.new)
-        (S.left source.old) (S.left source.new) (K.taken sink.old) (K.taken sink.new) }
-    ensures causes { HasCause result.status
-        (S.read_faults source.old) (S.read_faults source.new) (S.read_failed source.new)
-        (K.write_faults sink.old) (K.write_faults sink.new) (K.write_failed sink.new) }
+    ensures headline { Headline settings.now.slots result.core result.status
+        (S.reading source.old) (S.reading source.new)
+        (K.writing sink.old) (K.writing sink.new) }
+    ensures causes { HasCause result.status (S.reading source.old) (S.reading source.new)
+        (K.writing sink.old) (K.writing sink.new) }
     ensures core { IsNone result.core ↔ (result.status ≡ 5) }
     ensures run { IfSome result.core (λ core. IsRun (empty_core (run_settings_of settings.now)) (state_of core)) }
 {
@@ -172,12 +169,11 @@ fn run_shared<R: Threads + Sync, S: Source, K: Sink>(
 
 /// Runs a script each of whose queries is answered by itself, without a core.
 fn run_each_alone<S: Source, K: Sink>(alloc: Global, source: &mut S, sink: &mut K) -> TopDone
-    ensures headline { (slots : ℕ) → Headline slots result.core result.status (S.ended source.old) (S.ended source.new)
-        (S.read_faults source.old) (S.read_faults source.new)
-        (S.left source.old) (S.left source.new) (K.taken sink.old) (K.taken sink.new) }
-    ensures causes { HasCause result.status
-        (S.read_faults source.old) (S.read_faults source.new) (S.read_failed source.new)
-        (K.write_faults sink.old) (K.write_faults sink.new) (K.write_failed sink.new) }
+    ensures headline { (slots : ℕ) → Headline slots result.core result.status
+        (S.reading source.old) (S.reading source.new)
+        (K.writing sink.old) (K.writing sink.new) }
+    ensures causes { HasCause result.status (S.reading source.old) (S.reading source.new)
+        (K.writing sink.old) (K.writing sink.new) }
     ensures core { IsNone result.core }
 {
     without_core(status_of(run_alone(alloc, source, sink)))
@@ -193,9 +189,9 @@ fn run_workload<R: Threads + Sync, K: Sink>(
 ) -> TopDone
     requires { AreInRange settings.now }
     ensures made { MadeHeadline settings.now.slots settings.now.seed settings.now.rows result.core result.status
-        (K.taken sink.old) (K.taken sink.new) }
-    ensures causes { (read : ℕ) (read_failed : Bool) → HasCause result.status read read read_failed
-        (K.write_faults sink.old) (K.write_faults sink.new) (K.write_failed sink.new) }
+        (K.writing sink.old) (K.writing sink.new) }
+    ensures causes { (source : ReadingSide) → HasCause result.status source source
+        (K.writing sink.old) (K.writing sink.new) }
     ensures core { IsNone result.core ↔ (result.status ≡ 5) }
     ensures run { IfSome result.core (λ core. IsRun (empty_core (run_settings_of settings.now)) (state_of core)) }
 {

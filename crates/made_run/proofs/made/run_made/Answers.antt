@@ -8,4 +8,4 @@ returns-clause-answers g c =
 
 pub returns-clause-faults : goal.returns-clause-faults
 returns-clause-faults g c =
-    rw c.end_behind.ensures (faults_of c.in-Ok.told.refused _ _ _ c.write_all-written.result c.write_all-written.ensures.faults c.write_all-written.ensures.last)
+    rw c.end_behind.ensures (faults_of c.in-Ok.told.refused _ _ c.write_all-written.result c.write_all-written.ensures.faults c.write_all-written.ensures.last)

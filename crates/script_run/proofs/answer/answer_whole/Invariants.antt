@@ -5,8 +5,8 @@ use Rattle.script_run.proofs.answer.answer_whole.Given as goal
 -- the replies so far were written, no write failed, and the replies to the rest are left
 abbrev pub invariant-statements : goal.invariant-statements
 invariant-statements g l = record {
-  way : IsOnItsWay (plain l.initial.store) (plain l.store) l.initial.reader l.reader l.refused (g.K.Sink.taken l.initial.sink) (g.K.Sink.taken l.sink);
-  unfailed : g.K.Sink.write_faults l.sink ≡ g.K.Sink.write_faults l.initial.sink;
+  way : IsOnItsWay (plain l.initial.store) (plain l.store) l.initial.reader l.reader l.refused (g.K.Sink.writing l.initial.sink).taken (g.K.Sink.writing l.sink).taken;
+  unfailed : (g.K.Sink.writing l.sink).faults ≡ (g.K.Sink.writing l.initial.sink).faults;
 }
 
 abbrev pub decreases-statements : goal.decreases-statements

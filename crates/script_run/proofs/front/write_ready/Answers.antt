@@ -6,7 +6,7 @@ use Rattle.script_run.proofs.front.write_ready.Goals as goal
 
 pub replies-init : goal.replies-init
 replies-init g c = record {
-  writing = starts-writing (state_of c.args.core.now) (g.K.Sink.taken c.args.sink.now);
+  writing = starts-writing (state_of c.args.core.now) (g.K.Sink.writing c.args.sink.now).taken;
   unfailed = refl;
   apart = refl;
 }

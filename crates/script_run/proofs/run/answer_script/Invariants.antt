@@ -5,10 +5,10 @@ use Rattle.script_run.proofs.run.answer_script.Given as goal
 -- every read and write so far was as the run tells it, and none failed
 abbrev pub invariant-pieces : goal.invariant-pieces
 invariant-pieces g l = record {
-  run : IsRunning (plain l.store) l.reader l.refused (g.S.Source.left l.fn.source) (g.S.Source.left l.source) (g.K.Sink.taken l.fn.sink) (g.K.Sink.taken l.sink);
-  ended : g.S.Source.ended l.source ≡ g.S.Source.ended l.fn.source;
-  unread : g.S.Source.read_faults l.source ≡ g.S.Source.read_faults l.fn.source;
-  unwritten : g.K.Sink.write_faults l.sink ≡ g.K.Sink.write_faults l.fn.sink;
+  run : IsRunning (plain l.store) l.reader l.refused (g.S.Source.reading l.fn.source).left (g.S.Source.reading l.source).left (g.K.Sink.writing l.fn.sink).taken (g.K.Sink.writing l.sink).taken;
+  ended : (g.S.Source.reading l.source).ended ≡ (g.S.Source.reading l.fn.source).ended;
+  unread : (g.S.Source.reading l.source).faults ≡ (g.S.Source.reading l.fn.source).faults;
+  unwritten : (g.K.Sink.writing l.sink).faults ≡ (g.K.Sink.writing l.fn.sink).faults;
 }
 
 abbrev pub decreases-pieces : goal.decreases-pieces

@@ -21,8 +21,8 @@ pieces-init g c = record {
 
 pub returns-in-Err-clause-answers : goal.returns-in-Err-clause-answers
 returns-in-Err-clause-answers g c =
-    rw c.end_of_halt.ensures (halts-by c.in-Err.halt _ _ _ _ _ _ _ _ _ _
-    (halted-shared c.in-Err.halt _ _ (state_of c.play_whole.new.front.core) _ c.play_whole.new.reader _ _ _ _ _ _ _ _ _ _ c.pieces.invariant.run c.in-Err.ensures.plays
+    rw c.end_of_halt.ensures (halts-by c.in-Err.halt _ _ _ _ _ _
+    (halted-shared c.in-Err.halt _ _ (state_of c.play_whole.new.front.core) _ c.play_whole.new.reader _ _ _ _ _ _ c.pieces.invariant.run c.in-Err.ensures.plays
     c.pieces.invariant.ended c.pieces.invariant.unread))
 
 pub returns-in-Err-clause-run : goal.returns-in-Err-clause-run
@@ -49,7 +49,7 @@ returns-in-Fault-clause-answers g c =
     let plays = c.in-Ok.ensures.plays in
     let run = whole-shared _ _ _ _ _ _ _ _ _ _ _ _ c.pieces.invariant.run plays c.in-Ok.ensures.stays in
     let takes = c.in-Fault.ensures.takes in
-    rw c.end_behind.ensures (fault-shared _ _ (state_of c.play_out.new.self.core) _ c.play_out.result _ _ _ _ _ _ _ _ _ _ _ takes.0 c.requires.counted.some run plays.4 takes.1 takes.2.1
+    rw c.end_behind.ensures (fault-shared _ _ (state_of c.play_out.new.self.core) _ c.play_out.result _ _ _ _ _ _ _ takes.0 c.requires.counted.some run plays.4 takes.1 takes.2.1
     c.play_out.ensures.plays c.play_out.ensures.round c.play_out.ensures.all)
 
 pub returns-in-Fault-clause-run : goal.returns-in-Fault-clause-run
@@ -60,7 +60,7 @@ returns-in-Limit-clause-answers g c =
     let plays = c.in-Ok.ensures.plays in
     let run = whole-shared _ _ _ _ _ _ _ _ _ _ _ _ c.pieces.invariant.run plays c.in-Ok.ensures.stays in
     let takes = c.in-Limit.ensures.takes in
-    rw c.end_behind-in-Limit.ensures (limit-shared _ _ (state_of c.play_out-in-Limit.new.self.core) _ c.play_out-in-Limit.result _ _ _ _ _ _ _ _ _ _ _ takes.0 c.requires.counted.some run plays.4 takes.1 takes.2.1 takes.2.2
+    rw c.end_behind-in-Limit.ensures (limit-shared _ _ (state_of c.play_out-in-Limit.new.self.core) _ c.play_out-in-Limit.result _ _ _ _ _ _ _ takes.0 c.requires.counted.some run plays.4 takes.1 takes.2.1 takes.2.2
     c.play_out-in-Limit.ensures.plays c.play_out-in-Limit.ensures.round c.play_out-in-Limit.ensures.all)
 
 pub returns-in-Limit-clause-run : goal.returns-in-Limit-clause-run
@@ -70,7 +70,7 @@ pub returns-in-NoMemory-clause-answers : goal.returns-in-NoMemory-clause-answers
 returns-in-NoMemory-clause-answers g c =
     let run = whole-shared _ _ _ _ _ _ _ _ _ _ _ _ c.pieces.invariant.run c.in-Ok.ensures.plays c.in-Ok.ensures.stays in
     let takes = c.in-NoMemory.ensures.takes in (
-      unfed-shared _ _ _ _ _ _ _ _ _ _ _ _ _ takes.0 run takes.1 takes.2.1 (c.in-NoMemory.ensures.end ∙ c.pieces.invariant.ended)
+      unfed-shared _ _ _ _ _ _ _ _ _ takes.0 run takes.1 takes.2.1 (c.in-NoMemory.ensures.end ∙ c.pieces.invariant.ended)
           (c.in-NoMemory.ensures.faults ∙ c.pieces.invariant.unread),
       tt,
     )
@@ -84,7 +84,7 @@ returns-in-Ok-play_whole-clause-answers g c =
     let takes = c.in-Ended.ensures.takes in
     let whole = rw (c.finish.ensures, takes.2.0) at c.in-Ok-play_whole.ensures.plays in
     let stays = rw (c.finish.ensures, takes.2.0) at c.in-Ok-play_whole.ensures.stays in
-    rw c.end_of_rest.ensures (ended-shared _ _ (state_of c.play_whole-2.new.front.core) (state_of c.play_out-in-Ok-play_whole.new.self.core) _ _ c.play_out-in-Ok-play_whole.result _ _ _ _ _ _ _ _ _ _ _ _ _ takes.0
+    rw c.end_of_rest.ensures (ended-shared _ _ (state_of c.play_whole-2.new.front.core) (state_of c.play_out-in-Ok-play_whole.new.self.core) _ _ c.play_out-in-Ok-play_whole.result _ _ _ _ _ _ _ _ _ takes.0
     c.requires.counted.some run takes.1 takes.2.1 c.in-Ended.ensures.end whole stays c.play_out-in-Ok-play_whole.ensures.plays c.play_out-in-Ok-play_whole.ensures.round c.play_out-in-Ok-play_whole.ensures.all)
 
 pub returns-in-Ok-play_whole-clause-run : goal.returns-in-Ok-play_whole-clause-run
@@ -96,8 +96,8 @@ returns-in-Err-play_whole-clause-answers g c =
     let run = whole-shared _ _ _ _ _ _ _ _ _ _ _ _ c.pieces.invariant.run c.in-Ok.ensures.plays c.in-Ok.ensures.stays in
     let takes = c.in-Ended.ensures.takes in
     let plays = rw (c.finish.ensures, takes.2.0) at c.in-Err-play_whole.ensures.plays in
-    rw c.end_of_halt-in-Err-play_whole.ensures (halts-by c.in-Err-play_whole.halt _ _ _ _ _ _ _ _ _ _
-    (ended-halted c.in-Err-play_whole.halt _ _ (state_of c.play_whole-2.new.front.core) _ c.play_whole-2.new.reader _ _ _ _ _ _ _ _ _ _ _ takes.0 run takes.1 takes.2.1
+    rw c.end_of_halt-in-Err-play_whole.ensures (halts-by c.in-Err-play_whole.halt _ _ _ _ _ _
+    (ended-halted c.in-Err-play_whole.halt _ _ (state_of c.play_whole-2.new.front.core) _ c.play_whole-2.new.reader _ _ _ _ _ _ _ takes.0 run takes.1 takes.2.1
     c.in-Ended.ensures.end plays))
 
 pub returns-in-Err-play_whole-clause-run : goal.returns-in-Err-play_whole-clause-run

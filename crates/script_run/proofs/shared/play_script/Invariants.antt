@@ -5,14 +5,14 @@ use Rattle.script_run.proofs.shared.play_script.Given as goal
 -- every read, step and write so far was as the run tells it, the front counted what it gave, and no read or write failed
 abbrev pub invariant-pieces : goal.invariant-pieces
 invariant-pieces g l = record {
-  run : IsShared l.fn.front.settings (state_of l.front.core) l.reader l.refused (g.S.Source.left l.fn.source) (g.S.Source.left l.source) (g.K.Sink.taken l.fn.sink) (g.K.Sink.taken l.sink);
+  run : IsShared l.fn.front.settings (state_of l.front.core) l.reader l.refused (g.S.Source.reading l.fn.source).left (g.S.Source.reading l.source).left (g.K.Sink.writing l.fn.sink).taken (g.K.Sink.writing l.sink).taken;
   steps : IsRun (state_of l.fn.front.core) (state_of l.front.core);
   counted : IsCounted l.front;
   free : l.front.unfinished < l.front.settings.slots;
   settings : l.front.settings ≡ l.fn.front.settings;
-  ended : g.S.Source.ended l.source ≡ g.S.Source.ended l.fn.source;
-  unread : g.S.Source.read_faults l.source ≡ g.S.Source.read_faults l.fn.source;
-  unwritten : g.K.Sink.write_faults l.sink ≡ g.K.Sink.write_faults l.fn.sink;
+  ended : (g.S.Source.reading l.source).ended ≡ (g.S.Source.reading l.fn.source).ended;
+  unread : (g.S.Source.reading l.source).faults ≡ (g.S.Source.reading l.fn.source).faults;
+  unwritten : (g.K.Sink.writing l.sink).faults ≡ (g.K.Sink.writing l.fn.sink).faults;
   apart : g.K.Sink.reading_side l.sink ≡ g.K.Sink.reading_side l.fn.sink;
 }
 

@@ -5,12 +5,12 @@ use Rattle.script_run.proofs.shared.play_whole.Given as goal
 -- the statements so far were given to the core, the replies that were there were written, and no write failed
 abbrev pub invariant-statements : goal.invariant-statements
 invariant-statements g l = record {
-  way : IsPlaying (state_of l.initial.front.core) (state_of l.front.core) l.initial.reader l.reader l.refused (g.K.Sink.taken l.initial.sink) (g.K.Sink.taken l.sink);
+  way : IsPlaying (state_of l.initial.front.core) (state_of l.front.core) l.initial.reader l.reader l.refused (g.K.Sink.writing l.initial.sink).taken (g.K.Sink.writing l.sink).taken;
   run : IsRun (state_of l.initial.front.core) (state_of l.front.core);
   counted : IsCounted l.front;
   free : l.front.unfinished < l.front.settings.slots;
   settings : l.front.settings ≡ l.initial.front.settings;
-  unfailed : g.K.Sink.write_faults l.sink ≡ g.K.Sink.write_faults l.initial.sink;
+  unfailed : (g.K.Sink.writing l.sink).faults ≡ (g.K.Sink.writing l.initial.sink).faults;
   apart : g.K.Sink.reading_side l.sink ≡ g.K.Sink.reading_side l.initial.sink;
 }
 

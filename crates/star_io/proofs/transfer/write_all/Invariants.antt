@@ -5,8 +5,8 @@ use Rattle.star_io.proofs.transfer.write_all.Given as goal
 
 abbrev pub invariant-pieces : goal.invariant-pieces
 invariant-pieces g l = record {
-  written : Written (g.K.Sink.taken l.initial.sink) (g.K.Sink.taken l.sink) l.text l.rest;
-  same_faults : g.K.Sink.write_faults l.sink ≡ g.K.Sink.write_faults l.initial.sink;
+  written : Written (g.K.Sink.writing l.initial.sink).taken (g.K.Sink.writing l.sink).taken l.text l.rest;
+  same_faults : (g.K.Sink.writing l.sink).faults ≡ (g.K.Sink.writing l.initial.sink).faults;
   same_reading : g.K.Sink.reading_side l.sink ≡ g.K.Sink.reading_side l.initial.sink;
 }
 

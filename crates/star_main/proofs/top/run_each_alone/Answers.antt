@@ -4,5 +4,5 @@ use Rattle.star_main.proofs.top.run_each_alone.Goals as goal
 
 pub returns-clause-headline : goal.returns-clause-headline
 returns-clause-headline g c slots =
-    headline_alone _ _ _ _ _ _ _ _ slots _ c.run_alone.result _ c.without_core.ensures.core (c.without_core.ensures.status ∙ c.status_of.ensures)
+    headline_alone _ _ _ _ slots _ c.run_alone.result _ c.without_core.ensures.core (c.without_core.ensures.status ∙ c.status_of.ensures)
     c.run_alone.ensures.answers

@@ -1,13 +1,23 @@
-use Rattle.star_main.proofs.HeadlineLemmas.{headline_unread}
-use Rattle.star_main.proofs.MadeLemmas.{made_unread}
+use Rattle.std.proofs.Common.{◌∙◌, sym}
+use Rattle.star_main.proofs.HeadlineLemmas.{headline_unread, never_faulty}
+use Rattle.star_main.proofs.MadeLemmas.{made_unread, never_faulty_made}
 use Rattle.star_main.proofs.top.run_words.Goals as goal
 
 pub returns-in-Alone-clause-settings : goal.returns-in-Alone-clause-settings
-returns-in-Alone-clause-settings g c is = absurd ((c.run_each_alone.ensures.headline 1).known.1 is)
+returns-in-Alone-clause-settings g c is =
+    let headline = c.run_each_alone.ensures.headline 1 in absurd (never_faulty headline.end (sym headline.told ∙ is))
+
+pub returns-in-Run-clause-settings : goal.returns-in-Run-clause-settings
+returns-in-Run-clause-settings g c is =
+    let headline = c.run_shared.ensures.headline in absurd (never_faulty headline.end (sym headline.told ∙ is))
+
+pub returns-in-Make-clause-settings : goal.returns-in-Make-clause-settings
+returns-in-Make-clause-settings g c is =
+    let made = c.run_workload.ensures.made in absurd (never_faulty_made made.end (sym made.told ∙ is))
 
 pub returns-in-Err-clause-headline : goal.returns-in-Err-clause-headline
 returns-in-Err-clause-headline g c =
-    headline_unread _ _ _ _ _ _ _ c.without_core-in-Err.ensures.core c.without_core-in-Err.ensures.status
+    headline_unread _ _ _ _ _ c.without_core-in-Err.ensures.core c.without_core-in-Err.ensures.status
 
 pub returns-in-Err-clause-made : goal.returns-in-Err-clause-made
 returns-in-Err-clause-made g c =
