@@ -3,7 +3,6 @@
 use aggregations::Groups;
 use batch_flow::Batch;
 use bit_words::Bits;
-use dimension_filter::FilterTable;
 use fact_versions::{KEYS_IN_A_VERSION, Version};
 use filter_order::Order;
 use frame_pool::Pool;
@@ -71,13 +70,6 @@ fn lists_are_written_and_compared(rt: HostRuntime) -> Result<(), Fail> {
     Ok(())
 }
 
-#[test]
-fn a_filter_is_copied(rt: HostRuntime) -> Result<(), Fail> {
-    let copy = FilterTable::new(rt.alloc(), 3).copy()?;
-    assert_eq!(rt; copy.dimension(), 3);
-    Ok(())
-}
-
 /// The answer of groups that took a row.
 fn count_of_one(alloc: Global) -> Result<Answer, NoMemory> {
     let items = vec![in alloc; Item::CountAll]?;
@@ -111,10 +103,10 @@ fn numbers_of_a_row_stand_in_columns(rt: HostRuntime) -> Result<(), Fail> {
     let text = Value::Str(SmallText::from_bytes(rt.alloc(), b"a")?);
     let row = Row::from(vec![in rt.alloc(); Value::Int(5), text]?);
     let mut integers = IntegerColumns::new(rt.alloc());
-    integers.append(0, &row);
+    integers.append(0, &row)?;
     assert_eq!(rt; integers.column(0), [5].as_slice());
     let mut codes = CodeColumns::new(rt.alloc());
-    codes.append(0, &row);
+    codes.append(0, &row)?;
     // The byte of `a` as a digit to the base 256, a one behind it, four times.
     assert_eq!(rt; codes.column(1), [1412].as_slice());
     Ok(())
