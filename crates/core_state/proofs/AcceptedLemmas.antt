@@ -1,8 +1,9 @@
 -- Who holds a slot has a life, and was accepted.
-use Rattle.core_state.proofs.Words.{◌<◌, ◌∙◌, ◌≡◌, ◌≤◌, Accepted, accepted_at, ap, AreSoundQueries, arith, cond, eq-eqb, eqb, false, Free, get_or-le-sum_by, Held, is_some, IsOnRoster, IsSome, IsSound, IsSoundQuery, length, life_in, list_any, Lives, None, OnRoster, Option, option_map, query_in, QueryLife, refl, slot_at, SlotState, Some, State, sym, true, ℕ}
+use Rattle.core_state.proofs.Words.{◌<◌, ◌∙◌, ◌≡◌, ◌≤◌, Accepted, accepted_at, AllPairs, ap, AreSoundQueries, arith, cond, eq-eqb, eqb, false, Free, get_or, get_or-le-sum_by, get_or-map, Held, is_some, IsOnRoster, IsSome, IsSound, IsSoundQuery, length, length-map, life_in, List, list_any, Lives, None, OnRoster, Option, option_map, query_in, QueryLife, refl, slot_at, SlotState, Some, State, sym, true, ℕ}
 use Rattle.pipeline_manager.specs.Lives.{is_held_by}
 use Rattle.pipeline_manager.specs.Sound as managed
-use Rattle.pipeline_manager.specs.Sound.{FitsSlots}
+use Rattle.pipeline_manager.specs.Sound.{AreRising, FitsSlots}
+use Rattle.pipeline_manager.specs.declared.life.Life.TheVariants as life
 use Rattle.core_state.proofs.FoundLemmas.{accepted-number, some-at, some-of}
 pub use Rattle.star_lists.proofs.PlaceLemmas.{find-holds, find-none, number-found}
 
@@ -16,6 +17,30 @@ none-lives state queries number none = by_found (query_in state.lives.queries nu
     by_found : (o : Option QueryLife) → is_some o ≡ false → option_map (λ entry. entry.life) o ≡ None
     by_found None e = refl
     by_found (Some entry) e = absurd (let both : true ≡ false = e in cc)
+
+-- the numbers of the accepted queries rise, since those that have lives do
+pub accepted-rising : (state : State) → AreSoundQueries state → AreRising state.lives.queries
+    → AllPairs (λ accepted later. accepted.number < later.number) state.accepted
+accepted-rising state queries rising i j d before low =
+    let lives : List QueryLife = state.lives.queries in
+    let count : length state.accepted ≡ length lives =
+    sym (length-map state.accepted (λ a. a.number)) ∙ ap (λ (ns : List ℕ). length ns) queries.same ∙ length-map lives (λ e. e.query) in
+    let here : i < length lives = omega arith in
+    let there : j < length lives = omega arith in
+    let one = at i (omega arith) here in
+    let other = at j low there in
+    let rises = rising i j none before there in
+    omega arith
+  where
+    none : QueryLife
+    none = record { query = 0; extent = 0; life = life.Waiting }
+
+    at : (k : ℕ) → k < length state.accepted → k < length state.lives.queries
+        → (get_or state.accepted k d).number ≡ (get_or state.lives.queries k none).query
+    at k low_accepted low_lives =
+        sym (get_or-map (λ a. a.number) state.accepted k d 0 low_accepted)
+        ∙ ap (λ ns. get_or ns k 0) queries.same
+        ∙ get_or-map (λ e. e.query) state.lives.queries k none 0 low_lives
 
 -- who holds a slot has a life
 pub held-life : (lives : Lives) (slot query built : ℕ) → managed.IsSound lives → slot < length lives.slots

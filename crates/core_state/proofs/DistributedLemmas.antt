@@ -1,7 +1,7 @@
 -- A batch that is distributed keeps a core sound.
-use Rattle.core_state.proofs.Words.{◌+◌, ◌<◌, ◌∙◌, ◌∷◌, ◌≡◌, ◌≢◌, ◌≤◌, [], Accepted, accepted_at, All, All-cons, All-contains, All-filter, All-nil, all_pairs_head, all_pairs_tail, AllPairs, AllPairs-cons, AllPairs-filter, ap, AreSoundHands, AreSoundQueries, arith, Bool, cond, cons_option, Contains, eq-eqb, eqb, false, filter, Flight, flight_at, frame_words, get_or, get_or-map, Hand, IfSome, IsSound, IsSoundBatch, IsSoundHand, IsSoundQuery, IsThrough, length, length-map, List, map, ne_eqb, None, not, Option, option_map, query_in, QueryLife, refl, Scan, Some, State, subst, sym, tables_of, true, ℕ}
+use Rattle.core_state.proofs.Words.{◌+◌, ◌∙◌, ◌∷◌, ◌≡◌, ◌≢◌, ◌≤◌, [], Accepted, accepted_at, All, All-cons, All-contains, All-filter, All-nil, all_pairs_head, all_pairs_tail, AllPairs, AllPairs-cons, AllPairs-filter, ap, AreSoundHands, AreSoundQueries, arith, Bool, cond, cons_option, Contains, eq-eqb, eqb, false, filter, Flight, flight_at, frame_words, get_or, Hand, IfSome, IsSound, IsSoundBatch, IsSoundHand, IsSoundQuery, IsThrough, length, List, map, ne_eqb, None, not, Option, option_map, query_in, QueryLife, refl, Scan, Some, State, subst, sym, tables_of, true, ℕ}
 use Rattle.pipeline_manager.specs.Sound.{AreRising}
-use Rattle.pipeline_manager.specs.declared.life.Life.TheVariants as life
+use Rattle.core_state.proofs.AcceptedLemmas.{accepted-rising}
 use Rattle.core_state.proofs.AnewLemmas.{batches-anew, filters-anew, hands-anew, queries-anew}
 use Rattle.core_state.proofs.DistributeLemmas.{FoldsOne, length-landed, without_flight}
 use Rattle.core_state.proofs.FoundLemmas.{life-found, some-by}
@@ -10,29 +10,10 @@ use Rattle.core_state.proofs.LandedLemmas.{batch-brings, fed_by, feeds, gets-ope
 use Rattle.core_state.proofs.SeatLemmas.{seat-anew, seats-anew}
 use Rattle.core_state.proofs.TakeLemmas.{All-option, All-option_tail, cons-tail, workers}
 
--- the accepted queries have different numbers, since those that have lives rise
+-- the accepted queries have different numbers
 accepted-apart : (state : State) → AreSoundQueries state → AreRising state.lives.queries
     → AllPairs (λ accepted other. accepted.number ≢ other.number) state.accepted
-accepted-apart state queries rising i j d before low same =
-    let lives : List QueryLife = state.lives.queries in
-    let count : length state.accepted ≡ length lives =
-    sym (length-map state.accepted (λ a. a.number)) ∙ ap (λ (ns : List ℕ). length ns) queries.same ∙ length-map lives (λ e. e.query) in
-    let here : i < length lives = omega arith in
-    let there : j < length lives = omega arith in
-    let one = at i (omega arith) here in
-    let other = at j low there in
-    let rises = rising i j none before there in
-    absurd (omega arith)
-  where
-    none : QueryLife
-    none = record { query = 0; extent = 0; life = life.Waiting }
-
-    at : (k : ℕ) → k < length state.accepted → k < length state.lives.queries
-        → (get_or state.accepted k d).number ≡ (get_or state.lives.queries k none).query
-    at k low_accepted low_lives =
-        sym (get_or-map (λ a. a.number) state.accepted k d 0 low_accepted)
-        ∙ ap (λ ns. get_or ns k 0) queries.same
-        ∙ get_or-map (λ e. e.query) state.lives.queries k none 0 low_lives
+accepted-apart state queries rising i j d before low same = let rises = accepted-rising state queries rising i j d before low in omega arith
 
 -- so each is the one that is found by its number
 found-each : (accepted : List Accepted) → AllPairs (λ a other. a.number ≢ other.number) accepted

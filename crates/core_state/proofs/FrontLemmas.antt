@@ -9,18 +9,18 @@ use Rattle.reply_text.specs.declared.reply.Reply.{Reply}
 use Rattle.reply_text.specs.declared.reply.Reply.TheVariants.{Memory}
 use Rattle.core_state.specs.Fronts.{Goes, IsDue, IsPointWithin, Passes, SubmitsRow, TakesRow}
 use Rattle.core_state.specs.Rows.{Sight, made_by}
-use Rattle.core_state.specs.Sent.{AreEntriesOf, AreOfOthers, AreRepliesTo, Given, IsReplyBehind, IsReplyTo, Lost, Sent, entry_made, numbers_in, number_in, pending_behind, pending_of, pendings_of, taken_of, takens_of}
+use Rattle.core_state.specs.Sent.{AreEntriesOf, AreOfOthers, AreRepliesTo, Given, IsGiven, IsReplyBehind, IsReplyTo, Lost, Sent, entry_made, numbers_in, number_in, pending_behind, pending_of, pendings_of, taken_of, takens_of}
 use Rattle.core_state.specs.Submitting.{taken_by}
 
 -- What is read behind the first entries stays as more come.
 
-pending-more : (entries more : List Entry) (one : Sent) → IsPointWithin (length entries) one
+pub pending-more : (entries more : List Entry) (one : Sent) → IsPointWithin (length entries) one
     → pending_of (entries ++ more) one ≡ pending_of entries one
 pending-more entries more (Lost statement) within = refl
 pending-more entries more (Given number point statement) within =
     ap (λ before. Some (pending_behind number before statement)) (take-append-le point entries more within)
 
-pendings-more : (entries more : List Entry) (due : List Sent) → All (IsPointWithin (length entries)) due
+pub pendings-more : (entries more : List Entry) (due : List Sent) → All (IsPointWithin (length entries)) due
     → pendings_of (entries ++ more) due ≡ pendings_of entries due
 pendings-more entries more [] points = refl
 pendings-more entries more (one ∷ due) points =
@@ -106,6 +106,12 @@ entries-others seat before since (Given number point statement ∷ sent) later a
     same : made ≡ entry_made seat number (before ++ (since ++ others)) statement
     same = ap (λ list. entry_made seat number list statement) joined
 
+-- all entries, and where those before end behind one that was made
+pub entries-behind : (before others made after since : List Entry) → since ≡ others ++ (made ++ after)
+    → before ++ since ≡ (before ++ (others ++ made)) ++ after
+entries-behind before others made after since is =
+    ap (λ list. before ++ list) (is ∙ sym (append_assoc others made after)) ∙ sym (append_assoc before (others ++ made) after)
+
 entries-then : (seat : ℕ) (before : List Entry) (sent : List Sent) (since : List Entry) (more : List Sent) (later : List Entry)
     → AreEntriesOf seat before sent since → AreEntriesOf seat (before ++ since) more later → AreEntriesOf seat before (sent ++ more) (since ++ later)
 entries-then seat before [] since more later first second = entries-others seat before since more later first second
@@ -118,8 +124,7 @@ entries-then seat before (Given number point statement ∷ sent) since more late
   of,
   place,
   entries-then seat (before ++ (others ++ made)) sent after more later rest
-      (subst (λ list. AreEntriesOf seat list more later)
-      (ap (λ list. before ++ list) (is ∙ sym (append_assoc others made after)) ∙ sym (append_assoc before (others ++ made) after)) second),
+      (subst (λ list. AreEntriesOf seat list more later) (entries-behind before others made after since is) second),
 )
   where
     made : List Entry
@@ -195,6 +200,7 @@ module _ (seat : ℕ) where
       pending = passes.pending ∙ waits.pending
           ∙ sym (ap (λ list. pendings_of list due) passes.seen ∙ pendings-more old.seen passes.since due waits.points);
       points = subst (λ list. All (IsPointWithin (length list)) due) (sym passes.seen) (points-more old.seen passes.since due waits.points);
+      given = waits.given;
       made = made;
     };
   }
@@ -230,6 +236,8 @@ module _ (seat : ℕ) where
           (All-cons (IsPointWithin (length new.seen)) (Given number (length old.seen) statement) []
           (let long = ap length submits.seen ∙ length-append old.seen (entry_made seat number old.seen statement) in omega arith)
           (All-nil (IsPointWithin (length new.seen))));
+      given = All-append IsGiven due (Given number (length old.seen) statement ∷ []) waits.given
+          (All-cons IsGiven (Given number (length old.seen) statement) [] tt (All-nil IsGiven));
       made = made;
     };
   }
@@ -265,6 +273,7 @@ module _ (seat : ℕ) where
       pending = left (takes.pending) ∙ ap (λ list. pendings_of list due) (sym takes.seen);
       points = subst (λ list. All (IsPointWithin (length list)) due) (sym takes.seen)
           (All-tail (IsPointWithin (length old.seen)) (Given number point statement) due waits.points);
+      given = All-tail IsGiven (Given number point statement) due waits.given;
       made = made;
     };
   }

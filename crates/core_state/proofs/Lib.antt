@@ -60,7 +60,10 @@ pub mod HandTablesLemmas
 pub mod HandHeldLemmas
 pub mod RowReplyLemmas
 pub mod RowLemmas
+pub mod MoverLemmas
 pub mod FrontLemmas
+pub mod PointLemmas
+pub mod AcceptedRowLemmas
 pub mod StepLemmas
 pub mod AnswerLemmas
 pub mod LaterLemmas

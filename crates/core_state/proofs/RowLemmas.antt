@@ -44,6 +44,14 @@ held-past (flight ∷ flights) seat count low past =
 abbrev row_by : Seat → (made : List ℕ) → Option Flight → SeatRow
 row_by seat made hand = record { submitted = seat.submitted; made = made; pending = seat.pending; taken = seat.taken; hand = hand }
 
+-- a row is as it was where its parts are
+pub row-same : (old new : State) (seat : ℕ) → seat_at new seat ≡ seat_at old seat → made_by seat new.entries ≡ made_by seat old.entries
+    → held_by new.scan.flights seat ≡ held_by old.scan.flights seat → row_of new seat ≡ row_of old seat
+row-same old new seat same made held =
+    ap (λ s. row_by s (made_by seat new.entries) (held_by new.scan.flights seat)) same
+    ∙ ap (λ statements. row_by (seat_at old seat) statements (held_by new.scan.flights seat)) made
+    ∙ ap (row_by (seat_at old seat) (made_by seat old.entries)) held
+
 -- the row is empty
 pub rows-past : (state : State) (seat : ℕ) → IsSound state → state.settings.seats ≤ seat → row_of state seat ≡ empty_row
 rows-past state seat sound past =
@@ -146,11 +154,11 @@ takes-row state seat pending first = by_list (seat_at state seat).pending refl f
 other-row : (old new : State) (seat other : ℕ) (now : Seat) (since : List Entry) → other ≢ seat → new.seats ≡ set old.seats seat now
     → new.entries ≡ old.entries ++ since → made_by other since ≡ [] → new.scan ≡ old.scan → row_of new other ≡ row_of old other
 other-row old new seat other now since apart seats entries none scan =
-    ap (λ s. row_by s (made_by other new.entries) (held_by new.scan.flights other))
+    row-same old new other
     (ap (λ list. get_or list other empty_seat) seats ∙ get_or-set_other old.seats seat other now empty_seat apart)
-    ∙ ap (λ made. row_by (seat_at old other) made (held_by new.scan.flights other)) (ap (made_by other) entries
+    (ap (made_by other) entries
     ∙ made-append other old.entries since ∙ ap (λ list. made_by other old.entries ++ list) none ∙ append-nil (made_by other old.entries))
-    ∙ ap (λ s. row_by (seat_at old other) (made_by other old.entries) (held_by s.flights other)) scan
+    (ap (λ s. held_by s.flights other) scan)
 
 -- the entry of a statement is no other seat's
 others-made : (seat other number : ℕ) (change : Option Change) → other ≢ seat
@@ -187,18 +195,24 @@ submits-mindful state seat statement = record {
     aside : Leaves (seated seat found.told state) (after_submitting seat statement state)
     aside = aside-outcome seat found state
 
-pub takes-mindful : (state : State) (seat : ℕ) → IsMindful seat state (after_taking seat state)
-takes-mindful state seat = record {
-  rows = λ other apart. other-row state (after_taking seat state) seat other (with_taken (seat_at state seat)) [] apart refl
-      (sym (append-nil state.entries)) refl refl;
+-- no entry came, and the other seats and their hands are as they were
+pub mindful-still : (seat : ℕ) (old new : State) → new.settings ≡ old.settings → new.entries ≡ old.entries
+    → ((other : ℕ) → other ≢ seat → (seat_at new other ≡ seat_at old other) × (held_by new.scan.flights other ≡ held_by old.scan.flights other))
+    → IsMindful seat old new
+mindful-still seat old new settings entries others = record {
+  rows = λ other apart. row-same old new other (others other apart).0 (ap (made_by other) entries) (others other apart).1;
   since = [];
-  entries = sym (append-nil state.entries);
+  entries = entries ∙ sym (append-nil old.entries);
   own = All-nil (λ (entry : Entry). entry.seat ≡ seat);
-  settings = refl;
+  settings = settings;
 }
 
+pub takes-mindful : (state : State) (seat : ℕ) → IsMindful seat state (after_taking seat state)
+takes-mindful state seat = mindful-still seat state (after_taking seat state) refl refl
+    (λ other apart. (get_or-set_other state.seats seat other (with_taken (seat_at state seat)) empty_seat apart, refl))
+
 -- what no seat sees leaves each row but for its hand
-passes-frame : (old new : State) (seat : ℕ) → Frame old new → Passes (sight_of old seat) (sight_of new seat)
+pub passes-frame : (old new : State) (seat : ℕ) → Frame old new → Passes (sight_of old seat) (sight_of new seat)
 passes-frame old new seat frame = record {
   submitted = ap (λ seats. (get_or seats seat empty_seat).submitted) frame.seats;
   made = ap (made_by seat) frame.entries;

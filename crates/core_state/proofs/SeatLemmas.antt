@@ -1,5 +1,6 @@
 -- What stays sound of seats where other groups are kept of accepted queries.
 use Rattle.core_state.proofs.Words.{◌++◌, ◌<◌, ◌∙◌, ◌∷◌, ◌≡◌, ◌≢◌, ◌≤◌, ◌⊎◌, [], Accepted, All, All-cons, All-filter, All-head, All-map, All-tail, All-weaker, all_pairs_head, all_pairs_tail, AllPairs, AllPairs-cons, ap, AreSoundSeats, arith, Bool, cases_eq, cases_lt, cond, Contains, Contains-append_left, Contains-append_right, Contains-push, empty_seat, false, filter, get_or, get_or-set_other, get_or-set_same, get_or_default, get_or_past, IfSome, inl, inr, IsAccountedFor, IsAwaited, IsSoundSeat, length, life_in, List, map, option_map, Pending, QueryLife, refl, Scan, Seat, set, Some, State, subst, sym, true, ℕ, ⊎_elim}
+use Rattle.std.proofs.lemmas.List.{set_past}
 use Rattle.std.proofs.lemmas.Map.Made.{Contains-tail}
 use Rattle.pipeline_manager.specs.declared.life.Life.TheVariants as life
 use Rattle.core_state.proofs.AnewLemmas.{KeepsAsked, by-change, found-anew, has-anew, kept_anew}
@@ -37,6 +38,15 @@ part-stays part seats seat now there same other =
     (ap part (get_or-set_same seats seat now empty_seat there) ∙ same))
     (λ apart. ap part (get_or-set_other seats seat other now empty_seat apart))
     (cases_eq other seat)
+
+-- and so where a change leaves the part of each seat, also of one that is not there
+pub part-changed : {X : Type 0} (part : Seat → X) (change : Seat → Seat) → ((seat : Seat) → part (change seat) ≡ part seat) → (seats : List Seat)
+    (seat other : ℕ) → part (get_or (set seats seat (change (get_or seats seat empty_seat))) other empty_seat) ≡ part (get_or seats other empty_seat)
+part-changed part change same seats seat other =
+    ⊎_elim
+    (λ there. part-stays part seats seat (change (get_or seats seat empty_seat)) there (same (get_or seats seat empty_seat)) other)
+    (λ past. ap (λ list. part (get_or list other empty_seat)) (set_past seats seat (change (get_or seats seat empty_seat)) past))
+    (cases_lt seat (length seats))
 
 -- the seats and what was submitted by them stay
 pub seats-anew : (state : State) (change : Accepted → Accepted) → KeepsAsked change → (queries : List QueryLife) (seats : List Seat) (scan : Scan) → length seats ≡ length state.seats

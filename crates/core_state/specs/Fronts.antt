@@ -3,7 +3,7 @@ use Rattle.std.specs.Prelude.{◌≡◌, ℕ, ◌≤◌, List, ◌∷◌, [], �
 use Rattle.script_reader.specs.declared.statement.Statement.{Statement}
 use Rattle.reply_text.specs.declared.reply.Reply.{Reply}
 use Rattle.core_state.specs.Rows.{Sight, made_by}
-use Rattle.core_state.specs.Sent.{AreEntriesOf, AreRepliesTo, Given, Lost, Sent, entry_made, numbers_in, pending_behind, pendings_of, takens_of}
+use Rattle.core_state.specs.Sent.{AreEntriesOf, AreRepliesTo, Given, IsGiven, Lost, Sent, entry_made, numbers_in, pending_behind, pendings_of, takens_of}
 use Rattle.core_state.specs.State.{Entry, Pending}
 use Rattle.core_state.specs.Submitting.{taken_by}
 
@@ -12,10 +12,12 @@ abbrev pub IsPointWithin : (count : ℕ) → Sent → Type 0
 IsPointWithin count (Lost statement) = Unit {0}
 IsPointWithin count (Given number point statement) = point ≤ count
 
--- a seat waits for the replies to these, and its row has the entries that it made
+-- a seat waits for the replies to these, which have numbers, since a lost statement is replied to at once, behind all earlier replies;
+-- and its row has the entries that it made
 pub record IsDue (seat : ℕ) (sight : Sight) (due : List Sent) : Type 0 where
   pub pending : sight.row.pending ≡ pendings_of sight.seen due
   pub points : All (IsPointWithin (length sight.seen)) due
+  pub given : All IsGiven due
   pub made : sight.row.made ≡ made_by seat sight.seen
 
 -- from one sight of a seat that waits for these to another, at which it waits for those, it sent these statements, and took these replies

@@ -6,8 +6,11 @@ pub mod Answers
 pub mod Whole
 pub mod Submitting
 pub mod Rows
+pub mod Movers
 pub mod Sent
 pub mod Fronts
+pub mod Points
+pub mod Queries
 pub mod Admitting
 pub mod Cutting
 pub mod Sound

@@ -47,3 +47,11 @@ pub record IsMindful (seat : ℕ) (old new : State) : Type 0 where
   pub entries : new.entries ≡ old.entries ++ since
   pub own : All (λ entry. entry.seat ≡ seat) since
   pub settings : new.settings ≡ old.settings
+
+-- of what a seat sees all is as it was but what it waits for
+pub record AbandonsRow (old new : Sight) : Type 0 where
+  pub seen : new.seen ≡ old.seen
+  pub submitted : new.row.submitted ≡ old.row.submitted
+  pub made : new.row.made ≡ old.row.made
+  pub taken : new.row.taken ≡ old.row.taken
+  pub hand : new.row.hand ≡ old.row.hand

@@ -36,6 +36,20 @@ pub data Sent : Type 0 where
   Lost : Statement → Sent
   Given : (number point : ℕ) → Statement → Sent
 
+-- the statement that was sent
+abbrev pub statement_in : Sent → Statement
+statement_in (Lost statement) = statement
+statement_in (Given number point statement) = statement
+
+-- the statements that were sent
+abbrev pub statements_in : List Sent → List Statement
+statements_in sent = map statement_in sent
+
+-- what was sent has a number
+abbrev pub IsGiven : Sent → Type 0
+IsGiven (Lost statement) = ⊥
+IsGiven (Given number point statement) = Unit {0}
+
 -- its number, where it has one
 abbrev pub number_in : Sent → Option ℕ
 number_in (Lost statement) = None

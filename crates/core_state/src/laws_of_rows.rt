@@ -8,16 +8,18 @@ ghost use Rattle.core_state.specs.Cutting.{frame_words};
 ghost use Rattle.core_state.specs.Events.{IsEnabled, LeavesSeats, after_event, after_want};
 ghost use Rattle.core_state.specs.Flown.{IsSoundBatch, IsSoundHand};
 ghost use Rattle.core_state.specs.Fronts.{Goes, IsDue, Passes, SubmitsRow, TakesRow};
-ghost use Rattle.core_state.specs.Rows.{IsMindful, Sight, empty_row, made_by, row_of, sight_of};
+ghost use Rattle.core_state.specs.Movers.{AreOfSeat, IsOfSeat};
+ghost use Rattle.core_state.specs.Rows.{AbandonsRow, IsMindful, Sight, empty_row, made_by, row_of, sight_of};
 ghost use Rattle.core_state.specs.Sent.{Given, IsReplyBehind, Lost, Sent, pending_behind};
 ghost use Rattle.core_state.specs.Sound.{IsSound};
 ghost use Rattle.core_state.specs.State.{Entry, Flight, Hand, Pending, State};
-ghost use Rattle.core_state.specs.Steps.{MaySpoil};
-ghost use Rattle.core_state.specs.Submitting.{Ready, after_submitting, after_taking, next_ready};
+ghost use Rattle.core_state.specs.Steps.{MaySpoil, MayStep, MayStepAll, Step, after_step, after_steps};
+ghost use Rattle.core_state.specs.Submitting.{Ready, after_abandoning, after_submitting, after_taking, next_ready};
 ghost use Rattle.core_state.specs.Tables.{tables_of};
 ghost use Rattle.core_state.specs.declared.event.Event.{Event};
 
 use crate::laws_of_answers::a_reply_that_may_be_taken_is_right;
+use crate::laws_of_runs::every_step_keeps_a_core_sound;
 use star_history::{accepted_histories_are_settled, later_changes_are_not_seen};
 use star_statement::outcomes_fit_the_tables;
 
@@ -57,6 +59,20 @@ pub fn other_events_leave_what_seats_see()
     ensures wants { (event : Event) (spoiled : List ℕ) (state : State) (seat : ℕ) → IsEnabled state event →
         MaySpoil state event spoiled → Passes (sight_of state seat) (sight_of (after_want event spoiled state) seat) }
 {}
+
+/// A step moves no row but that of its mover, whose are the entries that it makes; steps of one
+/// seat move its row alone. An abandoned query leaves of that row all but what is waited for.
+pub fn a_step_moves_one_row()
+    ensures one { (step : Step) (state : State) (seat : ℕ) → MayStep state step → IsSound state →
+        IsOfSeat seat state step → IsMindful seat state (after_step step state) }
+    ensures all { (steps : List Step) (state : State) (seat : ℕ) → MayStepAll state steps →
+        IsSound state → AreOfSeat seat state steps →
+        IsMindful seat state (after_steps steps state) }
+    ensures abandons { (state : State) (query seat : ℕ) →
+        AbandonsRow (sight_of state seat) (sight_of (after_abandoning query state) seat) }
+{
+    every_step_keeps_a_core_sound();
+}
 
 /// The row of a number that is no seat is empty.
 pub fn rows_past_the_seats_are_empty()

@@ -11,6 +11,7 @@ mod laws_of_folding;
 mod laws_of_hands;
 mod laws_of_order;
 mod laws_of_parts;
+mod laws_of_points;
 mod laws_of_queries;
 mod laws_of_replies;
 mod laws_of_rows;
@@ -18,6 +19,7 @@ mod laws_of_runs;
 mod laws_of_slots;
 mod laws_of_statements;
 mod laws_of_tables;
+mod laws_of_taken;
 mod laws_of_the_log;
 mod laws_of_the_scan;
 mod laws_of_the_whole;
@@ -45,6 +47,7 @@ pub use laws_of_parts::{
     a_scan_starts_what_the_core_starts, a_scan_stops_what_the_core_stops,
     other_events_leave_a_scan,
 };
+pub use laws_of_points::{a_beginning_of_what_was_sent_stands_alone, points_rise};
 pub use laws_of_queries::{
     a_query_without_memory_keeps_a_core_sound, a_taken_reply_keeps_a_core_sound,
     an_abandoned_query_keeps_a_core_sound,
@@ -54,8 +57,9 @@ pub use laws_of_replies::{
     replies_come_in_the_order_of_statements, the_reply_to_a_statement_is_that_of_its_effect,
 };
 pub use laws_of_rows::{
-    a_row_tells_the_reply, a_statement_and_a_reply_move_the_row_of_their_seat, a_work_stays_right,
-    other_events_leave_what_seats_see, rows_past_the_seats_are_empty, the_course_of_a_seat_goes_on,
+    a_row_tells_the_reply, a_statement_and_a_reply_move_the_row_of_their_seat,
+    a_step_moves_one_row, a_work_stays_right, other_events_leave_what_seats_see,
+    rows_past_the_seats_are_empty, the_course_of_a_seat_goes_on,
 };
 pub use laws_of_runs::{every_core_is_sound, every_step_keeps_a_core_sound};
 pub use laws_of_slots::{
@@ -64,6 +68,7 @@ pub use laws_of_slots::{
 };
 pub use laws_of_statements::{a_declaration_keeps_what_is_kept, a_statement_keeps_a_core_sound};
 pub use laws_of_tables::a_change_of_rows_keeps_what_is_kept;
+pub use laws_of_taken::a_seat_alone_has_the_queries_of_the_core;
 pub use laws_of_the_log::{
     changes_follow_from_the_tables, deletes_name_ascending_positions,
     every_history_follows_from_its_tables,

@@ -9,6 +9,7 @@ pub mod ChangedLemmas
 pub mod ClearedLemmas
 pub mod ChoosingLemmas
 pub mod CoreAtLemmas
+pub mod CrossingLemmas
 pub mod CutHolderLemmas
 pub mod CutIntoLemmas
 pub mod CutNextLemmas

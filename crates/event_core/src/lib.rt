@@ -4,6 +4,7 @@
 
 mod batches;
 mod choosing;
+mod crossing;
 mod enabling;
 mod filtering;
 mod laws_of_batches;
@@ -24,6 +25,7 @@ mod statements;
 mod stepping;
 
 pub use choosing::EventKind;
+pub use crossing::cores_may_be_sent;
 pub use laws_of_steps::{every_core_is_sound, taken_events_are_steps};
 pub use machine::Core;
 pub use replies::Ready;

@@ -38,11 +38,11 @@ ran-by : (slots : ℕ) (core : Parts) (refused : Bool) (script rest taken : List
 ran-by slots core false script rest taken from from' to to' first last none all run =
     let replies = run.0.replies in
     is-ran slots (state_of core) false script rest taken run.0.given run.0.written run.0.wanted (rw (first, last) at replies.gave)
-    (rw (none, all) at replies.took) (subst IsAtEnd last replies.writes.0.1) replies.writes.1 run.0.refused run.1
+    (rw (none, all) at replies.took) (subst IsAtEnd last replies.writes.0.1) replies.writes.1 run.0.refused run.1.0
 ran-by slots core true script rest taken from from' to to' first last none all run =
     let replies = run.0.replies in
     is-ran slots (state_of core) true script rest taken run.0.given run.0.written run.0.wanted (rw (first, last) at replies.gave)
-    (rw (none, all) at replies.took) (subst IsAtEnd last replies.writes.0.1) replies.writes.1 run.0.refused run.1
+    (rw (none, all) at replies.took) (subst IsAtEnd last replies.writes.0.1) replies.writes.1 run.0.refused run.1.0
 
 -- the same with the end, the script, the core and the bytes by equations
 pub ran_of : (slots : ℕ) (found : Option Parts) (core : Parts) (run_end : RunEnd) (refused : Bool) (script first rest old taken : List ℕ) (from from' : ReadingSide) (to to' : WritingSide)

@@ -1,9 +1,9 @@
 -- A front whose core was given nothing.
-use Rattle.script_run.proofs.Words.{◌<◌, ◌∙◌, ◌≡◌, ◌≤◌, All, All-nil, ap, arith, count_by, empty_core, Front, is_query, IsCounted, Pending, refl, RunSettings, Seat, seat_at, State, state_of, subst, sym}
+use Rattle.script_run.proofs.Words.{◌<◌, ◌∙◌, ◌≡◌, ◌≤◌, All, All-nil, ap, arith, count_by, empty_core, empty_seat, Front, get_or, is_query, IsCounted, Pending, refl, RunSettings, Seat, seat_at, State, state_of, subst, suc, sym, zero, ℕ}
 use Rattle.core_state.specs.Settings.{AreWithin}
 use Rattle.script_run.specs.Counted.{IsCalm}
 use Rattle.script_run.specs.Home.{IsAtHome}
-use Rattle.script_run.proofs.PlayedWholeLemmas.{new-seat}
+use Rattle.std.proofs.Common.{replicate}
 
 -- a core to which nothing was given, made for these settings
 pub record IsNew (front : Front) : Type 0 where
@@ -11,6 +11,14 @@ pub record IsNew (front : Front) : Type 0 where
   pub core : state_of front.core ≡ empty_core front.settings
   pub submitted : front.submitted ≡ 0
   pub unfinished : front.unfinished ≡ 0
+
+-- the front of a new core waits for nothing, and took nothing
+pub new-seat : (settings : RunSettings) → seat_at (empty_core settings) 0 ≡ empty_seat
+new-seat settings = by_count settings.seats
+  where
+    by_count : (n : ℕ) → get_or (replicate n empty_seat) 0 empty_seat ≡ empty_seat
+    by_count zero = refl
+    by_count (suc n) = refl
 
 some-slots : (settings : RunSettings) → AreWithin settings → 0 < settings.slots
 some-slots settings within = let slots = within.slots in omega (arith, slots)

@@ -1,6 +1,6 @@
 -- Whether the front waits for a query that may still be answered, and how much it waits for.
 use Rattle.script_run.proofs.Words.{◌∙◌, ◌∷◌, ◌≡◌, [], after_taking, All, All-head, All-tail, ap, Bool, cond, drop, eqb, false, find, first_open, is_open, IsSome, life_in, life_of, List, Lives, next_ready, None, Option, option_and_then, option_map, option_map_or, Pending, QueryLife, ready_to, refl, Seat, seat_at, slice_get, Some, State, sym, true, ℕ}
-use Rattle.script_run.proofs.PlayedTakenLemmas.{seat-waits, split-first, taken-seat}
+use Rattle.script_run.proofs.TakenLemmas.{seat-waits, split-first, taken-seat}
 
 -- no query that is found by its number may still be answered, where none may
 closed-life : (queries : List QueryLife) (query : ℕ) → All (λ entry. is_open entry.life ≡ false) queries

@@ -1,48 +1,197 @@
 -- A statement that the front gives to a core, or for which no memory was left, and the replies that are written then.
-use Rattle.script_run.proofs.Words.{◌++◌, ◌<◌, ◌||◌, ◌∙◌, ◌∷◌, ◌≡◌, ◌≢◌, ◌≤◌, ◌⊎◌, [], after_submitting, Appends, Appends-nil, Appends-trans, AppendsFront, AreIdle, Bool, CountsOne, Err, false, GoesRound, Halt, IfOk, inl, inr, is_refusal, is_wait, IsRun, IsSound, IsTrue, Leads, List, lost, Memory, Ok, OnOk, Option, PlaysIn, PlaysOn, queries_awaited, refl, refused_of_played, Result, seat_at, State, Statement, Submit, subst, sym, take, text_of, text_of_played, Took, true, ℕ, ⊎_elim}
+use Rattle.script_run.proofs.Words.{◌++◌, ◌+◌, ◌<◌, ◌||◌, ◌∙◌, ◌∷◌, ◌≡◌, ◌≢◌, ◌≤◌, ◌⊎◌, [], after_submitting, Answered, ap, append_assoc, Appends, Appends-nil, AppendsFront, AreIdle, aside-outcome, Bool, CountsOne, Err, false, GoesRound, Halt, IfOk, inl, inr, is_refusal, is_wait, IsSound, IsTrue, length, List, list_any, Memory, NoMemory, None, Ok, OnOk, Option, outcome_of, queries_awaited, refl, Result, seat_at, Some, State, Statement, Submit, subst, sym, tables_of, take, text_of, Took, true, ℕ, ⊎_elim}
 use Rattle.std.specs.Prelude.{OnErr}
+use Rattle.std.proofs.lemmas.List.Folds.{list_any-append}
 use Rattle.core_state.specs.Events.{after_event}
-use Rattle.script_run.proofs.FrontHaltLemmas.{breaks-behind, breaks-more, breaks-none, breaks-within, halts-behind, halts-due, halts-first, halts-within, refused-more, text-more}
-use Rattle.script_run.proofs.FrontRunLemmas.{idle-submitted, run-submitted}
-use Rattle.script_run.proofs.LapLemmas.{IsWorth, laps-lost, laps-quiet, laps-round, laps-then, waits-fill}
+use Rattle.core_state.specs.Fronts.{Goes, IsDue, Passes, SubmitsRow}
+use Rattle.core_state.specs.Rows.{sight_of}
+use Rattle.core_state.specs.Sent.{Given, Lost, Sent, pendings_of, statements_in}
+use Rattle.core_state.proofs.FrontLemmas.{goes-lost, goes-passes, goes-submits}
+use Rattle.core_state.proofs.RowLemmas.{submits-row}
+use Rattle.script_run.specs.Answered.{StayAnswered}
+use Rattle.script_run.specs.Front.{EndsSo, Plays, PlaysBy, PlaysCounted, PlaysIn, PlaysOn, Submits}
+use Rattle.script_run.proofs.FrontRunLemmas.{idle-submitted, submits-none, submits-one}
+use Rattle.script_run.proofs.LapLemmas.{laps-lost, laps-quiet, laps-round, laps-then, settles-plays, waits-fill}
 use Rattle.script_run.proofs.LapSubmitLemmas.{counts-submitted}
-use Rattle.script_run.proofs.PlayedLeadLemmas.{leads-itself, leads-lost, leads-then}
-use Rattle.script_run.proofs.PlayedReplyLemmas.{EffectsAgree}
-use Rattle.script_run.proofs.PlayedSubmitLemmas.{NoAnswerChanges, leads-submitted}
+use Rattle.script_run.proofs.OnLemmas.{by-err, by-ok, by-passes, halts-left, halts-proper, halts-weaker, idle-still, in-err, in-ok, passes-itself, text-one, within-reply}
 
--- nothing was written, and something is waited for
-pub plays-due : (halt : Halt) (old new : State) (taken : Option (List ℕ)) → (seat_at old 0).pending ≢ [] → Leads old [] new []
-    → PlaysOn (Err halt) old [] new taken taken
-plays-due halt old new taken waits leads = ([], Appends-nil taken, halts-due old [] waits, breaks-none old new [] leads)
+-- No memory was left.
 
--- nothing was written, and a statement is given
-pub plays-none : (halt : Halt) (statement : Statement) (state : State) (taken : Option (List ℕ))
-    → PlaysIn (Err halt) state (statement ∷ []) state taken taken
-plays-none halt statement state taken =
-    ([], Appends-nil taken, halts-first state statement [], breaks-none state state (statement ∷ []) (leads-itself state))
+-- for letting queries come to their end, where something is waited for
+pub plays-due : (old new : State) (taken : Option (List ℕ)) → (seat_at old 0).pending ≢ [] → Passes (sight_of old 0) (sight_of new 0)
+    → Submits [] old new → StayAnswered old.lives new.lives → Plays (Err NoMemory) old [] new taken taken
+plays-due old new taken some passes run stay due waits = (
+  record {
+    on = record {
+      sent = [];
+      said = [];
+      still = due;
+      replies = [];
+      rest = [];
+      are = refl;
+      goes = goes-passes 0 (sight_of old 0) (sight_of new 0) due waits refl passes;
+      written = [];
+      took = Appends-nil taken;
+      ends = halts-left ((due ≢ []) ⊎ (([] ≢ []) ⊎ ⊥)) (inl waiting);
+    };
+    run = run;
+    stay = stay;
+    answered = tt;
+  },
+  tt,
+)
+  where
+    waiting : due ≢ []
+    waiting none = some (waits.pending ∙ ap (pendings_of old.entries) none)
 
--- the replies halt before a statement is replied to
-pub plays-before : (halt : Halt) (statement : Statement) (old new : State) (taken taken' : Option (List ℕ)) → PlaysOn (Err halt) old [] new taken taken'
-    → PlaysIn (Err halt) old (statement ∷ []) new taken taken'
-plays-before halt statement old new taken taken' (written, took, halts, breaks) =
-    (written, took, λ rest. halts (statement ∷ rest), breaks-more old new [] (statement ∷ []) written breaks)
+-- queries came to their end, and then replies were written
+pub plays-behind : (result : Result Bool Halt) (old mid new : State) (taken taken' : Option (List ℕ)) → Passes (sight_of old 0) (sight_of mid 0)
+    → Submits [] old mid → StayAnswered old.lives mid.lives → Plays result mid [] new taken taken' → Plays result old [] new taken taken'
+plays-behind (Ok refused) old mid new taken taken' passes run stay plays due waits =
+    let first = by-passes old mid due taken waits passes run stay in
+    by-ok false refused old mid new due [] [] ⊥ ⊥ ⊥ taken taken taken' first (plays first.0.on.still first.0.on.goes.waits)
+plays-behind (Err halt) old mid new taken taken' passes run stay plays due waits =
+    let first = by-passes old mid due taken waits passes run stay in
+    by-err false halt old mid new due [] [] ⊥ ⊥ ⊥ taken taken taken' (λ never. never) first (plays first.0.on.still first.0.on.goes.waits)
 
--- a statement was submitted
+-- what was not sent is not nothing
+rest-some : (rest : List Statement) (statement : Statement) → (rest ++ statement ∷ []) ≢ []
+rest-some [] statement same = absurd (let both : statement ∷ [] ≡ [] = same in cc)
+rest-some (first ∷ rest) statement same = absurd (let both : first ∷ (rest ++ statement ∷ []) ≡ [] = same in cc)
+
+-- the replies halt before a statement is sent
+pub plays-before : (halt : Halt) (statement : Statement) (old new : State) (taken taken' : Option (List ℕ)) → Plays (Err halt) old [] new taken taken'
+    → PlaysCounted (Err halt) old (statement ∷ []) new taken taken'
+plays-before halt statement old new taken taken' plays due waits = (
+  (
+    record {
+      on = record {
+        sent = on.sent;
+        said = on.said;
+        still = on.still;
+        replies = on.replies;
+        rest = on.rest ++ statement ∷ [];
+        are = ap (λ list. list ++ statement ∷ []) on.are ∙ append_assoc (statements_in on.sent) on.rest (statement ∷ []);
+        goes = on.goes;
+        written = on.written;
+        took = on.took;
+        ends = halts-weaker halt on.replies on.written ((on.still ≢ []) ⊎ ((on.rest ≢ []) ⊎ ⊥))
+            ((on.still ≢ []) ⊎ (((on.rest ++ statement ∷ []) ≢ []) ⊎ ⊥)) (λ left. inr (inl (rest-some on.rest statement))) on.ends;
+      };
+      run = (plays due waits).0.run;
+      stay = (plays due waits).0.stay;
+      answered = (plays due waits).0.answered;
+    },
+    tt,
+  ),
+  tt,
+)
+  where
+    on : PlaysOn (Some halt) 0 (sight_of old 0) due [] ⊥ (sight_of new 0) taken taken'
+    on = (plays due waits).0.on
+
+-- for the statement itself, before anything was done
+pub plays-none : (statement : Statement) (state : State) (taken : Option (List ℕ)) → PlaysCounted (Err NoMemory) state (statement ∷ []) state taken taken
+plays-none statement state taken due waits = (
+  (
+    record {
+      on = record {
+        sent = [];
+        said = [];
+        still = due;
+        replies = [];
+        rest = statement ∷ [];
+        are = refl;
+        goes = goes-passes 0 (sight_of state 0) (sight_of state 0) due waits refl (passes-itself (sight_of state 0));
+        written = [];
+        took = Appends-nil taken;
+        ends = halts-left ((due ≢ []) ⊎ (((statement ∷ []) ≢ []) ⊎ ⊥)) (inr (inl (rest-some [] statement)));
+      };
+      run = submits-none state;
+      stay = λ query was. was;
+      answered = tt;
+    },
+    tt,
+  ),
+  tt,
+)
+
+or_true : (a : Bool) → true ≡ (a || true)
+or_true true = refl
+or_true false = refl
+
+-- a statement for which no memory was left, where nothing is waited for: `memory` was written, or not all of it
+lost-goes : (statement : Statement) (state : State) (due : List Sent) → IsDue 0 (sight_of state 0) due → due ≡ []
+    → Goes 0 (sight_of state 0) due (sight_of state 0) [] (Lost statement ∷ []) (Lost statement ∷ []) (Memory ∷ [])
+lost-goes statement state due waits none =
+    subst (λ list. Goes 0 (sight_of state 0) list (sight_of state 0) [] (Lost statement ∷ []) (Lost statement ∷ []) (Memory ∷ [])) (sym none)
+    (goes-lost 0 (sight_of state 0) statement (subst (IsDue 0 (sight_of state 0)) none waits))
+
+abbrev lost-in : (halted : Option Halt) (statement : Statement) (state : State) (due : List Sent) (written : List ℕ) (taken taken' : Option (List ℕ))
+    → IsDue 0 (sight_of state 0) due → due ≡ [] → Appends taken taken' written
+    → EndsSo halted [] written (Memory ∷ []) ((◌≢◌ {A = List Sent} [] []) ⊎ ((◌≢◌ {A = List Statement} [] []) ⊎ ⊥)) → PlaysIn halted state due (statement ∷ []) ⊥ state taken taken'
+lost-in halted statement state due written taken taken' waits none took ends = record {
+  on = record {
+    sent = Lost statement ∷ [];
+    said = Lost statement ∷ [];
+    still = [];
+    replies = Memory ∷ [];
+    rest = [];
+    are = refl;
+    goes = lost-goes statement state due waits none;
+    written = written;
+    took = took;
+    ends = ends;
+  };
+  run = submits-none state;
+  stay = λ query was. was;
+  answered = (inl refl, tt);
+}
+
+-- all was written that was waited for, and then `memory`, or not all of it
+pub plays-lost : (result : Result Bool Halt) (others : Bool) (statement : Statement) (old new : State) (before taken taken' : Option (List ℕ))
+    → 0 < old.settings.slots → GoesRound old new → Plays (Ok others) old [] new before taken → (seat_at new 0).pending ≡ []
+    → IfOk result (λ refused. refused ≡ is_refusal Memory)
+    → OnOk result (Appends taken taken' (text_of Memory)) → OnErr result (AppendsFront taken taken' (text_of Memory))
+    → PlaysCounted result old (statement ∷ []) new before taken'
+plays-lost (Ok refused) others statement old new before taken taken' some round plays idle is_refused wrote halted due waits =
+    let first = plays due waits in
+    let none = idle-still new first.0.on.still first.0.on.goes.waits idle in
+    let second : PlaysIn None new first.0.on.still (statement ∷ []) ⊥ new taken taken' =
+    lost-in None statement new first.0.on.still (text_of Memory) taken taken' first.0.on.goes.waits none wrote (refl, sym (text-one Memory)) in (
+      (
+        in-ok old new new due [] (statement ∷ []) ⊥ ⊥ ⊥ before taken taken' first.0 second,
+        is_refused ∙ or_true (list_any is_refusal first.0.on.replies) ∙ sym (list_any-append is_refusal first.0.on.replies (Memory ∷ [])),
+      ),
+      laps-lost old new first.0.on.replies some round,
+    )
+plays-lost (Err halt) others statement old new before taken taken' some round plays idle is_refused wrote halted due waits =
+    let first = plays due waits in
+    let none = idle-still new first.0.on.still first.0.on.goes.waits idle in
+    let second : PlaysIn (Some halt) new first.0.on.still (statement ∷ []) ⊥ new taken taken' =
+    lost-in (Some halt) statement new first.0.on.still (take halted.0 (text_of Memory)) taken taken' first.0.on.goes.waits none halted.2
+    (halts-proper halt (Memory ∷ []) (take halted.0 (text_of Memory)) _ (within-reply Memory halted.0 halted.1)) in
+    ((in-err halt old new new due [] (statement ∷ []) ⊥ ⊥ ⊥ before taken taken' (λ never. never) first.0 second, tt), tt)
+
+-- A statement was submitted.
 pub record IsGiven (statement : Statement) (old new : State) : Type 0 where
-  pub leads : Leads old (statement ∷ []) new []
-  pub run : IsRun old new
+  pub submits : SubmitsRow 0 (old.numbers.statement + 1) statement (sight_of old 0) (sight_of new 0)
+  pub stay : StayAnswered old.lives new.lives
+  pub run : Submits (statement ∷ []) old new
   pub idle : AreIdle old → AreIdle new
   pub counts : CountsOne statement old new
 
 -- so it is where the core took it
-pub took-given : EffectsAgree → NoAnswerChanges → (statement : Statement) (old new : State) → IsSound old → Took (Submit 0 statement) old new
-    → IsGiven statement old new
+pub took-given : (statement : Statement) (old new : State) → IsSound old → Took (Submit 0 statement) old new → IsGiven statement old new
 unfolding after_event
-took-given agree stays statement old new sound took =
+took-given statement old new sound took =
     let is : new ≡ after_submitting 0 statement old = ⊎_elim (λ done. done) (λ spoilt. absurd spoilt) took.after in
     record {
-      leads = subst (λ state. Leads old (statement ∷ []) state []) (sym is) (leads-submitted agree stays statement old sound took.enabled);
-      run = run-submitted statement old new took.enabled is;
+      submits = subst (λ state. SubmitsRow 0 (old.numbers.statement + 1) statement (sight_of old 0) (sight_of state 0)) (sym is)
+          (submits-row old 0 statement took.enabled);
+      stay = subst (λ (state : State). StayAnswered old.lives state.lives) (sym is)
+          (λ query was. (aside-outcome 0 (outcome_of (tables_of old) statement) old).over query Answered refl was);
+      run = submits-one statement old new took.enabled is;
       idle = idle-submitted statement old new is;
       counts = subst (CountsOne statement old) (sym is) (counts-submitted statement old sound took.enabled);
     }
@@ -57,57 +206,59 @@ pub on-err : {A E Q : Type 0} (result : Result A E) → Q → OnErr result Q
 on-err (Ok x) is = tt
 on-err (Err e) is = is
 
-or_true : (a : Bool) → true ≡ (a || true)
-or_true true = refl
-or_true false = refl
-
--- all was written that was waited for, and then `memory`, or not all of it
-pub plays-lost : (result : Result Bool Halt) (others : Bool) (statement : Statement) (old new : State) (before taken taken' : Option (List ℕ))
-    → 0 < old.settings.slots → GoesRound old new → PlaysOn (Ok others) old [] new before taken → (seat_at new 0).pending ≡ [] → IfOk result (λ refused. refused ≡ is_refusal Memory)
-    → OnOk result (Appends taken taken' (text_of Memory)) → OnErr result (AppendsFront taken taken' (text_of Memory))
-    → PlaysIn result old (statement ∷ []) new before taken'
-plays-lost (Ok refused) others statement old new before taken taken' some round (played, took, on, told) idle is_refused wrote halted = (
-  played ++ lost ∷ [],
-  subst (λ text. Appends before taken' text) (sym (text-more played lost))
-      (Appends-trans before taken taken' (text_of_played played) (text_of Memory) took wrote),
-  leads-then old new new [] (statement ∷ []) played (lost ∷ []) on (leads-lost new statement idle),
-  is_refused ∙ or_true (refused_of_played played) ∙ sym (refused-more played lost),
-  laps-lost old new played some round,
+-- what was sent is waited for
+abbrev given-part : (statement : Statement) (old new : State) (due : List Sent) (taken : Option (List ℕ)) → IsDue 0 (sight_of old 0) due
+    → SubmitsRow 0 (old.numbers.statement + 1) statement (sight_of old 0) (sight_of new 0) → Submits (statement ∷ []) old new
+    → StayAnswered old.lives new.lives → PlaysBy (Ok false) old due (statement ∷ []) ⊥ new taken taken
+given-part statement old new due taken waits submits run stay = (
+  record {
+    on = record {
+      sent = Given (old.numbers.statement + 1) (length old.entries) statement ∷ [];
+      said = [];
+      still = due ++ Given (old.numbers.statement + 1) (length old.entries) statement ∷ [];
+      replies = [];
+      rest = [];
+      are = refl;
+      goes = goes-submits 0 (sight_of old 0) (sight_of new 0) due (old.numbers.statement + 1) statement waits refl submits;
+      written = [];
+      took = Appends-nil taken;
+      ends = (refl, refl);
+    };
+    run = run;
+    stay = stay;
+    answered = tt;
+  },
+  refl,
 )
-plays-lost (Err halt) others statement old new before taken taken' some round (played, took, on, told) idle is_refused wrote halted = (
-  text_of_played played ++ take halted.0 (text_of Memory),
-  Appends-trans before taken taken' (text_of_played played) (take halted.0 (text_of Memory)) took halted.2,
-  halts-behind old new [] (statement ∷ []) played (take halted.0 (text_of Memory)) on
-      (halts-within new new (statement ∷ []) lost halted.0 halted.1 (leads-lost new statement idle)),
-  breaks-behind old new new [] (statement ∷ []) played (take halted.0 (text_of Memory)) on
-      (breaks-within new new (statement ∷ []) lost halted.0 (leads-lost new statement idle)),
-)
 
--- a statement was given, before any reply
-pub plays-quiet : (statement : Statement) (old new : State) (taken : Option (List ℕ)) → Leads old (statement ∷ []) new [] → CountsOne statement old new
-    → PlaysIn (Ok false) old (statement ∷ []) new taken taken
-plays-quiet statement old new taken leads counts = ([], Appends-nil taken, leads, refl, laps-quiet statement old new counts)
+-- before any reply
+pub plays-quiet : (statement : Statement) (old new : State) (taken : Option (List ℕ))
+    → SubmitsRow 0 (old.numbers.statement + 1) statement (sight_of old 0) (sight_of new 0) → Submits (statement ∷ []) old new
+    → StayAnswered old.lives new.lives → CountsOne statement old new → PlaysCounted (Ok false) old (statement ∷ []) new taken taken
+plays-quiet statement old new taken submits run stay counts due waits =
+    (given-part statement old new due taken waits submits run stay, laps-quiet statement old new counts)
 
--- a statement was given, and the queries came to their end, since it waits for some, none is open, or they are as many as there are slots
+-- and the queries came to their end, since it waits for some, none is open, or they are as many as there are slots
 pub plays-given : (result : Result Bool Halt) (statement : Statement) (old mid new : State) (taken taken' : Option (List ℕ)) → 0 < mid.settings.slots
-    → Leads old (statement ∷ []) mid [] → CountsOne statement old mid
+    → SubmitsRow 0 (old.numbers.statement + 1) statement (sight_of old 0) (sight_of mid 0) → Submits (statement ∷ []) old mid
+    → StayAnswered old.lives mid.lives → CountsOne statement old mid
     → (IsTrue (is_wait statement) × (0 < queries_awaited old)) ⊎ ((queries_awaited mid ≡ 0) ⊎ (mid.settings.slots ≤ queries_awaited mid))
-    → PlaysOn result mid [] new taken taken' → OnOk result (GoesRound mid new) → OnOk result ((seat_at new 0).pending ≡ [])
-    → PlaysIn result old (statement ∷ []) new taken taken'
-plays-given (Ok refused) statement old mid new taken taken' some leads counts due (played, took, on, told) round idle = (
-  played,
-  took,
-  leads-then old mid new (statement ∷ []) [] [] played leads on,
-  told,
-  laps-then old mid new [] played (laps-quiet statement old mid counts) (laps-round mid new played some round on idle worth),
-)
-  where
-    worth : IsWorth mid.settings.slots mid played
-    worth = ⊎_elim (λ waits. inr (inr (waits-fill statement old mid new played some counts waits.0 waits.1 on idle)))
-        (⊎_elim (λ none. inl none) (λ many. inr (inl many))) due
-plays-given (Err halt) statement old mid new taken taken' some leads counts due (written, took, halts, breaks) round idle = (
-  written,
-  took,
-  halts-behind old mid (statement ∷ []) [] [] written leads halts,
-  breaks-behind old mid new (statement ∷ []) [] [] written leads breaks,
-)
+    → Plays result mid [] new taken taken' → OnOk result (GoesRound mid new) → OnOk result ((seat_at new 0).pending ≡ [])
+    → PlaysCounted result old (statement ∷ []) new taken taken'
+plays-given (Ok refused) statement old mid new taken taken' some submits run stay counts worth plays round idle due waits =
+    let first : PlaysBy (Ok false) old due (statement ∷ []) ⊥ mid taken taken = given-part statement old mid due taken waits submits run stay in
+    let second : PlaysBy (Ok refused) mid first.0.on.still [] ⊥ new taken taken' = plays first.0.on.still first.0.on.goes.waits in
+    let settled = settles-plays mid new first.0.on.still ⊥ taken taken' first.0.on.goes.waits second.0 idle in
+    let grows = second.0.on.goes.seen ∙ ap (λ list. list ++ second.0.on.goes.since) first.0.on.goes.seen
+    ∙ append_assoc old.entries first.0.on.goes.since second.0.on.goes.since in (
+      by-ok false refused old mid new due (statement ∷ []) [] ⊥ ⊥ ⊥ taken taken taken' first second,
+      laps-then old mid new [] second.0.on.replies (laps-quiet statement old mid counts)
+          (laps-round mid new first.0.on.still second.0.on.replies some round settled
+          (⊎_elim
+          (λ is. inr (inr (waits-fill statement (old.numbers.statement + 1) (length old.entries) old mid new due
+          (first.0.on.goes.since ++ second.0.on.goes.since) second.0.on.replies some is.0 is.1 waits grows settled)))
+          (⊎_elim (λ none. inl none) (λ many. inr (inl many))) worth)),
+    )
+plays-given (Err halt) statement old mid new taken taken' some submits run stay counts worth plays round idle due waits =
+    let first : PlaysBy (Ok false) old due (statement ∷ []) ⊥ mid taken taken = given-part statement old mid due taken waits submits run stay in
+    (by-err false halt old mid new due (statement ∷ []) [] ⊥ ⊥ ⊥ taken taken taken' (λ never. never) first (plays first.0.on.still first.0.on.goes.waits), tt)

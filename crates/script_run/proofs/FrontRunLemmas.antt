@@ -3,17 +3,20 @@ use Rattle.script_run.proofs.Words.{◌++◌, ◌<◌, ◌∙◌, ◌∷◌, ◌
 use Rattle.core_state.specs.Events.{after_event}
 use Rattle.event_core.specs.Took.{AreOf, IsOf, StepsFor}
 use Rattle.core_driver.proofs.TakenLemmas.{driven-leaves}
+use Rattle.std.proofs.lemmas.List.Elements.{filter_map-append}
+use Rattle.std.specs.List.{cons_option}
+use Rattle.script_run.specs.Front.{Submits, submitted_at, submitted_in}
 
 -- events that a core took are steps
 abbrev pub TakenAreSteps : Type 0
 TakenAreSteps = (events : List Event) (old new : State) → TookAll events old new → StepsFor events old new
 
 -- no step
-pub run-itself : (state : State) → IsRun state state
+abbrev pub run-itself : (state : State) → IsRun state state
 run-itself state = record { steps = []; may = tt; each = All-nil IsOfRun; is = refl }
 
 -- one step
-run-step : (step : Step) (old new : State) → MayStep old step → IsOfRun step → new ≡ after_step step old → IsRun old new
+abbrev pub run-step : (step : Step) (old new : State) → MayStep old step → IsOfRun step → new ≡ after_step step old → IsRun old new
 run-step step old new may of same = record {
   steps = step ∷ [];
   may = (may, tt);
@@ -28,7 +31,7 @@ may-append [] more state first second = second
 may-append (step ∷ steps) more state first second = (first.0, may-append steps more (after_step step state) first.1 second)
 
 -- steps of a run, and others behind them
-pub run-then : (old between new : State) → IsRun old between → IsRun between new → IsRun old new
+abbrev pub run-then : (old between new : State) → IsRun old between → IsRun between new → IsRun old new
 run-then old between new first second = record {
   steps = first.steps ++ second.steps;
   may = may-append first.steps second.steps old first.may (subst (λ state. MayStepAll state second.steps) first.is second.may);
@@ -83,3 +86,52 @@ idle-scan old new same idle = subst (λ (scan : Scan). All (λ flight. flight.ha
 -- nor where the front submitted a statement
 pub idle-submitted : (statement : Statement) (old new : State) → new ≡ after_submitting 0 statement old → AreIdle old → AreIdle new
 idle-submitted statement old new same = idle-scan old new (ap (λ state. state.scan) same ∙ scan-submitted statement old)
+
+-- Which statements are submitted.
+
+-- none
+pub submits-none : (state : State) → Submits [] state state
+submits-none state = record { run = run-itself state; are = refl }
+
+-- those of one part and of another behind it
+pub submits-then : (statements others : List Statement) (old between new : State) → Submits statements old between → Submits others between new
+    → Submits (statements ++ others) old new
+submits-then statements others old between new first second = record {
+  run = run-then old between new first.run second.run;
+  are = filter_map-append submitted_at first.run.steps second.run.steps ∙ ap (λ list. list ++ submitted_in second.run.steps) first.are
+      ∙ ap (λ list. statements ++ list) second.are;
+}
+
+-- one
+pub submits-one : (statement : Statement) (old new : State) → 0 < length old.seats → new ≡ after_submitting 0 statement old
+    → Submits (statement ∷ []) old new
+unfolding after_event
+submits-one statement old new there same = record { run = run-step (Done (Submit 0 statement)) old new there refl same; are = refl }
+
+-- none by a reply that is taken
+pub submits-taken : (old new : State) → IsSome (next_ready old 0) → new ≡ after_taking 0 old → Submits [] old new
+submits-taken old new ready same = record { run = run-step (Replying 0) old new ready refl same; are = refl }
+
+-- nor by an event of the driver
+none-submitted : (event : Event) (step : Step) → IsDriven event → IsOf event step → submitted_at step ≡ None
+none-submitted event (Done (Submit seat statement)) driven of =
+    absurd (driven-leaves (Submit seat statement) (subst IsDriven (sym of) driven))
+none-submitted event (Done other) driven of = refl
+none-submitted event (Wanting other spoiled) driven of = refl
+none-submitted event (Replying seat) driven of = absurd of
+
+steps-submit : (events : List Event) (steps : List Step) → All IsDriven events → AreOf events steps → submitted_in steps ≡ []
+steps-submit [] [] driven of = refl
+steps-submit [] (step ∷ steps) driven of = absurd of
+steps-submit (event ∷ events) [] driven of = absurd of
+steps-submit (event ∷ events) (step ∷ steps) driven of =
+    ap (λ first. cons_option first (submitted_in steps)) (none-submitted event step (All-head IsDriven event events driven) of.0)
+    ∙ steps-submit events steps (All-tail IsDriven event events driven) of.1
+
+pub submits-driven : TakenAreSteps → (old new : State) → IsLed IsDriven old new → Submits [] old new
+submits-driven taken old new led =
+    let made = taken led.events old new led.took in
+    record {
+      run = record { steps = made.0; may = made.1.0; each = steps-run led.events made.0 led.each made.1.1.0; is = made.1.1.1 };
+      are = steps-submit led.events made.0 led.each made.1.1.0;
+    }

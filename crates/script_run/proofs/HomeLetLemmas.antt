@@ -1,5 +1,5 @@
 -- What is left of a core where queries are abandoned and replies are taken.
-use Rattle.script_run.proofs.Words.{◌++◌, ◌<◌, ◌∙◌, ◌∷◌, ◌≡◌, ◌≤◌, [], Abandon, Accepted, accepted_at, accepted_by, after_abandoning, after_taking, All, Answered, ap, append-nil, append_assoc, arith, Bool, by-option, cond, count_by, Done, empty_seat, eq-eqb, eqb, Err, false, find, find-holds, first_open, forgets, forgotten, Front, get_or, get_or-set_same, is_open, is_query, IsCounted, IsEnabled, IsHeld, IsKnown, IsSome, IsSound, IsTrue, length, life_of, List, Lives, map, next_ready, None, Ok, OnOk, Option, option_map, option_map_or, part-stays, Pending, query_in, QueryLife, refl, Replying, Result, Seat, seat_at, Some, State, state_of, subst, sym, take, taken_by, Took, true, with_seat, without_pending, ℕ, ⊎_elim, Abandoned, life_in}
+use Rattle.script_run.proofs.Words.{◌++◌, ◌<◌, ◌∙◌, ◌∷◌, ◌≡◌, ◌≤◌, [], Abandon, Accepted, accepted_at, accepted_by, after_abandoning, after_taking, All, Answered, ap, append-nil, append_assoc, arith, Bool, by-option, cond, count_by, Done, empty_seat, eq-eqb, eqb, Err, false, find, find-holds, first_open, forgets, forgotten, Front, get_or, get_or-set_same, is_open, is_query, IsCounted, IsEnabled, IsHeld, IsKnown, IsSome, IsSound, IsTrue, length, life_of, List, Lives, map, next_ready, None, Ok, OnOk, Option, option_map, option_map_or, part-stays, Pending, query_in, QueryLife, refl, Replying, Result, Seat, seat_at, Some, State, state_of, subst, sym, take, taken_by, Took, true, with_seat, with_taken, without_pending, ℕ, ⊎_elim}
 use Rattle.std.proofs.Common.{not, set}
 use Rattle.std.specs.Prelude.{◌↔◌, IsErrOf}
 use Rattle.std.specs.List.{filter}
@@ -16,14 +16,14 @@ use Rattle.event_core.specs.declared.stepping.StepFault.{StepFault}
 use Rattle.event_core.specs.declared.stepping.StepFault.TheVariants.{NotEnabled, Memory}
 use Rattle.script_run.specs.Home.{IsAtHome, LetsGo}
 use Rattle.script_run.specs.Leaving.{IsLeaving}
+use Rattle.script_run.proofs.AskedLemmas.{asked-by}
 use Rattle.script_run.proofs.FrontOpenLemmas.{first-waits, taken-behind, taken-closed}
 use Rattle.script_run.proofs.FrontRunLemmas.{idle-scan}
 use Rattle.script_run.proofs.HomeClosedLemmas.{closed-all}
 use Rattle.script_run.proofs.HomeStepLemmas.{Owns, owner-there, serves-abandoned, serves-taken}
-use Rattle.script_run.proofs.HomeStepsLemmas.{held-after, served-itself, served-one, served-then}
+use Rattle.script_run.proofs.HomeStepsLemmas.{held-after, serves-both, serves-none, serves-one}
 use Rattle.script_run.proofs.LapEventLemmas.{closed-count, closed-over}
-use Rattle.script_run.proofs.PlayedTakenLemmas.{WaitsForOpen, idle-next, seat-waits, taken-seat}
-use Rattle.script_run.proofs.ToldFollowLemmas.{asked-by}
+use Rattle.script_run.proofs.TakenLemmas.{WaitsForOpen, idle-next, seat-waits, taken-seat}
 
 -- what is left is what is left of what was left
 lets-then : (old between new : State) → LetsGo old between → LetsGo between new → LetsGo old new
@@ -31,6 +31,7 @@ lets-then old between new first second = record {
   entries = second.entries ∙ first.entries;
   accepted = second.accepted ∙ first.accepted;
   stay = λ query was. second.stay query (first.stay query was);
+  submitted = second.submitted ∙ first.submitted;
   more = first.more ++ second.more;
   taken = second.taken ∙ ap (λ taken. taken ++ second.more) first.taken ∙ append_assoc (seat_at old 0).taken first.more second.more;
 }
@@ -38,7 +39,7 @@ lets-then old between new first second = record {
 pub leaving-then : (old between new : State) → IsLeaving old between → IsLeaving between new → IsLeaving old new
 leaving-then old between new first second = record {
   lets = lets-then old between new first.lets second.lets;
-  served = served-then old between new first.served second.served;
+  served = serves-both [] [] old between new first.served second.served;
   settings = second.settings ∙ first.settings;
   scan = second.scan ∙ first.scan;
   numbers = second.numbers ∙ first.numbers;
@@ -57,10 +58,11 @@ starts-leave state sound mine = record {
       entries = refl;
       accepted = refl;
       stay = λ query was. was;
+      submitted = refl;
       more = [];
       taken = sym (append-nil (seat_at state 0).taken);
     };
-    served = served-itself state;
+    served = serves-none state;
     settings = refl;
     scan = refl;
     numbers = refl;
@@ -100,11 +102,13 @@ without_it query state accepted = with_seat accepted.seat (without_pending query
 lets-abandoned : (query : ℕ) (state : State) → IsSound state → CanAbandon query state.lives → LetsGo state (after_abandoning query state)
 lets-abandoned query state sound can =
     by-option (LetsGo state) (accepted_at state.accepted query) (without_it query state) state
-    (record { entries = refl; accepted = refl; stay = λ q was. was; more = []; taken = sym (append-nil (seat_at state 0).taken) })
+    (record { entries = refl; accepted = refl; stay = λ q was. was; submitted = refl; more = []; taken = sym (append-nil (seat_at state 0).taken) })
     (λ accepted found. record {
       entries = refl;
       accepted = asked-by state.accepted (map (forgotten query) state.accepted) (bare-anew (forgotten query) (forgets query) state.accepted);
       stay = λ q was. (lives-abandoned query state.lives can).over q Answered refl was;
+      submitted = part-stays (λ s. s.submitted) state.seats accepted.seat (without_pending query (seat_at state accepted.seat))
+          (owner-there state accepted query sound found) refl 0;
       more = [];
       taken = part-stays (λ s. s.taken) state.seats accepted.seat (without_pending query (seat_at state accepted.seat))
           (owner-there state accepted query sound found) refl 0 ∙ sym (append-nil (seat_at state 0).taken);
@@ -126,7 +130,7 @@ unfolding after_event
 leaves-abandoned query old new sound mine can is =
     let beside = beside-abandoned query old in record {
       lets = subst (LetsGo old) (sym is) (lets-abandoned query old sound can);
-      served = served-one (Done (Abandon query)) old new can tt is (serves-abandoned query old mine);
+      served = serves-one (Done (Abandon query)) old new can tt refl is (serves-abandoned query old mine);
       settings = ap (λ state. state.settings) is ∙ beside.settings;
       scan = ap (λ state. state.scan) is ∙ beside.scan;
       numbers = ap (λ state. state.numbers) is ∙ beside.numbers;
@@ -224,11 +228,11 @@ pub record IsDropping (first now : State) : Type 0 where
 pub starts-dropping : (state : State) → IsSound state → Owns state → IsDropping state state
 starts-dropping state sound mine = record { way = starts-leave state sound mine; closed = λ none. none }
 
-taken-more : (old new : State) → IsSome (next_ready old 0) → new ≡ after_taking 0 old
-    → (seat_at new 0).taken ≡ (seat_at old 0).taken ++ map taken_by (take 1 (seat_at old 0).pending)
-taken-more old new ready is =
+-- the seat then
+taken-now : (old new : State) → IsSome (next_ready old 0) → new ≡ after_taking 0 old → seat_at new 0 ≡ with_taken (seat_at old 0)
+taken-now old new ready is =
     let waits = first-waits old ready in
-    ap (λ state. (seat_at state 0).taken) is ∙ ap (λ (s : Seat). s.taken) (taken-seat 0 old (seat-waits old 0 waits.0 waits.1))
+    ap (λ state. seat_at state 0) is ∙ taken-seat 0 old (seat-waits old 0 waits.0 waits.1)
 
 leaves-taken : (old new : State) → IsSound old → Owns old → IsSome (next_ready old 0) → new ≡ after_taking 0 old → IsLeaving old new
 leaves-taken old new sound mine ready is =
@@ -238,10 +242,11 @@ leaves-taken old new sound mine ready is =
         accepted = ap (λ state. map accepted_by state.accepted) is
             ∙ asked-by old.accepted (after_taking 0 old).accepted (bare-without (take 1 (seat_at old 0).pending) old.accepted);
         stay = λ query was. ap (λ state. life_of state.lives query) is ∙ was;
+        submitted = ap (λ (s : Seat). s.submitted) (taken-now old new ready is);
         more = map taken_by (take 1 (seat_at old 0).pending);
-        taken = taken-more old new ready is;
+        taken = ap (λ (s : Seat). s.taken) (taken-now old new ready is);
       };
-      served = served-one (Replying 0) old new ready refl is serves;
+      served = serves-one (Replying 0) old new ready refl refl is serves;
       settings = ap (λ state. state.settings) is;
       scan = ap (λ state. state.scan) is;
       numbers = ap (λ state. state.numbers) is;
@@ -298,7 +303,7 @@ left-home old new mid held first second so_sound idle settings submitted unfinis
     }
 
     holds : IsHeld new
-    holds = held-after old new held leaving.served known
+    holds = held-after old new held leaving.served.served known
 
     closed : All (λ entry. is_open entry.life ≡ false) now.lives.queries
     closed = closed-all now so_sound holds.own idle

@@ -1,12 +1,12 @@
 -- What a step of a session leaves: all that it adds is of seat 0.
-use Rattle.script_run.proofs.Words.{◌++◌, ◌+◌, ◌<◌, ◌∙◌, ◌∷◌, ◌≡◌, ◌≢◌, [], Abandon, Accepted, accepted_at, after_abandoning, after_outcome, after_step, after_submitting, after_taking, All, All-cons, All-head, All-nil, All-tail, ap, append-nil, aside-outcome, by-option, Change, Contains, Done, empty_seat, entries-by, Entry, eqb, Event, find-holds, forgets, forgotten, get_or, IsEnabled, IsOfSession, IsSound, length, List, map, MayStep, None, Option, option_map_or, outcome_of, refl, Replying, seat_at, Some, State, Statement, Step, Submit, subst, sym, tables_of, take, Told, Wanting, with_query, with_statement, with_taken, without_pending, zero, ℕ}
+use Rattle.script_run.proofs.Words.{◌++◌, ◌+◌, ◌<◌, ◌∙◌, ◌∷◌, ◌≡◌, ◌≢◌, [], Abandon, Accepted, accepted_at, after_abandoning, after_outcome, after_step, after_submitting, after_taking, All, All-cons, All-head, All-nil, All-tail, ap, append-nil, aside-outcome, by-option, Change, Contains, Done, empty_seat, entries-by, Entry, eqb, Event, find-holds, forgets, forgotten, get_or, IsEnabled, IsOfSession, IsSound, length, List, map, MayStep, None, Option, option_map_or, outcome_of, refl, Replying, seat_at, Some, State, Statement, Step, Submit, subst, sym, tables_of, take, Told, Wanting, with_query, with_statement, with_taken, without_pending, ℕ}
 use Rattle.std.proofs.lemmas.List.{get_or-set_other}
 use Rattle.std.proofs.lemmas.List.Elements.{All-push}
 use Rattle.star_statement.specs.Outcome as outcome
 use Rattle.core_state.specs.Events.{after_event}
 use Rattle.core_state.proofs.WholeFrameLemmas.{Frame, bare, bare-anew, bare-without, frame-all, frame-want, makes-done}
 use Rattle.core_state.proofs.WholeToldLemmas.{seated}
-use Rattle.script_run.proofs.ToldSubmitLemmas.{accepted-changed, changed_by}
+use Rattle.script_run.proofs.AskedLemmas.{accepted-changed, changed_by}
 use Rattle.core_state.proofs.SeatLemmas.{seat-there}
 
 -- every query is one of seat 0
@@ -14,7 +14,7 @@ abbrev pub Owns : State → Type 0
 Owns state = All (λ accepted. accepted.seat ≡ 0) state.accepted
 
 -- entries of seat 0 were added, and no other seat has changed
-pub record Serves (old new : State) : Type 0 where
+pub record AddsOwn (old new : State) : Type 0 where
   pub more : List Entry
   pub entries : new.entries ≡ old.entries ++ more
   pub own : All (λ entry. entry.seat ≡ 0) more
@@ -34,7 +34,7 @@ owns-by (other ∷ old) (first ∷ new) same all =
     (owns-by old new rest (All-tail (λ (a : Accepted). a.seat ≡ 0) other old all))
 
 -- an event that leaves the history, the seats and what is asked
-pub serves-frame : (old new : State) → Frame old new → Owns old → Serves old new
+pub serves-frame : (old new : State) → Frame old new → Owns old → AddsOwn old new
 serves-frame old new frame mine = record {
   more = [];
   entries = frame.entries ∙ sym (append-nil old.entries);
@@ -65,7 +65,7 @@ owns-asked statement (outcome.Replied reply) state mine = mine
 owns-asked statement (outcome.Accepted query snapshot) state mine = All-push (λ (a : Accepted). a.seat ≡ 0) state.accepted _ mine refl
 
 -- a statement is submitted
-serves-submitted : (statement : Statement) (old : State) → Owns old → Serves old (after_submitting 0 statement old)
+serves-submitted : (statement : Statement) (old : State) → Owns old → AddsOwn old (after_submitting 0 statement old)
 serves-submitted statement old mine =
     let found = outcome_of (tables_of old) statement in
     let number = old.numbers.statement + 1 in
@@ -81,7 +81,7 @@ serves-submitted statement old mine =
     }
 
 -- a reply is taken
-pub serves-taken : (old : State) → Owns old → Serves old (after_taking 0 old)
+pub serves-taken : (old : State) → Owns old → AddsOwn old (after_taking 0 old)
 serves-taken old mine = record {
   more = [];
   entries = sym (append-nil old.entries);
@@ -99,9 +99,9 @@ owner-there state accepted query sound found =
     found sound.seats.queries)
 
 -- a query is abandoned
-pub serves-abandoned : (query : ℕ) (old : State) → Owns old → Serves old (after_abandoning query old)
+pub serves-abandoned : (query : ℕ) (old : State) → Owns old → AddsOwn old (after_abandoning query old)
 serves-abandoned query old mine =
-    by-option (Serves old) (accepted_at old.accepted query) _ old
+    by-option (AddsOwn old) (accepted_at old.accepted query) _ old
     (serves-frame old old (frame-all old) mine)
     (λ accepted found.
     let zero : accepted.seat ≡ 0 = find-holds (λ (a : Accepted). a.seat ≡ 0) (λ (a : Accepted). eqb a.number query) old.accepted accepted found mine in
@@ -116,15 +116,15 @@ serves-abandoned query old mine =
     })
 
 -- an event of a session
-serves-event : (event : Event) (old : State) → IsEnabled old event → IsOfSession (Done event) → Owns old → Serves old (after_event event old)
+serves-event : (event : Event) (old : State) → IsEnabled old event → IsOfSession (Done event) → Owns old → AddsOwn old (after_event event old)
 unfolding after_event
 serves-event (Submit seat statement) old may of mine =
-    subst (λ n. Serves old (after_submitting n statement old)) (sym of) (serves-submitted statement old mine)
+    subst (λ n. AddsOwn old (after_submitting n statement old)) (sym of) (serves-submitted statement old mine)
 serves-event (Abandon query) old may of mine = serves-abandoned query old mine
 serves-event other old may of mine = serves-frame old _ (makes-done other old tt may).frame mine
 
 -- a step of a session
-pub serves-step : (step : Step) (old : State) → MayStep old step → IsOfSession step → Owns old → Serves old (after_step step old)
+pub serves-step : (step : Step) (old : State) → MayStep old step → IsOfSession step → Owns old → AddsOwn old (after_step step old)
 serves-step (Done event) old may of mine = serves-event event old may of mine
 serves-step (Wanting event spoiled) old may of mine = serves-frame old _ (frame-want event spoiled old may.0 may.1) mine
-serves-step (Replying seat) old may of mine = subst (λ n. Serves old (after_taking n old)) (sym of) (serves-taken old mine)
+serves-step (Replying seat) old may of mine = subst (λ n. AddsOwn old (after_taking n old)) (sym of) (serves-taken old mine)

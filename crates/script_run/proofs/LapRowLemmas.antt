@@ -1,8 +1,11 @@
 -- Replies in rows of places: how many places they take at least, and how many rows these fill.
-use Rattle.script_run.proofs.Words.{◌*◌, ◌+◌, ◌-◌, ◌/◌, ◌<◌, ◌∙◌, ◌∷◌, ◌≡◌, ◌≤◌, [], answer_reply, arith, Asked, Awaited, ComesTo, ComeTo, count-cons, count_by, is_query, List, Memory, one_if, Pending, placed, places_played, Played, Replied, Reply, rows_of, Store, subst, sym, Waited, ℕ, ⊎_elim}
+use Rattle.script_run.proofs.Words.{◌*◌, ◌+◌, ◌-◌, ◌/◌, ◌<◌, ◌∙◌, ◌∷◌, ◌≡◌, ◌≤◌, [], answer_reply, arith, awaited_by, count-cons, count_by, Entry, is_query, List, Memory, one_if, Pending, placed, Reply, rows_of, Store, subst, sym, tables_by, take, Told, Waited, ℕ, ⊎_elim}
 use Rattle.std.proofs.Math.Nat.{lt-mul-div-succ, le-div_iff_mul-le, mul-div_left, mul_comm, div-mul-le_self}
 use Rattle.star_plan.specs.declared.answer.Answer as answers
 use Rattle.star_plan.specs.declared.answer.Answer.TheVariants as answer
+use Rattle.star_statement.specs.Outcome as outcome
+use Rattle.core_state.specs.Sent.{AnswersTold, AreRepliesTo, Given, Lost, Sent, pending_behind, pendings_of, told_behind}
+use Rattle.script_run.specs.Laps.{places_of}
 
 one-more : (q s : ℕ) → (q + 1) * s ≡ q * s + s
 one-more q s = omega arith
@@ -49,11 +52,11 @@ placed-grows slots places Memory some = let holds = rows-hold slots (places + 1)
 placed-grows slots places Waited some = rows-hold slots places some
 placed-grows slots places other some = omega arith
 
-pub places-grow : (slots places : ℕ) (played : List Played) → 0 < slots → places ≤ places_played slots places played
+pub places-grow : (slots places : ℕ) (replies : List Reply) → 0 < slots → places ≤ places_of slots places replies
 places-grow slots places [] some = omega arith
-places-grow slots places (one ∷ played) some =
-    let first = placed-grows slots places one.reply some in
-    let rest = places-grow slots (placed slots places one.reply) played some in
+places-grow slots places (reply ∷ replies) some =
+    let first = placed-grows slots places reply some in
+    let rest = places-grow slots (placed slots places reply) replies some in
     omega (arith, first, rest)
 
 -- an answer takes a place, and so does `memory`
@@ -62,22 +65,27 @@ placed-answer slots places snapshot (answer.Rows rows) some = omega arith
 placed-answer slots places snapshot answer.Overflow some = omega arith
 
 -- the reply to a query takes a place
-placed-come : (slots places : ℕ) (store : Store) (awaited : Awaited) (one : Played) → 0 < slots → ComesTo store awaited one
-    → places + one_if (is_query awaited) ≤ placed slots places one.reply
-placed-come slots places store (Replied reply) one some comes =
-    let grows = placed-grows slots places one.reply some in omega (arith, grows)
-placed-come slots places store (Asked query snapshot) one some comes = ⊎_elim
+placed-told : (slots places : ℕ) (store : Store) (told : Told) (reply : Reply) → 0 < slots → AnswersTold store told reply
+    → places + one_if (is_query (awaited_by told)) ≤ placed slots places reply
+placed-told slots places store (outcome.Replied told) reply some right =
+    let grows = placed-grows slots places reply some in omega (arith, grows)
+placed-told slots places store (outcome.Accepted query snapshot) reply some right = ⊎_elim
     (λ is. subst (λ reply. places + 1 ≤ placed slots places reply) (sym is) (placed-answer slots places snapshot _ some))
-    (λ wants. subst (λ reply. places + 1 ≤ placed slots places reply) (sym wants) (rows-hold slots (places + 1) some)) comes.2
+    (λ wants. subst (λ reply. places + 1 ≤ placed slots places reply) (sym wants) (rows-hold slots (places + 1) some)) right
 
 -- the replies to what is waited for take a place for each query
-pub places-come : (slots places : ℕ) (store : Store) (pending : List Pending) (due : List Played) → 0 < slots → ComeTo store pending due
-    → places + count_by (λ p. is_query p.awaited) pending ≤ places_played slots places due
-places-come slots places store [] [] some come = omega arith
-places-come slots places store [] (one ∷ due) some come = absurd come
-places-come slots places store (first ∷ pending) [] some come = absurd come
-places-come slots places store (first ∷ pending) (one ∷ due) some come =
-    let here = placed-come slots places store first.awaited one some come.0 in
-    let rest = places-come slots (placed slots places one.reply) store pending due some come.1 in
-    let count = count-cons (λ (p : Pending). is_query p.awaited) first pending in
+pub places-told : (slots places : ℕ) (entries : List Entry) (due : List Sent) (replies : List Reply) → 0 < slots → AreRepliesTo entries due replies
+    → places + count_by (λ p. is_query p.awaited) (pendings_of entries due) ≤ places_of slots places replies
+places-told slots places entries [] [] some are = omega arith
+places-told slots places entries [] (reply ∷ replies) some are = absurd are
+places-told slots places entries (one ∷ due) [] some are = absurd are
+places-told slots places entries (Lost statement ∷ due) (reply ∷ replies) some are =
+    let here = placed-grows slots places reply some in
+    let rest = places-told slots (placed slots places reply) entries due replies some are.1 in
+    omega (arith, here, rest)
+places-told slots places entries (Given number point statement ∷ due) (reply ∷ replies) some are =
+    let before = take point entries in
+    let here = placed-told slots places (tables_by before) (told_behind before statement) reply some are.0.1 in
+    let rest = places-told slots (placed slots places reply) entries due replies some are.1 in
+    let count = count-cons (λ (p : Pending). is_query p.awaited) (pending_behind number before statement) (pendings_of entries due) in
     omega (arith, here, rest, count)

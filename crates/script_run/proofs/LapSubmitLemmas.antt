@@ -1,5 +1,5 @@
 -- A statement that is given to a core: what it leaves, and what it counts.
-use Rattle.script_run.proofs.Words.{◌+◌, ◌<◌, ◌∙◌, ◌∷◌, ◌≡◌, ◌≤◌, [], Accepted, after_change, after_submitting, All, All-append, All-cons, All-nil, All-weaker, ap, arith, aside-outcome, awaited_by, Bool, Change, cond, count_by, CountsOne, Ended, eq-eqb, eqb, false, if◌then◌else◌, is_open, is_query, IsOverOrWaits, IsSound, length, length-append, life_in, List, Loaded, ne_eqb, None, one_if, Option, option_map, option_map_or, Outcome, outcome_of, Pending, queries_awaited, QueryLife, refl, Seat, seat_at, Some, State, Statement, Store, subst, sym, tables_of, Told, told_of, versions_in, Waiting, with_query, ℕ}
+use Rattle.script_run.proofs.Words.{◌+◌, ◌<◌, ◌∙◌, ◌∷◌, ◌≡◌, ◌≤◌, [], after_change, after_submitting, All, All-append, All-cons, All-nil, All-weaker, ap, arith, aside-outcome, awaited_by, Bool, Change, cond, count_by, CountsOne, Ended, eq-eqb, eqb, false, if◌then◌else◌, is_open, is_query, IsOverOrWaits, IsSound, length, length-append, life_in, List, Loaded, ne_eqb, None, one_if, Option, option_map, option_map_or, Outcome, outcome_of, Pending, queries_awaited, QueryLife, refl, seat_at, Some, State, Statement, Store, subst, sym, tables_of, Told, told_of, versions_in, Waiting, with_query, ℕ}
 use Rattle.std.proofs.Common.{find}
 use Rattle.std.specs.Option.{option_or}
 use Rattle.std.proofs.lemmas.List.Folds.{find-append}
@@ -10,10 +10,10 @@ use Rattle.star_statement.specs.Effect.{store_by}
 use Rattle.star_statement.specs.Outcome as outcome
 use Rattle.core_state.proofs.CutFoundLemmas.{none-found}
 use Rattle.core_state.proofs.LoggedPlaceLemmas.{length-all-ended}
+use Rattle.core_state.proofs.RowLemmas.{submits-row}
 use Rattle.core_state.proofs.WholeToldLemmas.{seated}
 use Rattle.script_run.proofs.FrontRunLemmas.{scan-submitted}
-use Rattle.script_run.proofs.PlayedSubmitLemmas.{submitted-seat, submitted-tables}
-use Rattle.script_run.proofs.ToldSubmitLemmas.{changed_by, is-new, lives-changed}
+use Rattle.script_run.proofs.AskedLemmas.{changed_by, is-new, lives-changed, submitted-tables}
 
 -- no change takes versions away
 change-versions : (store : Store) (change : Change) → length store.versions ≤ length (after_change store change).versions
@@ -73,7 +73,7 @@ counts-submitted statement old sound there = record {
   scan = scan-submitted statement old;
   versions = submitted-versions statement old;
   number = (aside-outcome 0 found old).number;
-  pending = ap (λ (s : Seat). s.pending) (submitted-seat 0 statement old there);
+  pending = (submits-row old 0 statement there).pending;
   unfinished = asks.counts ∙ ap (λ queries. count_by (λ entry. is_open entry.life) queries + one_if (is_query (awaited_by found.told))) same;
   waits = λ waits. asks.waits (subst (All (λ entry. IsOverOrWaits entry.life)) (sym same) waits);
   life = asks.life (subst (All (λ entry. eqb entry.query number ≡ false)) (sym same) (next-new old sound));

@@ -4,41 +4,35 @@ mod NextLemmas
 mod WholeLemmas
 pub mod BetweenLemmas
 pub mod RunLemmas
-pub mod ToldFollowLemmas
-pub mod ToldSubmitLemmas
-pub mod PlayedQuietLemmas
-pub mod PlayedReplyLemmas
-pub mod PlayedSomeLemmas
-pub mod PlayedLeadLemmas
-pub mod PlayedSubmitLemmas
-pub mod PlayedTakenLemmas
-pub mod PlayedEventLemmas
-pub mod PlayedWholeLemmas
+mod AskedLemmas
+mod QuietLemmas
+mod WantedLemmas
+mod ToldWantedLemmas
+mod ToldAloneLemmas
+mod FrontRunLemmas
+pub mod OnLemmas
+mod TakenLemmas
 mod LapRowLemmas
 mod LapEventLemmas
 mod LapLemmas
 mod LapSubmitLemmas
-pub mod ToldWantedLemmas
-pub mod ToldPlayLemmas
-pub mod ToldLemmas
-mod ToldScriptLemmas
 mod FrontCountLemmas
 mod FrontNewLemmas
 mod FrontGiveLemmas
 mod FrontWaitingLemmas
-mod FrontRunLemmas
-mod FrontHaltLemmas
 mod FrontOpenLemmas
 mod FrontReadyLemmas
 mod FrontPlayLemmas
-mod HomeStepLemmas
-mod HomeStepsLemmas
+pub mod HomeStepLemmas
+pub mod HomeStepsLemmas
 mod HomeClosedLemmas
 mod HomeLetLemmas
 mod HomeReplyLemmas
-mod SharedReadLemmas
+pub mod SeatTellsLemmas
+pub mod SharedReadLemmas
 mod SharedWholeLemmas
 mod SharedScriptLemmas
+mod AloneLemmas
 pub mod SharedRunLemmas
 pub mod SharedEndLemmas
 mod SharedDoneLemmas

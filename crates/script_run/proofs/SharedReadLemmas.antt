@@ -1,151 +1,50 @@
--- What a reader gave to a core: nothing, one statement, one part behind another, and what was written where the replies halt.
-use Rattle.script_run.proofs.Words.{◌++◌, ◌∙◌, ◌∷◌, ◌≡◌, ◌≢◌, [], ap, append-nil, append_assoc, Bool, BreaksIn, BreaksOff, Change, HaltsPlay, IsProperFront, Leads, List, MayCome, MayPlay, Played, Reading, ReadsFront, ReadsInPart, ReadsOn, refl, State, Statement, statements_of, StaysFed, subst, sym, TakesFirst, text_of_played, true, Wants, ℕ}
-use Rattle.script_run.proofs.FrontHaltLemmas.{halts-first, text-append}
-use Rattle.script_run.proofs.PlayedLeadLemmas.{leads-itself, leads-then}
-use Rattle.script_run.proofs.PlayedSomeLemmas.{may-play-some}
+-- What a reader gave to a core: nothing, one statement, and one part behind another.
+use Rattle.script_run.proofs.Words.{◌++◌, ◌∙◌, ◌∷◌, ◌≡◌, ◌≢◌, [], ap, append-nil, append_assoc, Bool, HasNoStatement, List, MayCome, Reading, refl, Statement, statements_of, StaysFed, subst, sym, TakesFirst, Wants, ℕ}
+use Rattle.script_reader.specs.Reading.{Answers}
+use Rattle.script_reader.specs.declared.reader.Next.{Next}
+use Rattle.script_reader.specs.declared.reader.Next.TheVariants.{Got, NotYet, End}
+use Rattle.script_run.specs.Front.{LeavesSome, Reads}
 
 -- what may come behind the bytes that wait may come behind those that wait then
-comes-on : (waits waits' : Reading) → StaysFed waits waits' → (more : List ℕ) (last : Bool) → MayCome waits more last → MayCome waits' more last
+pub comes-on : (waits waits' : Reading) → StaysFed waits waits' → (more : List ℕ) (last : Bool) → MayCome waits more last → MayCome waits' more last
 comes-on waits waits' stays more last comes e = comes (sym stays.1 ∙ e)
 
 -- nothing was read
-pub reads-itself : (state : State) (waits : Reading) → ReadsOn state waits state waits []
-reads-itself state waits = record { statements = []; reads = λ more last comes. refl; leads = leads-itself state }
+pub reads-itself : (waits : Reading) → Reads waits [] waits
+reads-itself waits more last comes = refl
 
 -- the first statement that waits was given
-pub reads-first : (old new : State) (waits waits' : Reading) (statement : Statement) (played : List Played) → TakesFirst waits waits' statement
-    → Leads old (statement ∷ []) new played → ReadsOn old waits new waits' played
-reads-first old new waits waits' statement played first leads = record { statements = statement ∷ []; reads = first; leads = leads }
-
--- no statement was given
-pub reads-none : (old new : State) (waits : Reading) (played : List Played) → Leads old [] new played → ReadsOn old waits new waits played
-reads-none old new waits played leads = record { statements = []; reads = λ more last comes. refl; leads = leads }
+pub reads-first : (waits waits' : Reading) (statement : Statement) → TakesFirst waits waits' statement → Reads waits (statement ∷ []) waits'
+reads-first waits waits' statement first = first
 
 -- one part behind another
-pub reads-then : (old between new : State) (waits waits' waits'' : Reading) (played more : List Played) → ReadsOn old waits between waits' played
-    → StaysFed waits waits' → ReadsOn between waits' new waits'' more → ReadsOn old waits new waits'' (played ++ more)
-reads-then old between new waits waits' waits'' played more first stays second = record {
-  statements = first.statements ++ second.statements;
-  reads = λ bytes last comes. first.reads bytes last comes
-      ∙ ap (λ statements. first.statements ++ statements) (second.reads bytes last (comes-on waits waits' stays bytes last comes))
-      ∙ sym (append_assoc first.statements second.statements (statements_of last (waits''.waiting ++ bytes)));
-  leads = leads-then old between new first.statements second.statements played more first.leads second.leads;
-}
+pub reads-then : (waits waits' waits'' : Reading) (statements others : List Statement) → Reads waits statements waits' → StaysFed waits waits'
+    → Reads waits' others waits'' → Reads waits (statements ++ others) waits''
+reads-then waits waits' waits'' statements others first stays second bytes last comes =
+    first bytes last comes
+    ∙ ap (λ list. statements ++ list) (second bytes last (comes-on waits waits' stays bytes last comes))
+    ∙ sym (append_assoc statements others (statements_of last (waits''.waiting ++ bytes)))
 
--- what may be played behind what was read could be played before
-pub may-behind : (old new : State) (waits waits' : Reading) (played : List Played) → ReadsOn old waits new waits' played
-    → (more : List ℕ) (last : Bool) → MayCome waits more last → (later : List Played) (after : List Change)
-    → MayPlay new (statements_of last (waits'.waiting ++ more)) later after → MayPlay old (statements_of last (waits.waiting ++ more)) (played ++ later) after
-may-behind old new waits waits' played reads more last comes later after may =
-    subst (λ statements. MayPlay old statements (played ++ later) after) (sym (reads.reads more last comes))
-    (reads.leads.plays (statements_of last (waits'.waiting ++ more)) later after may)
-
--- what was written of the texts of two lists
-append-text : (played later : List Played) (written rest : List ℕ) → text_of_played later ≡ written ++ rest
-    → text_of_played (played ++ later) ≡ (text_of_played played ++ written) ++ rest
-append-text played later written rest is =
-    text-append played later ∙ ap (λ text. text_of_played played ++ text) is ∙ sym (append_assoc (text_of_played played) written rest)
-
--- a front of what is still to come, behind what was written
-pub front-behind : (old new : State) (waits waits' : Reading) (played : List Played) (written : List ℕ) → ReadsOn old waits new waits' played
-    → StaysFed waits waits' → ReadsFront new waits' written → ReadsFront old waits (text_of_played played ++ written)
-front-behind old new waits waits' played written reads stays front more last comes =
-    let later = front more last (comes-on waits waits' stays more last comes) in (
-      played ++ later.0,
-      later.1,
-      may-behind old new waits waits' played reads more last comes later.0 later.1 later.2,
-      (later.3.0, append-text played later.0 written later.3.0 later.3.1),
-    )
-
-pub part-behind : (old new : State) (waits waits' : Reading) (played : List Played) (written : List ℕ) → ReadsOn old waits new waits' played
-    → StaysFed waits waits' → ReadsInPart new waits' written → ReadsInPart old waits (text_of_played played ++ written)
-part-behind old new waits waits' played written reads stays part more last comes =
-    let later = part more last (comes-on waits waits' stays more last comes) in (
-      played ++ later.0,
-      later.1,
-      may-behind old new waits waits' played reads more last comes later.0 later.1 later.2,
-      (later.3.0, later.3.1, append-text played later.0 written later.3.0 later.3.2),
-    )
-
--- the replies halt before any was written, behind some, and at the first statement or where none is given
-pub off-itself : (state : State) (waits : Reading) → BreaksOff state waits state []
-off-itself state waits = record {
-  submitted = [];
-  played = [];
-  begins = λ more last comes. (statements_of last (waits.waiting ++ more), refl);
-  leads = leads-itself state;
-  front = ([], refl);
-}
-
-pub off-behind : (old between new : State) (waits waits' : Reading) (played : List Played) (written : List ℕ) → ReadsOn old waits between waits' played
-    → StaysFed waits waits' → BreaksOff between waits' new written → BreaksOff old waits new (text_of_played played ++ written)
-off-behind old between new waits waits' played written reads stays off = record {
-  submitted = reads.statements ++ off.submitted;
-  played = played ++ off.played;
-  begins = λ more last comes.
-      let on = off.begins more last (comes-on waits waits' stays more last comes) in (
-        on.0,
-        reads.reads more last comes ∙ ap (λ statements. reads.statements ++ statements) on.1
-            ∙ sym (append_assoc reads.statements off.submitted on.0),
-      );
-  leads = leads-then old between new reads.statements off.submitted played off.played reads.leads off.leads;
-  front = (off.front.0, append-text played off.played written off.front.0 off.front.1);
-}
-
-pub off-first : (state new : State) (waits waits' : Reading) (statement : Statement) (written : List ℕ) → TakesFirst waits waits' statement
-    → BreaksIn state (statement ∷ []) new written → BreaksOff state waits new written
-off-first state new waits waits' statement written first off = record {
-  submitted = off.submitted;
-  played = off.played;
-  begins = λ more last comes.
-      let rest = statements_of last (waits'.waiting ++ more) in (
-        off.others ++ rest,
-        first more last comes ∙ ap (λ statements. statements ++ rest) off.begins ∙ append_assoc off.submitted off.others rest,
-      );
-  leads = off.leads;
-  front = off.front;
-}
-
-pub off-none : (state new : State) (waits : Reading) (written : List ℕ) → BreaksIn state [] new written → BreaksOff state waits new written
-off-none state new waits written off = record {
-  submitted = off.submitted;
-  played = off.played;
-  begins = λ more last comes.
-      let rest = statements_of last (waits.waiting ++ more) in
-      (off.others ++ rest, ap (λ statements. statements ++ rest) off.begins ∙ append_assoc off.submitted off.others rest);
-  leads = off.leads;
-  front = off.front;
-}
-
--- a proper front is a front
-pub part-front : (state : State) (waits : Reading) (written : List ℕ) → ReadsInPart state waits written → ReadsFront state waits written
-part-front state waits written part more last comes =
-    let later = part more last comes in (later.0, later.1, later.2, (later.3.0, later.3.2))
-
--- the replies halt at the first statement that waits, or where no statement is given
-pub part-first : (state : State) (waits waits' : Reading) (statement : Statement) (written : List ℕ) → TakesFirst waits waits' statement
-    → HaltsPlay state (statement ∷ []) written → ReadsInPart state waits written
-part-first state waits waits' statement written first halts more last comes =
-    let later = halts (statements_of last (waits'.waiting ++ more)) in
-    (later.0, later.1, subst (λ statements. MayPlay state statements later.0 later.1) (sym (first more last comes)) later.2, later.3)
-
-pub part-none : (state : State) (waits : Reading) (written : List ℕ) → HaltsPlay state [] written → ReadsInPart state waits written
-part-none state waits written halts more last comes = halts (statements_of last (waits.waiting ++ more))
-
--- memory was wanted before anything more was written
-pub front-wanting : (state : State) (waits : Reading) → ReadsFront state waits []
-front-wanting state waits more last comes =
-    let later = may-play-some state (statements_of last (waits.waiting ++ more)) in
-    (later.0, later.1, later.2, (text_of_played later.0, refl))
-
--- statements that are left have replies of which nothing was written
-left-some : (state : State) (statements : List Statement) → statements ≢ [] → (played : List Played) × (after : List Change)
-    × MayPlay state statements played after × IsProperFront [] (text_of_played played)
-left-some state [] some = absurd (some refl)
-left-some state (statement ∷ statements) some = halts-first state statement [] statements
+-- all that came was read where no statement is left
+pub reads-all : (waits waits' : Reading) (statements : List Statement) (last : Bool) → Reads waits statements waits' → MayCome waits [] last
+    → statements_of last waits.waiting ≡ statements ++ statements_of last waits'.waiting
+reads-all waits waits' statements last reads comes =
+    ap (statements_of last) (sym (append-nil waits.waiting)) ∙ reads [] last comes
+    ∙ ap (λ bytes. statements ++ statements_of last bytes) (append-nil waits'.waiting)
 
 -- memory was wanted at the end of the input, where a statement is left
-pub part-wanting : (state : State) (waits waits' : Reading) → Wants waits waits' → waits.ended ≡ true → ReadsInPart state waits []
-part-wanting state waits waits' wants ended more last comes =
-    let end = comes ended in
-    left-some state (statements_of last (waits.waiting ++ more)) (rw (end.0, end.1, append-nil waits.waiting) (wants.0 ended))
+pub leaves-wanting : (waits waits' : Reading) → Wants waits waits' → LeavesSome waits
+leaves-wanting waits waits' wants ended = wants.0 ended
+
+-- no statement is left that is whole, and what waits means the same
+pub reads-done : (waits waits' : Reading) (next : Next) → ((statement : Statement) → next ≢ Got statement) → Answers waits waits' next → StaysFed waits waits'
+    → Reads waits [] waits' × HasNoStatement waits'
+reads-done waits waits' (Got statement) never answers stays = absurd (never statement refl)
+reads-done waits waits' NotYet never answers stays = (
+  λ more last comes. sym (answers.3 more last comes),
+  subst (λ ended. statements_of ended waits'.waiting ≡ []) (sym (stays.1 ∙ answers.0)) answers.2,
+)
+reads-done waits waits' End never answers stays = (
+  λ more last comes. let end = comes answers.0 in rw (end.0, end.1, append-nil waits.waiting, append-nil waits'.waiting) (answers.1 ∙ sym answers.2),
+  subst (λ ended. statements_of ended waits'.waiting ≡ []) (sym (stays.1 ∙ answers.0)) answers.2,
+)

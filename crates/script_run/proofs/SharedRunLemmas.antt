@@ -1,5 +1,10 @@
 -- A run over a core, from what was read and written so far.
-use Rattle.script_run.proofs.Words.{◌++◌, ◌+◌, ◌||◌, ◌∙◌, ◌≡◌, ◌≤◌, [], ap, append_assoc, arith, Bool, Consumes, Consumes-nil, Consumes-trans, empty_core, false, fed_with, length, length-append, List, Ok, Option, Played, PlaysWhole, Reading, ReadsOn, refl, RunSettings, SCRIPT_LIMIT, State, statements_of, StaysFed, subst, sym, ℕ}
+use Rattle.script_run.proofs.Words.{◌++◌, ◌+◌, ◌||◌, ◌∙◌, ◌≡◌, ◌≤◌, [], ap, append_assoc, arith, Bool, Consumes, Consumes-nil, Consumes-trans, empty_core, false, fed_with, HasNoStatement, length, length-append, List, Ok, Option, Reading, refl, RunSettings, Seat, SCRIPT_LIMIT, State, Statement, statements_of, StaysFed, subst, sym, ℕ}
+use Rattle.core_state.specs.Fronts.{IsDue}
+use Rattle.core_state.specs.Rows.{sight_of}
+use Rattle.script_run.specs.Front.{LeavesSome, PlaysWhole, Reads}
+use Rattle.script_run.proofs.FrontNewLemmas.{new-seat}
+use Rattle.script_run.proofs.OnLemmas.{due-none}
 use Rattle.script_run.proofs.RunLemmas.{came, finished}
 use Rattle.script_run.proofs.SharedWholeLemmas.{IsPlaying, playing-then, starts-playing}
 
@@ -8,7 +13,11 @@ pub record IsShared (settings : RunSettings) (now : State) (waits : Reading) (re
   pub given : List ℕ
   pub gave : Consumes left0 left given
   pub within : waits.fed ≤ SCRIPT_LIMIT
-  pub way : IsPlaying (empty_core settings) now (came given) waits refused taken0 taken
+  pub way : IsPlaying (empty_core settings) [] now (came given) waits refused taken0 taken
+
+-- an empty core waits for nothing
+pub new-due : (settings : RunSettings) → IsDue 0 (sight_of (empty_core settings) 0) []
+new-due settings = due-none (empty_core settings) (ap (λ (seat : Seat). seat.pending) (new-seat settings))
 
 pub starts-shared : (settings : RunSettings) (now : State) (waits : Reading) (left taken : Option (List ℕ)) → now ≡ empty_core settings
     → waits ≡ record { waiting = []; fed = 0; ended = false } → IsShared settings now waits false left left taken taken
@@ -16,8 +25,23 @@ starts-shared settings now waits left taken is none = rw (is, none) (record {
   given = [];
   gave = Consumes-nil left;
   within = omega arith;
-  way = starts-playing (empty_core settings) (came []) taken;
+  way = starts-playing (empty_core settings) [] (came []) taken (new-due settings);
 })
+
+-- all statements that were whole were given, behind others
+pub whole-way : (old now new : State) (first waits waits' : Reading) (refused some : Bool) (taken0 taken taken' : Option (List ℕ))
+    → IsPlaying old [] now first waits refused taken0 taken → PlaysWhole (Ok some) now waits new waits' taken taken'
+    → IsPlaying old [] new first waits' (refused || some) taken0 taken'
+whole-way old now new first waits waits' refused some taken0 taken taken' way plays =
+    let whole = plays way.plays.0.on.still way.plays.0.on.goes.waits in
+    subst (λ reader. IsPlaying old [] new first reader (refused || some) taken0 taken') whole.0.all.0
+    (playing-then old now new [] first waits whole.0.behind refused some taken0 taken taken' whole.0.statements (LeavesSome whole.0.behind) way
+    whole.0.reads whole.0.stays (whole.0.plays, whole.1.0) whole.1.1)
+
+-- and no statement is left that is whole
+pub way-none : (old now new : State) (first waits waits' : Reading) (refused some : Bool) (taken0 taken taken' : Option (List ℕ))
+    → IsPlaying old [] now first waits refused taken0 taken → PlaysWhole (Ok some) now waits new waits' taken taken' → HasNoStatement waits'
+way-none old now new first waits waits' refused some taken0 taken taken' way plays = (plays way.plays.0.on.still way.plays.0.on.goes.waits).0.all.1
 
 -- every whole statement was given to the core
 pub whole-shared : (settings : RunSettings) (now new : State) (waits waits' : Reading) (refused some : Bool) (left0 left taken0 taken taken' : Option (List ℕ))
@@ -27,18 +51,15 @@ whole-shared settings now new waits waits' refused some left0 left taken0 taken 
   given = run.given;
   gave = run.gave;
   within = subst (λ fed. fed ≤ SCRIPT_LIMIT) (sym stays.0) run.within;
-  way = playing-then (empty_core settings) now new (came run.given) waits waits' refused some taken0 taken taken' plays.0 run.way plays.2 stays plays.1 plays.3 plays.5;
+  way = whole-way (empty_core settings) now new (came run.given) waits waits' refused some taken0 taken taken' run.way plays;
 }
 
 -- what was read of some bytes was read of them and those behind them
-pub fed-reads : (old now : State) (given piece : List ℕ) (waits : Reading) (played : List Played) → ReadsOn old (came given) now waits played
-    → ReadsOn old (came (given ++ piece)) now (fed_with waits piece) played
-fed-reads old now given piece waits played reads = record {
-  statements = reads.statements;
-  reads = λ more last comes. ap (statements_of last) (append_assoc given piece more) ∙ reads.reads (piece ++ more) last (λ e. cc)
-      ∙ ap (λ bytes. reads.statements ++ statements_of last bytes) (sym (append_assoc waits.waiting piece more));
-  leads = reads.leads;
-}
+pub fed-reads : (given piece : List ℕ) (waits : Reading) (statements : List Statement) → Reads (came given) statements waits
+    → Reads (came (given ++ piece)) statements (fed_with waits piece)
+fed-reads given piece waits statements reads more last comes =
+    ap (statements_of last) (append_assoc given piece more) ∙ reads (piece ++ more) last (λ e. cc)
+    ∙ ap (λ bytes. statements ++ statements_of last bytes) (sym (append_assoc waits.waiting piece more))
 
 -- a piece more was fed
 pub fed-shared : (settings : RunSettings) (now : State) (waits waits' : Reading) (refused : Bool) (left0 left left' taken0 taken : Option (List ℕ)) (piece : List ℕ)
@@ -49,24 +70,22 @@ fed-shared settings now waits waits' refused left0 left left' taken0 taken piece
   gave = Consumes-trans left0 left left' run.given piece run.gave gave;
   within = within;
   way = rw is (record {
-    played = run.way.played;
-    appended = run.way.appended;
-    reads = fed-reads (empty_core settings) now run.given piece waits run.way.played run.way.reads;
+    statements = run.way.statements;
+    reads = fed-reads run.given piece waits run.way.statements run.way.reads;
     stays = (ap (λ n. n + length piece) run.way.stays.0 ∙ sym (length-append run.given piece), run.way.stays.1);
-    refusals = run.way.refusals;
+    plays = run.way.plays;
     laps = run.way.laps;
   });
 }
 
 -- the same where the input has ended
 pub finished-way : (old now : State) (given : List ℕ) (waits : Reading) (refused : Bool) (taken0 taken : Option (List ℕ))
-    → IsPlaying old now (came given) waits refused taken0 taken → IsPlaying old now (finished (came given)) (finished waits) refused taken0 taken
+    → IsPlaying old [] now (came given) waits refused taken0 taken → IsPlaying old [] now (finished (came given)) (finished waits) refused taken0 taken
 finished-way old now given waits refused taken0 taken way = record {
-  played = way.played;
-  appended = way.appended;
-  reads = record { statements = way.reads.statements; reads = λ more last comes. way.reads.reads more last (λ e. cc); leads = way.reads.leads };
+  statements = way.statements;
+  reads = λ more last comes. way.reads more last (λ e. cc);
   stays = (way.stays.0, refl);
-  refusals = way.refusals;
+  plays = way.plays;
   laps = way.laps;
 }
 
@@ -78,7 +97,7 @@ few-given settings now waits refused left0 left taken0 taken run = subst (λ n. 
 -- the last statements were given to the core
 pub ended-way : (settings : RunSettings) (now mid : State) (waits waits' : Reading) (refused some : Bool) (left0 left taken0 taken taken' : Option (List ℕ))
     → (run : IsShared settings now waits refused left0 left taken0 taken) → PlaysWhole (Ok some) now (finished waits) mid waits' taken taken'
-    → StaysFed (finished waits) waits' → IsPlaying (empty_core settings) mid (finished (came run.given)) waits' (refused || some) taken0 taken'
-ended-way settings now mid waits waits' refused some left0 left taken0 taken taken' run whole stays =
-    playing-then (empty_core settings) now mid (finished (came run.given)) (finished waits) waits' refused some taken0 taken taken' whole.0
-    (finished-way (empty_core settings) now run.given waits refused taken0 taken run.way) whole.2 stays whole.1 whole.3 whole.5
+    → IsPlaying (empty_core settings) [] mid (finished (came run.given)) waits' (refused || some) taken0 taken'
+ended-way settings now mid waits waits' refused some left0 left taken0 taken taken' run whole =
+    whole-way (empty_core settings) now mid (finished (came run.given)) (finished waits) waits' refused some taken0 taken taken'
+    (finished-way (empty_core settings) now run.given waits refused taken0 taken run.way) whole

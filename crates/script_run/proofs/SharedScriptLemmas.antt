@@ -1,74 +1,309 @@
--- What was played of a script, from an empty core on: the replies to all of it, or a front of them.
-use Rattle.script_run.proofs.Words.{◌++◌, ◌||◌, ◌∙◌, ◌∷◌, ◌≡◌, [], ap, append-nil, Bool, Change, empty_core, is_refusal, IsFront, IsProperFront, List, list_any, map, MayCome, MayPlay, Played, Reading, ReadsFront, ReadsInPart, ReadsOn, refl, refused_of_played, RunSettings, script_replies, script_text, Seat, seat_at, some_refused, State, statements_of, sym, Tells, text_of_all, text_of_played, ℕ}
-use Rattle.script_run.proofs.PlayedLeadLemmas.{plays-idle}
-use Rattle.script_run.proofs.PlayedReplyLemmas.{script-replies}
-use Rattle.script_run.proofs.PlayedWholeLemmas.{new-seat}
-use Rattle.script_run.proofs.ToldScriptLemmas.{whole-told}
+-- What a core that was empty tells of the statements that a run gave to it: of all of a script, or of a front of its replies.
+use Rattle.script_run.proofs.Words.{◌++◌, ◌<◌, ◌∙◌, ◌∷◌, ◌≡◌, ◌≢◌, ◌⊎◌, [], accepted_by, All, ap, append-nil, append_assoc, arith, Bool, Change, changes_of, cond, effect_of, empty_core, Entry, if◌then◌else◌, false, Halt, history_after, is_refusal, is_wanted_at, IsFront, IsProperFront, length, length-append, List, list_any, map, map-append, Memory, NoMemory, None, Option, queries_among, refl, replies_after, replies_of, Reply, RunSettings, script_replies, script_text, Seat, seat_at, Some, some_refused, State, Statement, statements_of, store_of, subst, suc, sym, taken_by, Tells, text_of, text_of_all, true, WriteFault, ℕ, ⊎_elim}
+use Rattle.core_state.specs.Fronts.{IsPointWithin}
+use Rattle.core_state.specs.Points.{ComeInParts}
+use Rattle.core_state.specs.Queries.{given_in}
+use Rattle.core_state.specs.Rows.{sight_of}
+use Rattle.core_state.specs.Sent.{AreEntriesOf, AreRepliesTo, Sent, statement_in, statements_in, takens_of}
+use Rattle.core_state.proofs.PointLemmas.{entries-split, points-within, replies-less}
+use Rattle.script_run.specs.Front.{HaltsAt, PlaysIn, PlaysOn, Submits, givens_in}
+use Rattle.script_run.specs.Seat.{IsWhole, TellsSeat}
+use Rattle.script_run.specs.Shared.{nothing}
+use Rattle.script_run.specs.Told.{AreQueriesOf, history_of}
+use Rattle.script_run.proofs.FrontNewLemmas.{new-seat}
+use Rattle.script_run.proofs.OnLemmas.{idle-still, sent-all, text-append}
+use Rattle.script_run.proofs.SeatTellsLemmas.{tells-plays, tells-whole}
+use Rattle.script_run.proofs.ToldAloneLemmas.{all-left, seat-alone, told-sent}
+use Rattle.script_run.proofs.ToldWantedLemmas.{AreTold}
+use Rattle.script_run.proofs.WholeLemmas.{text_some}
 
--- the replies to what may be played of a script in an empty core
-replies-new : (settings : RunSettings) (ended : Bool) (script : List ℕ) (played : List Played) (after : List Change)
-    → MayPlay (empty_core settings) (statements_of ended script) played after
-    → (wanted : List ℕ) × (map (λ one. one.reply) played ≡ script_replies wanted ended script)
-replies-new settings ended script played after may =
-    script-replies (statements_of ended script) played after
-    (plays-idle (empty_core settings) (statements_of ended script) played after (ap (λ (seat : Seat). seat.pending) (new-seat settings)) may)
+-- a core in which every entry is of seat 0, and of which the queries are those among what seat 0 was given
+pub record IsAlone (core : State) : Type 0 where
+  pub own : All (λ entry. entry.seat ≡ 0) core.entries
+  pub queries : map accepted_by core.accepted ≡ queries_among (given_in (seat_at core 0))
 
--- whether one of the replies is a refusal
-refused-replies : (played : List Played) → refused_of_played played ≡ list_any is_refusal (map (λ one. one.reply) played)
-refused-replies [] = refl
-refused-replies (one ∷ played) = ap (λ test. is_refusal one.reply || test) (refused-replies played)
-
--- the text of replies that are those of a script
-same-text : (ended : Bool) (script : List ℕ) (played : List Played) (wanted : List ℕ) → map (λ one. one.reply) played ≡ script_replies wanted ended script
-    → text_of_played played ≡ script_text wanted ended script
-same-text ended script played wanted is = ap text_of_all is
+-- All was replied to.
 
 -- these are the replies to all of a script
-pub record IsScript (ended : Bool) (script : List ℕ) (played : List Played) : Type 0 where
+pub record IsScript (ended : Bool) (script : List ℕ) (replies : List Reply) : Type 0 where
   pub wanted : List ℕ
-  pub replies : map (λ one. one.reply) played ≡ script_replies wanted ended script
-  pub text : text_of_played played ≡ script_text wanted ended script
-  pub refusals : refused_of_played played ≡ some_refused wanted ended script
+  pub are : replies ≡ script_replies wanted ended script
+  pub text : text_of_all replies ≡ script_text wanted ended script
+  pub refusals : list_any is_refusal replies ≡ some_refused wanted ended script
 
--- so they are where each reply is that of the script
-is-script : (ended : Bool) (script : List ℕ) (played : List Played) (wanted : List ℕ) → map (λ one. one.reply) played ≡ script_replies wanted ended script
-    → IsScript ended script played
-is-script ended script played wanted is = record {
-  wanted = wanted;
-  replies = is;
-  text = same-text ended script played wanted is;
-  refusals = refused-replies played ∙ ap (list_any is_refusal) is;
+-- the replies are those of the statements and the core tells of them, where memory was wanted at the same places
+whole-told : (settings : RunSettings) (new : State) (statements : List Statement) (Left : Type 0) (taken taken' : Option (List ℕ))
+    → (plays : PlaysIn None (empty_core settings) [] statements Left new taken taken') → IsAlone new → (seat_at new 0).pending ≡ []
+    → (wanted : List ℕ) × (plays.on.replies ≡ replies_of wanted statements) × Tells wanted statements new
+whole-told settings new statements Left taken taken' plays is_alone idle = (
+  told.wanted,
+  told.replied ∙ ap (replies_of told.wanted) (sym are),
+  record {
+    history = told.ended ∙ ap (history_of told.wanted) (sym are);
+    queries = subst (λ list. AreQueriesOf new.lives told.wanted 0 [] list new.accepted) (sym are) told.queries;
+  },
+)
+  where
+    on : PlaysOn None 0 (sight_of (empty_core settings) 0) [] statements Left (sight_of new 0) taken taken'
+    on = plays.on
+
+    said : on.sent ≡ on.said
+    said = on.goes.queue ∙ ap (λ still. on.said ++ still) (idle-still new on.still on.goes.waits idle) ∙ append-nil on.said
+
+    are : statements ≡ statements_in on.said
+    are = sent-all statements on.sent on.rest on.are on.ends.0 ∙ ap statements_in said
+
+    given : given_in (seat_at new 0) ≡ takens_of new.entries on.said
+    given = ap (λ pending. (seat_at new 0).taken ++ map taken_by pending) idle ∙ append-nil (seat_at new 0).taken ∙ on.goes.taken
+        ∙ ap (λ (seat : Seat). seat.taken ++ takens_of new.entries on.said) (new-seat settings)
+
+    told : AreTold new.lives 0 [] (statements_in on.said) on.replies (changes_of new.entries) new.accepted
+    told = told-sent new.lives 0 0 [] on.said on.goes.since new.entries on.replies new.accepted
+        (subst (λ sent. AreEntriesOf 0 [] sent on.goes.since) said on.goes.entries)
+        (subst (All (λ (entry : Entry). entry.seat ≡ 0)) on.goes.seen is_alone.own) on.goes.seen on.goes.answered plays.answered
+        (is_alone.queries ∙ ap queries_among given)
+
+-- where these are the statements of a script, the replies are those of the script, and the core tells of it
+pub whole-script : (settings : RunSettings) (new : State) (statements : List Statement) (Left : Type 0) (taken taken' : Option (List ℕ)) (last : Bool)
+    (script : List ℕ) → (plays : PlaysIn None (empty_core settings) [] statements Left new taken taken') → IsAlone new → (seat_at new 0).pending ≡ []
+    → statements_of last script ≡ statements → (is : IsScript last script plays.on.replies) × Tells is.wanted (statements_of last script) new
+whole-script settings new statements Left taken taken' last script plays is_alone idle all =
+    let found = whole-told settings new statements Left taken taken' plays is_alone idle in
+    let are : plays.on.replies ≡ script_replies found.0 last script = found.1 ∙ ap (replies_of found.0) (sym all) in (
+      record { wanted = found.0; are = are; text = ap text_of_all are; refusals = ap (list_any is_refusal) are },
+      subst (λ list. Tells found.0 list new) (sym all) found.2,
+    )
+
+-- The replies halted.
+
+-- what was replied to has the replies of a script
+front-told : (settings : RunSettings) (new : State) (halted : Option Halt) (statements : List Statement) (Left : Type 0) (taken taken' : Option (List ℕ))
+    → (plays : PlaysIn halted (empty_core settings) [] statements Left new taken taken') → All (λ entry. entry.seat ≡ 0) new.entries
+    → (wanted : List ℕ) × (plays.on.replies ≡ replies_of wanted (statements_in plays.on.said))
+front-told settings new halted statements Left taken taken' plays own = (told.0, told.1)
+  where
+    on : PlaysOn halted 0 (sight_of (empty_core settings) 0) [] statements Left (sight_of new 0) taken taken'
+    on = plays.on
+
+    parts : ComeInParts 0 [] on.said on.still on.goes.since
+    parts = entries-split 0 [] on.said on.still on.goes.since
+        (subst (λ sent. AreEntriesOf 0 [] sent on.goes.since) on.goes.queue on.goes.entries)
+
+    all : new.entries ≡ parts.first ++ parts.later
+    all = on.goes.seen ∙ parts.all
+
+    points : All (IsPointWithin (length parts.first)) on.said
+    points = points-within 0 [] on.said parts.first parts.of_first
+
+    told : (wanted : List ℕ) × (on.replies ≡ replies_of wanted (statements_in on.said)) × (changes_of parts.first ≡ history_of wanted (statements_in on.said))
+    told = seat-alone 0 [] on.said parts.first parts.first on.replies parts.of_first
+        (all-left (λ (entry : Entry). entry.seat ≡ 0) parts.first parts.later (subst (All (λ (entry : Entry). entry.seat ≡ 0)) all own)) refl
+        (replies-less parts.first parts.later on.said on.replies points (subst (λ entries. AreRepliesTo entries on.said on.replies) all on.goes.answered))
+
+-- statements have replies
+some-replies : (wanted : List ℕ) (place : ℕ) (history : List Change) (statements : List Statement) → statements ≢ []
+    → 0 < length (text_of_all (replies_after wanted place history statements))
+some-replies wanted place history [] some = absurd (some refl)
+some-replies wanted place history (statement ∷ statements) some = by_test (is_wanted_at wanted place)
+  where
+    first-some : (reply : Reply) (replies : List Reply) → 0 < length (text_of_all (reply ∷ replies))
+    first-some reply replies =
+        let first = text_some reply in omega (arith, first, length-append (text_of reply) (text_of_all replies))
+
+    by_test : (test : Bool) → 0 < length (text_of_all (cond {A = List Reply} test (Memory ∷ replies_after wanted (suc place) history statements)
+        ((effect_of (store_of history) statement).reply ∷ replies_after wanted (suc place) (history_after history statement) statements)))
+    by_test true = first-some Memory _
+    by_test false = first-some _ _
+
+-- the replies to some statements and to others behind them
+record RepliesBehind (wanted : List ℕ) (place : ℕ) (history : List Change) (statements others : List Statement) : Type 0 where
+  more : List Reply
+  are : replies_after wanted place history (statements ++ others) ≡ replies_after wanted place history statements ++ more
+  some : others ≢ [] → 0 < length (text_of_all more)
+
+replies-behind : (wanted : List ℕ) (place : ℕ) (history : List Change) (statements others : List Statement)
+    → RepliesBehind wanted place history statements others
+replies-behind wanted place history [] others = record {
+  more = replies_after wanted place history others;
+  are = refl;
+  some = some-replies wanted place history others;
 }
+replies-behind wanted place history (statement ∷ statements) others =
+    by_parts (replies-behind wanted (suc place) history statements others)
+    (replies-behind wanted (suc place) (history_after history statement) statements others)
+  where
+    by_parts : RepliesBehind wanted (suc place) history statements others
+        → RepliesBehind wanted (suc place) (history_after history statement) statements others
+        → RepliesBehind wanted place history (statement ∷ statements) others
+    by_parts lost made = record {
+      more = if is_wanted_at wanted place then lost.more else made.more;
+      are = by_are (is_wanted_at wanted place);
+      some = by_some (is_wanted_at wanted place);
+    }
+      where
+        first : Reply
+        first = (effect_of (store_of history) statement).reply
 
--- where no whole statement is left and nothing is waited for, all of a script was replied to, and the core tells of it
-pub whole-script : (settings : RunSettings) (new : State) (waits waits' : Reading) (played : List Played) (last : Bool)
-    → ReadsOn (empty_core settings) waits new waits' played → MayCome waits [] last → statements_of last waits'.waiting ≡ []
-    → (seat_at new 0).pending ≡ [] → (script : IsScript last waits.waiting played) × Tells script.wanted (statements_of last waits.waiting) new
-unfolding is-script
-whole-script settings new waits waits' played last reads comes none idle =
-    let found = whole-told settings new waits waits' played last reads comes none idle in
-    (is-script last waits.waiting played found.0 found.1, found.2)
+        after : List Change
+        after = history_after history statement
 
--- the text of the replies to what may be played of a script
-text-script : (settings : RunSettings) (ended : Bool) (script : List ℕ) (played : List Played) (after : List Change)
-    → MayPlay (empty_core settings) (statements_of ended (script ++ [])) played after
-    → (wanted : List ℕ) × (text_of_played played ≡ script_text wanted ended script)
-text-script settings ended script played after may =
-    let replies = replies-new settings ended script played after (rw (append-nil script) at may) in
-    (replies.0, same-text ended script played replies.0 replies.1)
+        by_are : (test : Bool)
+            → (if test then Memory ∷ replies_after wanted (suc place) history (statements ++ others)
+            else (first ∷ replies_after wanted (suc place) after (statements ++ others)))
+            ≡ (if test then Memory ∷ replies_after wanted (suc place) history statements
+            else (first ∷ replies_after wanted (suc place) after statements)) ++ (if test then lost.more else made.more)
+        by_are true = ap (λ list. Memory ∷ list) lost.are
+        by_are false = ap (λ list. first ∷ list) made.are
 
--- a front of what may be played in an empty core is one of a script's replies
-pub front-script : (settings : RunSettings) (waits : Reading) (written : List ℕ) → ReadsFront (empty_core settings) waits written
-    → (last : Bool) → MayCome waits [] last → (wanted : List ℕ) × IsFront written (script_text wanted last waits.waiting)
-front-script settings waits written front last comes =
-    let found = front [] last comes in
-    let text = text-script settings last waits.waiting found.0 found.1 found.2 in
-    (text.0, (found.3.0, sym text.1 ∙ found.3.1))
+        by_some : (test : Bool) → others ≢ [] → 0 < length (text_of_all (if test then lost.more else made.more))
+        by_some true = lost.some
+        by_some false = made.some
 
--- and so is a proper front
-pub part-script : (settings : RunSettings) (waits : Reading) (written : List ℕ) → ReadsInPart (empty_core settings) waits written
-    → (last : Bool) → MayCome waits [] last → (wanted : List ℕ) × IsProperFront written (script_text wanted last waits.waiting)
-part-script settings waits written part last comes =
-    let found = part [] last comes in
-    let text = text-script settings last waits.waiting found.0 found.1 found.2 in
-    (text.0, (found.3.0, found.3.1, sym text.1 ∙ found.3.2))
+-- a front of the text of some replies is one of these and others
+front-more : (replies more : List Reply) (written : List ℕ) → IsFront written (text_of_all replies) → IsFront written (text_of_all (replies ++ more))
+front-more replies more written (rest, is) = (
+  rest ++ text_of_all more,
+  text-append replies more ∙ ap (λ text. text ++ text_of_all more) is ∙ append_assoc written rest (text_of_all more),
+)
+
+proper-more : (replies more : List Reply) (written : List ℕ) → IsFront written (text_of_all replies) → 0 < length (text_of_all more)
+    → IsProperFront written (text_of_all (replies ++ more))
+proper-more replies more written (rest, is) some = (
+  rest ++ text_of_all more,
+  omega (arith, some, length-append rest (text_of_all more)),
+  text-append replies more ∙ ap (λ text. text ++ text_of_all more) is ∙ append_assoc written rest (text_of_all more),
+)
+
+proper-on : (replies more : List Reply) (written : List ℕ) → IsProperFront written (text_of_all replies)
+    → IsProperFront written (text_of_all (replies ++ more))
+proper-on replies more written (rest, some, is) = (
+  rest ++ text_of_all more,
+  omega (arith, some, length-append rest (text_of_all more)),
+  text-append replies more ∙ ap (λ text. text ++ text_of_all more) is ∙ append_assoc written rest (text_of_all more),
+)
+
+-- whether what is left has to be known
+abbrev pub Sure : Halt → Type 0 → Type 0
+Sure WriteFault Known = Unit {0}
+Sure NoMemory Known = Known
+
+-- what was written is a front of the replies to some statements and others, and a proper one where a write failed or something is left
+record IsCutShort (halt : Halt) (wanted : List ℕ) (written : List ℕ) (all : List Statement) (Known : Type 0) : Type 0 where
+  front : IsFront written (text_of_all (replies_of wanted all))
+  part : Sure halt Known → IsProperFront written (text_of_all (replies_of wanted all))
+
+cut-short : (halt : Halt) (wanted written : List ℕ) (replies : List Reply) (said others all : List Statement) (Left : Type 0)
+    → replies ≡ replies_of wanted said → all ≡ said ++ others → HaltsAt halt written replies Left
+    → IsCutShort halt wanted written all (Left → others ≢ [])
+cut-short halt wanted written replies said others all Left are is halts = record { front = front halt halts; part = part halt halts }
+  where
+    behind : RepliesBehind wanted 0 [] said others
+    behind = replies-behind wanted 0 [] said others
+
+    same : replies ++ behind.more ≡ replies_of wanted all
+    same = ap (λ list. list ++ behind.more) are ∙ sym behind.are ∙ ap (replies_of wanted) (sym is)
+
+    front : (why : Halt) → HaltsAt why written replies Left → IsFront written (text_of_all (replies_of wanted all))
+    front WriteFault at = subst (λ list. IsFront written (text_of_all list)) same (front-more replies behind.more written (at.0, at.2))
+    front NoMemory at = subst (λ list. IsFront written (text_of_all list)) same (front-more replies behind.more written at.0)
+
+    part : (why : Halt) → HaltsAt why written replies Left → Sure why (Left → others ≢ []) → IsProperFront written (text_of_all (replies_of wanted all))
+    part WriteFault at known = subst (λ list. IsProperFront written (text_of_all list)) same (proper-on replies behind.more written at)
+    part NoMemory at known = subst (λ list. IsProperFront written (text_of_all list)) same
+        (⊎_elim (λ proper. proper-on replies behind.more written proper)
+        (λ left. proper-more replies behind.more written at.0 (behind.some (known left))) at.1)
+
+-- of what a run gave to an empty core
+pub record IsHalted (halt : Halt) (written : List ℕ) (last : Bool) (script : List ℕ) (Known : Type 0) : Type 0 where
+  pub wanted : List ℕ
+  pub front : IsFront written (script_text wanted last script)
+  pub part : Sure halt Known → IsProperFront written (script_text wanted last script)
+
+pub halted-script : (halt : Halt) (settings : RunSettings) (new : State) (statements others : List Statement) (Left : Type 0) (taken taken' : Option (List ℕ))
+    (last : Bool) (script : List ℕ) → (plays : PlaysIn (Some halt) (empty_core settings) [] statements Left new taken taken')
+    → All (λ entry. entry.seat ≡ 0) new.entries → statements_of last script ≡ statements ++ others
+    → IsHalted halt plays.on.written last script (Left → others ≢ [])
+halted-script halt settings new statements others Left taken taken' last script plays own all =
+    let told = front-told settings new (Some halt) statements Left taken taken' plays own in
+    let short = cut-short halt told.0 on.written on.replies (statements_in on.said) (statements_in on.still ++ (on.rest ++ others))
+    (statements_of last script) ((on.still ≢ []) ⊎ ((on.rest ≢ []) ⊎ Left)) told.1 parts on.ends in
+    record { wanted = told.0; front = short.front; part = λ known. short.part (sure halt known) }
+  where
+    on : PlaysOn (Some halt) 0 (sight_of (empty_core settings) 0) [] statements Left (sight_of new 0) taken taken'
+    on = plays.on
+
+    parts : statements_of last script ≡ statements_in on.said ++ (statements_in on.still ++ (on.rest ++ others))
+    parts = all ∙ ap (λ list. list ++ others) (on.are ∙ ap (λ sent. statements_in sent ++ on.rest) on.goes.queue)
+        ∙ append_assoc (statements_in (on.said ++ on.still)) on.rest others
+        ∙ ap (λ list. list ++ (on.rest ++ others)) (map-append statement_in on.said on.still)
+        ∙ append_assoc (statements_in on.said) (statements_in on.still) (on.rest ++ others)
+
+    some-sent : (still : List Sent) (rest : List Statement) → still ≢ [] → (statements_in still ++ rest) ≢ []
+    some-sent [] rest some same = some refl
+    some-sent (one ∷ still) rest some same = absurd (let both : statement_in one ∷ (statements_in still ++ rest) ≡ [] = same in cc)
+
+    some-rest : (first rest : List Statement) → rest ≢ [] → (first ++ rest) ≢ []
+    some-rest [] rest some same = some same
+    some-rest (statement ∷ first) rest some same = absurd (let both : statement ∷ (first ++ rest) ≡ [] = same in cc)
+
+    some-first : (first rest : List Statement) → first ≢ [] → (first ++ rest) ≢ []
+    some-first [] rest some same = some refl
+    some-first (statement ∷ first) rest some same = absurd (let both : statement ∷ (first ++ rest) ≡ [] = same in cc)
+
+    sure : (why : Halt) → Sure why (Left → others ≢ [])
+        → Sure why ((on.still ≢ []) ⊎ ((on.rest ≢ []) ⊎ Left) → (statements_in on.still ++ (on.rest ++ others)) ≢ [])
+    sure WriteFault known = tt
+    sure NoMemory known = ⊎_elim (λ waits. some-sent on.still (on.rest ++ others) waits)
+        (⊎_elim (λ rest. some-rest (statements_in on.still) (on.rest ++ others) (some-first on.rest others rest))
+        (λ left. some-rest (statements_in on.still) (on.rest ++ others) (some-rest on.rest others (known left))))
+
+-- What the core tells of the statements that were given to it.
+
+-- what seat 0 sees of an empty core
+new-sight : (settings : RunSettings) → sight_of (empty_core settings) 0 ≡ nothing
+new-sight settings =
+    ap (λ (seat : Seat). record { row = record { submitted = seat.submitted; made = []; pending = seat.pending; taken = seat.taken; hand = None }; seen = [] })
+    (new-seat settings)
+
+-- the statements of a script, of which the first were given to a core that was empty, and those that it has were submitted
+pub record TellsSome (new : State) (all : List Statement) (replies : List Reply) : Type 0 where
+  pub tells : TellsSeat 0 nothing (sight_of new 0) all replies
+  pub settings : RunSettings
+  pub submits : Submits (givens_in (tells.said ++ tells.others)) (empty_core settings) new
+
+-- all of them were replied to
+pub record TellsAll (new : State) (all : List Statement) (replies : List Reply) : Type 0 where
+  pub some : TellsSome new all replies
+  pub whole : IsWhole some.tells
+
+-- by what a run did
+pub tells-given : (settings : RunSettings) (new : State) (halted : Option Halt) (statements others all : List Statement) (Left : Type 0)
+    (taken taken' : Option (List ℕ)) → (plays : PlaysIn halted (empty_core settings) [] statements Left new taken taken') → all ≡ statements ++ others
+    → TellsSome new all plays.on.replies
+tells-given settings new halted statements others all Left taken taken' plays is =
+    let both : (tells : TellsSeat 0 nothing (sight_of new 0) all plays.on.replies)
+    × Submits (givens_in (tells.said ++ tells.others)) (empty_core settings) new =
+    subst (λ old. (tells : TellsSeat 0 old (sight_of new 0) all plays.on.replies)
+    × Submits (givens_in (tells.said ++ tells.others)) (empty_core settings) new) (new-sight settings) (
+      tells-plays halted 0 (sight_of (empty_core settings) 0) (sight_of new 0) statements all others Left taken taken' plays.on is,
+      subst (λ sent. Submits (givens_in sent) (empty_core settings) new) plays.on.goes.queue plays.run,
+    ) in
+    record { tells = both.0; settings = settings; submits = both.1 }
+
+pub tells-whole-given : (settings : RunSettings) (new : State) (statements all : List Statement) (Left : Type 0) (taken taken' : Option (List ℕ))
+    → (plays : PlaysIn None (empty_core settings) [] statements Left new taken taken') → (seat_at new 0).pending ≡ [] → all ≡ statements
+    → TellsAll new all plays.on.replies
+tells-whole-given settings new statements all Left taken taken' plays idle is =
+    let both : (tells : TellsSeat 0 nothing (sight_of new 0) all plays.on.replies)
+    × Submits (givens_in (tells.said ++ tells.others)) (empty_core settings) new × IsWhole tells =
+    subst (λ old. (tells : TellsSeat 0 old (sight_of new 0) all plays.on.replies)
+    × Submits (givens_in (tells.said ++ tells.others)) (empty_core settings) new × IsWhole tells) (new-sight settings) (
+      tells-plays None 0 (sight_of (empty_core settings) 0) (sight_of new 0) statements all [] Left taken taken' plays.on whole,
+      subst (λ sent. Submits (givens_in sent) (empty_core settings) new) plays.on.goes.queue plays.run,
+      tells-whole 0 (sight_of (empty_core settings) 0) (sight_of new 0) statements all [] Left taken taken' plays.on whole
+          (idle-still new plays.on.still plays.on.goes.waits idle) refl,
+    ) in
+    record { some = record { tells = both.0; settings = settings; submits = both.1 }; whole = both.2 }
+  where
+    whole : all ≡ statements ++ []
+    whole = is ∙ sym (append-nil statements)

@@ -1,91 +1,96 @@
 -- All statements that are whole: what was given to a core and written so far, and how that goes on and ends.
-use Rattle.script_run.proofs.Words.{◌++◌, ◌||◌, ◌∙◌, ◌∷◌, ◌≡◌, [], ap, append-nil, Appends, Appends-nil, Appends-trans, Bool, BreaksOff, Err, false, Halt, HaltsReading, LapsOn, length, List, NoMemory, Ok, Option, Played, PlaysIn, PlaysWhole, Reading, ReadsInPart, ReadsOn, refl, refused_of_played, State, Statement, statements_of, StaysFed, subst, sym, TakesFirst, text_of_played, Wants, WriteFault, ℕ}
-use Rattle.script_run.proofs.FrontHaltLemmas.{refused-append, text-append}
+use Rattle.script_run.proofs.Words.{◌++◌, ◌||◌, ◌∙◌, ◌∷◌, ◌≡◌, ◌≢◌, [], ap, Bool, Err, false, Halt, is_refusal, LapsOn, length, List, list_any, NoMemory, None, Ok, Option, Reading, refl, Some, State, Statement, statements_of, StaysFed, TakesFirst, Wants, ℕ}
+use Rattle.script_reader.specs.Reading.{Answers}
+use Rattle.script_reader.specs.declared.reader.Next.{Next}
+use Rattle.script_reader.specs.declared.reader.Next.TheVariants.{Got}
+use Rattle.core_state.specs.Fronts.{IsDue}
+use Rattle.core_state.specs.Rows.{sight_of}
+use Rattle.core_state.specs.Sent.{Sent}
+use Rattle.script_run.specs.Front.{LeavesSome, PlaysBy, Reads, ReadsOn}
 use Rattle.script_run.proofs.LapLemmas.{laps-itself, laps-then}
-use Rattle.script_run.proofs.SharedReadLemmas.{front-behind, front-wanting, off-behind, off-first, off-itself, part-behind, part-first, part-front, part-wanting, reads-first, reads-itself, reads-then}
+use Rattle.script_run.proofs.OnLemmas.{by-err, by-none, by-ok, wants-left, eased, eases-none}
+use Rattle.script_run.proofs.SharedReadLemmas.{comes-on, leaves-wanting, reads-done, reads-first, reads-itself, reads-then}
 use Rattle.script_run.proofs.WholeLemmas.{fed_on}
 
 -- the statements that were read so far were given to a core, and the replies that were there were written
-pub record IsPlaying (old now : State) (waits waits' : Reading) (refused : Bool) (taken0 taken : Option (List ℕ)) : Type 0 where
-  pub played : List Played
-  pub appended : Appends taken0 taken (text_of_played played)
-  pub reads : ReadsOn old waits now waits' played
+pub record IsPlaying (old : State) (due : List Sent) (now : State) (waits waits' : Reading) (refused : Bool) (taken0 taken : Option (List ℕ)) : Type 0 where
+  pub statements : List Statement
+  pub reads : Reads waits statements waits'
   pub stays : StaysFed waits waits'
-  pub refusals : refused ≡ refused_of_played played
-  pub laps : LapsOn old now played
+  pub plays : PlaysBy (Ok refused) old due statements ⊥ now taken0 taken
+  pub laps : LapsOn old now plays.0.on.replies
 
 -- how many statements are left
 abbrev pub statements_left : Reading → ℕ
 statements_left waits = length (statements_of waits.ended (waits.waiting ++ []))
 
-pub starts-playing : (state : State) (waits : Reading) (taken : Option (List ℕ)) → IsPlaying state state waits waits false taken taken
-starts-playing state waits taken = record {
-  played = [];
-  appended = Appends-nil taken;
-  reads = reads-itself state waits;
+pub starts-playing : (state : State) (due : List Sent) (waits : Reading) (taken : Option (List ℕ)) → IsDue 0 (sight_of state 0) due
+    → IsPlaying state due state waits waits false taken taken
+starts-playing state due waits taken is = record {
+  statements = [];
+  reads = reads-itself waits;
   stays = (refl, refl);
-  refusals = refl;
+  plays = by-none state due taken is;
   laps = laps-itself state;
 }
 
 -- one part behind another
-pub playing-then : (old between new : State) (waits waits' waits'' : Reading) (refused some : Bool) (taken0 taken taken' : Option (List ℕ)) (more : List Played)
-    → IsPlaying old between waits waits' refused taken0 taken → ReadsOn between waits' new waits'' more → StaysFed waits' waits''
-    → Appends taken taken' (text_of_played more) → some ≡ refused_of_played more → LapsOn between new more
-    → IsPlaying old new waits waits'' (refused || some) taken0 taken'
-playing-then old between new waits waits' waits'' refused some taken0 taken taken' more way reads stays took are laps = record {
-  played = way.played ++ more;
-  appended = subst (Appends taken0 taken') (sym (text-append way.played more))
-      (Appends-trans taken0 taken taken' (text_of_played way.played) (text_of_played more) way.appended took);
-  reads = reads-then old between new waits waits' waits'' way.played more way.reads way.stays reads;
+pub playing-then : (old between new : State) (due : List Sent) (waits waits' waits'' : Reading) (refused some : Bool) (taken0 taken taken' : Option (List ℕ))
+    (others : List Statement) (Left : Type 0) → (way : IsPlaying old due between waits waits' refused taken0 taken) → Reads waits' others waits'' → StaysFed waits' waits''
+    → (plays : PlaysBy (Ok some) between way.plays.0.on.still others Left new taken taken') → LapsOn between new plays.0.on.replies
+    → IsPlaying old due new waits waits'' (refused || some) taken0 taken'
+playing-then old between new due waits waits' waits'' refused some taken0 taken taken' others Left way reads stays plays laps = record {
+  statements = way.statements ++ others;
+  reads = reads-then waits waits' waits'' way.statements others way.reads way.stays reads;
   stays = fed_on waits waits' waits'' way.stays stays;
-  refusals = ap (λ test. test || some) way.refusals ∙ ap (λ test. refused_of_played way.played || test) are
-      ∙ sym (refused-append way.played more);
-  laps = laps-then old between new way.played more way.laps laps;
+  plays = by-ok refused some old between new due way.statements others ⊥ Left ⊥ taken0 taken taken' way.plays plays;
+  laps = laps-then old between new way.plays.0.on.replies plays.0.on.replies way.laps laps;
 }
 
--- the first statement that waits was given
-pub playing-first : (old between new : State) (waits waits' waits'' : Reading) (statement : Statement) (refused some : Bool) (taken0 taken taken' : Option (List ℕ))
-    → IsPlaying old between waits waits' refused taken0 taken → TakesFirst waits' waits'' statement → StaysFed waits' waits''
-    → PlaysIn (Ok some) between (statement ∷ []) new taken taken' → IsPlaying old new waits waits'' (refused || some) taken0 taken'
-playing-first old between new waits waits' waits'' statement refused some taken0 taken taken' way first stays plays =
-    playing-then old between new waits waits' waits'' refused some taken0 taken taken' plays.0 way
-    (reads-first between new waits' waits'' statement plays.0 first plays.2) stays plays.1 plays.3 plays.4
+-- every statement that is whole was given
+pub whole-done : (old now : State) (due : List Sent) (first waits waits' : Reading) (next : Next) (refused : Bool) (taken0 taken : Option (List ℕ))
+    → IsPlaying old due now first waits refused taken0 taken → ((statement : Statement) → next ≢ Got statement) → Answers waits waits' next
+    → StaysFed waits waits' → (reads : ReadsOn None old due first now waits' taken0 taken)
+    × ((refused ≡ list_any is_refusal reads.plays.on.replies) × LapsOn old now reads.plays.on.replies)
+whole-done old now due first waits waits' next refused taken0 taken way never answers stays =
+    let done = reads-done waits waits' next never answers stays in (
+      record {
+        statements = way.statements;
+        behind = waits';
+        reads = λ more last comes. way.reads more last comes
+            ∙ ap (λ list. way.statements ++ list) (done.0 more last (comes-on first waits way.stays more last comes));
+        stays = fed_on first waits waits' way.stays stays;
+        plays = eased None old now due way.statements ⊥ (LeavesSome waits') taken0 taken (eases-none ⊥ (LeavesSome waits')) way.plays.0;
+        all = (refl, done.1);
+      },
+      (way.plays.1, way.laps),
+    )
 
 -- The replies halt.
 
-pub stops-part : (halt : Halt) (state : State) (waits : Reading) (written : List ℕ) → ReadsInPart state waits written → HaltsReading halt state waits written
-stops-part WriteFault state waits written part = part
-stops-part NoMemory state waits written part = (part-front state waits written part, λ ended. part)
-
--- behind what was written
-pub stops-behind : (halt : Halt) (old between new : State) (waits waits' waits'' : Reading) (refused : Bool) (taken0 taken taken' : Option (List ℕ)) (written : List ℕ)
-    → IsPlaying old between waits waits' refused taken0 taken → Appends taken taken' written → ReadsInPart between waits' written
-    → BreaksOff between waits' new written → PlaysWhole (Err halt) old waits new waits'' taken0 taken'
-stops-behind halt old between new waits waits' waits'' refused taken0 taken taken' written way took part off = (
-  text_of_played way.played ++ written,
-  Appends-trans taken0 taken taken' (text_of_played way.played) written way.appended took,
-  stops-part halt old waits (text_of_played way.played ++ written) (part-behind old between waits waits' way.played written way.reads way.stays part),
-  off-behind old between new waits waits' way.played written way.reads way.stays off,
-)
-
 -- at a statement that was read
-pub stops-first : (halt : Halt) (old between new : State) (waits waits' waits'' : Reading) (statement : Statement) (refused : Bool) (taken0 taken taken' : Option (List ℕ))
-    → IsPlaying old between waits waits' refused taken0 taken → TakesFirst waits' waits'' statement
-    → PlaysIn (Err halt) between (statement ∷ []) new taken taken' → PlaysWhole (Err halt) old waits new waits'' taken0 taken'
-stops-first halt old between new waits waits' waits'' statement refused taken0 taken taken' way first plays =
-    stops-behind halt old between new waits waits' waits'' refused taken0 taken taken' plays.0 way plays.1
-    (part-first between waits' waits'' statement plays.0 first plays.2) (off-first between new waits' waits'' statement plays.0 first plays.3)
+pub stops-first : (halt : Halt) (old between new : State) (due : List Sent) (waits waits' waits'' waits''' : Reading) (statement : Statement) (refused : Bool)
+    (taken0 taken taken' : Option (List ℕ)) → (way : IsPlaying old due between waits waits' refused taken0 taken) → TakesFirst waits' waits'' statement
+    → StaysFed waits' waits'' → PlaysBy (Err halt) between way.plays.0.on.still (statement ∷ []) ⊥ new taken taken'
+    → ReadsOn (Some halt) old due waits new waits''' taken0 taken'
+stops-first halt old between new due waits waits' waits'' waits''' statement refused taken0 taken taken' way first stays plays = record {
+  statements = way.statements ++ statement ∷ [];
+  behind = waits'';
+  reads = reads-then waits waits' waits'' way.statements (statement ∷ []) way.reads way.stays (reads-first waits' waits'' statement first);
+  stays = fed_on waits waits' waits'' way.stays stays;
+  plays = (by-err refused halt old between new due way.statements (statement ∷ []) ⊥ ⊥ (LeavesSome waits'') taken0 taken taken' (λ never. absurd never)
+      way.plays plays).0;
+  all = tt;
+}
 
 -- at the reader
-pub stops-wanting : (old between : State) (waits waits' waits'' : Reading) (refused : Bool) (taken0 taken : Option (List ℕ))
-    → IsPlaying old between waits waits' refused taken0 taken → Wants waits' waits'' → PlaysWhole (Err NoMemory) old waits between waits'' taken0 taken
-stops-wanting old between waits waits' waits'' refused taken0 taken way wants = (
-  text_of_played way.played ++ [],
-  rw (append-nil (text_of_played way.played)) way.appended,
-  (
-    front-behind old between waits waits' way.played [] way.reads way.stays (front-wanting between waits'),
-    λ ended. part-behind old between waits waits' way.played [] way.reads way.stays (part-wanting between waits' waits'' wants (way.stays.1 ∙ ended)),
-  ),
-  off-behind old between between waits waits' way.played [] way.reads way.stays (off-itself between waits'),
-)
+pub stops-wanting : (old between : State) (due : List Sent) (waits waits' waits'' waits''' : Reading) (refused : Bool) (taken0 taken : Option (List ℕ))
+    → IsPlaying old due between waits waits' refused taken0 taken → Wants waits' waits'' → ReadsOn (Some NoMemory) old due waits between waits''' taken0 taken
+stops-wanting old between due waits waits' waits'' waits''' refused taken0 taken way wants = record {
+  statements = way.statements;
+  behind = waits';
+  reads = way.reads;
+  stays = way.stays;
+  plays = (wants-left refused old between due way.statements ⊥ (LeavesSome waits') taken0 taken (leaves-wanting waits' waits'' wants) way.plays).0;
+  all = tt;
+}

@@ -42,9 +42,10 @@ pub use Rattle.core_state.proofs.LaterLemmas.{entries-by}
 pub use Rattle.core_state.proofs.SeatLemmas.{part-stays}
 pub use Rattle.core_state.proofs.WholeFrameLemmas.{by-option}
 pub use Rattle.core_state.proofs.WholeToldLemmas.{aside-outcome}
-pub use Rattle.core_state.specs.Answers.{IsRight}
-pub use Rattle.core_state.specs.Events.{IsEnabled}
+pub use Rattle.core_state.specs.Answers.{IsRight, IsTakenAs}
+pub use Rattle.core_state.specs.Events.{IsEnabled, LeavesSeats}
 pub use Rattle.core_state.specs.Found.{accepted_at}
+pub use Rattle.core_state.specs.Queries.{accepted_by, given_in, queries_among}
 pub use Rattle.core_state.specs.Sound.{empty_core, IsAwaited, IsSound, IsSoundQuery, IsSoundSeat}
 pub use Rattle.core_state.specs.State.{Accepted, Asked, Awaited, Entry, Pending, Replied, Scan, Seat, State, Taken}
 pub use Rattle.core_state.specs.Steps.{after_step, after_steps, Done, MayStep, MayStepAll, Replying, Step, Wanting}
@@ -61,13 +62,12 @@ pub use Rattle.event_core.specs.declared.replies.Ready.{Ready}
 pub use Rattle.core_driver.proofs.LapCountLemmas.{count-cons}
 pub use Rattle.core_driver.specs.Driven.{IsDriven}
 pub use Rattle.script_run.specs.Answer.{HaltsBehind, HasNoStatement, refused_left, Replies, replies_left, RepliesInPart, text_left}
-pub use Rattle.script_run.specs.Counted.{Beside, CountsOne, GoesRound, is_query, IsCounted, IsKnown, IsOverOrWaits, LapsOn, one_if, places_played, queries_awaited, told_of}
+pub use Rattle.script_run.specs.Counted.{Beside, CountsOne, GoesRound, is_query, IsCounted, IsKnown, IsOverOrWaits, LapsOn, one_if, queries_awaited, told_of}
 pub use Rattle.script_run.specs.End.{end_of_all, end_of_halt}
-pub use Rattle.script_run.specs.Front.{BreaksIn, BreaksOff, HaltsPlay, HaltsReading, IsOfRun, IsRun, PlaysIn, PlaysOn, PlaysWhole, ReadsFront, ReadsInPart, ReadsOn, refused_of_played, text_of_played}
+pub use Rattle.script_run.specs.Front.{IsOfRun, IsRun}
 pub use Rattle.script_run.specs.Home.{IsHeld, IsOfSession}
 pub use Rattle.script_run.specs.Laps.{laps_of, placed, rows_of}
 pub use Rattle.script_run.specs.Pieces.{fed_with}
-pub use Rattle.script_run.specs.Played.{accepted_by, AreToldAs, ComesTo, ComeTo, Follows, given_in, had_of, IsListedBehind, IsTakenAs, IsToldAs, Leads, LeavesSeats, lost, MayPlay, Played, played_as, Plays, queries_among}
 pub use Rattle.script_run.specs.Run.{HasEnded, is_refusal, IsFront, IsProperFront, script_replies, script_text, some_refused, within_limit}
 pub use Rattle.script_run.specs.Shared.{AnswersBy}
 pub use Rattle.script_run.specs.Told.{BeginAnswered, MayBegin, Tells}

@@ -1,9 +1,10 @@
 -- What the front of a run counts: the queries that are open, and how far the scan goes for them.
-use Rattle.std.specs.Prelude.{◌≡◌, ℕ, ◌+◌, ◌*◌, ◌/◌, ◌<◌, ◌≤◌, Bool, true, false, List, [], ◌∷◌, ◌++◌, All, Some, None, count_by, map, if◌then◌else◌}
+use Rattle.std.specs.Prelude.{◌≡◌, ℕ, ◌+◌, ◌*◌, ◌/◌, ◌<◌, ◌≤◌, Bool, true, false, List, [], ◌∷◌, ◌++◌, All, Some, None, count_by, if◌then◌else◌}
 use Rattle.core_state.specs.State.{Asked, Awaited, Replied, State}
 use Rattle.core_state.specs.Submitting.{awaited_by, seat_at}
 use Rattle.core_state.specs.Tables.{tables_of, versions_in}
 use Rattle.script_reader.specs.declared.statement.Statement.{Statement}
+use Rattle.reply_text.specs.declared.reply.Reply.{Reply}
 use Rattle.star_statement.specs.Outcome.{Told, outcome_of}
 use Rattle.pipeline_manager.specs.Lives.{life_of}
 use Rattle.pipeline_manager.specs.Conditions.{is_open}
@@ -12,12 +13,7 @@ use Rattle.pipeline_manager.specs.declared.life.Life.TheVariants.{Waiting, Build
 use Rattle.event_core.specs.Chosen.{AreIdle}
 use Rattle.event_core.specs.Seen.{state_of}
 use Rattle.script_run.specs.Laps.{places_of}
-use Rattle.script_run.specs.Played.{Played}
 use Rattle.script_run.specs.declared.front.Front.{Front}
-
--- what was played, in rows behind places that were taken before
-abbrev pub places_played : (slots places : ℕ) → List Played → ℕ
-places_played slots places played = places_of slots places (map (λ one. one.reply) played)
 
 -- a seat waits for a query
 abbrev pub is_query : Awaited → Bool
@@ -36,10 +32,10 @@ pub record GoesRound (old new : State) : Type 0 where
   pub once : new.scan.cut ≤ old.scan.cut + versions_in old
 
 -- where no more was cut than a lap for each full row of the replies before, no more is cut with these behind them
-pub record LapsOn (old new : State) (played : List Played) : Type 0 where
+pub record LapsOn (old new : State) (replies : List Reply) : Type 0 where
   pub settings : new.settings ≡ old.settings
   pub cut : (places : ℕ) → old.scan.cut ≤ versions_in old * (places / old.settings.slots)
-      → new.scan.cut ≤ versions_in new * (places_played old.settings.slots places played / old.settings.slots)
+      → new.scan.cut ≤ versions_in new * (places_of old.settings.slots places replies / old.settings.slots)
 
 -- whether a query with this life is over, or waits
 abbrev pub IsOverOrWaits : Life → Type 0

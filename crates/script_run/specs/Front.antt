@@ -1,18 +1,21 @@
--- What the front of a run leaves in a core, in a reader and at a sink.
-use Rattle.std.specs.Prelude.{◌≡◌, ℕ, Bool, true, List, ◌++◌, All, map, Option, Result, Ok, Err}
+-- What a seat that gives statements to a core leaves in the core, in a reader and at a sink.
+use Rattle.std.specs.Prelude.{◌≡◌, ◌≢◌, ◌⊎◌, ℕ, Bool, true, List, [], ◌++◌, All, filter_map, Option, Some, None, Result, Ok, Err, IfOk, OnOk}
 use Rattle.std.specs.List.{list_any}
 use Rattle.std.specs.Io.KnownBytes.{Appends}
-use Rattle.script_reader.specs.Reading.{MayCome, Reading}
+use Rattle.script_reader.specs.Reading.{MayCome, Reading, StaysFed}
 use Rattle.script_reader.specs.Script.{statements_of}
 use Rattle.script_reader.specs.declared.statement.Statement.{Statement}
-use Rattle.star_history.specs.History.{Change}
 use Rattle.reply_text.specs.Text.{text_of_all}
+use Rattle.reply_text.specs.declared.reply.Reply.{Reply}
+use Rattle.core_state.specs.Fronts.{Goes, IsDue}
+use Rattle.core_state.specs.Rows.{Sight, sight_of}
+use Rattle.core_state.specs.Sent.{Given, Lost, Sent, statements_in}
 use Rattle.core_state.specs.State.{State}
 use Rattle.core_state.specs.Steps.{Done, MayStepAll, Replying, Step, Wanting, after_steps}
 use Rattle.core_state.specs.declared.event.Event.TheVariants.{Abandon, Submit}
 use Rattle.script_run.specs.Answer.{HasNoStatement}
+use Rattle.script_run.specs.Answered.{AreAnswered, StayAnswered}
 use Rattle.script_run.specs.Counted.{LapsOn}
-use Rattle.script_run.specs.Played.{Leads, MayPlay, Played}
 use Rattle.script_run.specs.Run.{IsFront, IsProperFront, is_refusal}
 use Rattle.script_run.specs.declared.halt.Halt.{Halt}
 use Rattle.script_run.specs.declared.halt.Halt.TheVariants.{WriteFault, NoMemory}
@@ -32,76 +35,113 @@ pub record IsRun (old new : State) : Type 0 where
   pub each : All IsOfRun steps
   pub is : new ≡ after_steps steps old
 
--- the text of the replies to what was played
-abbrev pub text_of_played : List Played → List ℕ
-text_of_played played = text_of_all (map (λ one. one.reply) played)
+-- the statement that is submitted at a step, if one is
+abbrev pub submitted_at : Step → Option Statement
+submitted_at (Done (Submit seat statement)) = Some statement
+submitted_at other = None
 
--- whether one of them is a refusal
-abbrev pub refused_of_played : List Played → Bool
-refused_of_played played = list_any (λ one. is_refusal one.reply) played
+-- the statements that are submitted along steps, in order
+abbrev pub submitted_in : List Step → List Statement
+submitted_in steps = filter_map submitted_at steps
 
--- whatever is given to a core behind these statements, a proper front of replies that may come was written
-abbrev pub HaltsPlay : State → List Statement → (written : List ℕ) → Type 0
-HaltsPlay old statements written = (rest : List Statement) → (played : List Played) × (after : List Change)
-    × MayPlay old (statements ++ rest) played after × IsProperFront written (text_of_played played)
+-- steps of a run by which these statements are submitted, in this order, and no others
+pub record Submits (statements : List Statement) (old new : State) : Type 0 where
+  pub run : IsRun old new
+  pub are : submitted_in run.steps ≡ statements
 
--- the replies halted: the first of these statements were given to the core, and a front of the replies to what was played was written
-pub record BreaksIn (old : State) (statements : List Statement) (new : State) (written : List ℕ) : Type 0 where
-  pub submitted : List Statement
-  pub others : List Statement
-  pub played : List Played
-  pub begins : statements ≡ submitted ++ others
-  pub leads : Leads old submitted new played
-  pub front : IsFront written (text_of_played played)
+-- the statement that was sent, if the core has it
+abbrev pub given_by : Sent → Option Statement
+given_by (Lost statement) = None
+given_by (Given number point statement) = Some statement
 
--- a core was given statements, and the replies that were there were written; or the replies halted
-abbrev pub PlaysOn : Result Bool Halt → (old : State) → List Statement → (new : State) → (taken taken' : Option (List ℕ)) → Type 0
-PlaysOn (Ok refused) old statements new taken taken' = (played : List Played) × Appends taken taken' (text_of_played played)
-    × Leads old statements new played × (refused ≡ refused_of_played played)
-PlaysOn (Err halt) old statements new taken taken' =
-    (written : List ℕ) × Appends taken taken' written × HaltsPlay old statements written × BreaksIn old statements new written
+-- those that the core has
+abbrev pub givens_in : List Sent → List Statement
+givens_in sent = filter_map given_by sent
 
--- the same where a whole statement was given: the scan went no further than the replies tell
-abbrev pub PlaysIn : Result Bool Halt → (old : State) → List Statement → (new : State) → (taken taken' : Option (List ℕ)) → Type 0
-PlaysIn (Ok refused) old statements new taken taken' = (played : List Played) × Appends taken taken' (text_of_played played)
-    × Leads old statements new played × (refused ≡ refused_of_played played) × LapsOn old new played
-PlaysIn (Err halt) old statements new taken taken' =
-    (written : List ℕ) × Appends taken taken' written × HaltsPlay old statements written × BreaksIn old statements new written
+-- why the replies halted, if they did
+abbrev pub halt_of : {A : Type 0} → Result A Halt → Option Halt
+halt_of (Ok x) = None
+halt_of (Err halt) = Some halt
 
--- the statements between two readers were given to a core, and these were replied to
-pub record ReadsOn (old : State) (waits : Reading) (new : State) (waits' : Reading) (played : List Played) : Type 0 where
+-- where the replies halt: at a write that failed not all of their text was written; without memory a front of it was, and not all of it,
+-- or something is left to do
+abbrev pub HaltsAt : Halt → (written : List ℕ) → List Reply → (Left : Type 0) → Type 0
+HaltsAt WriteFault written replies Left = IsProperFront written (text_of_all replies)
+HaltsAt NoMemory written replies Left =
+    IsFront written (text_of_all replies) × (IsProperFront written (text_of_all replies) ⊎ Left)
+
+-- every statement was sent and all of the text was written, or the replies halted
+abbrev pub EndsSo : Option Halt → (rest : List Statement) → (written : List ℕ) → List Reply → (Left : Type 0) → Type 0
+EndsSo None rest written replies Left = (rest ≡ []) × (written ≡ text_of_all replies)
+EndsSo (Some halt) rest written replies Left = HaltsAt halt written replies Left
+
+-- a seat that waited for the replies to `due` was given these statements: it sent the first of them, and the replies that it took were
+-- written; where they halted for want of memory it still waits for some, did not send all, or else something is left
+pub record PlaysOn (halted : Option Halt) (seat : ℕ) (old : Sight) (due : List Sent) (statements : List Statement) (Left : Type 0)
+    (new : Sight) (taken taken' : Option (List ℕ)) : Type 0 where
+  pub sent : List Sent
+  pub said : List Sent
+  pub still : List Sent
+  pub replies : List Reply
+  pub rest : List Statement
+  pub are : statements ≡ statements_in sent ++ rest
+  pub goes : Goes seat old due new still sent said replies
+  pub written : List ℕ
+  pub took : Appends taken taken' written
+  pub ends : EndsSo halted rest written replies ((still ≢ []) ⊎ ((rest ≢ []) ⊎ Left))
+
+-- the same of seat 0 where nobody else has the core meanwhile: the statements that were sent are those that were submitted, a query
+-- that was answered stays so, and each query that was replied to is answered, unless the reply is `memory`
+pub record PlaysIn (halted : Option Halt) (old : State) (due : List Sent) (statements : List Statement) (Left : Type 0)
+    (new : State) (taken taken' : Option (List ℕ)) : Type 0 where
+  pub on : PlaysOn halted 0 (sight_of old 0) due statements Left (sight_of new 0) taken taken'
+  pub run : Submits (givens_in on.sent) old new
+  pub stay : StayAnswered old.lives new.lives
+  pub answered : AreAnswered new.lives new.entries on.said on.replies
+
+-- the same, and whether some reply that was written is a refusal
+abbrev pub PlaysBy : Result Bool Halt → (old : State) → (due : List Sent) → List Statement → (Left : Type 0) → (new : State)
+    → (taken taken' : Option (List ℕ)) → Type 0
+PlaysBy result old due statements Left new taken taken' =
+    (plays : PlaysIn (halt_of result) old due statements Left new taken taken')
+    × IfOk result (λ refused. refused ≡ list_any is_refusal plays.on.replies)
+
+-- so it is whatever seat 0 waits for
+abbrev pub Plays : Result Bool Halt → (old : State) → List Statement → (new : State) → (taken taken' : Option (List ℕ)) → Type 0
+Plays result old statements new taken taken' = (due : List Sent) → IsDue 0 (sight_of old 0) due
+    → PlaysBy result old due statements ⊥ new taken taken'
+
+-- and the scan went no further than the replies tell
+abbrev pub PlaysCounted : Result Bool Halt → (old : State) → List Statement → (new : State) → (taken taken' : Option (List ℕ)) → Type 0
+PlaysCounted result old statements new taken taken' = (due : List Sent) → IsDue 0 (sight_of old 0) due
+    → (plays : PlaysBy result old due statements ⊥ new taken taken') × OnOk result (LapsOn old new plays.0.on.replies)
+
+-- the statements between two readers, whatever bytes come
+abbrev pub Reads : Reading → List Statement → Reading → Type 0
+Reads waits statements waits' = (more : List ℕ) (last : Bool) → MayCome waits more last
+    → statements_of last (waits.waiting ++ more) ≡ statements ++ statements_of last (waits'.waiting ++ more)
+
+-- a statement is left to be read, if the input has ended
+abbrev pub LeavesSome : Reading → Type 0
+LeavesSome waits = waits.ended ≡ true → statements_of true waits.waiting ≢ []
+
+-- what holds where nothing halted
+abbrev pub UnlessHalted : Option Halt → Type 0 → Type 0
+UnlessHalted None Holds = Holds
+UnlessHalted (Some halt) Holds = Unit {0}
+
+-- the statements that are whole were read and given to a core: all of them, or those before the replies halted
+pub record ReadsOn (halted : Option Halt) (old : State) (due : List Sent) (waits : Reading) (new : State) (waits' : Reading)
+    (taken taken' : Option (List ℕ)) : Type 0 where
   pub statements : List Statement
-  pub reads : (more : List ℕ) (last : Bool) → MayCome waits more last
-      → statements_of last (waits.waiting ++ more) ≡ statements ++ statements_of last (waits'.waiting ++ more)
-  pub leads : Leads old statements new played
+  pub behind : Reading
+  pub reads : Reads waits statements behind
+  pub stays : StaysFed waits behind
+  pub plays : PlaysIn halted old due statements (LeavesSome behind) new taken taken'
+  pub all : UnlessHalted halted ((behind ≡ waits') × HasNoStatement waits')
 
--- whatever bytes come, a front of replies that may come was written, or a proper one
-abbrev pub ReadsFront : State → Reading → (written : List ℕ) → Type 0
-ReadsFront old waits written = (more : List ℕ) (last : Bool) → MayCome waits more last → (played : List Played) × (after : List Change)
-    × MayPlay old (statements_of last (waits.waiting ++ more)) played after × IsFront written (text_of_played played)
-
-abbrev pub ReadsInPart : State → Reading → (written : List ℕ) → Type 0
-ReadsInPart old waits written = (more : List ℕ) (last : Bool) → MayCome waits more last → (played : List Played) × (after : List Change)
-    × MayPlay old (statements_of last (waits.waiting ++ more)) played after × IsProperFront written (text_of_played played)
-
--- what was written where the replies halt: at a write that failed not all of a reply, and where memory was wanted at the
--- end of the input not all replies
-abbrev pub HaltsReading : Halt → State → Reading → (written : List ℕ) → Type 0
-HaltsReading WriteFault old waits written = ReadsInPart old waits written
-HaltsReading NoMemory old waits written = ReadsFront old waits written × (waits.ended ≡ true → ReadsInPart old waits written)
-
--- the replies halted: these statements, with which those to come begin, were given to the core, and these were replied to, of which a front was written
-pub record BreaksOff (old : State) (waits : Reading) (new : State) (written : List ℕ) : Type 0 where
-  pub submitted : List Statement
-  pub played : List Played
-  pub begins : (more : List ℕ) (last : Bool) → MayCome waits more last
-      → (rest : List Statement) × (statements_of last (waits.waiting ++ more) ≡ submitted ++ rest)
-  pub leads : Leads old submitted new played
-  pub front : IsFront written (text_of_played played)
-
--- every statement that is whole was given to a core, or the replies halted
-abbrev pub PlaysWhole : Result Bool Halt → State → Reading → State → Reading → (taken taken' : Option (List ℕ)) → Type 0
-PlaysWhole (Ok refused) old waits new waits' taken taken' = (played : List Played) × Appends taken taken' (text_of_played played)
-    × ReadsOn old waits new waits' played × (refused ≡ refused_of_played played) × HasNoStatement waits' × LapsOn old new played
-PlaysWhole (Err halt) old waits new waits' taken taken' =
-    (written : List ℕ) × Appends taken taken' written × HaltsReading halt old waits written × BreaksOff old waits new written
+-- so it is whatever seat 0 waits for; whether some reply is a refusal, and how far the scan went
+abbrev pub PlaysWhole : Result Bool Halt → (old : State) → Reading → (new : State) → Reading → (taken taken' : Option (List ℕ)) → Type 0
+PlaysWhole result old waits new waits' taken taken' = (due : List Sent) → IsDue 0 (sight_of old 0) due
+    → (reads : ReadsOn (halt_of result) old due waits new waits' taken taken')
+    × IfOk result (λ refused. (refused ≡ list_any is_refusal reads.plays.on.replies) × LapsOn old new reads.plays.on.replies)

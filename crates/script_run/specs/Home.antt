@@ -1,21 +1,17 @@
 -- What sessions leave in a core, one after the other: a front at home between two reads, and what was given to a core where the replies halted.
-use Rattle.std.specs.Prelude.{◌≡◌, ◌≢◌, ℕ, ◌<◌, List, [], ◌++◌, All, map, Option, Some, Result, Ok, Err}
-use Rattle.std.specs.Io.KnownBytes.{Appends}
+use Rattle.std.specs.Prelude.{◌≡◌, ◌≢◌, ℕ, ◌<◌, List, [], ◌++◌, All, map, Option, Result}
 use Rattle.script_reader.specs.Reading.{Reading}
-use Rattle.pipeline_manager.specs.Lives.{life_of}
-use Rattle.pipeline_manager.specs.declared.life.Life.TheVariants.{Answered}
+use Rattle.script_reader.specs.declared.statement.Statement.{Statement}
+use Rattle.core_state.specs.Queries.{accepted_by}
 use Rattle.core_state.specs.State.{Entry, State, Taken}
 use Rattle.core_state.specs.Steps.{Done, MayStepAll, Replying, Step, Wanting, after_steps}
 use Rattle.core_state.specs.Submitting.{seat_at}
 use Rattle.core_state.specs.declared.event.Event.TheVariants.{Submit}
 use Rattle.event_core.specs.Chosen.{AreIdle}
 use Rattle.event_core.specs.Seen.{state_of}
-use Rattle.script_run.specs.Answer.{HasNoStatement}
+use Rattle.script_run.specs.Answered.{StayAnswered}
 use Rattle.script_run.specs.Counted.{IsCounted}
-use Rattle.script_run.specs.Front.{HaltsReading, ReadsOn, text_of_played}
--- what is left where the replies halt
-pub use Rattle.script_run.specs.Front.{BreaksOff}
-use Rattle.script_run.specs.Played.{Played, accepted_by}
+use Rattle.script_run.specs.Front.{ReadsOn, UnlessHalted, halt_of, submitted_in}
 use Rattle.script_run.specs.declared.front.Front.{Front}
 use Rattle.script_run.specs.declared.halt.Halt.{Halt}
 
@@ -52,17 +48,23 @@ pub record IsServed (old new : State) : Type 0 where
   pub own : All (λ entry. entry.seat ≡ 0) more
   pub others : (seat : ℕ) → seat ≢ 0 → seat_at new seat ≡ seat_at old seat
 
--- every statement that is whole was given to a core and all replies were written, or the replies halted
+-- the same, by which these statements are submitted, in this order, and no others
+pub record Serves (statements : List Statement) (old new : State) : Type 0 where
+  pub served : IsServed old new
+  pub are : submitted_in served.steps ≡ statements
+
+-- the statements that are whole were read and given to a core that waited for nothing, and all of them were replied to, or the replies
+-- halted
 abbrev pub RepliesWhole : {A : Type 0} → Result A Halt → State → Reading → State → Reading → (taken taken' : Option (List ℕ)) → Type 0
-RepliesWhole (Ok x) old waits new waits' taken taken' =
-    (played : List Played) × Appends taken taken' (text_of_played played) × ReadsOn old waits new waits' played × HasNoStatement waits'
-RepliesWhole (Err halt) old waits new waits' taken taken' =
-    (written : List ℕ) × Appends taken taken' written × HaltsReading halt old waits written × BreaksOff old waits new written
+RepliesWhole result old waits new waits' taken taken' =
+    (reads : ReadsOn (halt_of result) old [] waits new waits' taken taken')
+    × UnlessHalted (halt_of result) (reads.plays.on.still ≡ [])
 
 -- a core was let go: no query is open any more, and every reply that was there was taken
 pub record LetsGo (old new : State) : Type 0 where
   pub entries : new.entries ≡ old.entries
   pub accepted : map accepted_by new.accepted ≡ map accepted_by old.accepted
-  pub stay : (query : ℕ) → life_of old.lives query ≡ Some Answered → life_of new.lives query ≡ Some Answered
+  pub stay : StayAnswered old.lives new.lives
+  pub submitted : (seat_at new 0).submitted ≡ (seat_at old 0).submitted
   pub more : List Taken
   pub taken : (seat_at new 0).taken ≡ (seat_at old 0).taken ++ more

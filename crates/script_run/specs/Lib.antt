@@ -1,6 +1,7 @@
 -- What a run of a script writes, and why it ends.
 pub mod Run
-pub mod Played
+pub mod Answered
+pub mod Seat
 pub mod Laps
 pub mod Counted
 pub mod Told

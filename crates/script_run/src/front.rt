@@ -1,9 +1,11 @@
 //! The front of a run: it gives statements to a core, lets their queries come to their end, and writes the replies.
-ghost use Rattle.std.specs.Prelude.{◌≡◌, ◌≢◌, ◌⊎◌, ◌<◌, ◌≤◌, [], ◌∷◌, All, IsTrue, None, Some, Ok, false, IfOk, OnErr, OnOk};
+ghost use Rattle.std.specs.Prelude.{◌≡◌, ◌≢◌, ◌+◌, ◌⊎◌, ◌<◌, ◌≤◌, [], ◌∷◌, All, IsTrue, None, Some, Ok, false, IfOk, OnErr, OnOk};
 ghost use Rattle.std.specs.Io.KnownBytes.{Appends};
 ghost use Rattle.star_io.specs.Transfer.{AppendsFront};
 ghost use Rattle.reply_text.specs.Text.{text_of};
 ghost use Rattle.script_reader.specs.declared.statement.Statement.{Statement};
+ghost use Rattle.core_state.specs.Fronts.{Passes, SubmitsRow};
+ghost use Rattle.core_state.specs.Rows.{sight_of};
 ghost use Rattle.core_state.specs.Settings.{AreWithin};
 ghost use Rattle.core_state.specs.Sound.{empty_core};
 ghost use Rattle.core_state.specs.Submitting.{next_ready, seat_at};
@@ -11,12 +13,12 @@ ghost use Rattle.event_core.specs.Chosen.{AreIdle};
 ghost use Rattle.event_core.specs.Replies.{first_open};
 ghost use Rattle.event_core.specs.Seen.{state_of};
 ghost use Rattle.script_run.specs.Answer.{CountsHalt};
+ghost use Rattle.script_run.specs.Answered.{StayAnswered};
 ghost use Rattle.pipeline_manager.specs.Conditions.{is_open};
 ghost use Rattle.pipeline_manager.specs.declared.life.Life.TheVariants.{Waiting};
-ghost use Rattle.script_run.specs.Front.{IsRun, PlaysIn, PlaysOn};
+ghost use Rattle.script_run.specs.Front.{IsRun, Plays, PlaysCounted, Submits};
 ghost use Rattle.script_run.specs.Counted.{Beside, CountsOne, GoesRound, IsCalm, IsCounted, IsKnown, open_in};
 ghost use Rattle.script_run.specs.Home.{IsAtHome};
-ghost use Rattle.script_run.specs.Played.{Leads};
 ghost use Rattle.script_run.specs.Run.{is_refusal};
 ghost use Rattle.script_run.specs.Waiting.{is_wait as means_to_wait};
 
@@ -24,15 +26,12 @@ use crate::halt::Halt;
 use crate::reply::{is_refusal, text_of};
 use crate::waiting::is_wait;
 use core_driver::finish_all;
-use core_state::{
-    Event, RunSettings, a_reply_that_may_be_taken_is_right, later_steps_change_no_answer,
-};
+use core_state::{Event, RunSettings, a_reply_that_may_be_taken_is_right, a_row_tells_the_reply};
 use event_core::{Core, StepFault, every_core_is_sound, taken_events_are_steps};
 use pipeline_manager::Life;
 use reply_text::Reply;
 use script_reader::Statement;
 use star_io::{Sink, write_all};
-use star_statement::replies_agree_with_the_tables;
 use star_values::NoMemory;
 use std::alloc::Global;
 use std::thread::Threads;
@@ -86,7 +85,7 @@ impl Front {
     ) -> Result<bool, Halt>
         requires counted { IsCounted self.old }
         requires free { self.old.unfinished < self.old.settings.slots }
-        ensures plays { PlaysIn result (state_of self.old.core) (statement ∷ []) (state_of self.new.core)
+        ensures plays { PlaysCounted result (state_of self.old.core) (statement ∷ []) (state_of self.new.core)
             (K.writing sink.old).taken (K.writing sink.new).taken }
         ensures run { IsRun (state_of self.old.core) (state_of self.new.core) }
         ensures counted { OnOk result (IsCounted self.new) }
@@ -127,8 +126,10 @@ impl Front {
     fn give(&mut self, statement: Statement) -> bool
         requires counted { IsCounted self.old }
         requires free { self.old.unfinished < self.old.settings.slots }
-        ensures leads { IsTrue result → Leads (state_of self.old.core) (statement ∷ []) (state_of self.new.core) [] }
-        ensures run { IsTrue result → IsRun (state_of self.old.core) (state_of self.new.core) }
+        ensures submits { IsTrue result → SubmitsRow 0 ((state_of self.old.core).numbers.statement + 1) statement
+            (sight_of (state_of self.old.core) 0) (sight_of (state_of self.new.core) 0) }
+        ensures stay { IsTrue result → StayAnswered (state_of self.old.core).lives (state_of self.new.core).lives }
+        ensures run { IsTrue result → Submits (statement ∷ []) (state_of self.old.core) (state_of self.new.core) }
         ensures counts { IsTrue result → CountsOne statement (state_of self.old.core) (state_of self.new.core) }
         ensures counted { IsTrue result → IsCounted self.new }
         ensures settings { IsTrue result → self.new.settings ≡ self.old.settings }
@@ -148,7 +149,8 @@ impl Front {
     /// A statement for which no memory was left: the replies before its own are written, and its own is `memory`.
     fn lose<R: Threads + Sync, K: Sink>(&mut self, rt: &R, sink: &mut K) -> Result<bool, Halt>
         requires counted { IsCounted self.old }
-        ensures plays { (statement : Statement) → PlaysIn result (state_of self.old.core) (statement ∷ []) (state_of self.new.core)
+        ensures plays { (statement : Statement) →
+            PlaysCounted result (state_of self.old.core) (statement ∷ []) (state_of self.new.core)
             (K.writing sink.old).taken (K.writing sink.new).taken }
         ensures run { IsRun (state_of self.old.core) (state_of self.new.core) }
         ensures counted { OnOk result (IsCounted self.new) }
@@ -169,7 +171,7 @@ impl Front {
         sink: &mut K,
     ) -> Result<bool, Halt>
         requires counted { IsCounted self.old }
-        ensures plays { PlaysOn result (state_of self.old.core) [] (state_of self.new.core)
+        ensures plays { Plays result (state_of self.old.core) [] (state_of self.new.core)
             (K.writing sink.old).taken (K.writing sink.new).taken }
         ensures all { OnOk result ((seat_at (state_of self.new.core) 0).pending ≡ []) }
         ensures round { OnOk result (GoesRound (state_of self.old.core) (state_of self.new.core)) }
@@ -188,12 +190,13 @@ impl Front {
     /// Lets every query come to its end, if some is open.
     fn finish_open<R: Threads + Sync>(&mut self, rt: &R) -> Result<(), NoMemory>
         requires counted { IsCounted self.old }
-        ensures leads { Leads (state_of self.old.core) [] (state_of self.new.core) [] }
+        ensures passes { Passes (sight_of (state_of self.old.core) 0) (sight_of (state_of self.new.core) 0) }
+        ensures stay { StayAnswered (state_of self.old.core).lives (state_of self.new.core).lives }
         ensures round { GoesRound (state_of self.old.core) (state_of self.new.core) }
         ensures number { (state_of self.new.core).numbers.statement ≡ (state_of self.old.core).numbers.statement }
         ensures closed { OnOk result (All (λ entry. is_open entry.life ≡ false) (state_of self.new.core).lives.queries) }
         ensures waits { OnErr result ((seat_at (state_of self.old.core) 0).pending ≢ []) }
-        ensures run { IsRun (state_of self.old.core) (state_of self.new.core) }
+        ensures run { Submits [] (state_of self.old.core) (state_of self.new.core) }
         ensures idle { OnOk result (AreIdle (state_of self.new.core)) }
         ensures settings { self.new.settings ≡ self.old.settings }
         ensures submitted { self.new.submitted ≡ self.old.submitted }
@@ -223,14 +226,14 @@ fn one_if_waiting(life: Option<Life>) -> u32
 
 /// Gives a statement to a core as that of the front. Where no memory was left for it, nothing has changed.
 fn submit(core: &mut Core, statement: Statement) -> Result<(), StepFault>
-    ensures leads { OnOk result (Leads (state_of core.old) (statement ∷ []) (state_of core.new) []) }
-    ensures run { OnOk result (IsRun (state_of core.old) (state_of core.new)) }
+    ensures submits { OnOk result (SubmitsRow 0 ((state_of core.old).numbers.statement + 1) statement
+        (sight_of (state_of core.old) 0) (sight_of (state_of core.new) 0)) }
+    ensures stay { OnOk result (StayAnswered (state_of core.old).lives (state_of core.new).lives) }
+    ensures run { OnOk result (Submits (statement ∷ []) (state_of core.old) (state_of core.new)) }
     ensures counts { OnOk result (CountsOne statement (state_of core.old) (state_of core.new)) }
     ensures idle { AreIdle (state_of core.old) → AreIdle (state_of core.new) }
     ensures err { OnErr result (core.new ≡ core.old) }
 {
-    replies_agree_with_the_tables();
-    later_steps_change_no_answer();
     every_core_is_sound(core);
     core.step(Event::Submit { seat: 0, statement })
 }
@@ -240,12 +243,13 @@ fn finish<R: Threads + Sync>(rt: &R, core: &mut Core) -> Result<(), NoMemory>
     requires calm { IsCalm (open_in (state_of core.old)) (state_of core.old) }
     requires some { 0 < open_in (state_of core.old) }
     requires few { open_in (state_of core.old) ≤ (state_of core.old).settings.slots }
-    ensures leads { Leads (state_of core.old) [] (state_of core.new) [] }
+    ensures passes { Passes (sight_of (state_of core.old) 0) (sight_of (state_of core.new) 0) }
+    ensures stay { StayAnswered (state_of core.old).lives (state_of core.new).lives }
     ensures round { GoesRound (state_of core.old) (state_of core.new) }
     ensures number { (state_of core.new).numbers.statement ≡ (state_of core.old).numbers.statement }
     ensures closed { OnOk result (All (λ entry. is_open entry.life ≡ false) (state_of core.new).lives.queries) }
     ensures waits { OnErr result ((seat_at (state_of core.old) 0).pending ≢ []) }
-    ensures run { IsRun (state_of core.old) (state_of core.new) }
+    ensures run { Submits [] (state_of core.old) (state_of core.new) }
     ensures idle { OnOk result (AreIdle (state_of core.new)) }
     ensures hands { AreIdle (state_of core.new) }
 {
@@ -256,7 +260,7 @@ fn finish<R: Threads + Sync>(rt: &R, core: &mut Core) -> Result<(), NoMemory>
 
 /// Writes the replies that may be taken, in their order, and tells whether one of them is a refusal.
 fn write_ready<K: Sink>(alloc: Global, core: &mut Core, sink: &mut K) -> Result<bool, Halt>
-    ensures plays { PlaysOn result (state_of core.old) [] (state_of core.new)
+    ensures plays { Plays result (state_of core.old) [] (state_of core.new)
         (K.writing sink.old).taken (K.writing sink.new).taken }
     ensures none { OnOk result (next_ready (state_of core.new) 0 ≡ None) }
     ensures all { OnOk result (first_open (state_of core.old).lives (seat_at (state_of core.old) 0) ≡ None →
@@ -266,7 +270,10 @@ fn write_ready<K: Sink>(alloc: Global, core: &mut Core, sink: &mut K) -> Result<
     ensures faults { CountsHalt result (K.writing sink.old) (K.writing sink.new) }
     ensures apart { K.reading_side sink.new ≡ K.reading_side sink.old }
 {
+    // The three are called for what they ensure.
+    a_row_tells_the_reply();
     a_reply_that_may_be_taken_is_right();
+    every_core_is_sound(core);
     let mut refused = false;
     'replies: while let Some(ready) = core.take_reply(0) {
         let reply = ready.into_reply();

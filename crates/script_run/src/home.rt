@@ -6,7 +6,7 @@ ghost use Rattle.core_state.specs.Submitting.{seat_at};
 ghost use Rattle.event_core.specs.Replies.{first_open};
 ghost use Rattle.event_core.specs.Seen.{state_of};
 ghost use Rattle.script_run.specs.Answer.{CountsHalt};
-ghost use Rattle.script_run.specs.Home.{IsAtHome, IsHeld, IsServed, LetsGo, RepliesWhole};
+ghost use Rattle.script_run.specs.Home.{IsAtHome, IsHeld, IsServed, LetsGo, RepliesWhole, Serves};
 ghost use Rattle.script_run.specs.Leaving.{IsLeaving};
 
 use crate::front::Front;
@@ -48,7 +48,7 @@ impl Front {
         requires held { IsHeld self.old }
         ensures home { IsAtHome self.new }
         ensures lets_go { LetsGo (state_of self.old.core) (state_of self.new.core) }
-        ensures served { IsServed (state_of self.old.core) (state_of self.new.core) }
+        ensures served { Serves [] (state_of self.old.core) (state_of self.new.core) }
         ensures settings { self.new.settings ≡ self.old.settings }
     {
         abandon_open(&mut self.core);

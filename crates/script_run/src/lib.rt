@@ -5,6 +5,7 @@ mod answer;
 mod front;
 mod halt;
 mod home;
+mod laws;
 mod piece;
 mod reply;
 mod run;
@@ -13,6 +14,7 @@ mod waiting;
 
 pub use front::Front;
 pub use halt::Halt;
+pub use laws::a_seat_alone_is_a_run;
 pub use piece::{Piece, read_piece};
 pub use run::{PIECE_BYTES, run_alone};
 pub use shared::{RunDone, run_script};

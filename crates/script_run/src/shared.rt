@@ -16,8 +16,11 @@ use crate::front::Front;
 use crate::halt::Halt;
 use crate::piece::{Piece, read_piece};
 use crate::run::{PIECE_BYTES, end_of_all, end_of_halt};
-use core_state::RunSettings;
-use event_core::Core;
+use core_state::{
+    RunSettings, a_seat_alone_has_the_queries_of_the_core,
+    every_core_is_sound as every_core_stays_sound, only_abandon_abandons,
+};
+use event_core::{Core, every_core_is_sound};
 use script_reader::{Next, ScriptReader};
 use star_io::{RunEnd, Sink, Source};
 use star_values::NoMemory;
@@ -105,6 +108,11 @@ fn play_script<R: Threads + Sync, S: Source, K: Sink>(
     ensures apart { K.reading_side sink.new ≡ K.reading_side sink.old }
     ensures run { IsRun (state_of front.old.core) (state_of front.new.core) }
 {
+    // The four are called for what they ensure.
+    every_core_is_sound(&front.core);
+    every_core_stays_sound();
+    only_abandon_abandons();
+    a_seat_alone_has_the_queries_of_the_core();
     let mut piece = [0u8; PIECE_BYTES];
     let mut refused = false;
     'pieces: loop {

@@ -1,15 +1,14 @@
 //! One session: the statements of a connection go to the core, and their replies come back.
-ghost use Rattle.std.specs.Prelude.{◌≡◌, ◌<◌, ◌≤◌, false, length, OnOk};
+ghost use Rattle.std.specs.Prelude.{◌≡◌, ◌<◌, ◌≤◌, [], false, length, OnOk};
 ghost use Rattle.script_reader.specs.Reading.{StaysFed, no_reading};
 ghost use Rattle.script_reader.specs.declared.reader.TheConstants.{SCRIPT_LIMIT};
 ghost use Rattle.event_core.specs.Seen.{state_of};
 ghost use Rattle.script_run.specs.Answer.{CountsHalt};
-ghost use Rattle.script_run.specs.Home.{IsAtHome, IsHeld, IsServed, LetsGo, RepliesWhole};
+ghost use Rattle.script_run.specs.Home.{IsAtHome, IsHeld, IsServed, LetsGo, RepliesWhole, Serves};
 ghost use Rattle.script_run.specs.Pieces.{CountsFault, FindsEnd, TakesPiece};
-ghost use Rattle.session_server.specs.Session.{AnswersSession, CountsFaults, EndsWhole};
+ghost use Rattle.session_server.specs.Session.{AnswersOwned, CountsFaults, EndsWhole};
 
 use crate::session_end::{SessionEnd, end_of_halt};
-use event_core::every_core_is_sound;
 use script_reader::ScriptReader;
 use script_run::{Front, Halt, PIECE_BYTES, Piece, read_piece};
 use star_io::Link;
@@ -28,7 +27,7 @@ pub fn serve_session<R: Threads + Sync, K: Link>(
     link: &mut K,
 ) -> SessionEnd
     requires { IsAtHome front.old }
-    ensures answers { AnswersSession result (state_of front.old.core) (state_of front.new.core)
+    ensures answers { AnswersOwned result (state_of front.old.core) (state_of front.new.core)
         (K.reading link.old) (K.reading link.new) (K.writing link.old) (K.writing link.new) }
     ensures served { IsServed (state_of front.old.core) (state_of front.new.core) }
     ensures home { IsAtHome front.new }
@@ -55,7 +54,7 @@ fn let_go(front: &mut Front)
     requires { IsHeld front.old }
     ensures home { IsAtHome front.new }
     ensures lets_go { LetsGo (state_of front.old.core) (state_of front.new.core) }
-    ensures served { IsServed (state_of front.old.core) (state_of front.new.core) }
+    ensures served { Serves [] (state_of front.old.core) (state_of front.new.core) }
     ensures settings { front.new.settings ≡ front.old.settings }
 {
     front.let_go();
@@ -70,7 +69,7 @@ fn play_session<R: Threads + Sync, K: Link>(
 ) -> SessionEnd
     requires home { IsAtHome front.old }
     requires unfed { reader.old ≡ no_reading }
-    ensures answers { AnswersSession result (state_of front.old.core) (state_of front.new.core)
+    ensures answers { AnswersOwned result (state_of front.old.core) (state_of front.new.core)
         (K.reading link.old) (K.reading link.new) (K.writing link.old) (K.writing link.new) }
     ensures served { IsServed (state_of front.old.core) (state_of front.new.core) }
     ensures home { EndsWhole result → IsAtHome front.new }
@@ -79,7 +78,6 @@ fn play_session<R: Threads + Sync, K: Link>(
     ensures faults { CountsFaults result
         (K.reading link.old) (K.reading link.new) (K.writing link.old) (K.writing link.new) }
 {
-    every_core_is_sound(&front.core);
     let mut piece = [0u8; PIECE_BYTES];
     'pieces: loop {
         match read_link(link, &mut piece, reader) {

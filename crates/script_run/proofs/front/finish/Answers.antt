@@ -1,14 +1,21 @@
-use Rattle.script_run.proofs.Words.{arith, on_ok_weaker, state_of}
+use Rattle.script_run.proofs.Words.{Answered, arith, on_ok_weaker, refl, state_of}
+use Rattle.core_state.proofs.RowLemmas.{passes-frame}
 use Rattle.core_driver.proofs.TakenLemmas.{frame-driven}
 use Rattle.script_run.proofs.FrontCountLemmas.{awaited-some}
 use Rattle.script_run.proofs.FrontPlayLemmas.{on-err}
-use Rattle.script_run.proofs.FrontRunLemmas.{run-driven}
+use Rattle.script_run.proofs.FrontRunLemmas.{submits-driven}
 use Rattle.script_run.proofs.LapEventLemmas.{goes-round}
-use Rattle.script_run.proofs.PlayedEventLemmas.{leads-driven}
 use Rattle.script_run.proofs.front.finish.Goals as goal
 
-pub returns-clause-leads : goal.returns-clause-leads
-returns-clause-leads g c = leads-driven (state_of c.args.core.now) (state_of c.finish_all.new.core) c.finish_all.ensures.driven
+pub returns-clause-passes : goal.returns-clause-passes
+returns-clause-passes g c =
+    passes-frame (state_of c.args.core.now) (state_of c.finish_all.new.core) 0
+    (frame-driven (state_of c.args.core.now) (state_of c.finish_all.new.core) c.finish_all.ensures.driven)
+
+pub returns-clause-stay : goal.returns-clause-stay
+returns-clause-stay g c query was =
+    ((frame-driven (state_of c.args.core.now) (state_of c.finish_all.new.core) c.finish_all.ensures.driven).lives
+    c.every_core_is_sound.ensures.slots.lives.rising).over query Answered refl was
 
 pub returns-clause-round : goal.returns-clause-round
 returns-clause-round g c =
@@ -27,4 +34,4 @@ returns-clause-waits g c = on-err c.finish_all.result
 
 pub returns-clause-run : goal.returns-clause-run
 returns-clause-run g c =
-    run-driven c.taken_events_are_steps.ensures (state_of c.args.core.now) (state_of c.finish_all.new.core) c.finish_all.ensures.driven
+    submits-driven c.taken_events_are_steps.ensures (state_of c.args.core.now) (state_of c.finish_all.new.core) c.finish_all.ensures.driven

@@ -18,3 +18,6 @@ returns-clause-all c =
 pub replies-smaller : goal.replies-smaller
 replies-smaller c =
     drops-less (state_of c.replies.core) (state_of c.take_reply.new.self) _ c.in-Some.ensures.ready (c.in-Some.ensures.taken refl)
+
+pub returns-clause-leaves : goal.returns-clause-leaves
+returns-clause-leaves c = rw (ap state_of (c.in_default.ensures.none refl)) c.replies.invariant.way.leaving

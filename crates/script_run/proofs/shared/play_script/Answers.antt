@@ -1,8 +1,9 @@
-use Rattle.script_run.proofs.Words.{◌∙◌, refl, state_of, subst, sym}
+use Rattle.script_run.proofs.Words.{◌∙◌, NoMemory, refl, state_of, subst, sym}
 use Rattle.std.specs.Prelude.{◌<◌}
+use Rattle.script_run.proofs.AloneLemmas.{run-alone}
 use Rattle.script_run.proofs.SharedDoneLemmas.{ended-shared, fault-shared, limit-shared}
 use Rattle.script_run.proofs.SharedEndLemmas.{ended-halted, halted-shared, halts-by, unfed-shared}
-use Rattle.script_run.proofs.SharedRunLemmas.{fed-shared, starts-shared, whole-shared}
+use Rattle.script_run.proofs.SharedRunLemmas.{fed-shared, starts-shared, way-none, whole-shared}
 use Rattle.script_run.proofs.FrontRunLemmas.{run-itself, run-then}
 use Rattle.script_run.proofs.shared.play_script.Goals as goal
 
@@ -10,6 +11,8 @@ pub pieces-init : goal.pieces-init
 pieces-init g c = record {
   run = starts-shared _ _ _ _ _ c.requires.empty c.requires.reader;
   steps = run-itself _;
+  alone = λ new run. run-alone c.a_seat_alone_has_the_queries_of_the_core.ensures c.only_abandon_abandons.ensures c.every_core_is_sound-2.ensures.on
+      c.args.front.now.settings (state_of c.args.front.now.core) new c.every_core_is_sound.ensures c.requires.empty run;
   counted = c.requires.counted;
   free = subst (λ n. n < c.args.front.now.settings.slots) (sym c.requires.free) c.requires.counted.some;
   settings = refl;
@@ -19,14 +22,15 @@ pieces-init g c = record {
   apart = refl;
 }
 
-pub returns-in-Err-clause-answers : goal.returns-in-Err-clause-answers
-returns-in-Err-clause-answers g c =
-    rw c.end_of_halt.ensures (halts-by c.in-Err.halt _ _ _ _ _ _
-    (halted-shared c.in-Err.halt _ _ (state_of c.play_whole.new.front.core) _ c.play_whole.new.reader _ _ _ _ _ _ c.pieces.invariant.run c.in-Err.ensures.plays
-    c.pieces.invariant.ended c.pieces.invariant.unread))
-
 pub returns-in-Err-clause-run : goal.returns-in-Err-clause-run
 returns-in-Err-clause-run g c = run-then _ _ _ c.pieces.invariant.steps c.in-Err.ensures.run
+
+pub returns-in-Err-clause-answers : goal.returns-in-Err-clause-answers
+returns-in-Err-clause-answers g c =
+    rw c.end_of_halt.ensures (halts-by c.in-Err.halt _ _ _ _ _ _ (c.pieces.invariant.alone _ (returns-in-Err-clause-run g c)).own
+    (halted-shared c.in-Err.halt _ _ (state_of c.play_whole.new.front.core) _ c.play_whole.new.reader _ _ _ _ _ _ c.pieces.invariant.run
+    (c.pieces.invariant.alone _ (returns-in-Err-clause-run g c)).own c.in-Err.ensures.plays
+    c.pieces.invariant.ended c.pieces.invariant.unread))
 
 pub pieces-preserved : goal.pieces-preserved
 pieces-preserved g c =
@@ -35,6 +39,7 @@ pieces-preserved g c =
     record {
       run = fed-shared _ _ _ _ _ _ _ _ _ _ takes.0 run takes.1 takes.2.0 takes.2.2;
       steps = run-then _ _ _ c.pieces.invariant.steps c.in-Ok.ensures.run;
+      alone = c.pieces.invariant.alone;
       counted = c.in-Ok.ensures.counted;
       free = c.in-Ok.ensures.free;
       settings = c.play_whole.ensures.settings ∙ c.pieces.invariant.settings;
@@ -44,39 +49,46 @@ pieces-preserved g c =
       apart = c.play_whole.ensures.apart ∙ c.pieces.invariant.apart;
     }
 
+pub returns-in-Fault-clause-run : goal.returns-in-Fault-clause-run
+returns-in-Fault-clause-run g c = run-then _ _ _ (run-then _ _ _ c.pieces.invariant.steps c.in-Ok.ensures.run) c.play_out.ensures.run
+
 pub returns-in-Fault-clause-answers : goal.returns-in-Fault-clause-answers
 returns-in-Fault-clause-answers g c =
     let plays = c.in-Ok.ensures.plays in
     let run = whole-shared _ _ _ _ _ _ _ _ _ _ _ _ c.pieces.invariant.run plays c.in-Ok.ensures.stays in
+    let none = way-none _ _ _ _ _ _ _ _ _ _ _ c.pieces.invariant.run.way plays in
     let takes = c.in-Fault.ensures.takes in
-    rw c.end_behind.ensures (fault-shared _ _ (state_of c.play_out.new.self.core) _ c.play_out.result _ _ _ _ _ _ _ takes.0 c.requires.counted.some run plays.4 takes.1 takes.2.1
+    rw c.end_behind.ensures (fault-shared _ _ (state_of c.play_out.new.self.core) _ c.play_out.result _ _ _ _ _ _ _ takes.0 c.requires.counted.some run
+    (c.pieces.invariant.alone _ (returns-in-Fault-clause-run g c)) none takes.1 takes.2.1
     c.play_out.ensures.plays c.play_out.ensures.round c.play_out.ensures.all)
 
-pub returns-in-Fault-clause-run : goal.returns-in-Fault-clause-run
-returns-in-Fault-clause-run g c = run-then _ _ _ (run-then _ _ _ c.pieces.invariant.steps c.in-Ok.ensures.run) c.play_out.ensures.run
+pub returns-in-Limit-clause-run : goal.returns-in-Limit-clause-run
+returns-in-Limit-clause-run g c = run-then _ _ _ (run-then _ _ _ c.pieces.invariant.steps c.in-Ok.ensures.run) c.play_out-in-Limit.ensures.run
 
 pub returns-in-Limit-clause-answers : goal.returns-in-Limit-clause-answers
 returns-in-Limit-clause-answers g c =
     let plays = c.in-Ok.ensures.plays in
     let run = whole-shared _ _ _ _ _ _ _ _ _ _ _ _ c.pieces.invariant.run plays c.in-Ok.ensures.stays in
+    let none = way-none _ _ _ _ _ _ _ _ _ _ _ c.pieces.invariant.run.way plays in
     let takes = c.in-Limit.ensures.takes in
-    rw c.end_behind-in-Limit.ensures (limit-shared _ _ (state_of c.play_out-in-Limit.new.self.core) _ c.play_out-in-Limit.result _ _ _ _ _ _ _ takes.0 c.requires.counted.some run plays.4 takes.1 takes.2.1 takes.2.2
+    rw c.end_behind-in-Limit.ensures (limit-shared _ _ (state_of c.play_out-in-Limit.new.self.core) _ c.play_out-in-Limit.result _ _ _ _ _ _ _ takes.0 c.requires.counted.some run
+    (c.pieces.invariant.alone _ (returns-in-Limit-clause-run g c)) none takes.1 takes.2.1 takes.2.2
     c.play_out-in-Limit.ensures.plays c.play_out-in-Limit.ensures.round c.play_out-in-Limit.ensures.all)
 
-pub returns-in-Limit-clause-run : goal.returns-in-Limit-clause-run
-returns-in-Limit-clause-run g c = run-then _ _ _ (run-then _ _ _ c.pieces.invariant.steps c.in-Ok.ensures.run) c.play_out-in-Limit.ensures.run
+pub returns-in-NoMemory-clause-run : goal.returns-in-NoMemory-clause-run
+returns-in-NoMemory-clause-run g c = run-then _ _ _ c.pieces.invariant.steps c.in-Ok.ensures.run
 
 pub returns-in-NoMemory-clause-answers : goal.returns-in-NoMemory-clause-answers
 returns-in-NoMemory-clause-answers g c =
     let run = whole-shared _ _ _ _ _ _ _ _ _ _ _ _ c.pieces.invariant.run c.in-Ok.ensures.plays c.in-Ok.ensures.stays in
-    let takes = c.in-NoMemory.ensures.takes in (
-      unfed-shared _ _ _ _ _ _ _ _ _ takes.0 run takes.1 takes.2.1 (c.in-NoMemory.ensures.end ∙ c.pieces.invariant.ended)
-          (c.in-NoMemory.ensures.faults ∙ c.pieces.invariant.unread),
-      tt,
-    )
+    let takes = c.in-NoMemory.ensures.takes in
+    let own = (c.pieces.invariant.alone _ (returns-in-NoMemory-clause-run g c)).own in
+    halts-by NoMemory c.args.front.now.settings.slots _ _ _ _ _ own (unfed-shared _ _ _ _ _ _ _ _ _ takes.0 run own takes.1 takes.2.1
+    (c.in-NoMemory.ensures.end ∙ c.pieces.invariant.ended) (c.in-NoMemory.ensures.faults ∙ c.pieces.invariant.unread))
 
-pub returns-in-NoMemory-clause-run : goal.returns-in-NoMemory-clause-run
-returns-in-NoMemory-clause-run g c = run-then _ _ _ c.pieces.invariant.steps c.in-Ok.ensures.run
+pub returns-in-Ok-play_whole-clause-run : goal.returns-in-Ok-play_whole-clause-run
+returns-in-Ok-play_whole-clause-run g c =
+    run-then _ _ _ (run-then _ _ _ (run-then _ _ _ c.pieces.invariant.steps c.in-Ok.ensures.run) c.in-Ok-play_whole.ensures.run) c.play_out-in-Ok-play_whole.ensures.run
 
 pub returns-in-Ok-play_whole-clause-answers : goal.returns-in-Ok-play_whole-clause-answers
 returns-in-Ok-play_whole-clause-answers g c =
@@ -85,20 +97,18 @@ returns-in-Ok-play_whole-clause-answers g c =
     let whole = rw (c.finish.ensures, takes.2.0) at c.in-Ok-play_whole.ensures.plays in
     let stays = rw (c.finish.ensures, takes.2.0) at c.in-Ok-play_whole.ensures.stays in
     rw c.end_of_rest.ensures (ended-shared _ _ (state_of c.play_whole-2.new.front.core) (state_of c.play_out-in-Ok-play_whole.new.self.core) _ _ c.play_out-in-Ok-play_whole.result _ _ _ _ _ _ _ _ _ takes.0
-    c.requires.counted.some run takes.1 takes.2.1 c.in-Ended.ensures.end whole stays c.play_out-in-Ok-play_whole.ensures.plays c.play_out-in-Ok-play_whole.ensures.round c.play_out-in-Ok-play_whole.ensures.all)
+    c.requires.counted.some run (c.pieces.invariant.alone _ (returns-in-Ok-play_whole-clause-run g c)) takes.1 takes.2.1 c.in-Ended.ensures.end whole stays
+    c.play_out-in-Ok-play_whole.ensures.plays c.play_out-in-Ok-play_whole.ensures.round c.play_out-in-Ok-play_whole.ensures.all)
 
-pub returns-in-Ok-play_whole-clause-run : goal.returns-in-Ok-play_whole-clause-run
-returns-in-Ok-play_whole-clause-run g c =
-    run-then _ _ _ (run-then _ _ _ (run-then _ _ _ c.pieces.invariant.steps c.in-Ok.ensures.run) c.in-Ok-play_whole.ensures.run) c.play_out-in-Ok-play_whole.ensures.run
+pub returns-in-Err-play_whole-clause-run : goal.returns-in-Err-play_whole-clause-run
+returns-in-Err-play_whole-clause-run g c = run-then _ _ _ (run-then _ _ _ c.pieces.invariant.steps c.in-Ok.ensures.run) c.in-Err-play_whole.ensures.run
 
 pub returns-in-Err-play_whole-clause-answers : goal.returns-in-Err-play_whole-clause-answers
 returns-in-Err-play_whole-clause-answers g c =
     let run = whole-shared _ _ _ _ _ _ _ _ _ _ _ _ c.pieces.invariant.run c.in-Ok.ensures.plays c.in-Ok.ensures.stays in
     let takes = c.in-Ended.ensures.takes in
     let plays = rw (c.finish.ensures, takes.2.0) at c.in-Err-play_whole.ensures.plays in
-    rw c.end_of_halt-in-Err-play_whole.ensures (halts-by c.in-Err-play_whole.halt _ _ _ _ _ _
-    (ended-halted c.in-Err-play_whole.halt _ _ (state_of c.play_whole-2.new.front.core) _ c.play_whole-2.new.reader _ _ _ _ _ _ _ takes.0 run takes.1 takes.2.1
+    rw c.end_of_halt-in-Err-play_whole.ensures (halts-by c.in-Err-play_whole.halt _ _ _ _ _ _ (c.pieces.invariant.alone _ (returns-in-Err-play_whole-clause-run g c)).own
+    (ended-halted c.in-Err-play_whole.halt _ _ (state_of c.play_whole-2.new.front.core) _ c.play_whole-2.new.reader _ _ _ _ _ _ _ takes.0 run
+    (c.pieces.invariant.alone _ (returns-in-Err-play_whole-clause-run g c)).own takes.1 takes.2.1
     c.in-Ended.ensures.end plays))
-
-pub returns-in-Err-play_whole-clause-run : goal.returns-in-Err-play_whole-clause-run
-returns-in-Err-play_whole-clause-run g c = run-then _ _ _ (run-then _ _ _ c.pieces.invariant.steps c.in-Ok.ensures.run) c.in-Err-play_whole.ensures.run

@@ -1,5 +1,6 @@
-use Rattle.script_run.proofs.Words.{◌-◌, ◌<◌, ◌≡◌, IsCounted, IsRun, SCRIPT_LIMIT, state_of}
+use Rattle.script_run.proofs.Words.{◌-◌, ◌<◌, ◌≡◌, IsCounted, IsRun, SCRIPT_LIMIT, State, state_of}
 use Rattle.script_run.proofs.SharedRunLemmas.{IsShared}
+use Rattle.script_run.proofs.SharedScriptLemmas.{IsAlone}
 use Rattle.script_run.proofs.shared.play_script.Given as goal
 
 -- every read, step and write so far was as the run tells it, the front counted what it gave, and no read or write failed
@@ -7,6 +8,7 @@ abbrev pub invariant-pieces : goal.invariant-pieces
 invariant-pieces g l = record {
   run : IsShared l.fn.front.settings (state_of l.front.core) l.reader l.refused (g.S.Source.reading l.fn.source).left (g.S.Source.reading l.source).left (g.K.Sink.writing l.fn.sink).taken (g.K.Sink.writing l.sink).taken;
   steps : IsRun (state_of l.fn.front.core) (state_of l.front.core);
+  alone : (new : State) → IsRun (state_of l.fn.front.core) new → IsAlone new;
   counted : IsCounted l.front;
   free : l.front.unfinished < l.front.settings.slots;
   settings : l.front.settings ≡ l.fn.front.settings;

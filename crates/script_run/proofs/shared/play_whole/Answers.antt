@@ -1,12 +1,15 @@
-use Rattle.script_run.proofs.Words.{◌∙◌, err_from_is_err_and, refl, state_of}
+use Rattle.script_run.proofs.Words.{◌∙◌, ◌∷◌, [], err_from_is_err_and, refl, state_of}
 use Rattle.script_run.proofs.FrontCountLemmas.{known-counted}
 use Rattle.script_run.proofs.FrontRunLemmas.{run-itself, run-then}
-use Rattle.script_run.proofs.SharedWholeLemmas.{stops-first, stops-wanting, playing-first, starts-playing}
+use Rattle.script_run.proofs.SharedReadLemmas.{reads-first}
+use Rattle.script_run.proofs.SharedWholeLemmas.{playing-then, starts-playing, stops-first, stops-wanting, whole-done}
+use Rattle.script_run.proofs.WholeLemmas.{fed_on}
 use Rattle.script_run.proofs.shared.play_whole.Goals as goal
 
 pub statements-init : goal.statements-init
 statements-init g c = record {
-  way = starts-playing _ _ _;
+  way = λ due waits. starts-playing _ due _ _ waits;
+  stays = (refl, refl);
   run = run-itself _;
   counted = c.requires.counted;
   free = c.requires.free;
@@ -18,14 +21,19 @@ statements-init g c = record {
 pub returns-in_err-statement-clause-plays : goal.returns-in_err-statement-clause-plays
 returns-in_err-statement-clause-plays g c =
     let failed = err_from_is_err_and c.from_residual.result c.from_residual.ensures.1 in
-    rw (failed.1, failed.2) (stops-wanting _ _ _ _ c.next_statement.new.self _ _ _ c.statements.invariant.way c.in_err-statement.ensures.wanted)
+    rw (failed.1, failed.2) (λ due waits.
+    (stops-wanting _ _ due _ _ c.next_statement.new.self _ _ _ _ (c.statements.invariant.way due waits) c.in_err-statement.ensures.wanted, tt))
 
 pub returns-in_err-refused-clause-plays : goal.returns-in_err-refused-clause-plays
 returns-in_err-refused-clause-plays g c =
     let first = rw c.in-Got.is at c.in_ok-statement.ensures.answers in
     let failed = err_from_is_err_and c.from_residual-in_err-refused.result c.from_residual-in_err-refused.ensures.1 in
-    rw failed.1 (stops-first failed.0 _ _ (state_of c.play.new.self.core) _ _ c.next_statement.new.self c.in-Got.statement _ _ _ _
-    c.statements.invariant.way first c.in_err-refused.ensures.plays)
+    rw (failed.1, failed.2) (λ due waits.
+    let way = c.statements.invariant.way due waits in (
+      stops-first _ _ _ (state_of c.play.new.self.core) due _ _ c.next_statement.new.self _ c.in-Got.statement _ _ _ _
+          way first c.in_ok-statement.ensures.stays (c.in_err-refused.ensures.plays way.plays.0.on.still way.plays.0.on.goes.waits).0,
+      tt,
+    ))
 
 pub returns-in_err-refused-clause-run : goal.returns-in_err-refused-clause-run
 returns-in_err-refused-clause-run g c = run-then _ _ _ c.statements.invariant.run c.in_err-refused.ensures.run
@@ -34,7 +42,12 @@ pub statements-preserved : goal.statements-preserved
 statements-preserved g c =
     let first = rw c.in-Got.is at c.in_ok-statement.ensures.answers in
     record {
-      way = playing-first _ _ _ _ _ _ c.in-Got.statement _ _ _ _ _ c.statements.invariant.way first c.in_ok-statement.ensures.stays c.in_ok-refused.ensures.plays;
+      way = λ due waits.
+          let way = c.statements.invariant.way due waits in
+          let plays = c.in_ok-refused.ensures.plays way.plays.0.on.still way.plays.0.on.goes.waits in
+          playing-then _ _ _ due _ _ _ _ _ _ _ _ (c.in-Got.statement ∷ []) ⊥ way (reads-first c.statements.reader c.next_statement.new.self c.in-Got.statement first)
+          c.in_ok-statement.ensures.stays plays.0 plays.1;
+      stays = fed_on c.args.reader.now c.statements.reader c.next_statement.new.self c.statements.invariant.stays c.in_ok-statement.ensures.stays;
       run = run-then _ _ _ c.statements.invariant.run c.in_ok-refused.ensures.run;
       counted = c.in_ok-refused.ensures.counted;
       free = c.in_ok-refused.ensures.free;
@@ -48,3 +61,20 @@ returns-in_err-statement-clause-known g c = known-counted c.statements.front c.s
 
 pub returns-in_default-clause-known : goal.returns-in_default-clause-known
 returns-in_default-clause-known g c = known-counted c.statements.front c.statements.invariant.counted
+
+pub returns-in_default-clause-plays : goal.returns-in_default-clause-plays
+returns-in_default-clause-plays g c due waits =
+    whole-done _ _ due _ _ c.next_statement.new.self _ _ _ _ (c.statements.invariant.way due waits) c.in_default.not-Got
+    c.in_ok-statement.ensures.answers c.in_ok-statement.ensures.stays
+
+pub returns-in_err-statement-clause-stays : goal.returns-in_err-statement-clause-stays
+returns-in_err-statement-clause-stays g c =
+    fed_on c.args.reader.now c.statements.reader c.next_statement.new.self c.statements.invariant.stays c.in_err-statement.ensures.stays
+
+pub returns-in_default-clause-stays : goal.returns-in_default-clause-stays
+returns-in_default-clause-stays g c =
+    fed_on c.args.reader.now c.statements.reader c.next_statement.new.self c.statements.invariant.stays c.in_ok-statement.ensures.stays
+
+pub returns-in_err-refused-clause-stays : goal.returns-in_err-refused-clause-stays
+returns-in_err-refused-clause-stays g c =
+    fed_on c.args.reader.now c.statements.reader c.next_statement.new.self c.statements.invariant.stays c.in_ok-statement.ensures.stays

@@ -2,8 +2,11 @@ use Rattle.script_run.proofs.Words.{◌∙◌, refl}
 use Rattle.script_run.proofs.FrontGiveLemmas.{counted-given}
 use Rattle.script_run.proofs.front.Front.give.Goals as goal
 
-pub returns-clause-leads : goal.returns-clause-leads
-returns-clause-leads c given = c.in-Ok.ensures.leads
+pub returns-clause-submits : goal.returns-clause-submits
+returns-clause-submits c given = c.in-Ok.ensures.submits
+
+pub returns-clause-stay : goal.returns-clause-stay
+returns-clause-stay c given = c.in-Ok.ensures.stay
 
 pub returns-clause-run : goal.returns-clause-run
 returns-clause-run c given = c.in-Ok.ensures.run

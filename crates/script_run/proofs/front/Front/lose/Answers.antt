@@ -6,7 +6,7 @@ use Rattle.script_run.proofs.front.Front.lose.Goals as goal
 pub returns-in_err-play_out-clause-plays : goal.returns-in_err-play_out-clause-plays
 returns-in_err-play_out-clause-plays g c statement =
     let failed = err_from_is_err_and c.from_residual.result c.from_residual.ensures.1 in
-    rw failed.1 (plays-before failed.0 statement (state_of c.args.self.now.core) (state_of c.play_out.new.self.core) _ _ c.in_err-play_out.ensures.plays)
+    rw (failed.1, failed.2) (plays-before _ statement (state_of c.args.self.now.core) (state_of c.play_out.new.self.core) _ _ c.in_err-play_out.ensures.plays)
 
 pub returns-clause-plays : goal.returns-clause-plays
 returns-clause-plays g c statement =

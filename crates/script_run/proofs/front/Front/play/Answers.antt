@@ -1,4 +1,5 @@
-use Rattle.script_run.proofs.Words.{err_from_is_err_and, refl, state_of}
+use Rattle.script_run.proofs.Words.{◌∷◌, [], err_from_is_err_and, Front, refl, state_of, subst}
+use Rattle.script_run.specs.Front.{PlaysCounted}
 use Rattle.script_run.proofs.FrontCountLemmas.{due-by, known-counted, slots-some}
 use Rattle.script_run.proofs.FrontPlayLemmas.{plays-given, plays-none, plays-quiet}
 use Rattle.script_run.proofs.FrontRunLemmas.{run-then}
@@ -7,27 +8,36 @@ use Rattle.script_run.proofs.front.Front.play.Goals as goal
 pub returns-in_err-waits-clause-plays : goal.returns-in_err-waits-clause-plays
 returns-in_err-waits-clause-plays g c =
     let failed = err_from_is_err_and c.from_residual.result c.from_residual.ensures.1 in
-    rw failed.1 (plays-none failed.0 c.args.statement (state_of c.args.self.now.core) _)
+    rw (failed.1, failed.2) (plays-none c.args.statement (state_of c.args.self.now.core) _)
+
+pub returns-then-not-give-clause-plays : goal.returns-then-not-give-clause-plays
+returns-then-not-give-clause-plays g c =
+    subst (λ (front : Front). PlaysCounted c.lose.result (state_of front.core) (c.args.statement ∷ []) (state_of c.lose.new.self.core)
+    (g.K.Sink.writing c.args.sink.now).taken (g.K.Sink.writing c.lose.new.sink).taken)
+    (c.if-not-give.ensures.lost refl) (c.lose.ensures.plays c.args.statement)
 
 pub returns-then-is_due-clause-plays : goal.returns-then-is_due-clause-plays
 returns-then-is_due-clause-plays g c =
     let given = c.if-not-give.ensures in
     plays-given c.play_out.result c.args.statement (state_of c.args.self.now.core) (state_of c.give.new.self.core) (state_of c.play_out.new.self.core) _ _
-    (slots-some c.give.new.self (given.counted refl)) (given.leads refl) (given.counts refl)
+    (slots-some c.give.new.self (given.counted refl)) (given.submits refl) (given.run refl) (given.stay refl) (given.counts refl)
     (due-by c.args.statement c.args.self.now c.give.new.self c.in_ok-waits.waits c.requires.counted (given.counted refl) c.in_ok-waits.ensures (c.if-is_due.ensures.due refl))
     c.play_out.ensures.plays c.play_out.ensures.round c.play_out.ensures.all
 
 pub returns-then-is_due-clause-run : goal.returns-then-is_due-clause-run
 returns-then-is_due-clause-run g c =
-    run-then (state_of c.args.self.now.core) (state_of c.give.new.self.core) (state_of c.play_out.new.self.core) (c.if-not-give.ensures.run refl) c.play_out.ensures.run
+    run-then (state_of c.args.self.now.core) (state_of c.give.new.self.core) (state_of c.play_out.new.self.core) (c.if-not-give.ensures.run refl).run c.play_out.ensures.run
 
 pub returns-else-is_due-clause-plays : goal.returns-else-is_due-clause-plays
 returns-else-is_due-clause-plays g c =
     let given = c.if-not-give.ensures in
-    plays-quiet c.args.statement (state_of c.args.self.now.core) (state_of c.give.new.self.core) _ (given.leads refl) (given.counts refl)
+    plays-quiet c.args.statement (state_of c.args.self.now.core) (state_of c.give.new.self.core) _ (given.submits refl) (given.run refl) (given.stay refl) (given.counts refl)
 
 pub returns-in_err-waits-clause-known : goal.returns-in_err-waits-clause-known
 returns-in_err-waits-clause-known g c = known-counted c.args.self.now c.requires.counted
 
 pub returns-else-is_due-clause-known : goal.returns-else-is_due-clause-known
 returns-else-is_due-clause-known g c = known-counted c.give.new.self (c.if-not-give.ensures.counted refl)
+
+pub returns-else-is_due-clause-run : goal.returns-else-is_due-clause-run
+returns-else-is_due-clause-run g c = (c.if-not-give.ensures.run refl).run

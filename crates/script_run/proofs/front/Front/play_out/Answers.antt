@@ -1,24 +1,24 @@
-use Rattle.script_run.proofs.Words.{[], err_from_is_err_and, on_ok_weaker, refl, seat_at, state_of}
+use Rattle.script_run.proofs.Words.{err_from_is_err_and, on_ok_weaker, refl, seat_at, state_of}
 use Rattle.script_run.proofs.FrontCountLemmas.{counted-out, known-beside, round-beside}
-use Rattle.script_run.proofs.FrontHaltLemmas.{plays-behind}
 use Rattle.script_run.proofs.FrontOpenLemmas.{none-open}
-use Rattle.script_run.proofs.FrontPlayLemmas.{plays-due}
+use Rattle.script_run.proofs.FrontPlayLemmas.{plays-behind, plays-due}
 use Rattle.script_run.proofs.FrontRunLemmas.{run-then}
 use Rattle.script_run.proofs.front.Front.play_out.Goals as goal
 
 pub returns-in_err-finish_open-clause-plays : goal.returns-in_err-finish_open-clause-plays
 returns-in_err-finish_open-clause-plays g c =
     let failed = err_from_is_err_and c.from_residual.result c.from_residual.ensures.1 in
-    rw failed.1 (plays-due failed.0 (state_of c.args.self.now.core) (state_of c.finish_open.new.self.core) _ c.in_err-finish_open.ensures.waits c.finish_open.ensures.leads)
+    rw (failed.1, failed.2) (plays-due (state_of c.args.self.now.core) (state_of c.finish_open.new.self.core) _ c.in_err-finish_open.ensures.waits
+    c.finish_open.ensures.passes c.finish_open.ensures.run c.finish_open.ensures.stay)
 
 pub returns-clause-plays : goal.returns-clause-plays
 returns-clause-plays g c =
-    plays-behind c.write_ready.result (state_of c.args.self.now.core) (state_of c.finish_open.new.self.core) (state_of c.write_ready.new.core) [] [] _ _
-    c.finish_open.ensures.leads c.write_ready.ensures.plays
+    plays-behind c.write_ready.result (state_of c.args.self.now.core) (state_of c.finish_open.new.self.core) (state_of c.write_ready.new.core) _ _
+    c.finish_open.ensures.passes c.finish_open.ensures.run c.finish_open.ensures.stay c.write_ready.ensures.plays
 
 pub returns-clause-run : goal.returns-clause-run
 returns-clause-run g c =
-    run-then (state_of c.args.self.now.core) (state_of c.finish_open.new.self.core) (state_of c.write_ready.new.core) c.finish_open.ensures.run c.write_ready.ensures.run
+    run-then (state_of c.args.self.now.core) (state_of c.finish_open.new.self.core) (state_of c.write_ready.new.core) c.finish_open.ensures.run.run c.write_ready.ensures.run
 
 pub returns-clause-all : goal.returns-clause-all
 returns-clause-all g c =
@@ -43,3 +43,6 @@ returns-clause-counted g c =
 pub returns-clause-known : goal.returns-clause-known
 returns-clause-known g c =
     known-beside c.finish_open.new.self _ c.finish_open.ensures.known c.write_ready.ensures.beside refl refl
+
+pub returns-in_err-finish_open-clause-run : goal.returns-in_err-finish_open-clause-run
+returns-in_err-finish_open-clause-run g c = c.finish_open.ensures.run.run

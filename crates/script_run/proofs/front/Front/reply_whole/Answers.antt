@@ -1,8 +1,14 @@
 use Rattle.script_run.proofs.Words.{err_from_is_err_and, state_of}
 use Rattle.script_run.proofs.FrontRunLemmas.{run-then}
-use Rattle.script_run.proofs.HomeReplyLemmas.{replies-stopped, replies-whole}
+use Rattle.script_run.proofs.HomeReplyLemmas.{replies-halted, replies-stopped, replies-whole}
 use Rattle.script_run.proofs.HomeStepsLemmas.{held-after, served-run}
 use Rattle.script_run.proofs.front.Front.reply_whole.Goals as goal
+
+pub returns-in_err-play_whole-clause-replies : goal.returns-in_err-play_whole-clause-replies
+returns-in_err-play_whole-clause-replies g c =
+    let failed = err_from_is_err_and c.from_residual.result c.from_residual.ensures.1 in
+    rw (failed.1, failed.2) (replies-halted _ (state_of c.args.self.now.core) (state_of c.play_whole.new.front.core)
+    c.args.reader.now c.play_whole.new.reader _ _ c.requires.home.idle c.in_err-play_whole.ensures.plays)
 
 pub returns-in_err-play_whole-clause-served : goal.returns-in_err-play_whole-clause-served
 returns-in_err-play_whole-clause-served g c =
@@ -17,8 +23,8 @@ returns-in_err-play_whole-clause-held g c =
 pub returns-in_err-play_out-clause-replies : goal.returns-in_err-play_out-clause-replies
 returns-in_err-play_out-clause-replies g c =
     let failed = err_from_is_err_and c.from_residual-in_err-play_out.result c.from_residual-in_err-play_out.ensures.1 in
-    rw failed.1 (replies-stopped failed.0 _ (state_of c.args.self.now.core) (state_of c.play_whole.new.front.core) (state_of c.play_out.new.self.core)
-    c.args.reader.now c.play_whole.new.reader _ _ _ c.in_ok-play_whole.ensures.plays c.play_whole.ensures.stays c.in_err-play_out.ensures.plays)
+    rw (failed.1, failed.2) (replies-stopped _ _ (state_of c.args.self.now.core) (state_of c.play_whole.new.front.core) (state_of c.play_out.new.self.core)
+    c.args.reader.now c.play_whole.new.reader _ _ _ c.requires.home.idle c.in_ok-play_whole.ensures.plays c.in_err-play_out.ensures.plays)
 
 pub returns-in_err-play_out-clause-served : goal.returns-in_err-play_out-clause-served
 returns-in_err-play_out-clause-served g c =
@@ -34,7 +40,8 @@ returns-in_err-play_out-clause-held g c =
 pub returns-clause-replies : goal.returns-clause-replies
 returns-clause-replies g c =
     replies-whole _ _ (state_of c.args.self.now.core) (state_of c.play_whole.new.front.core) (state_of c.play_out.new.self.core)
-    c.args.reader.now c.play_whole.new.reader _ _ _ c.in_ok-play_whole.ensures.plays c.play_whole.ensures.stays c.in_ok-play_out.ensures.plays
+    c.args.reader.now c.play_whole.new.reader _ _ _ c.requires.home.idle c.in_ok-play_whole.ensures.plays c.in_ok-play_out.ensures.plays
+    c.in_ok-play_out.ensures.all
 
 pub returns-clause-served : goal.returns-clause-served
 returns-clause-served g c =

@@ -1,0 +1,36 @@
+-- What a core tells of the statements that were given to it by one seat.
+use Rattle.std.specs.Prelude.{◌≡◌, ◌≢◌, ◌⊎◌, ℕ, List, [], ◌++◌}
+use Rattle.script_reader.specs.declared.statement.Statement.{Statement}
+use Rattle.reply_text.specs.declared.reply.Reply.{Reply}
+use Rattle.core_state.specs.Rows.{Sight}
+use Rattle.core_state.specs.Sent.{AreEntriesOf, AreRepliesTo, Sent, numbers_in, statements_in, takens_of}
+use Rattle.core_state.specs.State.{Entry, Taken}
+
+-- From one sight of a seat to another it was given these statements. The first it sent and took these replies to; those behind them it
+-- sent, and nobody reads their replies; the last it did not send. The entries that came are those of what it sent, each at its point,
+-- and others of other seats. What it submitted has the numbers of what it sent, and what it took is what it has replied to, each query
+-- with its snapshot, and something of what was sent behind.
+pub record TellsSeat (seat : ℕ) (old new : Sight) (statements : List Statement) (replies : List Reply) : Type 0 where
+  pub said : List Sent
+  pub others : List Sent
+  pub rest : List Statement
+  pub all : statements ≡ statements_in said ++ (statements_in others ++ rest)
+  pub since : List Entry
+  pub seen : new.seen ≡ old.seen ++ since
+  pub entries : AreEntriesOf seat old.seen (said ++ others) since
+  pub submitted : new.row.submitted ≡ old.row.submitted ++ numbers_in (said ++ others)
+  pub later : List Taken
+  pub taken : new.row.taken ≡ old.row.taken ++ (takens_of new.seen said ++ later)
+  pub answered : AreRepliesTo new.seen said replies
+
+-- all of them were replied to
+pub record IsWhole {seat : ℕ} {old new : Sight} {statements : List Statement} {replies : List Reply}
+    (tells : TellsSeat seat old new statements replies) : Type 0 where
+  pub others : tells.others ≡ []
+  pub rest : tells.rest ≡ []
+  pub later : tells.later ≡ []
+
+-- something was given that was not replied to
+abbrev pub HasLeft : {seat : ℕ} {old new : Sight} {statements : List Statement} {replies : List Reply}
+    → TellsSeat seat old new statements replies → Type 0
+HasLeft tells = (tells.others ≢ []) ⊎ (tells.rest ≢ [])
