@@ -1,5 +1,5 @@
 //! The keys of groups in ascending order, each with the number of its group.
-ghost use Rattle.std.specs.Prelude.{◌≡◌, IfOk, OnOk, OnErr, IsPermutation};
+ghost use Rattle.std.specs.Prelude.{◌≡◌, IfOk, OnOk, IsPermutation};
 ghost use Rattle.std.specs.List.Sorted.{IsSortedByKey};
 ghost use Rattle.star_values.specs.Value.{row_cmp};
 ghost use Rattle.aggregations.specs.Finish.{numbered_from};

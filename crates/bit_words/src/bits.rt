@@ -1,5 +1,5 @@
 //! A set of numbers in W words. What rows of words do with such a set is in `rows`.
-ghost use Rattle.std.specs.Prelude.{◌≡◌, ◌≢◌, ℕ, ◌+◌, ◌*◌, ◌^◌, ◌<◌, ◌≤◌, ◌↔◌, ◌⊎◌, IsTrue, MatchOption, length, bit_and, slice_index, if◌then◌else◌};
+ghost use Rattle.std.specs.Prelude.{◌≡◌, ◌≢◌, ℕ, ◌+◌, ◌*◌, ◌^◌, ◌<◌, ◌↔◌, ◌⊎◌, IsTrue, MatchOption, length, bit_and, slice_index, if◌then◌else◌};
 ghost use Rattle.bit_words.specs.Words.{IsFirstWord};
 ghost use Rattle.bit_words.specs.Sets.{Has, with_number, without, IsLeast, members_below};
 

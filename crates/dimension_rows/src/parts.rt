@@ -1,9 +1,8 @@
 //! The parts that rows, their index and their columns consist of, and how one more row goes into each.
-ghost use Rattle.std.specs.Prelude.{◌≡◌, ℕ, ◌≤◌, ◌<◌, ◌+◌, [], ◌∷◌, ◌++◌, List, length, nat_eq, IsSome, IfSome, None, OnOk, OnErr};
+ghost use Rattle.std.specs.Prelude.{◌≡◌, ℕ, ◌≤◌, ◌<◌, ◌+◌, [], ◌∷◌, ◌++◌, List, length, nat_eq, IsSome, IfSome, None, OnOk};
 ghost use Rattle.std.specs.HashMap.{get, spare};
 ghost use Rattle.dimension_rows.specs.Integers.{AreColumns};
 ghost use Rattle.dimension_rows.specs.Keys.{key_of, index_of};
-ghost use Rattle.dimension_rows.specs.Hash.{hash_of_key};
 ghost use Rattle.dimension_rows.specs.declared.dimension_row.DimensionRow.{DimensionRow};
 ghost use Rattle.value_columns.specs.First.{KeepCodes, KeepIntegers};
 ghost use Rattle.dimension_rows.specs.Parts.{AreIndexed, HaveRoom};

@@ -1,7 +1,7 @@
 //! What one version more does to what is kept, and what is kept ends as, as laws.
-ghost use Rattle.std.specs.Prelude.{◌≡◌, ◌&&◌, ◌<◌, ℕ, List, [], ◌∷◌, ◌++◌, All, Contains, IsSorted, Some, if◌then◌else◌};
+ghost use Rattle.std.specs.Prelude.{◌≡◌, ℕ, List, [], ◌∷◌, ◌++◌, IsSorted, Some, if◌then◌else◌};
 ghost use Rattle.std.specs.Ordering.{eq_by_cmp};
-ghost use Rattle.std.specs.List.{IsDistinct, list_all, range_with_len};
+ghost use Rattle.std.specs.List.{IsDistinct};
 ghost use Rattle.std.specs.Option.{option_map_or};
 ghost use Rattle.std.specs.Map.{keys_of, lookup};
 ghost use Rattle.star_values.specs.declared.value.Value.{Value};

@@ -1,5 +1,5 @@
 //! An exact sum of integers of 64 bits.
-ghost use Rattle.std.specs.Prelude.{◌≡◌, ℕ, ◌+◌, ◌<◌, ◌^◌, ◌+ℤ◌};
+ghost use Rattle.std.specs.Prelude.{◌≡◌, ◌+◌, ◌<◌, ◌^◌, ◌+ℤ◌};
 ghost use Rattle.query_meaning.specs.Summed.{no_terms};
 ghost use Rattle.query_meaning.specs.Finish.{sum_end};
 

@@ -4,7 +4,7 @@ ghost use Rattle.std.specs.Int.{w64};
 ghost use Rattle.std.specs.Ordering.{int_cmp};
 ghost use Rattle.star_plan.specs.declared.predicate.How.TheVariants.{Ge, Le};
 ghost use Rattle.star_plan.specs.Truth.{is_asked};
-ghost use Rattle.range_tests.specs.Flat.{is_below, is_above, is_within};
+ghost use Rattle.range_tests.specs.Flat.{is_within};
 
 use star_plan::How;
 

@@ -1,5 +1,5 @@
 //! A query's condition on the rows of a table, as it is asked of many of them.
-ghost use Rattle.std.specs.Prelude.{◌≡◌, IfSome, Some, option_map};
+ghost use Rattle.std.specs.Prelude.{IfSome, Some, option_map};
 ghost use Rattle.star_values.specs.declared.value.Value as cell;
 ghost use Rattle.star_plan.specs.Test as plain;
 ghost use Rattle.star_plan.specs.Test.{test_of};

@@ -1,5 +1,5 @@
 -- What binding a statement answers.
-use Rattle.std.specs.Prelude.{◌≡◌, Bool, true, false, List, ◌∷◌, Option, option_map, Result, Ok, Err}
+use Rattle.std.specs.Prelude.{◌≡◌, Bool, true, false, ◌∷◌, Option, option_map, Result, Ok, Err}
 use Rattle.star_values.specs.declared.refusal.Refusal.{Refusal}
 use Rattle.star_parser.specs.Statement.{Statement, Delete, Select}
 use Rattle.star_plan.specs.Test.{query_of, test_of}

@@ -1,5 +1,5 @@
 //! Statements over a schema.
-ghost use Rattle.std.specs.Prelude.{◌≡◌, true, filter_map, map, option_map, IfOk};
+ghost use Rattle.std.specs.Prelude.{◌≡◌, true, map, option_map, IfOk};
 ghost use Rattle.star_parser.specs.Condition.{condition_of};
 ghost use Rattle.star_parser.specs.Statement.{statement_of};
 ghost use Rattle.star_plan.specs.Fits.{some_test_fits};
@@ -7,7 +7,6 @@ ghost use Rattle.star_plan.specs.Columns.{fact_columns, kinds_of};
 ghost use Rattle.star_plan.specs.Over.{IsOver};
 ghost use Rattle.star_plan.specs.Test.{query_of, test_of};
 ghost use Rattle.star_schema.specs.Limits.{IsWithinLimits};
-ghost use Rattle.star_schema.specs.Named.{table_named};
 ghost use Rattle.star_binder.specs.Bound as bound;
 ghost use Rattle.star_binder.specs.Fault.{Binds, BindsDelete, BindsSelect, is_delete, is_select};
 ghost use Rattle.star_binder.specs.Parts.{parts_of};

@@ -30,7 +30,8 @@ module _ {K : Type 0} (cmp : K → K → Ordering) (o : IsTotalOrder cmp) (same 
   turn_by x y Greater e =
       ap (λ r. cond (is_lt r) y x) (o.antisymm y x ∙ ap ordering_reverse e) ∙ ap (λ r. cond (is_lt r) x y) (sym e)
 
-  turns : (x y : K) → ord_min cmp x y ≡ ord_min cmp y x
+  -- the first of two is the same in both orders
+  pub turns : (x y : K) → ord_min cmp x y ≡ ord_min cmp y x
   turns x y = turn_by x y (cmp x y) refl
 
   -- y is not below b, and x is: then y is not below x
@@ -47,10 +48,13 @@ module _ {K : Type 0} (cmp : K → K → Ordering) (o : IsTotalOrder cmp) (same 
   commutes_by b x y false true e f = ap (λ t. cond t y b) f ∙ sym (stays_by b y x (is_lt (cmp x y)) refl f e)
   commutes_by b x y false false e f = ap (λ t. cond t y b) f ∙ ap (λ t. cond t x b) (sym e)
 
+  -- the first of three is the same whichever of two comes in first
+  pub commutes : (b x y : K) → ord_min cmp (ord_min cmp b x) y ≡ ord_min cmp (ord_min cmp b y) x
+  commutes b x y = commutes_by b x y (is_lt (cmp x b)) (is_lt (cmp y b)) refl refl
+
   -- the first value of all is the same in any order of the list
   pub first-IsPermutation : (xs ys : List K) → IsPermutation xs ys → reduce (ord_min cmp) xs ≡ reduce (ord_min cmp) ys
-  first-IsPermutation =
-      reduce-IsPermutation (ord_min cmp) turns (λ b x y. commutes_by b x y (is_lt (cmp x b)) (is_lt (cmp y b)) refl refl)
+  first-IsPermutation = reduce-IsPermutation (ord_min cmp) turns commutes
 
   not_Greater : (x y : K) → is_lt (cmp x y) ≡ true → is_gt (cmp x y) ≡ false
   not_Greater x y e = ap is_gt (is_Less (cmp x y) e)

@@ -36,6 +36,7 @@ pub use meaning::{
     answers_ignore_the_order_of_rows, answers_overflow_by_whole_sums,
     groups_are_the_keys_of_the_rows, kept_rows_meet_each_condition,
     least_and_greatest_bound_the_values, plain_cells_are_the_values_of_the_rows,
+    the_least_of_values_ignores_their_order,
 };
 pub use place::{Place, PlaceList};
 pub use predicate::{How, Predicate, PredicateList, predicates_are_tests_by_their_parts};

@@ -2,7 +2,7 @@
 ghost use Rattle.std.specs.Prelude.{◌≡◌, ◌↔◌, ℕ, ℤ, ◌<◌, IsTrue, IsSome, IfSome, All, AllPairs, Any, Contains, List, [], ◌∷◌, filter, length, map, FitsSigned, if◌then◌else◌};
 ghost use Rattle.std.specs.Int.{w64};
 ghost use Rattle.std.specs.List.Sorted.{IsPermutation};
-ghost use Rattle.std.specs.Ordering.{is_le};
+ghost use Rattle.std.specs.Ordering.{flip_args, is_le, ord_min};
 ghost use Rattle.std.specs.declared.cmp.Ordering.TheVariants.{Less};
 ghost use Rattle.star_values.specs.declared.value.Value.{Value};
 ghost use Rattle.star_values.specs.Value.{value_cmp};
@@ -87,6 +87,22 @@ pub fn answers_ignore_the_order_of_rows()
         IsPermutation rows others → answer_of query rows ≡ answer_of query others }
     ensures kept { (query : Query) (rows others : List Joined) →
         IsPermutation rows others → IsPermutation (kept_of query rows) (kept_of query others) }
+{
+    values_are_in_order();
+}
+
+/// The least of values is the same in whatever order they come, and so is the greatest: two may be turned
+/// round, and of two that come behind others either may come first.
+pub fn the_least_of_values_ignores_their_order()
+    ensures turns { (value other : Value) → ord_min value_cmp value other ≡ ord_min value_cmp other value }
+    ensures commutes { (least value other : Value) →
+        ord_min value_cmp (ord_min value_cmp least value) other
+        ≡ ord_min value_cmp (ord_min value_cmp least other) value }
+    ensures greatest_turns { (value other : Value) →
+        ord_min (flip_args value_cmp) value other ≡ ord_min (flip_args value_cmp) other value }
+    ensures greatest_commutes { (greatest value other : Value) →
+        ord_min (flip_args value_cmp) (ord_min (flip_args value_cmp) greatest value) other
+        ≡ ord_min (flip_args value_cmp) (ord_min (flip_args value_cmp) greatest other) value }
 {
     values_are_in_order();
 }

@@ -1,5 +1,5 @@
 //! Loads: the checks of a block, in their order, and the rows that it adds.
-ghost use Rattle.std.specs.Prelude.{◌≡◌, ◌⊎◌, ℕ, ◌+◌, ◌^◌, ◌<◌, List, ◌≤◌, ◌++◌, false, not, nat_lt, All, IsSome, Some, None, Ok, IfOk, IfErr, IfSome, IsErrOf, OnOk, OnErr, length, map};
+ghost use Rattle.std.specs.Prelude.{◌≡◌, ℕ, ◌+◌, ◌^◌, ◌<◌, List, ◌≤◌, ◌++◌, false, not, nat_lt, All, IsSome, Some, None, Ok, IfOk, IfErr, IfSome, IsErrOf, OnOk, OnErr, length, map};
 ghost use Rattle.star_values.specs.declared.refusal.Refusal.TheVariants.{BadRecord};
 ghost use Rattle.star_lists.specs.Roomy.{Roomy};
 ghost use Rattle.star_plan.specs.Columns.{kinds_of};
