@@ -48,11 +48,35 @@ def run(words, text, **how):
     return done.stdout.decode(), seconds_of_children() - before
 
 
-@functools.lru_cache(maxsize=2)
-def script(rows, queries, times):
-    """The script of `bench/burst.py`."""
-    words = [sys.executable, os.path.join(TOP, "bench", "burst.py"), str(rows), str(queries), str(times)]
-    return subprocess.run(words, check=True, capture_output=True, text=True).stdout
+class Burst:
+    """What `bench/burst.py` writes over so many sales. What is measured is tables, and a list of queries over them, of which
+    the first few are asked."""
+
+    def __init__(self, rows):
+        self.rows = rows
+
+    @functools.lru_cache(maxsize=2)
+    def script(self, queries, times):
+        """The script that loads the tables, and asks the first queries so many times."""
+        words = [sys.executable, os.path.join(TOP, "bench", "burst.py"), str(self.rows), str(queries), str(times)]
+        return subprocess.run(words, check=True, capture_output=True, text=True).stdout
+
+    def queries(self, count):
+        """The first queries, which are SQL too."""
+        return burst.queries_of(count)
+
+    @functools.lru_cache(maxsize=1)
+    def tables(self):
+        """The rows of each table by its name, in the order of their loads."""
+        draws = burst.Draws(7)
+        made = burst.dimensions(draws)
+        made["sales"] = [burst.sale(draws) for _ in range(self.rows)]
+        return made
+
+    @staticmethod
+    def declarations():
+        """The declarations of the tables."""
+        return burst.HEAD
 
 
 class Cjoin:
@@ -66,9 +90,9 @@ class Cjoin:
         """How often a burst is asked in a script: some 64 queries at least, and four bursts."""
         return max(4, 64 // queries)
 
-    def answers(self, rows, queries, times):
+    def answers(self, load, queries, times):
         """The rows of each answer, and the seconds that all of it took."""
-        text, seconds = run(self.words, script(rows, queries, times))
+        text, seconds = run(self.words, load.script(queries, times))
         lines, found, at = text.splitlines(), [], 0
         while at < len(lines):
             words = lines[at].split(" ")
@@ -80,17 +104,14 @@ class Cjoin:
         return found, seconds
 
 
-@functools.lru_cache(maxsize=1)
-def tables(rows):
-    """The rows of each table in the order of their loads, and the statements that make the tables, in SQL."""
-    draws = burst.Draws(7)
-    made = burst.dimensions(draws)
-    made["sales"] = [burst.sale(draws) for _ in range(rows)]
+def in_sql(declarations):
+    """The statements that make the tables, in SQL."""
     statements = []
-    for line in burst.HEAD.splitlines():
+    for line in declarations.splitlines():
         columns = re.sub(r" references \w+", "", line.split("(", 1)[1]).replace("int key", "int primary key")
-        statements.append(f"create table {line.split()[1]} ({columns};")
-    return made, statements
+        # An int has 64 bits here, and is a bigint there.
+        statements.append(f"create table {line.split()[1]} ({re.sub(r' int', ' bigint', columns)};")
+    return statements
 
 
 def records(rows):
@@ -121,15 +142,15 @@ class Sqlite:
     def times(queries):
         return 1
 
-    def answers(self, rows, queries, times):
-        made, statements = tables(rows)
+    def answers(self, load, queries, times):
+        made, statements = load.tables(), in_sql(load.declarations())
         with tempfile.TemporaryDirectory() as folder:
             for name, members in made.items():
                 with open(os.path.join(folder, name), "w") as file:
                     file.write(records(members))
             text = "\n".join(statements) + "\n.mode csv\n"
             text += "".join(f".import {os.path.join(folder, name)} {name}\n" for name in made)
-            text += "analyze;\n" + "".join(f".print --\n{query};\n" for query in burst.queries_of(queries) * times)
+            text += "analyze;\n" + "".join(f".print --\n{query};\n" for query in load.queries(queries) * times)
             written, seconds = run(["sqlite3", ":memory:"], text)
         return parts(written.replace("\r", "")), seconds
 
@@ -160,8 +181,8 @@ class Postgres:
     def times(queries):
         return 1
 
-    def answers(self, rows, queries, times):
-        made, statements = tables(rows)
+    def answers(self, load, queries, times):
+        made, statements = load.tables(), in_sql(load.declarations())
         before, user = seconds_of_children(), self.user()
         how = {"user": user} if os.geteuid() == 0 else {}
         with tempfile.TemporaryDirectory() as folder:
@@ -183,7 +204,7 @@ class Postgres:
                         sys.exit("PostgreSQL did not start")
                 text = "\n".join(statements) + "\n"
                 text += "".join(f"copy {name} from stdin csv;\n{records(members)}\\.\n" for name, members in made.items())
-                text += "analyze;\n" + "".join(f"\\echo --\n{query};\n" for query in burst.queries_of(queries) * times)
+                text += "analyze;\n" + "".join(f"\\echo --\n{query};\n" for query in load.queries(queries) * times)
                 written, _ = run(ask, text)
             finally:
                 server.send_signal(2)  # a fast end
@@ -191,16 +212,16 @@ class Postgres:
         return parts(written), seconds_of_children() - before
 
 
-def measured(party, rows, queries, repetitions, wanted):
-    """The seconds of one burst alone, and its answers, which are those that are wanted if they are known."""
+def measured(party, load, queries, repetitions, wanted):
+    """The seconds of the first queries alone, and their answers, which are those that are wanted if they are known."""
     loads, all_of_it, times = [], [], party.times(queries)
     for _ in range(repetitions):
-        loads.append(party.answers(rows, 0, 1)[1])
-        answers, seconds = party.answers(rows, queries, times)
+        loads.append(party.answers(load, 0, 1)[1])
+        answers, seconds = party.answers(load, queries, times)
         all_of_it.append(seconds)
         wanted = wanted if wanted is not None else answers[:queries]
         if answers != wanted * times:
-            sys.exit(f"{party.name} answers otherwise over {rows} sales and {queries} queries")
+            sys.exit(f"{party.name} answers otherwise over {load.rows} rows and {queries} queries")
     return max(0.0, min(all_of_it) - min(loads)) / times, wanted
 
 
@@ -246,6 +267,12 @@ def picture(rows, counts, figures):
     return "\n".join(out + ["</svg>"]) + "\n"
 
 
+def parties(peers):
+    """This program in both modes, and the peers that are installed, where they are asked for."""
+    own = [Cjoin("one shared lap", "run"), Cjoin("each alone", "alone")]
+    return own + [peer() for peer in (Sqlite, Postgres) if peers and peer.is_there()]
+
+
 def main():
     reader = argparse.ArgumentParser(description="Measures bursts of star queries, shared and private.")
     reader.add_argument("--rows", type=int, default=1_000_000)
@@ -255,15 +282,13 @@ def main():
     reader.add_argument("--svg", help="where the picture is written")
     words = reader.parse_args()
     counts = [int(count) for count in words.queries.split(",")]
-    parties = [Cjoin("one shared lap", "run"), Cjoin("each alone", "alone")]
-    if not words.no_peers:
-        parties += [peer() for peer in (Sqlite, Postgres) if peer.is_there()]
-    figures = {party.name: [] for party in parties}
+    asked, load = parties(not words.no_peers), Burst(words.rows)
+    figures = {party.name: [] for party in asked}
     for count in counts:
         wanted = None
-        for party in parties:
+        for party in asked:
             runs = words.repetitions if isinstance(party, Cjoin) else 1
-            seconds, wanted = measured(party, words.rows, count, runs, wanted)
+            seconds, wanted = measured(party, load, count, runs, wanted)
             figures[party.name].append(seconds)
             print(f"{party.name}: {count} queries, {seconds:.3f} s", file=sys.stderr)
     print(table(counts, figures))
