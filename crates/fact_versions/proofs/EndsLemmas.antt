@@ -1,7 +1,8 @@
 -- Versions of which one is written in place.
-use Rattle.std.proofs.Common.{◌≡◌, ◌≢◌, ℕ, zero, suc, ◌<◌, List, [], ◌∷◌, length, slice_get, slice_index_or, slice_set, option_map, refl, ap, ◌∙◌, arith}
+use Rattle.std.proofs.Common.{◌≡◌, ◌≢◌, ℕ, zero, suc, ◌+◌, ◌<◌, ◌≤◌, List, [], ◌∷◌, length, take, drop, slice_get, slice_index_or, slice_set, option_map, refl, ap, ◌∙◌, arith}
 use Rattle.std.proofs.lemmas.List.{length-set}
 use Rattle.std.specs.List.{refill}
+use Rattle.star_lists.proofs.PlaceLemmas.{refill-all}
 use Rattle.fact_versions.specs.Ends.{ended_by, with_end}
 use Rattle.fact_versions.specs.declared.version.Version.{Version}
 use Rattle.star_lists.specs.Roomy.{Roomy}
@@ -10,13 +11,6 @@ use Rattle.star_lists.specs.Roomy.{Roomy}
 abbrev written : List Version → (position commit : ℕ) → Version → List Version
 written versions position commit read =
     slice_set versions position (record (slice_index_or versions position read) { end = commit })
-
--- as many members as the list has replace all of them
-refill-all : (old members : List Version) → length members ≡ length old → refill (length old) old members ≡ members
-refill-all [] [] same = refl
-refill-all [] (member ∷ members) same = absurd (omega arith)
-refill-all (version ∷ old) [] same = absurd (omega arith)
-refill-all (version ∷ old) (member ∷ members) same = ap (λ rest. member ∷ rest) (refill-all old members (omega arith))
 
 -- what is written is the end
 written-with_end : (versions : List Version) (position commit : ℕ) (read : Version) → position < length versions
@@ -64,3 +58,37 @@ other-with_end (version ∷ versions) zero commit (suc other) differ = refl
 other-with_end (version ∷ versions) (suc position) commit zero differ = refl
 other-with_end (version ∷ versions) (suc position) commit (suc other) differ =
     other-with_end versions position commit other (λ same. differ (ap suc same))
+
+-- a front of versions of which one is ended
+pub take-with_end : (count : ℕ) (versions : List Version) (position commit : ℕ)
+    → take count (with_end versions position commit) ≡ with_end (take count versions) position commit
+take-with_end zero versions position commit = refl
+take-with_end (suc count) [] position commit = refl
+take-with_end (suc count) (version ∷ versions) zero commit = refl
+take-with_end (suc count) (version ∷ versions) (suc position) commit =
+    ap (λ rest. version ∷ rest) (take-with_end count versions position commit)
+
+-- what is left behind a front that the one that is ended is not in
+pub drop-with_end : (count : ℕ) (versions : List Version) (position commit : ℕ)
+    → drop count (with_end versions (count + position) commit) ≡ with_end (drop count versions) position commit
+drop-with_end zero versions position commit = let same : 0 + position ≡ position = omega arith in ap (λ p. with_end versions p commit) same
+drop-with_end (suc count) [] position commit = refl
+drop-with_end (suc count) (version ∷ versions) position commit =
+    let next : suc count + position ≡ suc (count + position) = omega arith in
+    ap (λ p. drop (suc count) (with_end (version ∷ versions) p commit)) next ∙ drop-with_end count versions position commit
+
+-- and behind one that it is in
+pub drop-with_end_before : (count : ℕ) (versions : List Version) (position commit : ℕ) → position < count
+    → drop count (with_end versions position commit) ≡ drop count versions
+drop-with_end_before zero versions position commit before = absurd (omega arith)
+drop-with_end_before (suc count) [] position commit before = refl
+drop-with_end_before (suc count) (version ∷ versions) zero commit before = refl
+drop-with_end_before (suc count) (version ∷ versions) (suc position) commit before =
+    drop-with_end_before count versions position commit (omega arith)
+
+-- past the last version none is ended
+pub past-with_end : (versions : List Version) (position commit : ℕ) → length versions ≤ position → with_end versions position commit ≡ versions
+past-with_end [] position commit past = refl
+past-with_end (version ∷ versions) zero commit past = absurd (omega arith)
+past-with_end (version ∷ versions) (suc position) commit past =
+    ap (λ rest. version ∷ rest) (past-with_end versions position commit (omega arith))

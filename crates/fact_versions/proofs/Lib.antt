@@ -1,3 +1,5 @@
 pub mod BesideLemmas
+pub mod BlockLemmas
 pub mod EndsLemmas
+pub mod PartLemmas
 pub mod VisibleLemmas

@@ -1,7 +1,12 @@
--- The integers that are kept beside versions, column by column.
-use Rattle.std.specs.Prelude.{◌≡◌, ℕ, ℤ, ◌+◌, ◌≤◌, List, [], length, map, slice_get, slice_index_or, Some}
+-- What is kept beside versions, so that a scan need not read them.
+use Rattle.std.specs.Prelude.{ℕ, ℤ, ◌+◌, ◌*◌, ◌≤◌, List, length, map}
+use Rattle.batch_flow.specs.declared.batch.TheConstants.{ROWS_IN_A_BLOCK}
+use Rattle.star_lists.specs.Roomy.{Roomy}
 use Rattle.star_values.specs.declared.value.Value.{Value}
-use Rattle.star_values.specs.declared.value.Value.TheVariants.{Int}
+use Rattle.value_columns.specs.First.{AreIntegerColumns}
+use Rattle.fact_versions.specs.Blocks.{AreBlocks}
+use Rattle.fact_versions.specs.Keys.{AreKeyColumns, HaveRoom}
+use Rattle.fact_versions.specs.declared.blocks.Block.{Block}
 use Rattle.fact_versions.specs.declared.version.Version.{Version}
 use Rattle.fact_versions.specs.declared.version.TheConstants.{MAX_VERSIONS}
 
@@ -9,10 +14,15 @@ use Rattle.fact_versions.specs.declared.version.TheConstants.{MAX_VERSIONS}
 abbrev pub rows_of : List Version → List (List Value)
 rows_of versions = map (λ version. version.row) versions
 
--- what stands in columns from a number on are the integers of versions, so far as they stand there: the
--- first version's at that number, and each other's as many places behind it
-pub record AreBeside (versions : List Version) (first : ℕ) (columns : List (List ℤ)) : Type 0 where
-  pub few : first + length versions ≤ MAX_VERSIONS
-  pub each : (column place : ℕ) (version : Version) (integer : ℤ) → slice_get versions place ≡ Some version
-      → slice_get (slice_index_or columns column []) (first + place) ≡ Some integer
-      → slice_get version.row column ≡ Some (Int integer)
+-- versions that are not too many have these beside them: integers and keys, column by column, and blocks
+pub record AreBeside (versions : List Version) (integers : List (List ℤ)) (keys : List (Roomy ℕ)) (blocks : List Block) : Type 0 where
+  pub few : length versions ≤ MAX_VERSIONS
+  pub whole_integers : AreIntegerColumns (rows_of versions) integers
+  pub whole_keys : AreKeyColumns versions keys
+  pub whole_blocks : AreBlocks versions blocks
+
+-- so many more versions have room, and so do their keys and their blocks
+pub record HaveRoomFor (more : ℕ) (versions : Roomy Version) (keys : List (Roomy ℕ)) (blocks : Roomy Block) : Type 0 where
+  pub of_versions : more ≤ versions.room
+  pub of_keys : HaveRoom more keys
+  pub of_blocks : length versions.items + more ≤ (length blocks.items + blocks.room) * ROWS_IN_A_BLOCK

@@ -2,8 +2,10 @@
 //! it. Which of them a query sees is in `visible`.
 #![tactic(auto)]
 
+mod blocks;
 mod crossing;
 mod fact_versions;
+mod key_columns;
 mod laws;
 mod stretch;
 mod version;

@@ -1,65 +1,57 @@
-//! Versions that stand one after another, with their integers beside them.
-ghost use Rattle.std.specs.Prelude.{◌≡◌, ◌≤◌, ◌-◌, length, take, drop, IfSome};
-ghost use Rattle.fact_versions.specs.Beside.{AreBeside};
+//! Versions that stand one after another, with what is kept beside them.
+ghost use Rattle.std.specs.Prelude.{◌≡◌, ◌≤◌, ◌<◌, ◌-◌, All, IsTrue, length, map, take, drop, IfSome, slice_index_or};
 ghost use Rattle.fact_versions.specs.Integers.{HaveIntegers};
 
-use crate::version::Version;
+use crate::fact_versions::FactVersions;
+use crate::version::{KEYS_IN_A_VERSION, Version};
 use std::marker::Model;
-use value_columns::IntegerColumns;
 
-/// Some versions of a fact table that stand one after another in it, with the integers that are kept beside
-/// them, column by column.
+/// Some versions of a fact table that stand one after another in it, with what is kept beside them.
 #[derive(Debug, Drop)]
 pub struct Stretch<'a> {
-    versions: &'a [Version],
+    facts: &'a FactVersions,
 
-    /// The integers of all versions of the table, as far as they are kept.
-    integers: &'a IntegerColumns,
-
-    /// The position of the first of the versions, which is its place in each column.
+    /// The position of the first of the versions.
     first: usize,
+
+    /// The position behind the last one.
+    end: usize,
 }
 
 impl<'a> Model for Stretch<'a> {
-    ghost use Rattle.std.specs.Prelude.{List};
-    ghost use Rattle.fact_versions.specs.Beside.{AreBeside};
+    ghost use Rattle.std.specs.Prelude.{◌≤◌, ◌-◌, List, drop, length, take};
     ghost use Rattle.fact_versions.specs.declared.version.Version as version;
 
     ghost Value = { List version.Version };
 
-    ghost view = { λ stretch. stretch.versions.now };
+    ghost view = { λ stretch.
+        take (stretch.end - stretch.first) (drop stretch.first stretch.facts.now.items) };
 
-    ghost invariant = { λ stretch. AreBeside stretch.versions.now stretch.first stretch.integers.now };
+    ghost invariant = { λ stretch. (stretch.first ≤ stretch.end)
+        × (stretch.end ≤ length stretch.facts.now.items) };
 }
 
 impl<'a> Stretch<'a> {
-    /// These versions, of which the first has its integers at this place of each column.
-    pub(crate) fn of(
-        versions: &'a [Version],
-        integers: &'a IntegerColumns,
-        first: usize,
-    ) -> Stretch<'a>
-        requires { AreBeside versions.now first integers.now }
-        ensures { result ≡ versions.now }
+    /// The versions of a fact table at the positions from one to before another.
+    pub(crate) fn of(facts: &'a FactVersions, first: usize, end: usize) -> Stretch<'a>
+        requires order { first ≤ end }
+        requires within { end ≤ length facts.now.items }
+        ensures { result ≡ take (end - first) (drop first facts.now.items) }
     {
-        Stretch {
-            versions,
-            integers,
-            first,
-        }
+        Stretch { facts, first, end }
     }
 
     /// The versions, in the order of their positions.
     pub fn as_slice(&self) -> &'a [Version]
         ensures { result.now ≡ self.now }
     {
-        self.versions
+        &self.facts.versions()[self.first..self.end]
     }
 
     pub fn len(&self) -> usize
         ensures { result ≡ length self.now }
     {
-        self.versions.len()
+        self.end - self.first
     }
 
     /// The versions from a number to before another.
@@ -68,21 +60,42 @@ impl<'a> Stretch<'a> {
         requires within { end ≤ length self.now }
         ensures { result ≡ take (end - first) (drop first self.now) }
     {
-        Stretch::of(
-            &self.versions[first..end],
-            self.integers,
-            self.first + first,
-        )
+        // By being read it is known to be below 2 ^ 64.
+        let _end = self.end;
+        Stretch::of(self.facts, self.first + first, self.first + end)
     }
 
-    /// The integers of the versions in a column, from 0, if one is kept beside each of them: there is none
-    /// where a row of the table has a text there, or found no memory for its integer.
+    /// The integers of the versions in a column, from 0, if one is kept beside each of them: there
+    /// is none where a row of the table has a text there, or found no memory for its integer.
     ///
     /// Copies nothing, and costs the same for any number of versions.
     pub fn integers(&self, column: u8) -> Option<&'a [i64]>
         ensures { IfSome result (λ integers. HaveIntegers self.now column integers.now) }
     {
-        let end = self.first + self.versions.len();
-        self.integers.part(column as usize, self.first, end)
+        self.facts.integers(column, self.first, self.end)
+    }
+
+    /// The key numbers of the versions for a dimension, one for each.
+    ///
+    /// Copies nothing, and costs the same for any number of versions.
+    pub fn keys(&self, dimension: usize) -> &'a [u32]
+        requires { dimension < KEYS_IN_A_VERSION }
+        ensures keys { result.now
+            ≡ map (λ version. slice_index_or version.keys dimension 0) self.now }
+        ensures whole { All (λ version. length version.keys ≡ KEYS_IN_A_VERSION) self.now }
+    {
+        self.facts.keys(dimension, self.first, self.end)
+    }
+
+    /// Whether each version is known to have come by a commit, this one or one before it, and none
+    /// to have been deleted. It is asked of the blocks that they stand in, and no version is read.
+    ///
+    /// An answer false says nothing, and the versions have to be asked: a block may have others,
+    /// which came later or were deleted.
+    pub fn are_all_seen(&self, commit: u64) -> bool
+        ensures { IsTrue result →
+            All (λ version. (version.begin ≤ commit) × (version.end ≡ 0)) self.now }
+    {
+        self.facts.are_all_seen(self.first, self.end, commit)
     }
 }
