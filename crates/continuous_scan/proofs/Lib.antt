@@ -5,5 +5,6 @@ pub mod CallLemmas
 pub mod FollowLemmas
 pub mod WriteLemmas
 pub mod BitLemmas
+pub mod UsedLemmas
 pub mod SeenLemmas
 pub mod KeptLemmas

@@ -3,6 +3,7 @@ ghost use Rattle.std.specs.Prelude.{◌≡◌, ◌<◌, ◌≤◌};
 ghost use Rattle.continuous_scan.specs.Range.{first_of, end_at_start, end_of};
 
 use crate::runner::Runner;
+use crate::slots::Slots;
 
 /// The first position of the next cut.
 pub(crate) fn first_of(position: u32, length: u32) -> u32
@@ -30,7 +31,7 @@ fn end_at_start(first: u32, end: u32, slot: &Option<Runner>) -> u32
 }
 
 /// The position behind a cut that begins at `first`.
-pub(crate) fn end_of(first: u32, length: u32, size: u32, running: &[Option<Runner>]) -> u32
+pub(crate) fn end_of(first: u32, length: u32, size: u32, running: &Slots) -> u32
     requires some { 1 ≤ size }
     requires within { first < length }
     ensures value { result ≡ end_of first length size running.now }
@@ -42,7 +43,8 @@ pub(crate) fn end_of(first: u32, length: u32, size: u32, running: &[Option<Runne
     } else {
         length
     };
-    for slot in running {
+    let slots = running.in_use();
+    for slot in slots {
         end = end_at_start(first, end, slot);
     }
     end
