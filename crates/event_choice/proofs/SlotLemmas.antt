@@ -1,8 +1,7 @@
 -- What queries and slots there are none of.
-use Rattle.std.proofs.Common.{◌≡◌, ℕ, ◌<◌, false, true, length, Option, Some, None, IsSome, position, refl, ap, sym, ◌∙◌, subst, inl, inr, arith, eqb-true}
+use Rattle.std.proofs.Common.{◌≡◌, ℕ, ◌<◌, ◌≤◌, false, true, length, Option, Some, None, IsSome, position, refl, ap, sym, ◌∙◌, subst, inl, inr, arith, eqb-true}
 use Rattle.std.specs.Option.{option_map_or}
 use Rattle.std.proofs.lemmas.Bool.{cases_lt}
-use Rattle.std.proofs.lemmas.List.{get_or_past}
 use Rattle.std.proofs.lemmas.List.Quantifiers.{position-Some}
 use Rattle.std.proofs.lemmas.List.Sums.{fails_before_first}
 use Rattle.pipeline_manager.specs.declared.life.Life.TheVariants.{Building}
@@ -43,23 +42,30 @@ pub unheld-clearing : (lives : Lives) (slot query left : ℕ) → slot_at lives 
 unheld-clearing lives slot query left at first =
     absurd (let held : false ≡ true = held-there lives slot query (Clearing left) at first in cc)
 
+-- from so many slots on each is free
+abbrev pub AreFreeFrom : (used : ℕ) → Lives → Type 0
+AreFreeFrom used lives = (slot : ℕ) → used ≤ slot → slot_at lives slot ≡ Free
+
+-- a slot of which something holds that holds of no free one is in front of them
+pub within-used : (P : SlotState → Type 0) (lives : Lives) (used slot : ℕ) → AreFreeFrom used lives → (P Free → ⊥)
+    → P (slot_at lives slot) → slot < used
+within-used P lives used slot free never holds = elim (cases_lt slot used) [
+  | inl low ↦ low
+  | inr past ↦ absurd (never (subst P (free slot past) holds))
+]
+
 -- what holds of no query that holds a slot, and only of queries that hold one, holds of none
-pub none-at-all : (P : ℕ → Type 0) (lives : Lives) → IsSound lives → ((query : ℕ) → P query → CanSpoil query lives)
-    → ((query slot : ℕ) → slot < length lives.slots → slot_of lives query ≡ Some slot → P query → ⊥) → (query : ℕ) → P query → ⊥
-none-at-all P lives sound begun none query holds = by_slot (slot_of lives query) refl (slot_of-begun lives query sound (begun query holds))
+pub none-at-all : (P : ℕ → Type 0) (lives : Lives) (used : ℕ) → IsSound lives → AreFreeFrom used lives
+    → ((query : ℕ) → P query → CanSpoil query lives)
+    → ((query slot : ℕ) → slot < used → slot_of lives query ≡ Some slot → P query → ⊥) → (query : ℕ) → P query → ⊥
+none-at-all P lives used sound free begun none query holds = by_slot (slot_of lives query) refl (slot_of-begun lives query sound (begun query holds))
   where
     by_slot : (o : Option ℕ) → slot_of lives query ≡ o → IsSome o → ⊥
     by_slot None is some = absurd (let both : false ≡ true = some in cc)
-    by_slot (Some slot) is some = none query slot (position-Some (is_held_by query) lives.slots slot Free is).0 is holds
+    by_slot (Some slot) is some =
+        let held : is_held_by query (slot_at lives slot) ≡ true = (position-Some (is_held_by query) lives.slots slot Free is).1 in
+        none query slot (within-used (λ state. is_held_by query state ≡ true) lives used slot free (λ never. absurd (cc)) held) is holds
 
 -- a query that is Building has begun
 pub begun-building : (lives : Lives) (query : ℕ) → life_of lives query ≡ Some Building → CanSpoil query lives
 begun-building lives query building = ap (λ life. option_map_or is_begun life false) building
-
--- a slot of which something holds that holds of no free one is there
-pub within-slots : (P : SlotState → Type 0) (lives : Lives) (slot : ℕ) → (P Free → ⊥) → P (slot_at lives slot)
-    → slot < length lives.slots
-within-slots P lives slot never holds = elim (cases_lt slot (length lives.slots)) [
-  | inl low ↦ low
-  | inr past ↦ absurd (never (subst P (get_or_past lives.slots slot Free past) holds))
-]

@@ -2,7 +2,6 @@
 ghost use Rattle.std.specs.Prelude.{◌≡◌, ℕ, ◌<◌, length, IfSome, IsSomeAnd};
 ghost use Rattle.pipeline_manager.specs.Conditions.{CanBuild, CanRun};
 ghost use Rattle.pipeline_manager.specs.Lives.{built_of, slot_of};
-ghost use Rattle.pipeline_manager.specs.Sound.{IsSound};
 ghost use Rattle.event_choice.specs.Slots.{MayGetSlot};
 
 use crate::enabling::is_building;
@@ -45,7 +44,7 @@ pub fn next_build(manager: &Manager) -> Option<ToBuild>
     ensures some { IfSome result (λ found. CanBuild found.query found.dimension manager.now) }
     ensures none { result ≡ None → (query dimension : ℕ) → CanBuild query dimension manager.now → ⊥ }
 {
-    for slot in 0..count_slots(manager) {
+    for slot in 0..manager.used() {
         if let Some(found) = build_at(manager, slot) {
             return Some(found);
         }
@@ -58,22 +57,12 @@ pub fn next_start(manager: &Manager) -> Option<u64>
     ensures some { IfSome result (λ query. CanRun query manager.now) }
     ensures none { result ≡ None → (query : ℕ) → CanRun query manager.now → ⊥ }
 {
-    for slot in 0..count_slots(manager) {
+    for slot in 0..manager.used() {
         if let Some(found) = start_at(manager, slot) {
             return Some(found);
         }
     }
     None
-}
-
-/// How many slots there are.
-fn count_slots(manager: &Manager) -> u32
-    ensures count { result ≡ length manager.now.slots }
-    ensures sound { IsSound manager.now }
-{
-    // What it answers is not needed: it says that the lives are sound.
-    let _ = manager.oldest_waiting();
-    manager.slots()
 }
 
 /// The query that holds a slot, and a dimension whose filter may be built for it.

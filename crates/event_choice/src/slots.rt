@@ -22,7 +22,7 @@ pub fn next_clear(manager: &Manager) -> Option<ToClear>
     ensures some { IfSome result (λ found. CanClear found.slot found.dimension manager.now) }
     ensures none { result ≡ None → (slot dimension : ℕ) → CanClear slot dimension manager.now → ⊥ }
 {
-    for slot in 0..manager.slots() {
+    for slot in 0..manager.used() {
         if let Some(found) = clear_at(manager, slot) {
             return Some(found);
         }
@@ -35,7 +35,7 @@ pub fn next_release(manager: &Manager) -> Option<u32>
     ensures some { IfSome result (λ slot. CanFree slot manager.now) }
     ensures none { result ≡ None → (slot : ℕ) → CanFree slot manager.now → ⊥ }
 {
-    for slot in 0..manager.slots() {
+    for slot in 0..manager.used() {
         if may_release(manager, slot) {
             return Some(slot);
         }
@@ -50,7 +50,7 @@ pub fn next_finish(manager: &Manager, flights: &[Flight]) -> Option<u32>
     ensures none { result ≡ None → (slot : ℕ) →
         CanEnd slot manager.now × (list_any (λ flight. bit_at flight.batch.roster slot == 1) flights.now ≡ false) → ⊥ }
 {
-    for slot in 0..manager.slots() {
+    for slot in 0..manager.used() {
         if may_end(manager, slot) && !is_on_some_roster(flights, slot) {
             return Some(slot);
         }

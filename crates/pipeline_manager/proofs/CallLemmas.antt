@@ -21,28 +21,6 @@ use Rattle.star_lists.proofs.RisingLemmas.{IsMissing}
 use Rattle.pipeline_manager.proofs.QueryLemmas.{query_in-missing}
 use Rattle.pipeline_manager.proofs.SoundLemmas.{IsLeftOf, rising-map, rising-with_life, fits-started, fits-cut_life, fits-one, left-started, left-cut_life, left-with_life, sound-with_life, slots_held-set}
 
--- no query holds a slot that is Free
-held-free : (query n : ℕ) → slots_held query (replicate n Free) ≡ 0
-held-free query zero = refl
-held-free query (suc n) =
-    let rest = held-free query n in
-    let all = sum_by-cons (λ state. cond {A = ℕ} (is_held_by query state) 1 0) Free (replicate n Free) in
-    omega arith
-
--- where there are no queries, and each slot is Free
-pub sound-new : (slots filters : ℕ) → 1 ≤ slots → slots ≤ 64
-    → IsSound (record { queries = []; slots = replicate slots Free; filters = filters })
-sound-new slots filters some few =
-    let many : length (replicate slots Free) ≡ slots = length-replicate slots Free in
-    record {
-      rising = λ j k d low within. absurd (omega arith);
-      some = omega arith;
-      few = omega arith;
-      held = λ query. let none = held-free query slots in (omega arith, omega arith);
-      left = All-nil IsLeftOf;
-      of_filters = All-replicate (IsOfFilters filters) slots Free tt;
-    }
-
 -- `submit`
 pub sound-after_submit : (query extent : ℕ) (lives : Lives) → IsNew query lives → IsSound lives → IsSound (after_submit query extent lives)
 sound-after_submit query extent lives new sound = record {

@@ -8,3 +8,4 @@ pub mod CutLemmas
 pub mod LawLemmas
 pub mod HolderLemmas
 pub mod RunLemmas
+pub mod UsedLemmas

@@ -1,5 +1,5 @@
--- What the functions inside this crate say of its list of queries.
-use Rattle.std.specs.Prelude.{◌≡◌, ℕ, ◌≤◌, ◌==◌, Bool, true, false, List, length, take, All, if◌then◌else◌}
+-- What the functions inside this crate say of its lists of queries and slots.
+use Rattle.std.specs.Prelude.{◌≡◌, ℕ, ◌≤◌, ◌==◌, Bool, true, false, List, length, take, slice_index_or, All, if◌then◌else◌}
 use Rattle.std.specs.Option.{option_map_or}
 use Rattle.pipeline_manager.specs.declared.life.Life.{Life}
 use Rattle.pipeline_manager.specs.declared.life.Life.TheVariants.{Waiting, Building, Running, Ending, Answered, Spoiled, Abandoned}
@@ -16,6 +16,11 @@ NoneWaits count queries = All (λ entry. is_waiting entry.life ≡ false) (take 
 pub record ArePassed (count : ℕ) (queries : List QueryLife) : Type 0 where
   pub in_range : count ≤ length queries
   pub none_waits : NoneWaits count queries
+
+-- so many slots at the front have all that are in use: from there on each is Free
+pub record UsesFirst (used : ℕ) (slots : List SlotState) : Type 0 where
+  pub in_range : used ≤ length slots
+  pub behind : (slot : ℕ) → used ≤ slot → slice_index_or slots slot Free ≡ Free
 
 -- a query, changed if it has this number
 abbrev pub changed_if : (query : ℕ) → (QueryLife → QueryLife) → QueryLife → QueryLife

@@ -1,5 +1,5 @@
 //! Which query holds which slot, and how far it is. What becomes of them is in `life`.
-ghost use Rattle.std.specs.Prelude.{◌≡◌, ◌<◌, ◌≤◌, ◌↔◌, [], length, replicate, All, Any, IsTrue, IfOk, OnOk, OnErr, IfSome, option_map};
+ghost use Rattle.std.specs.Prelude.{◌≡◌, ℕ, ◌<◌, ◌≤◌, ◌↔◌, [], length, replicate, All, Any, IsTrue, IfOk, OnOk, OnErr, IfSome, option_map};
 ghost use Rattle.pipeline_manager.specs.declared.life.SlotState.TheVariants.{Free};
 ghost use Rattle.pipeline_manager.specs.Lives.{life_of, extent_in, oldest_waiting, free_slot, slot_at, slot_of};
 ghost use Rattle.pipeline_manager.specs.Conditions.{IsRunning, IsNew, CanReserve, CanBuild, CanRun, CanCut, CanEnd, CanClear, CanFree, CanSpoil, CanAbandon};
@@ -25,12 +25,15 @@ pub struct Manager {
 
     /// How many queries at the front are known not to wait.
     passed: usize,
+
+    /// How many slots at the front have all that are in use. From there on each is Free.
+    used: usize,
 }
 
 impl Model for Manager {
     ghost use Rattle.pipeline_manager.specs.Lives.{Lives};
     ghost use Rattle.pipeline_manager.specs.Sound.{IsSound};
-    ghost use Rattle.pipeline_manager.specs.Inside.{ArePassed};
+    ghost use Rattle.pipeline_manager.specs.Inside.{ArePassed, UsesFirst};
 
     ghost Value = { Lives };
 
@@ -42,7 +45,8 @@ impl Model for Manager {
 
     ghost invariant = { λ manager.
         IsSound (record { queries = manager.queries; slots = manager.slots; filters = manager.filters })
-        × ArePassed manager.passed manager.queries };
+        × ArePassed manager.passed manager.queries
+        × UsesFirst manager.used manager.slots };
 }
 
 impl Manager {
@@ -61,6 +65,7 @@ impl Manager {
             slots: ListOf::from(vec![in alloc; SlotState::Free; slots as usize]?),
             filters,
             passed: 0,
+            used: 0,
         })
     }
 
@@ -118,15 +123,16 @@ impl Manager {
         ensures within { IfSome result (λ slot. slot < length self.now.slots) }
         ensures sound { IsSound self.now }
     {
-        Some(slots::first_held(self.slots.as_slice(), query)? as u32)
+        Some(slots::first_held(self.slots.as_slice(), self.used, query)? as u32)
     }
 
-    /// Whether some query is Running. It looks at the slots alone.
+    /// Whether some query is Running. It looks at the slots in use alone.
     pub fn some_run(&self) -> bool
         ensures run { IsTrue result ↔ Any (λ entry. IsRunning entry.life) self.now.queries }
         ensures sound { IsSound self.now }
     {
-        queries::some_run(self.queries.as_slice(), self.slots.as_slice())
+        let in_use = slots::in_front(self.slots.as_slice(), self.used);
+        queries::some_run(self.queries.as_slice(), in_use)
     }
 
     pub fn slot(&self, slot: u32) -> SlotState
@@ -143,6 +149,15 @@ impl Manager {
         ensures few { length self.now.slots ≤ 64 }
     {
         self.slots.as_slice().len() as u32
+    }
+
+    /// How many slots at the front have all that are in use: from there on each is Free.
+    pub fn used(&self) -> u32
+        ensures within { result ≤ length self.now.slots }
+        ensures free { (slot : ℕ) → result ≤ slot → slot_at self.now slot ≡ Free }
+        ensures sound { IsSound self.now }
+    {
+        self.used as u32
     }
 
     /// The set of the dimensions that are filters.
@@ -171,6 +186,7 @@ impl Manager {
             queries::set_life(&mut self.queries, query, Life::Building);
             let held = SlotState::Held { query, built: 0 };
             slots::set_slot(&mut self.slots, slot as usize, held);
+            self.used = self.used.max(slot as usize + 1);
             self.passed = queries::first_waiting(self.queries.as_slice(), self.passed);
         }
     }
@@ -182,7 +198,7 @@ impl Manager {
         ensures { self.new ≡ after_built query dimension self.old }
     {
         numbers_go_in_and_out();
-        if let Some(slot) = slots::first_held(self.slots.as_slice(), query) {
+        if let Some(slot) = slots::first_held(self.slots.as_slice(), self.used, query) {
             let state = slots::with_dimension(self.slots.as_slice()[slot], dimension);
             slots::set_slot(&mut self.slots, slot, state);
         }
@@ -203,7 +219,8 @@ impl Manager {
         requires { CanCut first last self.old }
         ensures { self.new ≡ after_cut first last self.old }
     {
-        queries::cut_holders(&mut self.queries, self.slots.as_slice(), first, last);
+        let in_use = slots::in_front(self.slots.as_slice(), self.used);
+        queries::cut_holders(&mut self.queries, in_use, first, last);
     }
 
     /// Takes a slot from its holder, which is Ending, Spoiled or Abandoned. What is Ending is Answered.
@@ -237,6 +254,7 @@ impl Manager {
         ensures { self.new ≡ after_free slot self.old }
     {
         slots::set_slot(&mut self.slots, slot as usize, SlotState::Free);
+        self.used = slots::count_used(self.slots.as_slice(), self.used);
     }
 
     /// Notes that a query has no answer. It keeps its slot.

@@ -1,11 +1,38 @@
 //! The states of slots.
-ghost use Rattle.std.specs.Prelude.{◌≡◌, ℕ, ◌^◌, ◌<◌, length, position, slice_set, IfSome};
+ghost use Rattle.std.specs.Prelude.{◌≡◌, ℕ, ◌+◌, ◌^◌, ◌<◌, ◌≤◌, false, length, position, slice_index_or, slice_set, take, IfSome};
 ghost use Rattle.bit_words.specs.Sets.{with_number, without};
+ghost use Rattle.pipeline_manager.specs.declared.life.SlotState.TheVariants.{Free};
 ghost use Rattle.pipeline_manager.specs.Lives.{is_free, is_held_by};
 ghost use Rattle.pipeline_manager.specs.Changes.{with_dimension, without_dimension};
+ghost use Rattle.pipeline_manager.specs.Inside.{UsesFirst};
 
 use crate::life::SlotState;
 use star_lists::ListOf;
+
+/// The slots at the front, of which there are so many.
+pub(crate) fn in_front(slots: &[SlotState], count: usize) -> &[SlotState]
+    requires { count ≤ length slots.now }
+    ensures { result.now ≡ take count slots.now }
+{
+    &slots[..count]
+}
+
+/// How many slots at the front have all that are in use, and no fewer would. The first `used` have all.
+pub(crate) fn count_used(slots: &[SlotState], used: usize) -> usize
+    requires { UsesFirst used slots.now }
+    ensures all { UsesFirst result slots.now }
+    ensures last { (slot : ℕ) → result ≡ slot + 1 →
+        is_free (slice_index_or slots.now slot Free) ≡ false }
+{
+    let mut count = used;
+    while count > 0 {
+        if !is_free(&slots[count - 1]) {
+            return count;
+        }
+        count -= 1;
+    }
+    0
+}
 
 /// The first slot that is Free.
 pub(crate) fn first_free(slots: &[SlotState]) -> Option<usize>
@@ -21,8 +48,17 @@ fn is_free(state: &SlotState) -> bool
     matches!(state, SlotState::Free)
 }
 
-/// The first slot that the query holds.
-pub(crate) fn first_held(slots: &[SlotState], query: u64) -> Option<usize>
+/// The first slot that the query holds. The first `used` slots have all that are in use.
+pub(crate) fn first_held(slots: &[SlotState], used: usize, query: u64) -> Option<usize>
+    requires { UsesFirst used slots.now }
+    ensures first { result ≡ position (is_held_by query) slots.now }
+    ensures within { IfSome result (λ slot. slot < length slots.now) }
+{
+    place_held(in_front(slots, used), query)
+}
+
+/// The place of the first of these slots that the query holds.
+fn place_held(slots: &[SlotState], query: u64) -> Option<usize>
     ensures first { result ≡ position (is_held_by query) slots.now }
     ensures within { IfSome result (λ slot. slot < length slots.now) }
 {

@@ -9,5 +9,5 @@ loop-slot-preserved c = below_more _ _ c.loop-slot.invariant (c.in_default.ensur
 pub returns-clause-none : goal.returns-clause-none
 returns-clause-none c =
     λ none query dimension. none-at-all (λ (query : ℕ). CanBuild query dimension c.args.manager.now) c.args.manager.now
-    c.count_slots-slot-end.ensures.sound (λ query can. begun-building c.args.manager.now query can.building)
+    c.used-slot-end.result c.used-slot-end.ensures.sound c.used-slot-end.ensures.free (λ query can. begun-building c.args.manager.now query can.building)
     (λ query slot within first. c.loop-slot.invariant slot (omega arith) query dimension first) query

@@ -6,5 +6,5 @@ use Rattle.event_choice.proofs.queries.next_start.Goals as goal
 pub returns-clause-none : goal.returns-clause-none
 returns-clause-none c =
     λ none. none-at-all (λ (query : ℕ). CanRun query c.args.manager.now) c.args.manager.now
-    c.count_slots-slot-end.ensures.sound (λ query can. begun-building c.args.manager.now query can.building)
+    c.used-slot-end.result c.used-slot-end.ensures.sound c.used-slot-end.ensures.free (λ query can. begun-building c.args.manager.now query can.building)
     (λ query slot within first. c.loop-slot.invariant slot (omega arith) query first)

@@ -1,6 +1,6 @@
-use Rattle.std.proofs.Common.{◌<◌, length, arith, below_more, refl}
+use Rattle.std.proofs.Common.{◌<◌, arith, below_more, refl}
 use Rattle.pipeline_manager.specs.Conditions.{IsToClear}
-use Rattle.event_choice.proofs.SlotLemmas.{within-slots}
+use Rattle.event_choice.proofs.SlotLemmas.{within-used}
 use Rattle.event_choice.proofs.slots.next_clear.Goals as goal
 
 pub loop-slot-preserved : goal.loop-slot-preserved
@@ -8,5 +8,5 @@ loop-slot-preserved c = below_more _ _ c.loop-slot.invariant (c.in_default.ensur
 
 pub returns-clause-none : goal.returns-clause-none
 returns-clause-none c = λ none slot dimension can.
-    let within : slot < length c.args.manager.now.slots = within-slots (IsToClear dimension) c.args.manager.now slot (λ never. never) can in
+    let within : slot < c.used-slot-end.result = within-used (IsToClear dimension) c.args.manager.now c.used-slot-end.result slot c.used-slot-end.ensures.free (λ never. never) can in
     c.loop-slot.invariant slot (omega arith) dimension can

@@ -1,11 +1,11 @@
-use Rattle.std.proofs.Common.{◌≡◌, ◌<◌, length, arith}
+use Rattle.std.proofs.Common.{◌≡◌, ◌<◌, arith}
 use Rattle.pipeline_manager.specs.declared.life.SlotState.{SlotState}
 use Rattle.pipeline_manager.specs.declared.life.SlotState.TheVariants.{Clearing}
-use Rattle.event_choice.proofs.SlotLemmas.{within-slots}
+use Rattle.event_choice.proofs.SlotLemmas.{within-used}
 use Rattle.event_choice.proofs.slots.next_release.Goals as goal
 
 pub returns-clause-none : goal.returns-clause-none
 returns-clause-none c = λ none slot can.
-    let within : slot < length c.args.manager.now.slots =
-    within-slots (λ (state : SlotState). state ≡ Clearing 0) c.args.manager.now slot (λ never. absurd (cc)) can in
+    let within : slot < c.used-slot-end.result =
+    within-used (λ (state : SlotState). state ≡ Clearing 0) c.args.manager.now c.used-slot-end.result slot c.used-slot-end.ensures.free (λ never. absurd (cc)) can in
     c.loop-slot.invariant slot (omega arith) can

@@ -19,4 +19,5 @@ invariant_of-self c =
     } in (
       rw c.set_life.ensures (sound-after_abandon c.args.query _ c.self.invariant.0),
       subst (ArePassed c.first_waiting-self-inside.result) c.as_slice.ensures passed,
+      c.self.invariant.2,
     )

@@ -1,9 +1,10 @@
-use Rattle.std.proofs.Common.{◌≡◌, ◌<◌, sym, subst, ◌∙◌, length, get_or, ap}
+use Rattle.std.proofs.Common.{◌≡◌, ◌<◌, sym, subst, ◌∙◌, length, get_or, ap, arith}
 use Rattle.std.proofs.lemmas.List.Elements.{All-get_or}
 use Rattle.bit_words.specs.Sets.{Has}
 use Rattle.pipeline_manager.specs.declared.life.SlotState.TheVariants.{Free}
 use Rattle.pipeline_manager.specs.Changes.{with_dimension}
 use Rattle.pipeline_manager.specs.Sound.{IsOfFilters}
+use Rattle.pipeline_manager.proofs.UsedLemmas.{uses-set}
 use Rattle.pipeline_manager.proofs.SoundLemmas.{sound-with_slot}
 use Rattle.pipeline_manager.proofs.CallLemmas.{holder-with_dimension, filters-with_dimension}
 use Rattle.pipeline_manager.proofs.manager.Manager.built.Goals as goal
@@ -23,4 +24,6 @@ invariant_of-self c =
           (All-get_or (IsOfFilters c.self.inside.filters) c.self.inside.slots slot Free within c.self.invariant.0.of_filters))
           c.self.invariant.0,
       c.self.invariant.1,
+      uses-set c.self.inside.used c.self.inside.used slot (with_dimension c.args.dimension state) c.self.inside.slots (omega arith)
+          c.self.invariant.2.in_range within (λ from free. ap (with_dimension c.args.dimension) free) c.self.invariant.2,
     )

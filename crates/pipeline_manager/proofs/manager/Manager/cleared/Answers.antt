@@ -1,8 +1,9 @@
-use Rattle.std.proofs.Common.{◌≡◌, ◌<◌, sym, subst, ◌∙◌, length, get_or, ap}
+use Rattle.std.proofs.Common.{◌≡◌, ◌<◌, sym, subst, ◌∙◌, length, get_or, ap, arith}
 use Rattle.std.proofs.lemmas.List.Elements.{All-get_or}
 use Rattle.pipeline_manager.specs.declared.life.SlotState.TheVariants.{Free}
 use Rattle.pipeline_manager.specs.Changes.{without_dimension}
 use Rattle.pipeline_manager.specs.Sound.{IsOfFilters}
+use Rattle.pipeline_manager.proofs.UsedLemmas.{uses-set}
 use Rattle.pipeline_manager.proofs.SoundLemmas.{sound-with_slot}
 use Rattle.pipeline_manager.proofs.CallLemmas.{holder-without_dimension, filters-without_dimension}
 use Rattle.pipeline_manager.proofs.manager.Manager.cleared.Goals as goal
@@ -20,4 +21,6 @@ invariant_of-self c =
           (All-get_or (IsOfFilters c.self.inside.filters) c.self.inside.slots c.args.slot Free within c.self.invariant.0.of_filters))
           c.self.invariant.0,
       c.self.invariant.1,
+      uses-set c.self.inside.used c.self.inside.used c.args.slot (without_dimension c.args.dimension state) c.self.inside.slots (omega arith)
+          c.self.invariant.2.in_range within (λ from free. ap (without_dimension c.args.dimension) free) c.self.invariant.2,
     )

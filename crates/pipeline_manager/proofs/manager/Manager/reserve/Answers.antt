@@ -1,8 +1,9 @@
-use Rattle.std.proofs.Common.{◌≡◌, ◌<◌, length, sym, subst, refl, ◌∙◌, Some}
+use Rattle.std.proofs.Common.{◌≡◌, ◌<◌, length, sym, subst, refl, ◌∙◌, Some, arith}
 use Rattle.pipeline_manager.specs.declared.life.Life.TheVariants.{Building}
-use Rattle.pipeline_manager.specs.declared.life.SlotState.TheVariants.{Free}
+use Rattle.pipeline_manager.specs.declared.life.SlotState.TheVariants.{Free, Held}
 use Rattle.pipeline_manager.specs.Lives.{oldest_waiting, slot_at}
 use Rattle.pipeline_manager.specs.Inside.{NoneWaits, ArePassed}
+use Rattle.pipeline_manager.proofs.UsedLemmas.{uses-set}
 use Rattle.pipeline_manager.proofs.PassedLemmas.{passed-with_life}
 use Rattle.pipeline_manager.proofs.CallLemmas.{sound-reserved}
 use Rattle.pipeline_manager.proofs.manager.Manager.reserve.Goals as goal
@@ -24,4 +25,6 @@ invariant_of-self c =
     let oldest = subst (λ lives. oldest_waiting lives ≡ Some c.in-Some.query) (sym c.self.view_is) (sym c.oldest_waiting.ensures.oldest ∙ c.in-Some.is) in (
       rw (c.set_life.ensures, c.set_slot.ensures) (sound-reserved c.args.slot c.in-Some.query _ within is_free oldest c.self.invariant.0),
       subst (ArePassed c.first_waiting-self-inside.result) c.as_slice.ensures passed,
+      rw c.set_slot.ensures (uses-set c.self.inside.used c.max-self-inside.result c.args.slot (Held c.in-Some.query 0) c.self.inside.slots
+          (omega arith) (omega arith) within (λ behind free. absurd (omega arith)) c.self.invariant.2),
     )

@@ -13,4 +13,5 @@ invariant_of-self c =
       sound-after_run c.args.query c.args.start _ building c.self.invariant.0,
       passed-with_life c.args.query (started c.args.start (extent_in c.self.inside.queries c.args.query)) _ _
           (started-waits c.args.start _) c.self.invariant.1,
+      c.self.invariant.2,
     )

@@ -9,4 +9,5 @@ invariant_of-self c =
     rw c.set_life.ensures (
       sound-after_spoil c.args.query _ c.self.invariant.0,
       passed-with_life c.args.query Spoiled _ _ refl c.self.invariant.1,
+      c.self.invariant.2,
     )

@@ -9,4 +9,5 @@ invariant_of-self-2 c =
     rw c.in_ok-push.ensures.ok (
       sound-after_submit c.args.query c.args.extent _ (subst (IsNew c.args.query) (sym c.self.view_is) c.requires) c.self.invariant.0,
       passed-push _ _ _ c.self.invariant.1,
+      c.self.invariant.2,
     )
