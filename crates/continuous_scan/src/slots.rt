@@ -13,7 +13,7 @@ use std::marker::Model;
 
 /// The slots of a scan, and in each the query that runs there, if one does.
 ///
-/// Only those in use are walked: those up to the last in which a query runs. Only `new` takes memory.
+/// Those in use, up to the last in which a query runs, are walked, and no others.
 #[derive(Debug, Drop)]
 pub(crate) struct Slots {
     running: ListOf<Option<Runner>>,
@@ -76,13 +76,14 @@ impl Slots {
     /// The slots in use.
     pub(crate) fn in_use(&self) -> &[Option<Runner>]
         ensures used { AreUsed (length result.now) self.now }
-        ensures split { self.now ≡ result.now ++ replicate (length self.now - length result.now) None }
+        ensures split { self.now
+            ≡ result.now ++ replicate (length self.now - length result.now) None }
     {
         &self.running.as_slice()[..self.used]
     }
 
-    /// Lowers what is left of each query as the positions from `first` to before `end` are cut, and ends
-    /// those of which nothing is left.
+    /// Lowers what is left of each query as the positions from `first` to before `end` are cut, and
+    /// ends those of which nothing is left.
     pub(crate) fn cut(&mut self, first: u32, end: u32)
         ensures { self.new ≡ map (cut_slot first end) self.old }
     {
@@ -150,8 +151,8 @@ fn cut_slot(slot: &mut Option<Runner>, first: u32, end: u32)
     }
 }
 
-/// Lowers what is left of each query as the positions from `first` to before `end` are cut. None runs in a
-/// slot from `used` on.
+/// Lowers what is left of each query as the positions from `first` to before `end` are cut. None runs
+/// in a slot from `used` on.
 fn cut_slots(running: &mut [Option<Runner>], used: usize, first: u32, end: u32)
     requires { RunBelow used running.old }
     ensures { running.new ≡ map (cut_slot first end) running.old }

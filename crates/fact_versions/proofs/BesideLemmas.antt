@@ -1,5 +1,5 @@
 -- What stands beside versions, as one comes behind them or is ended.
-use Rattle.std.proofs.Common.{◌≡◌, ℕ, ℤ, zero, suc, ◌+◌, ◌-◌, ◌<◌, ◌≤◌, List, [], ◌∷◌, ◌++◌, length, map, take, drop, refl, ap, sym, subst, ◌∙◌, arith}
+use Rattle.std.proofs.Common.{◌≡◌, ℕ, ℤ, zero, suc, ◌+◌, ◌-◌, ◌<◌, List, [], ◌∷◌, ◌++◌, length, map, take, drop, refl, ap, sym, subst, ◌∙◌, arith}
 use Rattle.std.specs.Prelude.{slice_index, slice_index_or}
 use Rattle.std.proofs.lemmas.List.{drop-map, length-append, length-map, map-append, take-map}
 use Rattle.std.proofs.lemmas.List.Elements.{All-cons, All-head, All-push, All-tail}
@@ -9,7 +9,7 @@ use Rattle.value_columns.specs.First.{AreIntegerColumns}
 use Rattle.fact_versions.specs.Beside.{AreBeside, HaveRoomFor, rows_of}
 use Rattle.fact_versions.specs.Blocks.{AreBlocks}
 use Rattle.fact_versions.specs.Ends.{ended_by, with_end}
-use Rattle.fact_versions.specs.Keys.{AreKeyColumns, HasOneMore, HaveAllKeys, HaveRoom, column_of, keys_for}
+use Rattle.fact_versions.specs.Keys.{AreKeyColumns, HasOneMore, HaveAllKeys, column_of, keys_for}
 use Rattle.fact_versions.proofs.EndsLemmas.{length-with_end}
 use Rattle.fact_versions.specs.declared.blocks.Block.{Block}
 use Rattle.fact_versions.specs.declared.version.Version.{Version}

@@ -1,4 +1,4 @@
-use Rattle.std.proofs.Common.{◌<◌, ◌≡◌, ap, arith, length}
+use Rattle.std.proofs.Common.{◌<◌, ap, arith, length}
 use Rattle.fact_versions.specs.declared.version.TheConstants.{MAX_VERSIONS}
 use Rattle.fact_versions.proofs.BesideLemmas.{beside_more, room_less}
 use Rattle.fact_versions.proofs.fact_versions.FactVersions.append_reserved.Goals as goal

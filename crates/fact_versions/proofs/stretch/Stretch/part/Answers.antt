@@ -1,4 +1,4 @@
-use Rattle.std.proofs.Common.{◌∙◌, ◌≡◌, ◌-◌, ◌+◌, ◌≤◌, ap, arith, drop, length, sym, take}
+use Rattle.std.proofs.Common.{◌∙◌, ◌≡◌, ◌-◌, ◌+◌, ap, arith, drop, length, sym, take}
 use Rattle.fact_versions.proofs.PartLemmas.{length-part, part-part}
 use Rattle.fact_versions.proofs.stretch.Stretch.part.Goals as goal
 
