@@ -2,7 +2,8 @@
 use Rattle.std.proofs.Common.{◌≡◌, ◌≢◌, ◌⊎◌, inl, inr, ℕ, zero, suc, ◌+◌, ◌<◌, ◌≤◌, List, [], ◌∷◌, ◌++◌, length, get_or, slice_get, slice_set, Some, refl, ap, sym, subst, ◌∙◌, arith}
 use Rattle.std.specs.List.{refill}
 use Rattle.std.proofs.lemmas.Bool.{cases_eq, cases_lt}
-use Rattle.std.proofs.lemmas.List.{get_or_default, get_or_past, get_or-set_other, get_or-set_same}
+use Rattle.std.proofs.lemmas.List.{get_or_default, get_or_past, get_or-set_other, get_or-set_same, length-set}
+use Rattle.std.proofs.lemmas.Result.{on_ok_weaker}
 use Rattle.star_values.specs.declared.value.Value.{Value}
 use Rattle.std.specs.Prelude.{ℤ, Result, Ok, Err, OnOk}
 use Rattle.std.specs.Result.{result_and}
@@ -41,7 +42,7 @@ first_of_more has rows row entries first = record {
 }
 
 -- columns of which one has the entries of one row more, and those before it as well
-pub one_more_column : {T : Type 0} (has : ℕ → List Value → T → Type 0) (rows : List (List Value)) (row : List Value)
+one_more_column : {T : Type 0} (has : ℕ → List Value → T → Type 0) (rows : List (List Value)) (row : List Value)
     (columns initial : List (List T)) (number : ℕ) (new read : List T) → number < length columns
     → (AreFirst (has number) rows (get_or columns number read) → AreFirst (has number) (rows ++ row ∷ []) new)
     → AreFirst (has number) rows (get_or initial number [])
@@ -59,14 +60,14 @@ one_more_column has rows row columns initial number new read within step first s
         subst (AreFirst (has column) (rows ++ row ∷ [])) (sym (get_or-set_other columns number column new [] apart)) (done column (omega arith))
 
 -- the columns behind it are as they were
-pub others_left : {T : Type 0} (columns initial : List (List T)) (number : ℕ) (new : List T)
+others_left : {T : Type 0} (columns initial : List (List T)) (number : ℕ) (new : List T)
     → ((column : ℕ) → number ≤ column → get_or columns column [] ≡ get_or initial column [])
     → (column : ℕ) → number + 1 ≤ column → get_or (slice_set columns number new) column [] ≡ get_or initial column []
 others_left columns initial number new left column high =
     get_or-set_other columns number column new [] (λ e. omega arith) ∙ left column (omega arith)
 
 -- all columns have the entries of one row more: those that were walked over, and past the last one is none
-pub all_columns : {T : Type 0} (has : ℕ → List Value → T → Type 0) (rows : List (List Value)) (row : List Value)
+all_columns : {T : Type 0} (has : ℕ → List Value → T → Type 0) (rows : List (List Value)) (row : List Value)
     (columns initial : List (List T)) (number : ℕ) → length columns ≤ number
     → ((column : ℕ) → AreFirst (has column) rows (get_or initial column []))
     → ((column : ℕ) → number ≤ column → get_or columns column [] ≡ get_or initial column [])
@@ -96,7 +97,7 @@ pub joined_ok : {E P Q R : Type 0} (one other both : Result (Unit {0}) E) → bo
 joined_ok {R} one other both is p q join = subst (λ result. OnOk result R) (sym is) (both_ok one other p q join)
 
 -- the columns so far have one more, and so has the next
-pub next_one_more : {T : Type 0} (has : ℕ → List Value → T → Type 0) (before : ℕ) (row : List Value)
+next_one_more : {T : Type 0} (has : ℕ → List Value → T → Type 0) (before : ℕ) (row : List Value)
     (columns initial : List (List T)) (number : ℕ) (new read : List T) → number < length columns
     → get_or columns number [] ≡ get_or initial number []
     → ((entry : T) → has number row entry → length (get_or columns number read) ≡ before → new ≡ get_or columns number read ++ entry ∷ [])
@@ -114,10 +115,53 @@ next_one_more has before row columns initial number new read within same step do
     by (inr apart) = get_or-set_other columns number column new [] apart ∙ done column entry (omega arith) had counted
 
 -- so have fewer of them
-pub fewer_one_more : {T : Type 0} (has : ℕ → List Value → T → Type 0) (before : ℕ) (row : List Value) (columns initial : List (List T)) (number : ℕ)
+fewer_one_more : {T : Type 0} (has : ℕ → List Value → T → Type 0) (before : ℕ) (row : List Value) (columns initial : List (List T)) (number : ℕ)
     → length columns ≡ length initial → length columns ≤ number
     → HaveOneMore has number before row initial columns → HaveOneMore has (length initial) before row initial columns
 fewer_one_more has before row columns initial number same all done column entry low = done column entry (omega arith)
+
+-- the columns before a number have what a row has there behind what they had, and those from it on are as they were
+pub record AreAppended {T E : Type 0} (has had : ℕ → List Value → T → Type 0) (before : ℕ) (row : List Value) (initial columns : List (List T))
+    (number : ℕ) (result : Result (Unit {0}) E) : Type 0 where
+  pub count : length columns ≡ length initial
+  pub done : (rows : List (List Value)) → length rows ≡ before → ((column : ℕ) → AreFirst (has column) rows (get_or initial column []))
+      → (column : ℕ) → column < number → AreFirst (has column) (rows ++ row ∷ []) (get_or columns column [])
+  pub left : (column : ℕ) → number ≤ column → get_or columns column [] ≡ get_or initial column []
+  pub kept : OnOk result (HaveOneMore had number before row initial columns)
+
+-- and so has the next
+pub appended_next : {T E : Type 0} (has had : ℕ → List Value → T → Type 0) (before : ℕ) (row : List Value) (initial columns : List (List T))
+    (number : ℕ) (new read : List T) (one so_far both : Result (Unit {0}) E) → number < length initial → both ≡ result_and one so_far
+    → ((rows : List (List Value)) → length rows ≡ before → AreFirst (has number) rows (get_or columns number read) → AreFirst (has number) (rows ++ row ∷ []) new)
+    → OnOk one ((entry : T) → had number row entry → length (get_or columns number read) ≡ before → new ≡ get_or columns number read ++ entry ∷ [])
+    → AreAppended has had before row initial columns number so_far
+    → AreAppended has had before row initial (slice_set columns number new) (number + 1) both
+appended_next has had before row initial columns number new read one so_far both low joined step kept i =
+    let same = i.count in
+    let within : number < length columns = omega arith in
+    record {
+      count = length-set columns number new ∙ same;
+      done = λ rows counted first.
+          one_more_column has rows row columns initial number new read within (step rows counted) (first number) (i.left number (omega arith))
+          (i.done rows counted first);
+      left = others_left columns initial number new i.left;
+      kept = joined_ok one so_far both joined kept i.kept
+          (next_one_more had before row columns initial number new read within (i.left number (omega arith)));
+    }
+
+-- all of them have it, once they were walked over
+pub appended_first : {T E : Type 0} (has had : ℕ → List Value → T → Type 0) (before : ℕ) (row : List Value) (initial columns : List (List T))
+    (number : ℕ) (result : Result (Unit {0}) E) → length initial ≤ number → AreAppended has had before row initial columns number result
+    → (rows : List (List Value)) → length rows ≡ before → ((column : ℕ) → AreFirst (has column) rows (get_or initial column []))
+    → (column : ℕ) → AreFirst (has column) (rows ++ row ∷ []) (get_or columns column [])
+appended_first has had before row initial columns number result high i rows counted first =
+    let same = i.count in all_columns has rows row columns initial number (omega arith) first i.left (i.done rows counted first)
+
+pub appended_kept : {T E : Type 0} (has had : ℕ → List Value → T → Type 0) (before : ℕ) (row : List Value) (initial columns : List (List T))
+    (number : ℕ) (result : Result (Unit {0}) E) → length initial ≤ number → AreAppended has had before row initial columns number result
+    → OnOk result (HaveOneMore had (length initial) before row initial columns)
+appended_kept has had before row initial columns number result high i =
+    on_ok_weaker result (fewer_one_more had before row columns initial number i.count (let same = i.count in omega arith)) i.kept
 
 -- all columns that are kept have one more: those that there were, and where there was no row those that were made
 pub all_one_more : {T : Type 0} (has : ℕ → List Value → T → Type 0) (before : ℕ) (row : List Value) (old made new : List (List T))
