@@ -236,51 +236,51 @@ told (version ∷ versions) (suc place) otherwise within =
     let rest = told versions place otherwise (omega arith) in
     (let less = rest.0 in omega arith, λ none. rest.1 (neither (block_of versions).ended (is_end version.end) none).0)
 
+-- a version of a block that is seen is seen
+seen_in_block : (versions : List Version) (blocks : List Block) (number place commit : ℕ) (otherwise : Version) (block : Block) → AreBlocks versions blocks
+    → number < length blocks → place < ROWS_IN_A_BLOCK → number * ROWS_IN_A_BLOCK + place < length versions
+    → ((get_or blocks number block).begin ≤ commit) × ((get_or blocks number block).ended ≡ false)
+    → ((get_or versions (number * ROWS_IN_A_BLOCK + place) otherwise).begin ≤ commit)
+    × ((get_or versions (number * ROWS_IN_A_BLOCK + place) otherwise).end ≡ 0)
+seen_in_block versions blocks number place commit otherwise block kept inside low within seen =
+    let own = told (versions_in number versions) place otherwise (inside_part versions (number * ROWS_IN_A_BLOCK) ROWS_IN_A_BLOCK place low within) in
+    let most = ap (λ (b : Block). b.begin) (kept.each number block inside) in
+    let version = ap (λ (v : Version). v.begin) (get_or-part versions (number * ROWS_IN_A_BLOCK) ROWS_IN_A_BLOCK place otherwise low) in (
+      (let less = own.0 in let least = seen.0 in omega arith),
+      sym (ap (λ (v : Version). v.end) (get_or-part versions (number * ROWS_IN_A_BLOCK) ROWS_IN_A_BLOCK place otherwise low))
+          ∙ own.1 (sym (ap (λ (b : Block). b.ended) (kept.each number block inside)) ∙ seen.1),
+    )
+
 -- versions of blocks that are seen are seen
-pub seen_by_blocks : (versions : List Version) (blocks : List Block) (first end commit : ℕ) → first < end → end ≤ length versions
+seen_by_blocks : (versions : List Version) (blocks : List Block) (first end commit : ℕ) → first < end → end ≤ length versions
     → AreBlocks versions blocks
     → AreSeen commit (slice_range blocks (first / ROWS_IN_A_BLOCK) ((end - 1) / ROWS_IN_A_BLOCK + 1))
     → All (λ version. (version.begin ≤ commit) × (version.end ≡ 0)) (take (end - first) (drop first versions))
 seen_by_blocks versions blocks first end commit some inside kept seen place otherwise low =
     let part = length-part versions first (end - first) (omega arith) in
-    let before : first + place < end = omega arith in
     subst (λ (version : Version). (version.begin ≤ commit) × (version.end ≡ 0)) (sym (get_or-part versions first (end - first) place otherwise (omega arith)))
-    (at (first + place) (omega arith) before)
+    (at (first + place) (omega arith) (omega arith))
   where
     at : (position : ℕ) → first ≤ position → position < end
         → ((get_or versions position otherwise).begin ≤ commit) × ((get_or versions position otherwise).end ≡ 0)
     at position low high =
         let few = kept.counted.few in
-        let number : ℕ = position / ROWS_IN_A_BLOCK in
         let rest : position % ROWS_IN_A_BLOCK < ROWS_IN_A_BLOCK = omega arith in
         let whole : position / ROWS_IN_A_BLOCK * ROWS_IN_A_BLOCK + position % ROWS_IN_A_BLOCK ≡ position = omega arith in
         let from : first / ROWS_IN_A_BLOCK ≤ position / ROWS_IN_A_BLOCK = omega arith in
         let to : position / ROWS_IN_A_BLOCK ≤ (end - 1) / ROWS_IN_A_BLOCK = omega arith in
-        let block : Block = record { begin = 0; ended = false } in
-        let within : position / ROWS_IN_A_BLOCK < length blocks = omega arith in
         let back : first / ROWS_IN_A_BLOCK + (position / ROWS_IN_A_BLOCK - first / ROWS_IN_A_BLOCK) ≡ position / ROWS_IN_A_BLOCK = omega arith in
         let here =
         get_or-part blocks (first / ROWS_IN_A_BLOCK) ((end - 1) / ROWS_IN_A_BLOCK + 1 - first / ROWS_IN_A_BLOCK)
-        (position / ROWS_IN_A_BLOCK - first / ROWS_IN_A_BLOCK) block (omega arith)
-        ∙ ap (λ n. get_or blocks n block) back ∙ kept.each (position / ROWS_IN_A_BLOCK) block within in
-        let each =
-        seen (position / ROWS_IN_A_BLOCK - first / ROWS_IN_A_BLOCK) block
+        (position / ROWS_IN_A_BLOCK - first / ROWS_IN_A_BLOCK) (record { begin = 0; ended = false }) (omega arith)
+        ∙ ap (λ n. get_or blocks n (record { begin = 0; ended = false })) back in
+        subst (λ p. ((get_or versions p otherwise).begin ≤ commit) × ((get_or versions p otherwise).end ≡ 0)) whole
+        (seen_in_block versions blocks (position / ROWS_IN_A_BLOCK) (position % ROWS_IN_A_BLOCK) commit otherwise (record { begin = 0; ended = false }) kept
+        (omega arith) rest (omega arith)
+        (subst (λ (b : Block). (b.begin ≤ commit) × (b.ended ≡ false)) here
+        (seen (position / ROWS_IN_A_BLOCK - first / ROWS_IN_A_BLOCK) (record { begin = 0; ended = false })
         (inside_part blocks (first / ROWS_IN_A_BLOCK) ((end - 1) / ROWS_IN_A_BLOCK + 1 - first / ROWS_IN_A_BLOCK)
-        (position / ROWS_IN_A_BLOCK - first / ROWS_IN_A_BLOCK) (omega arith) (omega arith)) in
-        let own =
-        told (versions_in (position / ROWS_IN_A_BLOCK) versions) (position % ROWS_IN_A_BLOCK) otherwise
-        (inside_part versions (position / ROWS_IN_A_BLOCK * ROWS_IN_A_BLOCK) ROWS_IN_A_BLOCK (position % ROWS_IN_A_BLOCK) rest (omega arith)) in
-        let same =
-        get_or-part versions (position / ROWS_IN_A_BLOCK * ROWS_IN_A_BLOCK) ROWS_IN_A_BLOCK (position % ROWS_IN_A_BLOCK) otherwise rest
-        ∙ ap (λ p. get_or versions p otherwise) whole in
-        subst (λ (version : Version). (version.begin ≤ commit) × (version.end ≡ 0)) same
-        (by (get_or (versions_in (position / ROWS_IN_A_BLOCK) versions) (position % ROWS_IN_A_BLOCK) otherwise)
-        (block_of (versions_in (position / ROWS_IN_A_BLOCK) versions)) own
-        (subst (λ (b : Block). (b.begin ≤ commit) × (b.ended ≡ false)) here each))
-      where
-        by : (version : Version) (block : Block) → (version.begin ≤ block.begin) × (block.ended ≡ false → version.end ≡ 0)
-            → (block.begin ≤ commit) × (block.ended ≡ false) → (version.begin ≤ commit) × (version.end ≡ 0)
-        by version block own seen = (let most = own.0 in let less = seen.0 in omega arith, own.1 seen.1)
+        (position / ROWS_IN_A_BLOCK - first / ROWS_IN_A_BLOCK) (omega arith) (omega arith)))))
 
 -- the same by an answer, of versions of which there may be none
 pub seen_if_answered : (versions now : List Version) (blocks : List Block) (first end commit : ℕ) (answer : Bool) → versions ≡ now → end ≤ length now

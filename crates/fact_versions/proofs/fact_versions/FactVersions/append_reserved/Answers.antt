@@ -11,9 +11,9 @@ invariant_of-self c =
     let some : 0 < c.self.inside.room = omega arith in (
       beside_more c.self.inside.versions.items c.push_reserved.new.self.items c.args.version c.len-before.result
           c.self.inside.integers c.append.new.self c.self.inside.keys.columns c.append-2.new.self.columns
-          c.self.inside.blocks.blocks.items c.append-3.new.self.blocks.items c.push_reserved.ensures.items c.len-before.ensures few
+          _ _ c.push_reserved.ensures.items c.len-before.ensures few
           c.append.ensures.first c.append-2.ensures.count c.append-2.ensures.more c.append-3.ensures.whole c.self.invariant.0,
       room_less c.self.inside.room c.args.version c.self.inside.versions c.push_reserved.new.self
-          c.self.inside.keys.columns c.append-2.new.self.columns c.self.inside.blocks.blocks c.append-3.new.self.blocks some
+          c.self.inside.keys.columns c.append-2.new.self.columns _ _ some
           c.push_reserved.ensures.items c.push_reserved.ensures.room c.append-2.ensures.more c.append-3.ensures.room c.self.invariant.1,
     )

@@ -17,10 +17,7 @@ pub invariant_of-self : goal.invariant_of-self
 invariant_of-self c =
     let many = ap (λ roomy. length roomy.items) c.self.view_is in
     let within : c.args.position < length c.self.inside.versions.items = omega (arith, c.requires.within, many) in
-    let inside : Roomy Version = record { items = c.self.inside.versions.items; room = c.self.inside.room } in
-    let ended =
-    ap (λ roomy. roomy.items) (lent-with_end (record { items = c.self.inside.versions.items; room = c.self.inside.room }) c.args.self.now
-    c.as_mut_slice.result.now c.args.position c.args.commit c.index-as_mut_slice-position.result c.self.view_is c.as_mut_slice.ensures.members within) in
+    let ended = ap (λ (roomy : Roomy Version). roomy.items) (returns c) in
     let same = ap (λ roomy. roomy.items) c.self.view_is in
     let live =
     subst (λ (versions : List Version). IfSome (slice_get versions c.args.position) (λ version. version.end ≡ 0)) (sym same) c.requires.live in (
