@@ -22,6 +22,8 @@ use Rattle.core_parts.specs.contracts.asked.Asked as asked
 use Rattle.core_parts.specs.contracts.asked.Asked.TheInside as inside_asked
 use Rattle.continuous_scan.specs.contracts.runner.Runner as runner
 use Rattle.continuous_scan.specs.contracts.runner.Runner.TheInside as inside_runner
+use Rattle.continuous_scan.specs.contracts.slots.Slots as slots
+use Rattle.continuous_scan.specs.contracts.slots.Slots.TheInside as inside_slots
 use Rattle.continuous_scan.specs.contracts.scan.Scan as scan
 use Rattle.continuous_scan.specs.contracts.scan.Scan.TheInside as inside_scan
 use Rattle.star_store.proofs.store.Store.TheSendSync as store
@@ -86,11 +88,15 @@ runner_send =
     let fields = declared_send inside_runner.the_type (query, (search sendable, (number, (number, (number, (search (sendable, crosses) depth 40, tt)))))) in
     view_send inside_runner.the_row _ _ _ _ fields
 
--- the scan, with those that run
-scan_send : IsSend scan.the_row
-scan_send =
+-- the slots of the scan, with those that run in them
+slots_send : IsSend slots.the_row
+slots_send =
     let running = list.the_send (option.the_row runner.the_row) (option_send runner.the_row runner_send) in
-    view_send inside_scan.the_row _ _ _ _ (declared_send inside_scan.the_type (search sendable, (running, tt)))
+    view_send inside_slots.the_row _ _ _ _ (declared_send inside_slots.the_type (running, (search sendable, tt)))
+
+-- the scan
+scan_send : IsSend scan.the_row
+scan_send = view_send inside_scan.the_row _ _ _ _ (declared_send inside_scan.the_type (search sendable, (slots_send, tt)))
 
 -- two facts as one
 both : {A B : Type 0} → A → B → A × B
