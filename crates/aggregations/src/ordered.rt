@@ -4,7 +4,7 @@ ghost use Rattle.std.specs.List.Sorted.{IsSortedByKey};
 ghost use Rattle.star_values.specs.Value.{row_cmp};
 ghost use Rattle.aggregations.specs.Finish.{numbered_from};
 
-use indexmap::IndexSet;
+use crate::keys::GroupKeys;
 use star_values::{NoMemory, Row};
 use std::alloc::Global;
 
@@ -16,7 +16,7 @@ pub(crate) struct NumberedKey {
 }
 
 /// The keys with their numbers.
-fn numbered(alloc: Global, keys: IndexSet<Row>) -> Result<Vec<NumberedKey>, NoMemory>
+fn numbered(alloc: Global, keys: GroupKeys) -> Result<Vec<NumberedKey>, NoMemory>
     ensures { IfOk result (λ entries. entries.items ≡ numbered_from 0 keys.keys) }
 {
     let mut entries = Vec::with_capacity(alloc, keys.len())?;
@@ -37,7 +37,7 @@ fn sort(entries: &mut Vec<NumberedKey>) -> Result<(), NoMemory>
 }
 
 /// The keys with their numbers, in ascending order.
-pub(crate) fn in_order(alloc: Global, keys: IndexSet<Row>) -> Result<Vec<NumberedKey>, NoMemory>
+pub(crate) fn in_order(alloc: Global, keys: GroupKeys) -> Result<Vec<NumberedKey>, NoMemory>
     ensures sorted { IfOk result (λ order. IsSortedByKey (λ entry. entry.key) row_cmp order.items) }
     ensures reordered { IfOk result (λ order. IsPermutation (numbered_from 0 keys.keys) order.items) }
 {

@@ -8,6 +8,7 @@ use aggregations::Groups;
 use star_plan::StarQuery;
 use star_values::NoMemory;
 use std::alloc::Global;
+use std::hash::RandomState;
 use std::marker::Model;
 use std::sync::Arc;
 
@@ -50,9 +51,10 @@ impl Model for Asked {
 }
 
 impl Asked {
-    /// A query of which no row has come yet.
+    /// A query of which no row has come yet. Its groups are found by hashes with these keys.
     pub fn new(
         alloc: Global,
+        hash_keys: RandomState,
         number: u64,
         seat: u32,
         query: StarQuery,
@@ -66,7 +68,7 @@ impl Asked {
           kept = Some (grouped_of (query_of query) []);
         }) }
     {
-        let groups = Groups::new(alloc, &query)?;
+        let groups = Groups::new(alloc, hash_keys, &query)?;
         match Arc::new(alloc, query) {
             Ok(query) => Ok(Asked {
                 number,

@@ -1,29 +1,28 @@
 -- The numbers by which keys are looked up.
-use Rattle.std.specs.Prelude.{ℕ, ◌*◌, ◌%◌, ◌^◌, List, map, fold, bit_xor, Option, Some, None}
+use Rattle.std.specs.Prelude.{ℕ, List, map, Option, Some, None}
 use Rattle.std.specs.Int.{w64, cast_unsigned}
+use Rattle.std.specs.RandomState.{initial_hasher}
+use Rattle.std.specs.declared.random_state.RandomState.{RandomState}
+use Rattle.core.specs.Hash.DefaultHasher as sip
 use Rattle.star_values.specs.declared.value.Value.{Value}
 use Rattle.star_values.specs.declared.value.Value.TheVariants.{Int, Str}
 use Rattle.dimension_rows.specs.declared.dimension_row.DimensionRow.{DimensionRow}
 use Rattle.dimension_rows.specs.Keys.{key_of}
 
--- the hash of a text that goes on with this byte
-abbrev pub hash_step : ℕ → ℕ → ℕ
-hash_step hash byte = (bit_xor hash byte * 1099511628211) % 2 ^ 64
+-- the hash of a text: SipHash-1-3 over its bytes, by keys that are drawn at random
+abbrev pub text_hash : RandomState → List ℕ → ℕ
+text_hash hash_keys text = sip.finish (sip.write (initial_hasher hash_keys) text)
 
--- the hash of a text, FNV-1a with 64 bits over its bytes
-abbrev pub text_hash : List ℕ → ℕ
-text_hash text = fold hash_step 14695981039346656037 text
+-- the number of a key, below 2 ^ 64: the 64 bits of an integer, and the hash of a text
+unfoldable pub hash_of : RandomState → Value → ℕ
+hash_of hash_keys (Int n) = cast_unsigned w64 n
+hash_of hash_keys (Str text) = text_hash hash_keys text
 
--- the hash of a key, below 2 ^ 64: the 64 bits of an integer, and the hash of a text
-unfoldable pub hash_of : Value → ℕ
-hash_of (Int n) = cast_unsigned w64 n
-hash_of (Str text) = text_hash text
+-- the number of a key that may be missing
+abbrev pub hash_of_key : RandomState → Option Value → ℕ
+hash_of_key hash_keys None = 0
+hash_of_key hash_keys (Some key) = hash_of hash_keys key
 
--- the hash of a key that may be missing
-abbrev pub hash_of_key : Option Value → ℕ
-hash_of_key None = 0
-hash_of_key (Some key) = hash_of key
-
--- the hashes of the keys of rows
-abbrev pub hashes_of : List DimensionRow → List ℕ
-hashes_of rows = map (λ entry. hash_of_key (key_of entry.row)) rows
+-- the numbers of the keys of rows
+abbrev pub hashes_of : RandomState → List DimensionRow → List ℕ
+hashes_of hash_keys rows = map (λ entry. hash_of_key hash_keys (key_of entry.row)) rows

@@ -1,44 +1,37 @@
-//! The hash of a key. What is found by it is in `look_up`.
+//! The number of a key. What is found by it is in `look_up`.
 ghost use Rattle.std.specs.Prelude.{◌≡◌};
 ghost use Rattle.dimension_rows.specs.Keys.{key_of};
 ghost use Rattle.dimension_rows.specs.Hash.{hash_of, hash_of_key, text_hash};
 
 use star_values::{Row, Value};
+use std::hash::{BuildHasher, Hasher, RandomState};
 
-/// The number with which FNV-1a begins.
-const FNV_OFFSET: u64 = 14_695_981_039_346_656_037;
-
-/// The number by which FNV-1a multiplies.
-const FNV_PRIME: u64 = 1_099_511_628_211;
-
-/// The hash of a key: the bits of an integer, and FNV-1a over the bytes of a text.
+/// The number of a key: the bits of an integer, and a keyed hash of a text.
 #[tactic(auto, unfolding(crate::specs::Hash::hash_of))]
-pub(crate) fn key_hash(key: &Value) -> u64
-    ensures { result ≡ hash_of key.now }
+pub(crate) fn key_hash(hash_keys: RandomState, key: &Value) -> u64
+    ensures { result ≡ hash_of hash_keys key.now }
 {
     match key {
         Value::Int(n) => n.cast_unsigned(),
-        Value::Str(text) => bytes_hash(text.as_bytes()),
+        Value::Str(text) => bytes_hash(hash_keys, text.as_bytes()),
     }
 }
 
-/// The hash of a row's key, and 0 where the row has none.
-pub(crate) fn row_hash(row: &Row) -> u64
-    ensures { result ≡ hash_of_key (key_of row.now) }
+/// The number of a row's key, and 0 where the row has none.
+pub(crate) fn row_hash(hash_keys: RandomState, row: &Row) -> u64
+    ensures { result ≡ hash_of_key hash_keys (key_of row.now) }
 {
     match row.as_slice().first() {
-        Some(key) => key_hash(key),
+        Some(key) => key_hash(hash_keys, key),
         None => 0,
     }
 }
 
-/// FNV-1a over bytes.
-fn bytes_hash(bytes: &[u8]) -> u64
-    ensures { result ≡ text_hash bytes.now }
+/// SipHash-1-3 over bytes. Texts that collide in a hash without keys would collide in any map over it.
+fn bytes_hash(hash_keys: RandomState, bytes: &[u8]) -> u64
+    ensures { result ≡ text_hash hash_keys bytes.now }
 {
-    let mut hash = FNV_OFFSET;
-    for byte in bytes {
-        hash = (hash ^ *byte as u64).wrapping_mul(FNV_PRIME);
-    }
-    hash
+    let mut hasher = hash_keys.build_hasher();
+    hasher.write(bytes);
+    hasher.finish()
 }

@@ -28,6 +28,7 @@ use star_lists::{ListOf, ListWithRoom};
 use star_store::Store;
 use star_values::NoMemory;
 use std::alloc::Global;
+use std::hash::RandomState;
 use std::marker::Model;
 
 /// The core of the shared scan: the tables, the queries that were asked of them, and the scan that gives rows to those
@@ -35,6 +36,9 @@ use std::marker::Model;
 #[derive(Debug, Drop)]
 pub struct Core {
     pub(crate) alloc: Global,
+
+    /// What keys of rows and of groups are hashed by. Nothing that is seen depends on it.
+    pub(crate) hash_keys: RandomState,
     pub(crate) settings: RunSettings,
     pub(crate) store: Store,
 
@@ -87,8 +91,12 @@ impl Model for Core {
 }
 
 impl Core {
-    /// A core of these settings, with no tables. All frames are made.
-    pub fn new(alloc: Global, settings: RunSettings) -> Result<Core, NoMemory>
+    /// A core of these settings, with no tables, which hashes by these keys. All frames are made.
+    pub fn new(
+        alloc: Global,
+        hash_keys: RandomState,
+        settings: RunSettings,
+    ) -> Result<Core, NoMemory>
         requires { AreWithin settings }
         ensures { IfOk result (λ core. state_of core ≡ empty_core settings) }
     {
@@ -99,8 +107,9 @@ impl Core {
         let (manager, scan, distributor) = free_slots(alloc, settings.slots)?;
         Ok(Core {
             alloc,
+            hash_keys,
             settings,
-            store: Store::new(alloc),
+            store: Store::new(alloc, hash_keys),
             log: ListWithRoom::new(alloc),
             seats,
             asked: ListWithRoom::new(alloc),

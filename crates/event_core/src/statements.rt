@@ -77,7 +77,7 @@ impl Core {
                 Ok(())
             }
             Applied::Accepted { query, snapshot } => {
-                let asked = Asked::new(self.alloc, number, seat, query, snapshot)?;
+                let asked = Asked::new(self.alloc, self.hash_keys, number, seat, query, snapshot)?;
                 let extent = self.store.facts().len();
                 accept(&mut self.asked, &mut self.manager, asked, extent)?;
                 stand(&mut self.seats, seat, number, Standing::IsAsked);

@@ -12,11 +12,13 @@ use star_plan::{Schema, TableDef};
 use star_schema::declare_dimension;
 use star_values::StatementFault;
 use std::alloc::Global;
+use std::hash::RandomState;
 use std::mem;
 
 /// Adds a dimension, with no rows yet.
 pub(crate) fn add_dimension(
     alloc: Global,
+    hash_keys: RandomState,
     schema: &mut Schema,
     dims: &mut Dims,
     table: TableDef,
@@ -31,7 +33,7 @@ pub(crate) fn add_dimension(
     ensures err { OnErr result ((schema.new ≡ schema.old) × (dims.new ≡ dims.old)) }
 {
     declare_dimension(schema, table)?;
-    let pushed = dims.push(DimensionRows::new(alloc));
+    let pushed = dims.push(DimensionRows::new(alloc, hash_keys));
     if pushed.is_err() {
         drop_last(alloc, &mut schema.dimensions);
     }

@@ -28,6 +28,7 @@ use star_plan::{Predicate, Schema, TableDef};
 use star_schema::{declare_fact, empty_schemas_are_declared};
 use star_values::{SmallText, StatementFault};
 use std::alloc::Global;
+use std::hash::RandomState;
 use std::marker::Model;
 
 /// The declared tables, their rows and versions, and the number of commits.
@@ -36,6 +37,7 @@ use std::marker::Model;
 #[derive(Debug, Drop)]
 pub struct Store {
     alloc: Global,
+    hash_keys: RandomState,
     schema: Schema,
     dims: Dims,
     facts: FactVersions,
@@ -54,14 +56,15 @@ impl Model for Store {
 }
 
 impl Store {
-    /// No tables and no commit, which takes no memory yet.
-    pub fn new(alloc: Global) -> Store
+    /// No tables and no commit, which takes no memory yet. Rows of dimensions are found by hashes with these keys.
+    pub fn new(alloc: Global, hash_keys: RandomState) -> Store
         ensures { plain result ≡ empty_store }
     {
         empty_schemas_are_declared();
         accepted_histories_are_settled();
         Store {
             alloc,
+            hash_keys,
             schema: Schema {
                 dimensions: ListOf::new(alloc),
                 fact: None,
@@ -105,7 +108,13 @@ impl Store {
         ensures { Declares DimensionDeclared (declared_dimension self.old.schema table) self.old self.new result }
     {
         accepted_histories_are_settled();
-        add_dimension(self.alloc, &mut self.schema, &mut self.dims, table)
+        add_dimension(
+            self.alloc,
+            self.hash_keys,
+            &mut self.schema,
+            &mut self.dims,
+            table,
+        )
     }
 
     /// Adds the fact table. It is refused for the first reason that the schema gives, and takes no memory.

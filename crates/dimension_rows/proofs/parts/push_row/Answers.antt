@@ -9,7 +9,7 @@ returns-clause-indexed c =
     let old = rw c.unwrap.ensures at c.insert-inserted.ensures.old in
     let updates = rw c.unwrap.ensures at c.insert-inserted.ensures.updates in
     rw (c.push_reserved-2.ensures.items, c.push_reserved.ensures.items)
-    (AreIndexed-append c.args.rows.now.items c.args.entry c.args.older.now.items (get nat_eq c.args.newest.now) (get nat_eq c.insert-inserted.new.self)
+    (AreIndexed-append c.args.hash_keys c.args.rows.now.items c.args.entry c.args.older.now.items (get nat_eq c.args.newest.now) (get nat_eq c.insert-inserted.new.self)
     c.row_hash.result c.len-before.result c.unwrap.result c.requires.indexed c.requires.few c.requires.key c.requires.fresh
     c.row_hash.ensures c.len-before.ensures old updates.0)
 
