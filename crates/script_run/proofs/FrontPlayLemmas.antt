@@ -1,9 +1,9 @@
 -- A statement that the front gives to a core, or for which no memory was left, and the replies that are written then.
-use Rattle.script_run.proofs.Words.{◌++◌, ◌+◌, ◌<◌, ◌||◌, ◌∙◌, ◌∷◌, ◌≡◌, ◌≢◌, ◌≤◌, ◌⊎◌, [], after_submitting, Answered, ap, append_assoc, Appends, Appends-nil, AppendsFront, AreIdle, aside-outcome, Bool, CountsOne, Err, false, GoesRound, Halt, IfOk, inl, inr, is_refusal, is_wait, IsSound, IsTrue, length, List, list_any, Memory, NoMemory, None, Ok, OnOk, Option, outcome_of, queries_awaited, refl, Result, seat_at, Some, State, Statement, Submit, subst, sym, tables_of, take, text_of, Took, true, ℕ, ⊎_elim}
+use Rattle.script_run.proofs.Words.{◌++◌, ◌+◌, ◌<◌, ◌||◌, ◌∙◌, ◌∷◌, ◌≡◌, ◌≢◌, ◌≤◌, ◌⊎◌, [], after_submitting, Answered, ap, append_assoc, Appends, Appends-nil, AppendsFront, aside-outcome, Bool, Err, false, Finishes, Gives, GoesRound, Halt, IfOk, inl, inr, is_refusal, is_wait, IsSound, IsTrue, length, List, list_any, Memory, NoMemory, None, Ok, OnOk, Option, outcome_of, queries_awaited, refl, Result, seat_at, Some, State, Statement, Submit, subst, sym, tables_of, take, text_of, Took, true, ℕ, ⊎_elim}
 use Rattle.std.specs.Prelude.{OnErr}
 use Rattle.std.proofs.lemmas.List.Folds.{list_any-append}
 use Rattle.core_state.specs.Events.{after_event}
-use Rattle.core_state.specs.Fronts.{Goes, IsDue, Passes, SubmitsRow}
+use Rattle.core_state.specs.Fronts.{Goes, IsDue, SubmitsRow}
 use Rattle.core_state.specs.Rows.{sight_of}
 use Rattle.core_state.specs.Sent.{Given, Lost, Sent, pendings_of, statements_in}
 use Rattle.core_state.proofs.FrontLemmas.{goes-lost, goes-passes, goes-submits}
@@ -18,9 +18,9 @@ use Rattle.script_run.proofs.OnLemmas.{by-err, by-ok, by-passes, halts-left, hal
 -- No memory was left.
 
 -- for letting queries come to their end, where something is waited for
-pub plays-due : (old new : State) (taken : Option (List ℕ)) → (seat_at old 0).pending ≢ [] → Passes (sight_of old 0) (sight_of new 0)
-    → Submits [] old new → StayAnswered old.lives new.lives → Plays (Err NoMemory) old [] new taken taken
-plays-due old new taken some passes run stay due waits = (
+pub plays-due : (old new : State) (taken : Option (List ℕ)) → (seat_at old 0).pending ≢ [] → Finishes old new
+    → Plays (Err NoMemory) old [] new taken taken
+plays-due old new taken some finishes due waits = (
   record {
     on = record {
       sent = [];
@@ -29,13 +29,13 @@ plays-due old new taken some passes run stay due waits = (
       replies = [];
       rest = [];
       are = refl;
-      goes = goes-passes 0 (sight_of old 0) (sight_of new 0) due waits refl passes;
+      goes = goes-passes 0 (sight_of old 0) (sight_of new 0) due waits refl finishes.passes;
       written = [];
       took = Appends-nil taken;
       ends = halts-left ((due ≢ []) ⊎ (([] ≢ []) ⊎ ⊥)) (inl waiting);
     };
-    run = run;
-    stay = stay;
+    run = finishes.run;
+    stay = finishes.stay;
     answered = tt;
   },
   tt,
@@ -45,13 +45,13 @@ plays-due old new taken some passes run stay due waits = (
     waiting none = some (waits.pending ∙ ap (pendings_of old.entries) none)
 
 -- queries came to their end, and then replies were written
-pub plays-behind : (result : Result Bool Halt) (old mid new : State) (taken taken' : Option (List ℕ)) → Passes (sight_of old 0) (sight_of mid 0)
-    → Submits [] old mid → StayAnswered old.lives mid.lives → Plays result mid [] new taken taken' → Plays result old [] new taken taken'
-plays-behind (Ok refused) old mid new taken taken' passes run stay plays due waits =
-    let first = by-passes old mid due taken waits passes run stay in
+pub plays-behind : (result : Result Bool Halt) (old mid new : State) (taken taken' : Option (List ℕ)) → Finishes old mid
+    → Plays result mid [] new taken taken' → Plays result old [] new taken taken'
+plays-behind (Ok refused) old mid new taken taken' finishes plays due waits =
+    let first = by-passes old mid due taken waits finishes.passes finishes.run finishes.stay in
     by-ok false refused old mid new due [] [] ⊥ ⊥ ⊥ taken taken taken' first (plays first.0.on.still first.0.on.goes.waits)
-plays-behind (Err halt) old mid new taken taken' passes run stay plays due waits =
-    let first = by-passes old mid due taken waits passes run stay in
+plays-behind (Err halt) old mid new taken taken' finishes plays due waits =
+    let first = by-passes old mid due taken waits finishes.passes finishes.run finishes.stay in
     by-err false halt old mid new due [] [] ⊥ ⊥ ⊥ taken taken taken' (λ never. never) first (plays first.0.on.still first.0.on.goes.waits)
 
 -- what was not sent is not nothing
@@ -174,15 +174,9 @@ plays-lost (Err halt) others statement old new before taken taken' some round pl
     ((in-err halt old new new due [] (statement ∷ []) ⊥ ⊥ ⊥ before taken taken' (λ never. never) first.0 second, tt), tt)
 
 -- A statement was submitted.
-pub record IsGiven (statement : Statement) (old new : State) : Type 0 where
-  pub submits : SubmitsRow 0 (old.numbers.statement + 1) statement (sight_of old 0) (sight_of new 0)
-  pub stay : StayAnswered old.lives new.lives
-  pub run : Submits (statement ∷ []) old new
-  pub idle : AreIdle old → AreIdle new
-  pub counts : CountsOne statement old new
 
 -- so it is where the core took it
-pub took-given : (statement : Statement) (old new : State) → IsSound old → Took (Submit 0 statement) old new → IsGiven statement old new
+pub took-given : (statement : Statement) (old new : State) → IsSound old → Took (Submit 0 statement) old new → Gives statement old new
 unfolding after_event
 took-given statement old new sound took =
     let is : new ≡ after_submitting 0 statement old = ⊎_elim (λ done. done) (λ spoilt. absurd spoilt) took.after in
@@ -196,21 +190,24 @@ took-given statement old new sound took =
       counts = subst (CountsOne statement old) (sym is) (counts-submitted statement old sound took.enabled);
     }
 
--- what comes of success and of failure comes of every result
-pub by-result : {A E P Q : Type 0} (goal : Type 0) (result : Result A E) → (P → goal) → (Q → goal) → OnOk result P → OnErr result Q → goal
-by-result goal (Ok x) done failed ok err = done ok
-by-result goal (Err e) done failed ok err = failed err
-
 -- what holds whatever the result is holds of a failure
 pub on-err : {A E Q : Type 0} (result : Result A E) → Q → OnErr result Q
 on-err (Ok x) is = tt
 on-err (Err e) is = is
 
+-- and of success
+pub on-ok : {A E Q : Type 0} (result : Result A E) → Q → OnOk result Q
+on-ok (Ok x) is = is
+on-ok (Err e) is = tt
+
+pub on-ok-both : {A E P Q R : Type 0} (result : Result A E) → (P → Q → R) → OnOk result P → OnOk result Q → OnOk result R
+on-ok-both (Ok x) both first second = both first second
+on-ok-both (Err e) both first second = tt
+
 -- what was sent is waited for
 abbrev given-part : (statement : Statement) (old new : State) (due : List Sent) (taken : Option (List ℕ)) → IsDue 0 (sight_of old 0) due
-    → SubmitsRow 0 (old.numbers.statement + 1) statement (sight_of old 0) (sight_of new 0) → Submits (statement ∷ []) old new
-    → StayAnswered old.lives new.lives → PlaysBy (Ok false) old due (statement ∷ []) ⊥ new taken taken
-given-part statement old new due taken waits submits run stay = (
+    → Gives statement old new → PlaysBy (Ok false) old due (statement ∷ []) ⊥ new taken taken
+given-part statement old new due taken waits gives = (
   record {
     on = record {
       sent = Given (old.numbers.statement + 1) (length old.entries) statement ∷ [];
@@ -219,46 +216,44 @@ given-part statement old new due taken waits submits run stay = (
       replies = [];
       rest = [];
       are = refl;
-      goes = goes-submits 0 (sight_of old 0) (sight_of new 0) due (old.numbers.statement + 1) statement waits refl submits;
+      goes = goes-submits 0 (sight_of old 0) (sight_of new 0) due (old.numbers.statement + 1) statement waits refl gives.submits;
       written = [];
       took = Appends-nil taken;
       ends = (refl, refl);
     };
-    run = run;
-    stay = stay;
+    run = gives.run;
+    stay = gives.stay;
     answered = tt;
   },
   refl,
 )
 
 -- before any reply
-pub plays-quiet : (statement : Statement) (old new : State) (taken : Option (List ℕ))
-    → SubmitsRow 0 (old.numbers.statement + 1) statement (sight_of old 0) (sight_of new 0) → Submits (statement ∷ []) old new
-    → StayAnswered old.lives new.lives → CountsOne statement old new → PlaysCounted (Ok false) old (statement ∷ []) new taken taken
-plays-quiet statement old new taken submits run stay counts due waits =
-    (given-part statement old new due taken waits submits run stay, laps-quiet statement old new counts)
+pub plays-quiet : (statement : Statement) (old new : State) (taken : Option (List ℕ)) → Gives statement old new
+    → PlaysCounted (Ok false) old (statement ∷ []) new taken taken
+plays-quiet statement old new taken gives due waits =
+    (given-part statement old new due taken waits gives, laps-quiet statement old new gives.counts)
 
 -- and the queries came to their end, since it waits for some, none is open, or they are as many as there are slots
 pub plays-given : (result : Result Bool Halt) (statement : Statement) (old mid new : State) (taken taken' : Option (List ℕ)) → 0 < mid.settings.slots
-    → SubmitsRow 0 (old.numbers.statement + 1) statement (sight_of old 0) (sight_of mid 0) → Submits (statement ∷ []) old mid
-    → StayAnswered old.lives mid.lives → CountsOne statement old mid
+    → Gives statement old mid
     → (IsTrue (is_wait statement) × (0 < queries_awaited old)) ⊎ ((queries_awaited mid ≡ 0) ⊎ (mid.settings.slots ≤ queries_awaited mid))
     → Plays result mid [] new taken taken' → OnOk result (GoesRound mid new) → OnOk result ((seat_at new 0).pending ≡ [])
     → PlaysCounted result old (statement ∷ []) new taken taken'
-plays-given (Ok refused) statement old mid new taken taken' some submits run stay counts worth plays round idle due waits =
-    let first : PlaysBy (Ok false) old due (statement ∷ []) ⊥ mid taken taken = given-part statement old mid due taken waits submits run stay in
+plays-given (Ok refused) statement old mid new taken taken' some gives worth plays round idle due waits =
+    let first : PlaysBy (Ok false) old due (statement ∷ []) ⊥ mid taken taken = given-part statement old mid due taken waits gives in
     let second : PlaysBy (Ok refused) mid first.0.on.still [] ⊥ new taken taken' = plays first.0.on.still first.0.on.goes.waits in
     let settled = settles-plays mid new first.0.on.still ⊥ taken taken' first.0.on.goes.waits second.0 idle in
     let grows = second.0.on.goes.seen ∙ ap (λ list. list ++ second.0.on.goes.since) first.0.on.goes.seen
     ∙ append_assoc old.entries first.0.on.goes.since second.0.on.goes.since in (
       by-ok false refused old mid new due (statement ∷ []) [] ⊥ ⊥ ⊥ taken taken taken' first second,
-      laps-then old mid new [] second.0.on.replies (laps-quiet statement old mid counts)
+      laps-then old mid new [] second.0.on.replies (laps-quiet statement old mid gives.counts)
           (laps-round mid new first.0.on.still second.0.on.replies some round settled
           (⊎_elim
           (λ is. inr (inr (waits-fill statement (old.numbers.statement + 1) (length old.entries) old mid new due
           (first.0.on.goes.since ++ second.0.on.goes.since) second.0.on.replies some is.0 is.1 waits grows settled)))
           (⊎_elim (λ none. inl none) (λ many. inr (inl many))) worth)),
     )
-plays-given (Err halt) statement old mid new taken taken' some submits run stay counts worth plays round idle due waits =
-    let first : PlaysBy (Ok false) old due (statement ∷ []) ⊥ mid taken taken = given-part statement old mid due taken waits submits run stay in
+plays-given (Err halt) statement old mid new taken taken' some gives worth plays round idle due waits =
+    let first : PlaysBy (Ok false) old due (statement ∷ []) ⊥ mid taken taken = given-part statement old mid due taken waits gives in
     (by-err false halt old mid new due (statement ∷ []) [] ⊥ ⊥ ⊥ taken taken taken' (λ never. never) first (plays first.0.on.still first.0.on.goes.waits), tt)

@@ -1,12 +1,11 @@
 -- Where seat 0 of a sound core waits for nothing, no query is open.
-use Rattle.script_run.proofs.Words.{◌∙◌, ◌≡◌, [], Accepted, All, All-contains, All-map, Answered, ap, arith, Contains, empty_seat, false, get_or, IfSome, is_open, IsSound, IsSoundSeat, Life, life_of, List, map, None, of-numbers, Option, option_map, option_map_or, Pending, Query, query_in, QueryLife, refl, seat_at, Some, Spoiled, State, subst, sym, Taken, ℕ, ⊎_elim}
+use Rattle.script_run.proofs.Words.{◌∙◌, ◌≡◌, [], Accepted, All, All-contains, All-map, Answered, ap, arith, Contains, empty_seat, false, get_or, IfSome, is_open, IsSound, IsSoundSeat, Life, life_of, List, map, None, of-numbers, Option, option_map, option_map_or, Owns, Pending, Query, query_in, QueryLife, refl, seat_at, Some, Spoiled, State, subst, sym, Taken, ℕ, ⊎_elim}
 use Rattle.std.proofs.Common.{◌⊎◌}
 use Rattle.pipeline_manager.proofs.QueryLemmas.{query_in-found}
 use Rattle.core_state.specs.Sound.{IsTaken}
 use Rattle.core_state.specs.Whole.{IsAccountedFor}
 use Rattle.core_state.proofs.AcceptedLemmas.{none-lives}
 use Rattle.core_state.proofs.SeatLemmas.{seat-there}
-use Rattle.script_run.proofs.HomeStepLemmas.{Owns}
 
 -- a query of this number, if there is one, is not open
 abbrev IsClosed : State → ℕ → Type 0

@@ -1,5 +1,5 @@
 -- What is left of a core where queries are abandoned and replies are taken.
-use Rattle.script_run.proofs.Words.{◌++◌, ◌<◌, ◌∙◌, ◌∷◌, ◌≡◌, ◌≤◌, [], Abandon, Accepted, accepted_at, accepted_by, after_abandoning, after_taking, All, Answered, ap, append-nil, append_assoc, arith, Bool, by-option, cond, count_by, Done, empty_seat, eq-eqb, eqb, Err, false, find, find-holds, first_open, forgets, forgotten, Front, get_or, get_or-set_same, is_open, is_query, IsCounted, IsEnabled, IsHeld, IsKnown, IsSome, IsSound, IsTrue, length, life_of, List, Lives, map, next_ready, None, Ok, OnOk, Option, option_map, option_map_or, part-stays, Pending, query_in, QueryLife, refl, Replying, Result, Seat, seat_at, Some, State, state_of, subst, sym, take, taken_by, Took, true, with_seat, with_taken, without_pending, ℕ, ⊎_elim}
+use Rattle.script_run.proofs.Words.{◌++◌, ◌<◌, ◌∙◌, ◌∷◌, ◌≡◌, ◌≤◌, [], Abandon, Accepted, accepted_at, accepted_by, after_abandoning, after_taking, All, Answered, ap, append-nil, append_assoc, AreIdle, arith, Bool, by-option, cond, count_by, Done, empty_seat, eq-eqb, eqb, Err, false, find, find-holds, first_open, forgets, forgotten, get_or, get_or-set_same, is_open, is_query, IsEnabled, IsSome, IsSound, IsTrue, length, life_of, List, Lives, map, next_ready, None, Ok, OnOk, Option, option_map, option_map_or, Owns, part-stays, Pending, query_in, QueryLife, refl, Replying, Result, Seat, seat_at, Some, State, state_of, subst, sym, take, taken_by, Took, true, with_seat, with_taken, without_pending, ℕ, ⊎_elim}
 use Rattle.std.proofs.Common.{not, set}
 use Rattle.std.specs.Prelude.{◌↔◌, IsErrOf}
 use Rattle.std.specs.List.{filter}
@@ -11,6 +11,7 @@ use Rattle.core_state.proofs.FoundLemmas.{find-passes}
 use Rattle.core_state.proofs.ScannedOverLemmas.{life-accepted}
 use Rattle.core_state.proofs.WholeFrameLemmas.{bare-anew, bare-without}
 use Rattle.core_state.proofs.WholeLivesLemmas.{lives-abandoned}
+use Rattle.event_core.specs.Parts.{Parts}
 use Rattle.event_core.specs.Took.{MayWantMemory}
 use Rattle.event_core.specs.declared.stepping.StepFault.{StepFault}
 use Rattle.event_core.specs.declared.stepping.StepFault.TheVariants.{NotEnabled, Memory}
@@ -20,8 +21,8 @@ use Rattle.script_run.proofs.AskedLemmas.{asked-by}
 use Rattle.script_run.proofs.FrontOpenLemmas.{first-waits, taken-behind, taken-closed}
 use Rattle.script_run.proofs.FrontRunLemmas.{idle-scan}
 use Rattle.script_run.proofs.HomeClosedLemmas.{closed-all}
-use Rattle.script_run.proofs.HomeStepLemmas.{Owns, owner-there, serves-abandoned, serves-taken}
-use Rattle.script_run.proofs.HomeStepsLemmas.{held-after, serves-both, serves-none, serves-one}
+use Rattle.script_run.proofs.HomeStepLemmas.{owner-there, serves-abandoned, serves-taken}
+use Rattle.script_run.proofs.HomeStepsLemmas.{owns-after, serves-both, serves-none, serves-one}
 use Rattle.script_run.proofs.LapEventLemmas.{closed-count, closed-over}
 use Rattle.script_run.proofs.TakenLemmas.{WaitsForOpen, idle-next, seat-waits, taken-seat}
 
@@ -281,43 +282,31 @@ dropped-idle waits first now new dropping same none closed =
     ap (λ state. (seat_at state 0).pending) same ∙ idle-next waits now 0 dropping.way.sound (dropping.closed closed) (sym none)
 
 -- a front whose core was let go
-pub left-home : (old new : Front) (mid : State) → IsHeld old → IsLeaving (state_of old.core) mid
-    → IsLeaving mid (state_of new.core) → IsSound (state_of new.core) → (seat_at (state_of new.core) 0).pending ≡ []
-    → new.settings ≡ old.settings → new.submitted ≡ old.submitted → new.unfinished ≡ 0
-    → IsAtHome new
-left-home old new mid held first second so_sound idle settings submitted unfinished =
-    record { held = holds; counted = counted; none = unfinished; idle = idle }
+pub left-home : (core : Parts) (old mid : State) → Owns old → AreIdle old → IsLeaving old mid → IsLeaving mid (state_of core)
+    → IsSound (state_of core) → (seat_at (state_of core) 0).pending ≡ [] → IsAtHome (record { core = core; unfinished = 0 })
+left-home core old mid mine hands first second sound idle = record {
+  own = own;
+  counted = record {
+    calm = record {
+      idle = idle-scan old now leaving.scan hands;
+      waits = closed-over now.lives.queries closed;
+      unfinished = closed-count now.lives.queries closed;
+      awaited = ap (count_by (λ (p : Pending). is_query p.awaited)) idle;
+    };
+    few = omega arith;
+  };
+  none = refl;
+  idle = idle;
+}
   where
     now : State
-    now = state_of new.core
+    now = state_of core
 
-    leaving : IsLeaving (state_of old.core) now
-    leaving = leaving-then (state_of old.core) mid now first second
+    leaving : IsLeaving old now
+    leaving = leaving-then old mid now first second
 
-    known : IsKnown new
-    known = record {
-      some = subst (λ s. 0 < s.slots) (sym settings) held.some;
-      settings = leaving.settings ∙ held.settings ∙ sym settings;
-      submitted = ap (λ n. n.statement) leaving.numbers ∙ held.submitted ∙ sym submitted;
-      hands = idle-scan (state_of old.core) now leaving.scan held.hands;
-    }
-
-    holds : IsHeld new
-    holds = held-after old new held leaving.served.served known
+    own : Owns now
+    own = owns-after old now mine leaving.served.served
 
     closed : All (λ entry. is_open entry.life ≡ false) now.lives.queries
-    closed = closed-all now so_sound holds.own idle
-
-    counted : IsCounted new
-    counted = record {
-      some = known.some;
-      settings = known.settings;
-      submitted = known.submitted;
-      calm = record {
-        idle = known.hands;
-        waits = closed-over now.lives.queries closed;
-        unfinished = closed-count now.lives.queries closed ∙ sym unfinished;
-        awaited = ap (count_by (λ (p : Pending). is_query p.awaited)) idle ∙ sym unfinished;
-      };
-      few = subst (λ n. n ≤ new.settings.slots) (sym unfinished) (omega arith);
-    }
+    closed = closed-all now sound own idle

@@ -1,5 +1,5 @@
 -- What a step of a session leaves: all that it adds is of seat 0.
-use Rattle.script_run.proofs.Words.{◌++◌, ◌+◌, ◌<◌, ◌∙◌, ◌∷◌, ◌≡◌, ◌≢◌, [], Abandon, Accepted, accepted_at, after_abandoning, after_outcome, after_step, after_submitting, after_taking, All, All-cons, All-head, All-nil, All-tail, ap, append-nil, aside-outcome, by-option, Change, Contains, Done, empty_seat, entries-by, Entry, eqb, Event, find-holds, forgets, forgotten, get_or, IsEnabled, IsOfSession, IsSound, length, List, map, MayStep, None, Option, option_map_or, outcome_of, refl, Replying, seat_at, Some, State, Statement, Step, Submit, subst, sym, tables_of, take, Told, Wanting, with_query, with_statement, with_taken, without_pending, ℕ}
+use Rattle.script_run.proofs.Words.{◌++◌, ◌+◌, ◌<◌, ◌∙◌, ◌∷◌, ◌≡◌, ◌≢◌, [], Abandon, Accepted, accepted_at, after_abandoning, after_outcome, after_step, after_submitting, after_taking, All, All-cons, All-head, All-nil, All-tail, ap, append-nil, aside-outcome, by-option, Change, Contains, Done, empty_seat, entries-by, Entry, eqb, Event, find-holds, forgets, forgotten, get_or, IsEnabled, IsOfSession, IsSound, length, List, map, MayStep, None, Option, option_map_or, outcome_of, Owns, refl, Replying, seat_at, Some, State, Statement, Step, Submit, subst, sym, tables_of, take, Told, Wanting, with_query, with_statement, with_taken, without_pending, ℕ}
 use Rattle.std.proofs.lemmas.List.{get_or-set_other}
 use Rattle.std.proofs.lemmas.List.Elements.{All-push}
 use Rattle.star_statement.specs.Outcome as outcome
@@ -8,10 +8,6 @@ use Rattle.core_state.proofs.WholeFrameLemmas.{Frame, bare, bare-anew, bare-with
 use Rattle.core_state.proofs.WholeToldLemmas.{seated}
 use Rattle.script_run.proofs.AskedLemmas.{accepted-changed, changed_by}
 use Rattle.core_state.proofs.SeatLemmas.{seat-there}
-
--- every query is one of seat 0
-abbrev pub Owns : State → Type 0
-Owns state = All (λ accepted. accepted.seat ≡ 0) state.accepted
 
 -- entries of seat 0 were added, and no other seat has changed
 pub record AddsOwn (old new : State) : Type 0 where

@@ -1,12 +1,12 @@
--- What the steps of a session leave, one after the other, and that the front knows its core behind them.
-use Rattle.script_run.proofs.Words.{◌++◌, ◌∙◌, ◌∷◌, ◌≡◌, [], after_step, after_steps, All, All-append, All-cons, All-head, All-nil, All-tail, All-weaker, ap, append-nil, append_assoc, Done, Entry, fold-append, Front, IsHeld, IsKnown, IsOfRun, IsOfSession, IsRun, List, MayStep, MayStepAll, None, refl, Replying, seat_at, State, state_of, Statement, Step, Submit, subst, sym}
+-- What the steps of a session leave, one after the other.
+use Rattle.script_run.proofs.Words.{◌++◌, ◌∙◌, ◌∷◌, ◌≡◌, [], after_step, after_steps, All, All-append, All-cons, All-head, All-nil, All-tail, All-weaker, ap, append-nil, append_assoc, Done, Entry, fold-append, IsOfRun, IsOfSession, IsRun, List, MayStep, MayStepAll, None, Owns, refl, Replying, seat_at, State, Statement, Step, Submit, subst, sym}
 use Rattle.core_state.proofs.WholeFrameLemmas.{frame-all}
 use Rattle.std.proofs.lemmas.List.Elements.{filter_map-append}
 use Rattle.std.specs.List.{cons_option}
 use Rattle.script_run.specs.Front.{Submits, submitted_at, submitted_in}
 use Rattle.script_run.specs.Home.{IsServed, Serves}
 use Rattle.script_run.proofs.FrontRunLemmas.{may-append}
-use Rattle.script_run.proofs.HomeStepLemmas.{Owns, AddsOwn, serves-frame, serves-step}
+use Rattle.script_run.proofs.HomeStepLemmas.{AddsOwn, serves-frame, serves-step}
 
 -- no step
 serves-itself : (state : State) → Owns state → AddsOwn state state
@@ -108,12 +108,7 @@ serves-both statements others old between new first second = record {
       ∙ ap (λ list. statements ++ list) second.are;
 }
 
--- a front that knows its core behind them knows it wherever it was halted
-pub held-after : (old new : Front) → IsHeld old → IsServed (state_of old.core) (state_of new.core) → IsKnown new → IsHeld new
-held-after old new held served known = record {
-  some = known.some;
-  settings = known.settings;
-  submitted = known.submitted;
-  hands = known.hands;
-  own = subst Owns (sym served.is) (serves-steps served.steps (state_of old.core) served.may served.each held.own).mine;
-}
+-- behind them every query is one of seat 0 still
+pub owns-after : (old new : State) → Owns old → IsServed old new → Owns new
+owns-after old new mine served =
+    subst Owns (sym served.is) (serves-steps served.steps old served.may served.each mine).mine

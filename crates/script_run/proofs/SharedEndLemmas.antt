@@ -225,9 +225,8 @@ shared-by slots slots' (Some other) parts end from from' to to' own same answers
 )
 
 -- and the steps of a run lead to it
-pub run-by : (core : Option Parts) (parts : Parts) (old : State) (settings made : RunSettings) → IfSome core (λ own. own ≡ parts)
-    → old ≡ empty_core made → made ≡ settings → IsRun old (state_of parts) → IfSome core (λ own. IsRun (empty_core settings) (state_of own))
-run-by None parts old settings made own is same run = tt
-run-by (Some other) parts old settings made own is same run =
-    subst (λ (p : Parts). IsRun (empty_core settings) (state_of p)) (sym own)
-    (subst (λ s. IsRun (empty_core s) (state_of parts)) same (subst (λ o. IsRun o (state_of parts)) is run))
+pub run-by : (core : Option Parts) (parts : Parts) (old : State) (settings : RunSettings) → IfSome core (λ own. own ≡ parts)
+    → old ≡ empty_core settings → IsRun old (state_of parts) → IfSome core (λ own. IsRun (empty_core settings) (state_of own))
+run-by None parts old settings own is run = tt
+run-by (Some other) parts old settings own is run =
+    subst (λ (p : Parts). IsRun (empty_core settings) (state_of p)) (sym own) (subst (λ o. IsRun o (state_of parts)) is run)

@@ -62,16 +62,15 @@ pub use Rattle.event_core.specs.declared.replies.Ready.{Ready}
 pub use Rattle.core_driver.proofs.LapCountLemmas.{count-cons}
 pub use Rattle.core_driver.specs.Driven.{IsDriven}
 pub use Rattle.script_run.specs.Answer.{HaltsBehind, HasNoStatement, refused_left, Replies, replies_left, RepliesInPart, text_left}
-pub use Rattle.script_run.specs.Counted.{Beside, CountsOne, GoesRound, is_query, IsCounted, IsKnown, IsOverOrWaits, LapsOn, one_if, queries_awaited, told_of}
+pub use Rattle.script_run.specs.Counted.{Beside, CountsOne, FrontParts, GoesRound, is_query, IsCounted, IsOverOrWaits, KnowsCore, LapsOn, one_if, queries_awaited, told_of}
 pub use Rattle.script_run.specs.End.{end_of_all, end_of_halt}
-pub use Rattle.script_run.specs.Front.{IsOfRun, IsRun}
-pub use Rattle.script_run.specs.Home.{IsHeld, IsOfSession}
+pub use Rattle.script_run.specs.Front.{Finishes, Gives, IsOfRun, IsRun}
+pub use Rattle.script_run.specs.Home.{IsOfSession, Owns}
 pub use Rattle.script_run.specs.Laps.{laps_of, placed, rows_of}
 pub use Rattle.script_run.specs.Pieces.{fed_with}
 pub use Rattle.script_run.specs.Run.{HasEnded, is_refusal, IsFront, IsProperFront, script_replies, script_text, some_refused, within_limit}
 pub use Rattle.script_run.specs.Shared.{AnswersBy}
 pub use Rattle.script_run.specs.Told.{BeginAnswered, MayBegin, Tells}
 pub use Rattle.script_run.specs.Waiting.{is_wait, means_wait}
-pub use Rattle.script_run.specs.declared.front.Front.{Front}
 pub use Rattle.script_run.specs.declared.halt.Halt.{Halt}
 pub use Rattle.script_run.specs.declared.halt.Halt.TheVariants.{NoMemory, WriteFault}

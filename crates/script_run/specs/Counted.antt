@@ -11,9 +11,10 @@ use Rattle.pipeline_manager.specs.Conditions.{is_open}
 use Rattle.pipeline_manager.specs.declared.life.Life.{Life}
 use Rattle.pipeline_manager.specs.declared.life.Life.TheVariants.{Waiting, Building, Running, Ending}
 use Rattle.event_core.specs.Chosen.{AreIdle}
+use Rattle.core_state.specs.declared.settings.RunSettings.{RunSettings}
+use Rattle.event_core.specs.Parts.{Parts}
 use Rattle.event_core.specs.Seen.{state_of}
 use Rattle.script_run.specs.Laps.{places_of}
-use Rattle.script_run.specs.declared.front.Front.{Front}
 
 -- a seat waits for a query
 abbrev pub is_query : Awaited → Bool
@@ -55,20 +56,23 @@ pub record IsCalm (count : ℕ) (state : State) : Type 0 where
   pub unfinished : open_in state ≡ count
   pub awaited : queries_awaited state ≡ count
 
--- the front counted the statements of its core, and the queries that are open, which are no more than there are slots
-pub record IsCounted (front : Front) : Type 0 where
-  pub some : 0 < front.settings.slots
-  pub settings : (state_of front.core).settings ≡ front.settings
-  pub submitted : (state_of front.core).numbers.statement ≡ front.submitted
-  pub calm : IsCalm front.unfinished (state_of front.core)
-  pub few : front.unfinished ≤ front.settings.slots
+-- a front: its core, and how many queries of the core have not come to their end
+pub record FrontParts : Type 0 where
+  pub core : Parts
+  pub unfinished : ℕ
 
--- the front knows its core, also where it was halted: its settings, how many statements it has, and that no batch is in a hand
-pub record IsKnown (front : Front) : Type 0 where
-  pub some : 0 < front.settings.slots
-  pub settings : (state_of front.core).settings ≡ front.settings
-  pub submitted : (state_of front.core).numbers.statement ≡ front.submitted
-  pub hands : AreIdle (state_of front.core)
+-- what a front knows of its core, also where it was halted: that it has these settings, by which there are slots, and so many
+-- statements, and that no batch is in a hand
+pub record KnowsCore (known : RunSettings) (count : ℕ) (core : State) : Type 0 where
+  pub some : 0 < known.slots
+  pub settings : core.settings ≡ known
+  pub submitted : core.numbers.statement ≡ count
+  pub hands : AreIdle core
+
+-- a front between two statements: it counted the queries that are open, which are no more than there are slots
+pub record IsCounted (front : FrontParts) : Type 0 where
+  pub calm : IsCalm front.unfinished (state_of front.core)
+  pub few : front.unfinished ≤ (state_of front.core).settings.slots
 
 -- what the front is told of a statement that it gives to a core
 abbrev pub told_of : State → Statement → Told

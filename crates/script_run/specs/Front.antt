@@ -1,5 +1,5 @@
 -- What a seat that gives statements to a core leaves in the core, in a reader and at a sink.
-use Rattle.std.specs.Prelude.{◌≡◌, ◌≢◌, ◌⊎◌, ℕ, Bool, true, List, [], ◌++◌, All, filter_map, Option, Some, None, Result, Ok, Err, IfOk, OnOk}
+use Rattle.std.specs.Prelude.{◌≡◌, ◌≢◌, ◌⊎◌, ℕ, ◌+◌, Bool, true, List, [], ◌∷◌, ◌++◌, All, filter_map, Option, Some, None, Result, Ok, Err, IfOk, OnOk}
 use Rattle.std.specs.List.{list_any}
 use Rattle.std.specs.Io.KnownBytes.{Appends}
 use Rattle.script_reader.specs.Reading.{MayCome, Reading, StaysFed}
@@ -7,15 +7,16 @@ use Rattle.script_reader.specs.Script.{statements_of}
 use Rattle.script_reader.specs.declared.statement.Statement.{Statement}
 use Rattle.reply_text.specs.Text.{text_of_all}
 use Rattle.reply_text.specs.declared.reply.Reply.{Reply}
-use Rattle.core_state.specs.Fronts.{Goes, IsDue}
+use Rattle.core_state.specs.Fronts.{Goes, IsDue, Passes, SubmitsRow}
 use Rattle.core_state.specs.Rows.{Sight, sight_of}
 use Rattle.core_state.specs.Sent.{Given, Lost, Sent, statements_in}
 use Rattle.core_state.specs.State.{State}
 use Rattle.core_state.specs.Steps.{Done, MayStepAll, Replying, Step, Wanting, after_steps}
 use Rattle.core_state.specs.declared.event.Event.TheVariants.{Abandon, Submit}
+use Rattle.event_core.specs.Chosen.{AreIdle}
 use Rattle.script_run.specs.Answer.{HasNoStatement}
 use Rattle.script_run.specs.Answered.{AreAnswered, StayAnswered}
-use Rattle.script_run.specs.Counted.{LapsOn}
+use Rattle.script_run.specs.Counted.{CountsOne, GoesRound, LapsOn}
 use Rattle.script_run.specs.Run.{IsFront, IsProperFront, is_refusal}
 use Rattle.script_run.specs.declared.halt.Halt.{Halt}
 use Rattle.script_run.specs.declared.halt.Halt.TheVariants.{WriteFault, NoMemory}
@@ -48,6 +49,22 @@ submitted_in steps = filter_map submitted_at steps
 pub record Submits (statements : List Statement) (old new : State) : Type 0 where
   pub run : IsRun old new
   pub are : submitted_in run.steps ≡ statements
+
+-- queries came to their end: the seats and the history stay, what was answered stays so, the scan went round once at most, and no
+-- statement was submitted
+pub record Finishes (old new : State) : Type 0 where
+  pub passes : Passes (sight_of old 0) (sight_of new 0)
+  pub stay : StayAnswered old.lives new.lives
+  pub round : GoesRound old new
+  pub run : Submits [] old new
+
+-- a statement was given to a core as that of seat 0
+pub record Gives (statement : Statement) (old new : State) : Type 0 where
+  pub submits : SubmitsRow 0 (old.numbers.statement + 1) statement (sight_of old 0) (sight_of new 0)
+  pub stay : StayAnswered old.lives new.lives
+  pub run : Submits (statement ∷ []) old new
+  pub idle : AreIdle old → AreIdle new
+  pub counts : CountsOne statement old new
 
 -- the statement that was sent, if the core has it
 abbrev pub given_by : Sent → Option Statement

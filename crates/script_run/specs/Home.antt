@@ -1,5 +1,5 @@
 -- What sessions leave in a core, one after the other: a front at home between two reads, and what was given to a core where the replies halted.
-use Rattle.std.specs.Prelude.{◌≡◌, ◌≢◌, ℕ, ◌<◌, List, [], ◌++◌, All, map, Option, Result}
+use Rattle.std.specs.Prelude.{◌≡◌, ◌≢◌, ℕ, List, [], ◌++◌, All, map, Option, Result}
 use Rattle.script_reader.specs.Reading.{Reading}
 use Rattle.script_reader.specs.declared.statement.Statement.{Statement}
 use Rattle.core_state.specs.Queries.{accepted_by}
@@ -7,25 +7,19 @@ use Rattle.core_state.specs.State.{Entry, State, Taken}
 use Rattle.core_state.specs.Steps.{Done, MayStepAll, Replying, Step, Wanting, after_steps}
 use Rattle.core_state.specs.Submitting.{seat_at}
 use Rattle.core_state.specs.declared.event.Event.TheVariants.{Submit}
-use Rattle.event_core.specs.Chosen.{AreIdle}
 use Rattle.event_core.specs.Seen.{state_of}
 use Rattle.script_run.specs.Answered.{StayAnswered}
-use Rattle.script_run.specs.Counted.{IsCounted}
+use Rattle.script_run.specs.Counted.{FrontParts, IsCounted}
 use Rattle.script_run.specs.Front.{ReadsOn, UnlessHalted, halt_of, submitted_in}
-use Rattle.script_run.specs.declared.front.Front.{Front}
 use Rattle.script_run.specs.declared.halt.Halt.{Halt}
 
--- the front knows its core, wherever it was halted: no batch is in a hand, and every query of the core is one of seat 0
-pub record IsHeld (front : Front) : Type 0 where
-  pub some : 0 < front.settings.slots
-  pub settings : (state_of front.core).settings ≡ front.settings
-  pub submitted : (state_of front.core).numbers.statement ≡ front.submitted
-  pub hands : AreIdle (state_of front.core)
-  pub own : All (λ accepted. accepted.seat ≡ 0) (state_of front.core).accepted
+-- every query of a core is one of seat 0
+abbrev pub Owns : State → Type 0
+Owns state = All (λ accepted. accepted.seat ≡ 0) state.accepted
 
--- a front at home: nothing is waited for, and no query is open
-pub record IsAtHome (front : Front) : Type 0 where
-  pub held : IsHeld front
+-- a front at home: every query is its own, none is open, and nothing is waited for
+pub record IsAtHome (front : FrontParts) : Type 0 where
+  pub own : Owns (state_of front.core)
   pub counted : IsCounted front
   pub none : front.unfinished ≡ 0
   pub idle : (seat_at (state_of front.core) 0).pending ≡ []

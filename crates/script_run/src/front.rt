@@ -1,23 +1,20 @@
 //! The front of a run: it gives statements to a core, lets their queries come to their end, and writes the replies.
-ghost use Rattle.std.specs.Prelude.{◌≡◌, ◌≢◌, ◌+◌, ◌⊎◌, ◌<◌, ◌≤◌, [], ◌∷◌, All, IsTrue, None, Some, Ok, false, IfOk, OnErr, OnOk};
+ghost use Rattle.std.specs.Prelude.{◌≡◌, ◌≢◌, ◌⊎◌, ◌<◌, ◌≤◌, [], ◌∷◌, All, IsTrue, None, Some, Ok, false, IfOk, OnErr, OnOk};
 ghost use Rattle.std.specs.Io.KnownBytes.{Appends};
 ghost use Rattle.star_io.specs.Transfer.{AppendsFront};
 ghost use Rattle.reply_text.specs.Text.{text_of};
 ghost use Rattle.script_reader.specs.declared.statement.Statement.{Statement};
-ghost use Rattle.core_state.specs.Fronts.{Passes, SubmitsRow};
-ghost use Rattle.core_state.specs.Rows.{sight_of};
 ghost use Rattle.core_state.specs.Settings.{AreWithin};
-ghost use Rattle.core_state.specs.Sound.{empty_core};
+ghost use Rattle.core_state.specs.Sound.{IsSound, empty_core};
 ghost use Rattle.core_state.specs.Submitting.{next_ready, seat_at};
 ghost use Rattle.event_core.specs.Chosen.{AreIdle};
 ghost use Rattle.event_core.specs.Replies.{first_open};
 ghost use Rattle.event_core.specs.Seen.{state_of};
 ghost use Rattle.script_run.specs.Answer.{CountsHalt};
-ghost use Rattle.script_run.specs.Answered.{StayAnswered};
 ghost use Rattle.pipeline_manager.specs.Conditions.{is_open};
 ghost use Rattle.pipeline_manager.specs.declared.life.Life.TheVariants.{Waiting};
-ghost use Rattle.script_run.specs.Front.{IsRun, Plays, PlaysCounted, Submits};
-ghost use Rattle.script_run.specs.Counted.{Beside, CountsOne, GoesRound, IsCalm, IsCounted, IsKnown, open_in};
+ghost use Rattle.script_run.specs.Front.{Finishes, Gives, IsRun, Plays, PlaysCounted};
+ghost use Rattle.script_run.specs.Counted.{Beside, GoesRound, IsCalm, IsCounted, open_in};
 ghost use Rattle.script_run.specs.Home.{IsAtHome};
 ghost use Rattle.script_run.specs.Run.{is_refusal};
 ghost use Rattle.script_run.specs.Waiting.{is_wait as means_to_wait};
@@ -34,6 +31,7 @@ use script_reader::Statement;
 use star_io::{Sink, write_all};
 use star_values::NoMemory;
 use std::alloc::Global;
+use std::marker::Model;
 use std::thread::Threads;
 
 /// A core, and how many of its queries are unfinished.
@@ -42,26 +40,39 @@ pub struct Front {
     alloc: Global,
 
     /// The core, to which the front gives statements as its seat 0.
-    pub core: Core,
+    pub(crate) core: Core,
 
     /// The settings of the core.
-    pub settings: RunSettings,
+    settings: RunSettings,
 
     /// How many statements the core has.
-    pub submitted: u64,
+    submitted: u64,
 
     /// How many queries of the core have not come to their end, each of which waits for a slot.
-    pub unfinished: u32,
+    pub(crate) unfinished: u32,
+}
+
+impl Model for Front {
+    ghost use Rattle.event_core.specs.Seen.{state_of};
+    ghost use Rattle.script_run.specs.Counted.{FrontParts, KnowsCore};
+
+    ghost Value = { FrontParts };
+
+    ghost use Rattle.star_plan.specs.contracts.star_query.StarQuery as star_query;
+    ghost use Rattle.std.specs.Coded.{codes};
+
+    ghost coded = { Prim.hlevel (codes, star_query.the_row.coded) };
+
+    ghost view = { λ front. record { core = front.core; unfinished = front.unfinished } };
+
+    ghost invariant = { λ front. KnowsCore front.settings front.submitted (state_of front.core) };
 }
 
 impl Front {
     /// A core of these settings, to which nothing was given.
     pub fn new(alloc: Global, settings: RunSettings) -> Result<Front, NoMemory>
         requires { AreWithin settings }
-        ensures core { IfOk result (λ front. state_of front.core ≡ empty_core front.settings) }
-        ensures settings { IfOk result (λ front. front.settings ≡ settings) }
-        ensures counted { IfOk result IsCounted }
-        ensures free { IfOk result (λ front. front.unfinished ≡ 0) }
+        ensures core { IfOk result (λ front. state_of front.core ≡ empty_core settings) }
         ensures home { IfOk result IsAtHome }
     {
         let core = Core::new(alloc, settings)?;
@@ -84,14 +95,12 @@ impl Front {
         sink: &mut K,
     ) -> Result<bool, Halt>
         requires counted { IsCounted self.old }
-        requires free { self.old.unfinished < self.old.settings.slots }
+        requires free { self.old.unfinished < (state_of self.old.core).settings.slots }
         ensures plays { PlaysCounted result (state_of self.old.core) (statement ∷ []) (state_of self.new.core)
             (K.writing sink.old).taken (K.writing sink.new).taken }
         ensures run { IsRun (state_of self.old.core) (state_of self.new.core) }
         ensures counted { OnOk result (IsCounted self.new) }
-        ensures free { OnOk result (self.new.unfinished < self.new.settings.slots) }
-        ensures settings { self.new.settings ≡ self.old.settings }
-        ensures known { IsKnown self.new }
+        ensures free { OnOk result (self.new.unfinished < (state_of self.new.core).settings.slots) }
         ensures faults { CountsHalt result (K.writing sink.old) (K.writing sink.new) }
         ensures apart { K.reading_side sink.new ≡ K.reading_side sink.old }
     {
@@ -113,26 +122,21 @@ impl Front {
         Ok(self.unfinished > 0 && is_wait(self.alloc, statement)?)
     }
 
-    /// Whether the queries are to come to their end, behind a statement that waits for them or not. Where none is open, the
-    /// replies may be written, and else none can be before.
+    /// Whether the queries are to come to their end, behind a statement that waits for them or not.
     fn is_due(&self, waits: bool) -> bool
-        ensures due { IsTrue result → IsTrue waits ⊎ ((self.now.unfinished ≡ 0) ⊎ (self.now.settings.slots ≤ self.now.unfinished)) }
-        ensures not_yet { (result ≡ false) → self.now.unfinished < self.now.settings.slots }
+        ensures due { IsTrue result → IsTrue waits
+            ⊎ ((self.now.unfinished ≡ 0) ⊎ ((state_of self.now.core).settings.slots ≤ self.now.unfinished)) }
+        ensures not_yet { (result ≡ false) → self.now.unfinished < (state_of self.now.core).settings.slots }
     {
-        waits || self.unfinished == 0 || self.unfinished >= self.settings.slots
+        is_due(waits, self.unfinished, self.settings.slots)
     }
 
     /// Gives a statement to the core, and counts it. Answers whether there was memory for it; else nothing has changed.
     fn give(&mut self, statement: Statement) -> bool
         requires counted { IsCounted self.old }
-        requires free { self.old.unfinished < self.old.settings.slots }
-        ensures submits { IsTrue result → SubmitsRow 0 ((state_of self.old.core).numbers.statement + 1) statement
-            (sight_of (state_of self.old.core) 0) (sight_of (state_of self.new.core) 0) }
-        ensures stay { IsTrue result → StayAnswered (state_of self.old.core).lives (state_of self.new.core).lives }
-        ensures run { IsTrue result → Submits (statement ∷ []) (state_of self.old.core) (state_of self.new.core) }
-        ensures counts { IsTrue result → CountsOne statement (state_of self.old.core) (state_of self.new.core) }
+        requires free { self.old.unfinished < (state_of self.old.core).settings.slots }
+        ensures gives { IsTrue result → Gives statement (state_of self.old.core) (state_of self.new.core) }
         ensures counted { IsTrue result → IsCounted self.new }
-        ensures settings { IsTrue result → self.new.settings ≡ self.old.settings }
         ensures lost { (result ≡ false) → self.new ≡ self.old }
     {
         let Some(number) = self.submitted.checked_add(1) else {
@@ -154,9 +158,7 @@ impl Front {
             (K.writing sink.old).taken (K.writing sink.new).taken }
         ensures run { IsRun (state_of self.old.core) (state_of self.new.core) }
         ensures counted { OnOk result (IsCounted self.new) }
-        ensures free { OnOk result (self.new.unfinished ≡ 0) }
-        ensures settings { self.new.settings ≡ self.old.settings }
-        ensures known { IsKnown self.new }
+        ensures free { OnOk result (self.new.unfinished < (state_of self.new.core).settings.slots) }
         ensures faults { CountsHalt result (K.writing sink.old) (K.writing sink.new) }
         ensures apart { K.reading_side sink.new ≡ K.reading_side sink.old }
     {
@@ -178,8 +180,7 @@ impl Front {
         ensures run { IsRun (state_of self.old.core) (state_of self.new.core) }
         ensures counted { OnOk result (IsCounted self.new) }
         ensures free { OnOk result (self.new.unfinished ≡ 0) }
-        ensures settings { self.new.settings ≡ self.old.settings }
-        ensures known { IsKnown self.new }
+        ensures some { 0 < (state_of self.old.core).settings.slots }
         ensures faults { CountsHalt result (K.writing sink.old) (K.writing sink.new) }
         ensures apart { K.reading_side sink.new ≡ K.reading_side sink.old }
     {
@@ -190,18 +191,11 @@ impl Front {
     /// Lets every query come to its end, if some is open.
     fn finish_open<R: Threads + Sync>(&mut self, rt: &R) -> Result<(), NoMemory>
         requires counted { IsCounted self.old }
-        ensures passes { Passes (sight_of (state_of self.old.core) 0) (sight_of (state_of self.new.core) 0) }
-        ensures stay { StayAnswered (state_of self.old.core).lives (state_of self.new.core).lives }
-        ensures round { GoesRound (state_of self.old.core) (state_of self.new.core) }
-        ensures number { (state_of self.new.core).numbers.statement ≡ (state_of self.old.core).numbers.statement }
+        ensures finishes { Finishes (state_of self.old.core) (state_of self.new.core) }
         ensures closed { OnOk result (All (λ entry. is_open entry.life ≡ false) (state_of self.new.core).lives.queries) }
         ensures waits { OnErr result ((seat_at (state_of self.old.core) 0).pending ≢ []) }
-        ensures run { Submits [] (state_of self.old.core) (state_of self.new.core) }
-        ensures idle { OnOk result (AreIdle (state_of self.new.core)) }
-        ensures settings { self.new.settings ≡ self.old.settings }
-        ensures submitted { self.new.submitted ≡ self.old.submitted }
         ensures unfinished { OnOk result (self.new.unfinished ≡ 0) }
-        ensures known { IsKnown self.new }
+        ensures some { 0 < (state_of self.old.core).settings.slots }
     {
         if self.unfinished == 0 {
             return Ok(());
@@ -210,6 +204,28 @@ impl Front {
         self.unfinished = 0;
         Ok(())
     }
+
+    /// The core, to which no statement is given any more.
+    pub(crate) fn into_core(self) -> Core
+        ensures { result ≡ self.core }
+    {
+        self.core
+    }
+}
+
+/// The core of every front is sound.
+pub(crate) fn every_front_is_sound(front: &Front)
+    ensures { IsSound (state_of front.now.core) }
+{
+    every_core_is_sound(&front.core);
+}
+
+/// Whether queries are to come to their end. Where none is open, the replies may be written, and else none can be before.
+fn is_due(waits: bool, unfinished: u32, slots: u32) -> bool
+    ensures due { IsTrue result → IsTrue waits ⊎ ((unfinished ≡ 0) ⊎ (slots ≤ unfinished)) }
+    ensures not_yet { (result ≡ false) → unfinished < slots }
+{
+    waits || unfinished == 0 || unfinished >= slots
 }
 
 /// One for a query that waits for a slot, and none for what is no query.
@@ -226,12 +242,7 @@ fn one_if_waiting(life: Option<Life>) -> u32
 
 /// Gives a statement to a core as that of the front. Where no memory was left for it, nothing has changed.
 fn submit(core: &mut Core, statement: Statement) -> Result<(), StepFault>
-    ensures submits { OnOk result (SubmitsRow 0 ((state_of core.old).numbers.statement + 1) statement
-        (sight_of (state_of core.old) 0) (sight_of (state_of core.new) 0)) }
-    ensures stay { OnOk result (StayAnswered (state_of core.old).lives (state_of core.new).lives) }
-    ensures run { OnOk result (Submits (statement ∷ []) (state_of core.old) (state_of core.new)) }
-    ensures counts { OnOk result (CountsOne statement (state_of core.old) (state_of core.new)) }
-    ensures idle { AreIdle (state_of core.old) → AreIdle (state_of core.new) }
+    ensures gives { OnOk result (Gives statement (state_of core.old) (state_of core.new)) }
     ensures err { OnErr result (core.new ≡ core.old) }
 {
     every_core_is_sound(core);
@@ -243,14 +254,10 @@ fn finish<R: Threads + Sync>(rt: &R, core: &mut Core) -> Result<(), NoMemory>
     requires calm { IsCalm (open_in (state_of core.old)) (state_of core.old) }
     requires some { 0 < open_in (state_of core.old) }
     requires few { open_in (state_of core.old) ≤ (state_of core.old).settings.slots }
-    ensures passes { Passes (sight_of (state_of core.old) 0) (sight_of (state_of core.new) 0) }
-    ensures stay { StayAnswered (state_of core.old).lives (state_of core.new).lives }
-    ensures round { GoesRound (state_of core.old) (state_of core.new) }
+    ensures finishes { Finishes (state_of core.old) (state_of core.new) }
     ensures number { (state_of core.new).numbers.statement ≡ (state_of core.old).numbers.statement }
     ensures closed { OnOk result (All (λ entry. is_open entry.life ≡ false) (state_of core.new).lives.queries) }
     ensures waits { OnErr result ((seat_at (state_of core.old) 0).pending ≢ []) }
-    ensures run { Submits [] (state_of core.old) (state_of core.new) }
-    ensures idle { OnOk result (AreIdle (state_of core.new)) }
     ensures hands { AreIdle (state_of core.new) }
 {
     taken_events_are_steps();

@@ -1,12 +1,12 @@
 //! A front at home between two reads: what is whole is replied to before more is read, and at the end what is open is let go.
-ghost use Rattle.std.specs.Prelude.{◌≡◌, [], All, None, OnOk};
+ghost use Rattle.std.specs.Prelude.{◌≡◌, [], None, OnOk};
 ghost use Rattle.script_reader.specs.Reading.{StaysFed};
 ghost use Rattle.core_state.specs.Sound.{IsSound};
 ghost use Rattle.core_state.specs.Submitting.{seat_at};
 ghost use Rattle.event_core.specs.Replies.{first_open};
 ghost use Rattle.event_core.specs.Seen.{state_of};
 ghost use Rattle.script_run.specs.Answer.{CountsHalt};
-ghost use Rattle.script_run.specs.Home.{IsAtHome, IsHeld, IsServed, LetsGo, RepliesWhole, Serves};
+ghost use Rattle.script_run.specs.Home.{IsAtHome, IsServed, LetsGo, Owns, RepliesWhole, Serves};
 ghost use Rattle.script_run.specs.Leaving.{IsLeaving};
 
 use crate::front::Front;
@@ -33,8 +33,7 @@ impl Front {
         ensures stays { StaysFed reader.old reader.new }
         ensures served { IsServed (state_of self.old.core) (state_of self.new.core) }
         ensures home { OnOk result (IsAtHome self.new) }
-        ensures held { IsHeld self.new }
-        ensures settings { self.new.settings ≡ self.old.settings }
+        ensures own { Owns (state_of self.new.core) }
         ensures faults { CountsHalt result (K.writing sink.old) (K.writing sink.new) }
         ensures apart { K.reading_side sink.new ≡ K.reading_side sink.old }
     {
@@ -45,11 +44,10 @@ impl Front {
 
     /// Abandons the queries that are open, and takes the replies that are there, which nobody reads any more.
     pub fn let_go(&mut self)
-        requires held { IsHeld self.old }
+        requires own { Owns (state_of self.old.core) }
         ensures home { IsAtHome self.new }
         ensures lets_go { LetsGo (state_of self.old.core) (state_of self.new.core) }
         ensures served { Serves [] (state_of self.old.core) (state_of self.new.core) }
-        ensures settings { self.new.settings ≡ self.old.settings }
     {
         abandon_open(&mut self.core);
         drop_ready(&mut self.core);
@@ -59,9 +57,9 @@ impl Front {
 
 /// Abandons each query that seat 0 waits for and that may still be answered.
 fn abandon_open(core: &mut Core)
-    requires own { All (λ accepted. accepted.seat ≡ 0) (state_of core.old).accepted }
+    requires own { Owns (state_of core.old) }
     ensures leaves { IsLeaving (state_of core.old) (state_of core.new) }
-    ensures own { All (λ accepted. accepted.seat ≡ 0) (state_of core.new).accepted }
+    ensures own { Owns (state_of core.new) }
     ensures closed { first_open (state_of core.new).lives (seat_at (state_of core.new) 0) ≡ None }
 {
     // It is called for what it ensures.
@@ -74,7 +72,7 @@ fn abandon_open(core: &mut Core)
 
 /// Takes the replies that seat 0 may take, and drops them.
 fn drop_ready(core: &mut Core)
-    requires own { All (λ accepted. accepted.seat ≡ 0) (state_of core.old).accepted }
+    requires own { Owns (state_of core.old) }
     ensures leaves { IsLeaving (state_of core.old) (state_of core.new) }
     ensures sound { IsSound (state_of core.new) }
     ensures all { first_open (state_of core.old).lives (seat_at (state_of core.old) 0) ≡ None →

@@ -8,19 +8,20 @@ ghost use Rattle.star_io.specs.declared.run_end.RunEnd.TheVariants as end;
 ghost use Rattle.script_run.specs.Answer.{CountsHalt};
 ghost use Rattle.script_run.specs.End.{end_behind, end_of_rest};
 ghost use Rattle.script_run.specs.Front.{IsRun, PlaysWhole};
-ghost use Rattle.script_run.specs.Counted.{IsCounted, IsKnown};
+ghost use Rattle.script_run.specs.Counted.{IsCounted};
+ghost use Rattle.script_run.specs.Home.{IsAtHome};
 ghost use Rattle.script_run.specs.Run.{CountsFaults};
 ghost use Rattle.script_run.specs.Shared.{AnswersBy, AnswersShared};
 
-use crate::front::Front;
+use crate::front::{Front, every_front_is_sound};
 use crate::halt::Halt;
 use crate::piece::{Piece, read_piece};
 use crate::run::{PIECE_BYTES, end_of_all, end_of_halt};
 use core_state::{
-    RunSettings, a_seat_alone_has_the_queries_of_the_core,
-    every_core_is_sound as every_core_stays_sound, only_abandon_abandons,
+    RunSettings, a_seat_alone_has_the_queries_of_the_core, every_core_is_sound,
+    only_abandon_abandons,
 };
-use event_core::{Core, every_core_is_sound};
+use event_core::Core;
 use script_reader::{Next, ScriptReader};
 use star_io::{RunEnd, Sink, Source};
 use star_values::NoMemory;
@@ -78,7 +79,7 @@ fn core_of(run_end: RunEnd, front: Front) -> Option<Core>
     ensures none { IsNone result ↔ (run_end ≡ end.NoMemory) }
     ensures own { IfSome result (λ core. core ≡ front.core) }
 {
-    let core = front.core;
+    let core = front.into_core();
     match run_end {
         RunEnd::NoMemory => {
             drop(core);
@@ -96,11 +97,10 @@ fn play_script<R: Threads + Sync, S: Source, K: Sink>(
     source: &mut S,
     sink: &mut K,
 ) -> RunEnd
-    requires empty { state_of front.old.core ≡ empty_core front.old.settings }
-    requires counted { IsCounted front.old }
-    requires free { front.old.unfinished ≡ 0 }
+    requires empty { state_of front.old.core ≡ empty_core (state_of front.old.core).settings }
+    requires home { IsAtHome front.old }
     requires reader { reader.old ≡ no_reading }
-    ensures answers { AnswersBy front.old.settings.slots (state_of front.new.core) result
+    ensures answers { AnswersBy (state_of front.old.core).settings.slots (state_of front.new.core) result
         (S.reading source.old) (S.reading source.new)
         (K.writing sink.old) (K.writing sink.new) }
     ensures faults { CountsFaults result
@@ -109,8 +109,8 @@ fn play_script<R: Threads + Sync, S: Source, K: Sink>(
     ensures run { IsRun (state_of front.old.core) (state_of front.new.core) }
 {
     // The four are called for what they ensure.
-    every_core_is_sound(&front.core);
-    every_core_stays_sound();
+    every_front_is_sound(front);
+    every_core_is_sound();
     only_abandon_abandons();
     a_seat_alone_has_the_queries_of_the_core();
     let mut piece = [0u8; PIECE_BYTES];
@@ -144,15 +144,13 @@ pub(crate) fn play_whole<R: Threads + Sync, K: Sink>(
     sink: &mut K,
 ) -> Result<bool, Halt>
     requires counted { IsCounted front.old }
-    requires free { front.old.unfinished < front.old.settings.slots }
+    requires free { front.old.unfinished < (state_of front.old.core).settings.slots }
     ensures plays { PlaysWhole result (state_of front.old.core) reader.old (state_of front.new.core) reader.new
         (K.writing sink.old).taken (K.writing sink.new).taken }
     ensures stays { StaysFed reader.old reader.new }
     ensures run { IsRun (state_of front.old.core) (state_of front.new.core) }
     ensures counted { OnOk result (IsCounted front.new) }
-    ensures free { OnOk result (front.new.unfinished < front.new.settings.slots) }
-    ensures settings { front.new.settings ≡ front.old.settings }
-    ensures known { IsKnown front.new }
+    ensures free { OnOk result (front.new.unfinished < (state_of front.new.core).settings.slots) }
     ensures faults { CountsHalt result (K.writing sink.old) (K.writing sink.new) }
     ensures apart { K.reading_side sink.new ≡ K.reading_side sink.old }
 {

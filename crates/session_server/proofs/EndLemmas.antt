@@ -15,11 +15,10 @@ use Rattle.core_state.specs.State.{State}
 use Rattle.core_state.specs.Submitting.{seat_at}
 use Rattle.script_run.specs.Answer.{HasNoStatement}
 use Rattle.script_run.specs.Front.{LeavesSome, PlaysIn, Reads, ReadsOn, Submits, givens_in}
-use Rattle.script_run.specs.Home.{LetsGo, Serves}
+use Rattle.script_run.specs.Home.{LetsGo, Owns, Serves}
 use Rattle.script_run.specs.Run.{HasEnded, MetNoEnd, ReadsBytes, Writes, is_refusal, within_limit}
 use Rattle.script_run.specs.declared.halt.Halt.{Halt}
 use Rattle.script_run.specs.declared.halt.Halt.TheVariants.{NoMemory, WriteFault}
-use Rattle.script_run.proofs.HomeStepLemmas.{Owns}
 use Rattle.script_run.proofs.HomeStepsLemmas.{serves-both, serves-run}
 use Rattle.script_run.proofs.OnLemmas.{idle-still, wants-left}
 use Rattle.script_run.proofs.RunLemmas.{at_end, came, finished, within_all, within_more}

@@ -10,9 +10,9 @@ use Rattle.core_state.specs.State.{State}
 use Rattle.core_state.specs.Submitting.{seat_at}
 use Rattle.script_run.specs.Answer.{HasNoStatement}
 use Rattle.script_run.specs.Front.{LeavesSome, PlaysIn, Reads, ReadsOn}
+use Rattle.script_run.specs.Home.{Owns}
 use Rattle.script_run.specs.Pieces.{fed_with}
 use Rattle.script_run.specs.declared.halt.Halt.{Halt}
-use Rattle.script_run.proofs.HomeStepLemmas.{Owns}
 use Rattle.script_run.proofs.OnLemmas.{by-none, due-none, idle-still, in-err, in-ok}
 use Rattle.script_run.proofs.RunLemmas.{came}
 use Rattle.script_run.proofs.SharedReadLemmas.{reads-itself, reads-then}

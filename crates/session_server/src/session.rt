@@ -4,7 +4,7 @@ ghost use Rattle.script_reader.specs.Reading.{StaysFed, no_reading};
 ghost use Rattle.script_reader.specs.declared.reader.TheConstants.{SCRIPT_LIMIT};
 ghost use Rattle.event_core.specs.Seen.{state_of};
 ghost use Rattle.script_run.specs.Answer.{CountsHalt};
-ghost use Rattle.script_run.specs.Home.{IsAtHome, IsHeld, IsServed, LetsGo, RepliesWhole, Serves};
+ghost use Rattle.script_run.specs.Home.{IsAtHome, IsServed, LetsGo, Owns, RepliesWhole, Serves};
 ghost use Rattle.script_run.specs.Pieces.{CountsFault, FindsEnd, TakesPiece};
 ghost use Rattle.session_server.specs.Session.{AnswersOwned, CountsFaults, EndsWhole};
 
@@ -31,7 +31,6 @@ pub fn serve_session<R: Threads + Sync, K: Link>(
         (K.reading link.old) (K.reading link.new) (K.writing link.old) (K.writing link.new) }
     ensures served { IsServed (state_of front.old.core) (state_of front.new.core) }
     ensures home { IsAtHome front.new }
-    ensures settings { front.new.settings ≡ front.old.settings }
     ensures faults { CountsFaults result
         (K.reading link.old) (K.reading link.new) (K.writing link.old) (K.writing link.new) }
 {
@@ -51,11 +50,10 @@ pub fn serve_session<R: Threads + Sync, K: Link>(
 
 /// Abandons what a session that was cut short left open.
 fn let_go(front: &mut Front)
-    requires { IsHeld front.old }
+    requires { Owns (state_of front.old.core) }
     ensures home { IsAtHome front.new }
     ensures lets_go { LetsGo (state_of front.old.core) (state_of front.new.core) }
     ensures served { Serves [] (state_of front.old.core) (state_of front.new.core) }
-    ensures settings { front.new.settings ≡ front.old.settings }
 {
     front.let_go();
 }
@@ -73,8 +71,7 @@ fn play_session<R: Threads + Sync, K: Link>(
         (K.reading link.old) (K.reading link.new) (K.writing link.old) (K.writing link.new) }
     ensures served { IsServed (state_of front.old.core) (state_of front.new.core) }
     ensures home { EndsWhole result → IsAtHome front.new }
-    ensures held { IsHeld front.new }
-    ensures settings { front.new.settings ≡ front.old.settings }
+    ensures own { Owns (state_of front.new.core) }
     ensures faults { CountsFaults result
         (K.reading link.old) (K.reading link.new) (K.writing link.old) (K.writing link.new) }
 {
@@ -125,8 +122,7 @@ fn reply_link<R: Threads + Sync, K: Link>(
     ensures stays { StaysFed reader.old reader.new }
     ensures served { IsServed (state_of front.old.core) (state_of front.new.core) }
     ensures home { OnOk result (IsAtHome front.new) }
-    ensures held { IsHeld front.new }
-    ensures settings { front.new.settings ≡ front.old.settings }
+    ensures own { Owns (state_of front.new.core) }
     ensures faults { CountsHalt result (K.writing link.old) (K.writing link.new) }
     ensures read { K.reading link.new ≡ K.reading link.old }
 {

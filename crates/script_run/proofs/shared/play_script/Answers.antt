@@ -4,6 +4,7 @@ use Rattle.script_run.proofs.AloneLemmas.{run-alone}
 use Rattle.script_run.proofs.SharedDoneLemmas.{ended-shared, fault-shared, limit-shared}
 use Rattle.script_run.proofs.SharedEndLemmas.{ended-halted, halted-shared, halts-by, unfed-shared}
 use Rattle.script_run.proofs.SharedRunLemmas.{fed-shared, starts-shared, way-none, whole-shared}
+use Rattle.script_run.proofs.FrontNewLemmas.{some-slots}
 use Rattle.script_run.proofs.FrontRunLemmas.{run-itself, run-then}
 use Rattle.script_run.proofs.shared.play_script.Goals as goal
 
@@ -11,11 +12,10 @@ pub pieces-init : goal.pieces-init
 pieces-init g c = record {
   run = starts-shared _ _ _ _ _ c.requires.empty c.requires.reader;
   steps = run-itself _;
-  alone = λ new run. run-alone c.a_seat_alone_has_the_queries_of_the_core.ensures c.only_abandon_abandons.ensures c.every_core_is_sound-2.ensures.on
-      c.args.front.now.settings (state_of c.args.front.now.core) new c.every_core_is_sound.ensures c.requires.empty run;
-  counted = c.requires.counted;
-  free = subst (λ n. n < c.args.front.now.settings.slots) (sym c.requires.free) c.requires.counted.some;
-  settings = refl;
+  alone = λ new run. run-alone c.a_seat_alone_has_the_queries_of_the_core.ensures c.only_abandon_abandons.ensures c.every_core_is_sound.ensures.on
+      (state_of c.args.front.now.core).settings (state_of c.args.front.now.core) new c.every_front_is_sound.ensures c.requires.empty run;
+  counted = c.requires.home.counted;
+  free = subst (λ n. n < (state_of c.args.front.now.core).settings.slots) (sym c.requires.home.none) (some-slots _ c.every_front_is_sound.ensures.settings);
   ended = refl;
   unread = refl;
   unwritten = refl;
@@ -42,7 +42,6 @@ pieces-preserved g c =
       alone = c.pieces.invariant.alone;
       counted = c.in-Ok.ensures.counted;
       free = c.in-Ok.ensures.free;
-      settings = c.play_whole.ensures.settings ∙ c.pieces.invariant.settings;
       ended = c.in-Fed.ensures.end ∙ c.pieces.invariant.ended;
       unread = c.in-Fed.ensures.faults ∙ c.pieces.invariant.unread;
       unwritten = c.in-Ok.ensures.faults ∙ c.pieces.invariant.unwritten;
@@ -58,7 +57,7 @@ returns-in-Fault-clause-answers g c =
     let run = whole-shared _ _ _ _ _ _ _ _ _ _ _ _ c.pieces.invariant.run plays c.in-Ok.ensures.stays in
     let none = way-none _ _ _ _ _ _ _ _ _ _ _ c.pieces.invariant.run.way plays in
     let takes = c.in-Fault.ensures.takes in
-    rw c.end_behind.ensures (fault-shared _ _ (state_of c.play_out.new.self.core) _ c.play_out.result _ _ _ _ _ _ _ takes.0 c.requires.counted.some run
+    rw c.end_behind.ensures (fault-shared _ _ (state_of c.play_out.new.self.core) _ c.play_out.result _ _ _ _ _ _ _ takes.0 (some-slots _ c.every_front_is_sound.ensures.settings) run
     (c.pieces.invariant.alone _ (returns-in-Fault-clause-run g c)) none takes.1 takes.2.1
     c.play_out.ensures.plays c.play_out.ensures.round c.play_out.ensures.all)
 
@@ -71,7 +70,7 @@ returns-in-Limit-clause-answers g c =
     let run = whole-shared _ _ _ _ _ _ _ _ _ _ _ _ c.pieces.invariant.run plays c.in-Ok.ensures.stays in
     let none = way-none _ _ _ _ _ _ _ _ _ _ _ c.pieces.invariant.run.way plays in
     let takes = c.in-Limit.ensures.takes in
-    rw c.end_behind-in-Limit.ensures (limit-shared _ _ (state_of c.play_out-in-Limit.new.self.core) _ c.play_out-in-Limit.result _ _ _ _ _ _ _ takes.0 c.requires.counted.some run
+    rw c.end_behind-in-Limit.ensures (limit-shared _ _ (state_of c.play_out-in-Limit.new.self.core) _ c.play_out-in-Limit.result _ _ _ _ _ _ _ takes.0 (some-slots _ c.every_front_is_sound.ensures.settings) run
     (c.pieces.invariant.alone _ (returns-in-Limit-clause-run g c)) none takes.1 takes.2.1 takes.2.2
     c.play_out-in-Limit.ensures.plays c.play_out-in-Limit.ensures.round c.play_out-in-Limit.ensures.all)
 
@@ -83,7 +82,7 @@ returns-in-NoMemory-clause-answers g c =
     let run = whole-shared _ _ _ _ _ _ _ _ _ _ _ _ c.pieces.invariant.run c.in-Ok.ensures.plays c.in-Ok.ensures.stays in
     let takes = c.in-NoMemory.ensures.takes in
     let own = (c.pieces.invariant.alone _ (returns-in-NoMemory-clause-run g c)).own in
-    halts-by NoMemory c.args.front.now.settings.slots _ _ _ _ _ own (unfed-shared _ _ _ _ _ _ _ _ _ takes.0 run own takes.1 takes.2.1
+    halts-by NoMemory (state_of c.args.front.now.core).settings.slots _ _ _ _ _ own (unfed-shared _ _ _ _ _ _ _ _ _ takes.0 run own takes.1 takes.2.1
     (c.in-NoMemory.ensures.end ∙ c.pieces.invariant.ended) (c.in-NoMemory.ensures.faults ∙ c.pieces.invariant.unread))
 
 pub returns-in-Ok-play_whole-clause-run : goal.returns-in-Ok-play_whole-clause-run
@@ -97,7 +96,7 @@ returns-in-Ok-play_whole-clause-answers g c =
     let whole = rw (c.finish.ensures, takes.2.0) at c.in-Ok-play_whole.ensures.plays in
     let stays = rw (c.finish.ensures, takes.2.0) at c.in-Ok-play_whole.ensures.stays in
     rw c.end_of_rest.ensures (ended-shared _ _ (state_of c.play_whole-2.new.front.core) (state_of c.play_out-in-Ok-play_whole.new.self.core) _ _ c.play_out-in-Ok-play_whole.result _ _ _ _ _ _ _ _ _ takes.0
-    c.requires.counted.some run (c.pieces.invariant.alone _ (returns-in-Ok-play_whole-clause-run g c)) takes.1 takes.2.1 c.in-Ended.ensures.end whole stays
+    (some-slots _ c.every_front_is_sound.ensures.settings) run (c.pieces.invariant.alone _ (returns-in-Ok-play_whole-clause-run g c)) takes.1 takes.2.1 c.in-Ended.ensures.end whole stays
     c.play_out-in-Ok-play_whole.ensures.plays c.play_out-in-Ok-play_whole.ensures.round c.play_out-in-Ok-play_whole.ensures.all)
 
 pub returns-in-Err-play_whole-clause-run : goal.returns-in-Err-play_whole-clause-run

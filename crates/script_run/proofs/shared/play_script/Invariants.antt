@@ -6,12 +6,11 @@ use Rattle.script_run.proofs.shared.play_script.Given as goal
 -- every read, step and write so far was as the run tells it, the front counted what it gave, and no read or write failed
 abbrev pub invariant-pieces : goal.invariant-pieces
 invariant-pieces g l = record {
-  run : IsShared l.fn.front.settings (state_of l.front.core) l.reader l.refused (g.S.Source.reading l.fn.source).left (g.S.Source.reading l.source).left (g.K.Sink.writing l.fn.sink).taken (g.K.Sink.writing l.sink).taken;
+  run : IsShared (state_of l.fn.front.core).settings (state_of l.front.core) l.reader l.refused (g.S.Source.reading l.fn.source).left (g.S.Source.reading l.source).left (g.K.Sink.writing l.fn.sink).taken (g.K.Sink.writing l.sink).taken;
   steps : IsRun (state_of l.fn.front.core) (state_of l.front.core);
   alone : (new : State) → IsRun (state_of l.fn.front.core) new → IsAlone new;
   counted : IsCounted l.front;
-  free : l.front.unfinished < l.front.settings.slots;
-  settings : l.front.settings ≡ l.fn.front.settings;
+  free : l.front.unfinished < (state_of l.front.core).settings.slots;
   ended : (g.S.Source.reading l.source).ended ≡ (g.S.Source.reading l.fn.source).ended;
   unread : (g.S.Source.reading l.source).faults ≡ (g.S.Source.reading l.fn.source).faults;
   unwritten : (g.K.Sink.writing l.sink).faults ≡ (g.K.Sink.writing l.fn.sink).faults;

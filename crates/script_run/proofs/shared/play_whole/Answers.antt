@@ -1,5 +1,4 @@
 use Rattle.script_run.proofs.Words.{◌∙◌, ◌∷◌, [], err_from_is_err_and, refl, state_of}
-use Rattle.script_run.proofs.FrontCountLemmas.{known-counted}
 use Rattle.script_run.proofs.FrontRunLemmas.{run-itself, run-then}
 use Rattle.script_run.proofs.SharedReadLemmas.{reads-first}
 use Rattle.script_run.proofs.SharedWholeLemmas.{playing-then, starts-playing, stops-first, stops-wanting, whole-done}
@@ -13,7 +12,6 @@ statements-init g c = record {
   run = run-itself _;
   counted = c.requires.counted;
   free = c.requires.free;
-  settings = refl;
   unfailed = refl;
   apart = refl;
 }
@@ -51,16 +49,9 @@ statements-preserved g c =
       run = run-then _ _ _ c.statements.invariant.run c.in_ok-refused.ensures.run;
       counted = c.in_ok-refused.ensures.counted;
       free = c.in_ok-refused.ensures.free;
-      settings = c.play.ensures.settings ∙ c.statements.invariant.settings;
       unfailed = c.in_ok-refused.ensures.faults ∙ c.statements.invariant.unfailed;
       apart = c.play.ensures.apart ∙ c.statements.invariant.apart;
     }
-
-pub returns-in_err-statement-clause-known : goal.returns-in_err-statement-clause-known
-returns-in_err-statement-clause-known g c = known-counted c.statements.front c.statements.invariant.counted
-
-pub returns-in_default-clause-known : goal.returns-in_default-clause-known
-returns-in_default-clause-known g c = known-counted c.statements.front c.statements.invariant.counted
 
 pub returns-in_default-clause-plays : goal.returns-in_default-clause-plays
 returns-in_default-clause-plays g c due waits =

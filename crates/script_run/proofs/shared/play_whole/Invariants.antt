@@ -14,8 +14,7 @@ invariant-statements g l = record {
   stays : StaysFed l.initial.reader l.reader;
   run : IsRun (state_of l.initial.front.core) (state_of l.front.core);
   counted : IsCounted l.front;
-  free : l.front.unfinished < l.front.settings.slots;
-  settings : l.front.settings ≡ l.initial.front.settings;
+  free : l.front.unfinished < (state_of l.front.core).settings.slots;
   unfailed : (g.K.Sink.writing l.sink).faults ≡ (g.K.Sink.writing l.initial.sink).faults;
   apart : g.K.Sink.reading_side l.sink ≡ g.K.Sink.reading_side l.initial.sink;
 }

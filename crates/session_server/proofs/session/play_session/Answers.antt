@@ -10,11 +10,10 @@ use Rattle.session_server.proofs.session.play_session.Goals as goal
 
 pub pieces-init : goal.pieces-init
 pieces-init g c = record {
-  serving = starts-serving _ _ _ _ c.requires.unfed c.requires.home.idle c.requires.home.held.own;
+  serving = starts-serving _ _ _ _ c.requires.unfed c.requires.home.idle c.requires.home.own;
   none = starts-without _ c.requires.unfed;
   home = c.requires.home;
   served = served-itself _;
-  settings = refl;
   ended = refl;
   unread = refl;
   unwritten = refl;
@@ -31,7 +30,6 @@ pieces-preserved g c =
       none = c.in-Ok.ensures.replies.0.all.1;
       home = c.in-Ok.ensures.home;
       served = served-then _ _ _ c.pieces.invariant.served c.in-Ok.ensures.served;
-      settings = c.in-Ok.ensures.settings ∙ c.pieces.invariant.settings;
       ended = ap (λ (side : ReadingSide). side.ended) c.in-Ok.ensures.read ∙ c.in-Fed.ensures.end ∙ c.pieces.invariant.ended;
       unread = ap (λ (side : ReadingSide). side.faults) c.in-Ok.ensures.read ∙ c.in-Fed.ensures.faults ∙ c.pieces.invariant.unread;
       unwritten = c.in-Ok.ensures.faults ∙ ap (λ (side : WritingSide). side.faults) c.in-Fed.ensures.written ∙ c.pieces.invariant.unwritten;

@@ -14,7 +14,6 @@ invariant-pieces g l = record {
   none : HasNoStatement l.reader;
   home : IsAtHome l.front;
   served : IsServed (state_of l.fn.front.core) (state_of l.front.core);
-  settings : l.front.settings ≡ l.fn.front.settings;
   ended : (g.K.Source.reading l.link).ended ≡ (g.K.Source.reading l.fn.link).ended;
   unread : (g.K.Source.reading l.link).faults ≡ (g.K.Source.reading l.fn.link).faults;
   unwritten : (g.K.Sink.writing l.link).faults ≡ (g.K.Sink.writing l.fn.link).faults;

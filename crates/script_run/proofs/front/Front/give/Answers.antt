@@ -1,26 +1,26 @@
-use Rattle.script_run.proofs.Words.{◌∙◌, refl}
+use Rattle.script_run.proofs.Words.{◌+◌, ◌<◌, ◌∙◌, ap, FrontParts, Gives, IsCounted, refl, state_of, subst, sym}
+use Rattle.script_run.specs.contracts.front.Front.{the_view}
+use Rattle.script_run.proofs.FrontCountLemmas.{knows-given}
 use Rattle.script_run.proofs.FrontGiveLemmas.{counted-given}
 use Rattle.script_run.proofs.front.Front.give.Goals as goal
 
-pub returns-clause-submits : goal.returns-clause-submits
-returns-clause-submits c given = c.in-Ok.ensures.submits
+pub invariant_of-self : goal.invariant_of-self
+invariant_of-self c =
+    knows-given c.args.statement c.self.inside.settings c.self.inside.submitted c.in-Some.number (state_of c.self.inside.core) (state_of c.submit.new.core)
+    c.self.invariant c.in-Some.ensures.1 c.in-Ok.ensures.gives
 
-pub returns-clause-stay : goal.returns-clause-stay
-returns-clause-stay c given = c.in-Ok.ensures.stay
-
-pub returns-clause-run : goal.returns-clause-run
-returns-clause-run c given = c.in-Ok.ensures.run
-
-pub returns-clause-counts : goal.returns-clause-counts
-returns-clause-counts c given = c.in-Ok.ensures.counts
+pub returns-clause-gives : goal.returns-clause-gives
+returns-clause-gives c given =
+    subst (λ (front : FrontParts). Gives c.args.statement (state_of front.core) (state_of c.submit.new.core)) c.self.view_is c.in-Ok.ensures.gives
 
 pub returns-clause-counted : goal.returns-clause-counted
-returns-clause-counted c given = counted-given c.args.statement c.args.self.now _ c.one_if_waiting.result c.requires.counted c.requires.free (record {
-  core = c.in-Ok.ensures.counts;
-  idle = c.submit.ensures.idle c.requires.counted.calm.idle;
-  settings = refl;
-  submitted = c.in-Some.ensures.1;
-  unfinished = refl;
-  waits = λ is. c.one_if_waiting.ensures.waits (c.life.ensures.life ∙ is);
-  none = λ is. c.one_if_waiting.ensures.none (c.life.ensures.life ∙ is);
-})
+returns-clause-counted c given = counted-given c.args.statement (the_view c.self.inside) _ c.in-Some.number c.one_if_waiting.result
+    (subst IsCounted (sym c.self.view_is) c.requires.counted)
+    (subst (λ (front : FrontParts). front.unfinished < (state_of front.core).settings.slots) (sym c.self.view_is) c.requires.free) (record {
+      gives = c.in-Ok.ensures.gives;
+      idle = c.self.invariant.hands;
+      last = c.in-Some.ensures.1 ∙ ap (λ n. n + 1) (sym c.self.invariant.submitted);
+      unfinished = refl;
+      waits = λ is. c.one_if_waiting.ensures.waits (c.life.ensures.life ∙ is);
+      none = λ is. c.one_if_waiting.ensures.none (c.life.ensures.life ∙ is);
+    })

@@ -1,7 +1,7 @@
-use Rattle.script_run.proofs.Words.{◌∷◌, [], err_from_is_err_and, Front, refl, state_of, subst}
+use Rattle.script_run.proofs.Words.{◌∷◌, [], err_from_is_err_and, FrontParts, refl, state_of, subst}
 use Rattle.script_run.specs.Front.{PlaysCounted}
-use Rattle.script_run.proofs.FrontCountLemmas.{due-by, known-counted, slots-some}
-use Rattle.script_run.proofs.FrontPlayLemmas.{plays-given, plays-none, plays-quiet}
+use Rattle.script_run.proofs.FrontCountLemmas.{due-by, slot-free}
+use Rattle.script_run.proofs.FrontPlayLemmas.{on-ok-both, plays-given, plays-none, plays-quiet}
 use Rattle.script_run.proofs.FrontRunLemmas.{run-then}
 use Rattle.script_run.proofs.front.Front.play.Goals as goal
 
@@ -12,7 +12,7 @@ returns-in_err-waits-clause-plays g c =
 
 pub returns-then-not-give-clause-plays : goal.returns-then-not-give-clause-plays
 returns-then-not-give-clause-plays g c =
-    subst (λ (front : Front). PlaysCounted c.lose.result (state_of front.core) (c.args.statement ∷ []) (state_of c.lose.new.self.core)
+    subst (λ (front : FrontParts). PlaysCounted c.lose.result (state_of front.core) (c.args.statement ∷ []) (state_of c.lose.new.self.core)
     (g.K.Sink.writing c.args.sink.now).taken (g.K.Sink.writing c.lose.new.sink).taken)
     (c.if-not-give.ensures.lost refl) (c.lose.ensures.plays c.args.statement)
 
@@ -20,24 +20,23 @@ pub returns-then-is_due-clause-plays : goal.returns-then-is_due-clause-plays
 returns-then-is_due-clause-plays g c =
     let given = c.if-not-give.ensures in
     plays-given c.play_out.result c.args.statement (state_of c.args.self.now.core) (state_of c.give.new.self.core) (state_of c.play_out.new.self.core) _ _
-    (slots-some c.give.new.self (given.counted refl)) (given.submits refl) (given.run refl) (given.stay refl) (given.counts refl)
+    c.play_out.ensures.some (given.gives refl)
     (due-by c.args.statement c.args.self.now c.give.new.self c.in_ok-waits.waits c.requires.counted (given.counted refl) c.in_ok-waits.ensures (c.if-is_due.ensures.due refl))
     c.play_out.ensures.plays c.play_out.ensures.round c.play_out.ensures.all
 
 pub returns-then-is_due-clause-run : goal.returns-then-is_due-clause-run
 returns-then-is_due-clause-run g c =
-    run-then (state_of c.args.self.now.core) (state_of c.give.new.self.core) (state_of c.play_out.new.self.core) (c.if-not-give.ensures.run refl).run c.play_out.ensures.run
+    run-then (state_of c.args.self.now.core) (state_of c.give.new.self.core) (state_of c.play_out.new.self.core) (c.if-not-give.ensures.gives refl).run.run
+    c.play_out.ensures.run
+
+pub returns-then-is_due-clause-free : goal.returns-then-is_due-clause-free
+returns-then-is_due-clause-free g c = on-ok-both c.play_out.result
+    (λ round none. slot-free (state_of c.give.new.self.core) (state_of c.play_out.new.self.core) _ c.play_out.ensures.some round none)
+    c.play_out.ensures.round c.play_out.ensures.free
 
 pub returns-else-is_due-clause-plays : goal.returns-else-is_due-clause-plays
 returns-else-is_due-clause-plays g c =
-    let given = c.if-not-give.ensures in
-    plays-quiet c.args.statement (state_of c.args.self.now.core) (state_of c.give.new.self.core) _ (given.submits refl) (given.run refl) (given.stay refl) (given.counts refl)
-
-pub returns-in_err-waits-clause-known : goal.returns-in_err-waits-clause-known
-returns-in_err-waits-clause-known g c = known-counted c.args.self.now c.requires.counted
-
-pub returns-else-is_due-clause-known : goal.returns-else-is_due-clause-known
-returns-else-is_due-clause-known g c = known-counted c.give.new.self (c.if-not-give.ensures.counted refl)
+    plays-quiet c.args.statement (state_of c.args.self.now.core) (state_of c.give.new.self.core) _ (c.if-not-give.ensures.gives refl)
 
 pub returns-else-is_due-clause-run : goal.returns-else-is_due-clause-run
-returns-else-is_due-clause-run g c = (c.if-not-give.ensures.run refl).run
+returns-else-is_due-clause-run g c = (c.if-not-give.ensures.gives refl).run.run

@@ -1,48 +1,55 @@
-use Rattle.script_run.proofs.Words.{err_from_is_err_and, on_ok_weaker, refl, seat_at, state_of}
-use Rattle.script_run.proofs.FrontCountLemmas.{counted-out, known-beside, round-beside}
+use Rattle.script_run.proofs.Words.{◌≡◌, All, err_from_is_err_and, false, Finishes, FrontParts, is_open, on_ok_weaker, seat_at, state_of, subst, sym}
+use Rattle.script_run.proofs.FrontCountLemmas.{counted-out, knows-same, round-beside}
 use Rattle.script_run.proofs.FrontOpenLemmas.{none-open}
 use Rattle.script_run.proofs.FrontPlayLemmas.{plays-behind, plays-due}
 use Rattle.script_run.proofs.FrontRunLemmas.{run-then}
 use Rattle.script_run.proofs.front.Front.play_out.Goals as goal
 
+pub invariant_of-self : goal.invariant_of-self
+invariant_of-self g c =
+    let beside = c.write_ready.ensures.beside in
+    knows-same _ _ (state_of c.self.inside.core) (state_of c.write_ready.new.core) c.self.invariant beside.settings beside.scan beside.numbers
+
 pub returns-in_err-finish_open-clause-plays : goal.returns-in_err-finish_open-clause-plays
 returns-in_err-finish_open-clause-plays g c =
     let failed = err_from_is_err_and c.from_residual.result c.from_residual.ensures.1 in
     rw (failed.1, failed.2) (plays-due (state_of c.args.self.now.core) (state_of c.finish_open.new.self.core) _ c.in_err-finish_open.ensures.waits
-    c.finish_open.ensures.passes c.finish_open.ensures.run c.finish_open.ensures.stay)
+    c.finish_open.ensures.finishes)
+
+pub returns-in_err-finish_open-clause-run : goal.returns-in_err-finish_open-clause-run
+returns-in_err-finish_open-clause-run g c = c.finish_open.ensures.finishes.run.run
 
 pub returns-clause-plays : goal.returns-clause-plays
 returns-clause-plays g c =
-    plays-behind c.write_ready.result (state_of c.args.self.now.core) (state_of c.finish_open.new.self.core) (state_of c.write_ready.new.core) _ _
-    c.finish_open.ensures.passes c.finish_open.ensures.run c.finish_open.ensures.stay c.write_ready.ensures.plays
+    plays-behind c.write_ready.result (state_of c.args.self.now.core) (state_of c.self.inside.core) (state_of c.write_ready.new.core) _ _
+    (subst (λ (front : FrontParts). Finishes (state_of c.args.self.now.core) (state_of front.core)) (sym c.self.view_is) c.finish_open.ensures.finishes)
+    c.write_ready.ensures.plays
 
 pub returns-clause-run : goal.returns-clause-run
 returns-clause-run g c =
-    run-then (state_of c.args.self.now.core) (state_of c.finish_open.new.self.core) (state_of c.write_ready.new.core) c.finish_open.ensures.run.run c.write_ready.ensures.run
+    let finishes = subst (λ (front : FrontParts). Finishes (state_of c.args.self.now.core) (state_of front.core)) (sym c.self.view_is) c.finish_open.ensures.finishes in
+    run-then (state_of c.args.self.now.core) (state_of c.self.inside.core) (state_of c.write_ready.new.core) finishes.run.run c.write_ready.ensures.run
 
 pub returns-clause-all : goal.returns-clause-all
 returns-clause-all g c =
-    let mid = state_of c.finish_open.new.self.core in
-    on_ok_weaker c.write_ready.result (λ all. all (none-open mid.lives (seat_at mid 0) c.in_ok-finish_open.ensures.closed)) c.write_ready.ensures.all
+    let mid = state_of c.self.inside.core in
+    let closed = subst (λ (front : FrontParts). All (λ entry. is_open entry.life ≡ false) (state_of front.core).lives.queries) (sym c.self.view_is)
+    c.in_ok-finish_open.ensures.closed in
+    on_ok_weaker c.write_ready.result (λ all. all (none-open mid.lives (seat_at mid 0) closed)) c.write_ready.ensures.all
 
 pub returns-clause-round : goal.returns-clause-round
 returns-clause-round g c =
+    let finishes = subst (λ (front : FrontParts). Finishes (state_of c.args.self.now.core) (state_of front.core)) (sym c.self.view_is) c.finish_open.ensures.finishes in
     on_ok_weaker c.write_ready.result
-    (λ all. round-beside (state_of c.args.self.now.core) (state_of c.finish_open.new.self.core) (state_of c.write_ready.new.core) c.finish_open.ensures.round c.write_ready.ensures.beside)
+    (λ all. round-beside (state_of c.args.self.now.core) (state_of c.self.inside.core) (state_of c.write_ready.new.core) finishes.round c.write_ready.ensures.beside)
     c.write_ready.ensures.all
 
 pub returns-clause-counted : goal.returns-clause-counted
 returns-clause-counted g c =
-    let mid = state_of c.finish_open.new.self.core in
-    let ended = c.in_ok-finish_open.ensures in
+    let mid = state_of c.self.inside.core in
+    let closed = subst (λ (front : FrontParts). All (λ entry. is_open entry.life ≡ false) (state_of front.core).lives.queries) (sym c.self.view_is)
+    c.in_ok-finish_open.ensures.closed in
+    let none = subst (λ (front : FrontParts). front.unfinished ≡ 0) (sym c.self.view_is) c.in_ok-finish_open.ensures.unfinished in
     on_ok_weaker c.write_ready.result
-    (λ all. counted-out c.args.self.now _ mid c.requires.counted c.finish_open.ensures.round.settings c.finish_open.ensures.number ended.closed ended.idle
-    c.write_ready.ensures.beside (all (none-open mid.lives (seat_at mid 0) ended.closed)) c.finish_open.ensures.settings c.finish_open.ensures.submitted ended.unfinished)
+    (λ all. counted-out mid _ closed c.self.invariant.hands c.write_ready.ensures.beside (all (none-open mid.lives (seat_at mid 0) closed)) none)
     c.write_ready.ensures.all
-
-pub returns-clause-known : goal.returns-clause-known
-returns-clause-known g c =
-    known-beside c.finish_open.new.self _ c.finish_open.ensures.known c.write_ready.ensures.beside refl refl
-
-pub returns-in_err-finish_open-clause-run : goal.returns-in_err-finish_open-clause-run
-returns-in_err-finish_open-clause-run g c = c.finish_open.ensures.run.run

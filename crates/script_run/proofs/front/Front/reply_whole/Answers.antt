@@ -1,7 +1,7 @@
 use Rattle.script_run.proofs.Words.{err_from_is_err_and, state_of}
 use Rattle.script_run.proofs.FrontRunLemmas.{run-then}
 use Rattle.script_run.proofs.HomeReplyLemmas.{replies-halted, replies-stopped, replies-whole}
-use Rattle.script_run.proofs.HomeStepsLemmas.{held-after, served-run}
+use Rattle.script_run.proofs.HomeStepsLemmas.{owns-after, served-run}
 use Rattle.script_run.proofs.front.Front.reply_whole.Goals as goal
 
 pub returns-in_err-play_whole-clause-replies : goal.returns-in_err-play_whole-clause-replies
@@ -13,12 +13,11 @@ returns-in_err-play_whole-clause-replies g c =
 pub returns-in_err-play_whole-clause-served : goal.returns-in_err-play_whole-clause-served
 returns-in_err-play_whole-clause-served g c =
     served-run (state_of c.args.self.now.core) (state_of c.play_whole.new.front.core)
-    c.requires.home.held.own c.play_whole.ensures.run
+    c.requires.home.own c.play_whole.ensures.run
 
-pub returns-in_err-play_whole-clause-held : goal.returns-in_err-play_whole-clause-held
-returns-in_err-play_whole-clause-held g c =
-    held-after c.args.self.now c.play_whole.new.front
-    c.requires.home.held (returns-in_err-play_whole-clause-served g c) c.play_whole.ensures.known
+pub returns-in_err-play_whole-clause-own : goal.returns-in_err-play_whole-clause-own
+returns-in_err-play_whole-clause-own g c =
+    owns-after (state_of c.args.self.now.core) (state_of c.play_whole.new.front.core) c.requires.home.own (returns-in_err-play_whole-clause-served g c)
 
 pub returns-in_err-play_out-clause-replies : goal.returns-in_err-play_out-clause-replies
 returns-in_err-play_out-clause-replies g c =
@@ -29,13 +28,12 @@ returns-in_err-play_out-clause-replies g c =
 pub returns-in_err-play_out-clause-served : goal.returns-in_err-play_out-clause-served
 returns-in_err-play_out-clause-served g c =
     served-run (state_of c.args.self.now.core) (state_of c.play_out.new.self.core)
-    c.requires.home.held.own
+    c.requires.home.own
     (run-then (state_of c.args.self.now.core) (state_of c.play_whole.new.front.core) (state_of c.play_out.new.self.core) c.play_whole.ensures.run c.play_out.ensures.run)
 
-pub returns-in_err-play_out-clause-held : goal.returns-in_err-play_out-clause-held
-returns-in_err-play_out-clause-held g c =
-    held-after c.args.self.now c.play_out.new.self
-    c.requires.home.held (returns-in_err-play_out-clause-served g c) c.play_out.ensures.known
+pub returns-in_err-play_out-clause-own : goal.returns-in_err-play_out-clause-own
+returns-in_err-play_out-clause-own g c =
+    owns-after (state_of c.args.self.now.core) (state_of c.play_out.new.self.core) c.requires.home.own (returns-in_err-play_out-clause-served g c)
 
 pub returns-clause-replies : goal.returns-clause-replies
 returns-clause-replies g c =
@@ -46,17 +44,16 @@ returns-clause-replies g c =
 pub returns-clause-served : goal.returns-clause-served
 returns-clause-served g c =
     served-run (state_of c.args.self.now.core) (state_of c.play_out.new.self.core)
-    c.requires.home.held.own
+    c.requires.home.own
     (run-then (state_of c.args.self.now.core) (state_of c.play_whole.new.front.core) (state_of c.play_out.new.self.core) c.play_whole.ensures.run c.play_out.ensures.run)
 
-pub returns-clause-held : goal.returns-clause-held
-returns-clause-held g c =
-    held-after c.args.self.now c.play_out.new.self
-    c.requires.home.held (returns-clause-served g c) c.play_out.ensures.known
+pub returns-clause-own : goal.returns-clause-own
+returns-clause-own g c =
+    owns-after (state_of c.args.self.now.core) (state_of c.play_out.new.self.core) c.requires.home.own (returns-clause-served g c)
 
 pub returns-clause-home : goal.returns-clause-home
 returns-clause-home g c = record {
-  held = returns-clause-held g c;
+  own = returns-clause-own g c;
   counted = c.in_ok-play_out.ensures.counted;
   none = c.in_ok-play_out.ensures.free;
   idle = c.in_ok-play_out.ensures.all;
