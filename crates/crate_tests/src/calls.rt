@@ -12,6 +12,7 @@ use star_parser::{parse, print};
 use star_plan::{Answer, Cell, ChoiceList, Item, ItemList, PlaceList, StarQuery};
 use star_values::{ByteText, NoMemory, Row, SmallText, Value};
 use std::alloc::Global;
+use std::hash::RandomState;
 use std::test::Fail;
 use value_columns::{CodeColumns, IntegerColumns};
 
@@ -71,7 +72,7 @@ fn lists_are_written_and_compared(rt: HostRuntime) -> Result<(), Fail> {
 }
 
 /// The answer of groups that took a row.
-fn count_of_one(alloc: Global) -> Result<Answer, NoMemory> {
+fn count_of_one(alloc: Global, hash_keys: RandomState) -> Result<Answer, NoMemory> {
     let items = vec![in alloc; Item::CountAll]?;
     let query = StarQuery {
         fact: None,
@@ -79,7 +80,7 @@ fn count_of_one(alloc: Global) -> Result<Answer, NoMemory> {
         groups: PlaceList::new(alloc),
         items: ItemList::from(items),
     };
-    let mut groups = Groups::new(alloc, &query)?;
+    let mut groups = Groups::new(alloc, hash_keys, &query)?;
     let version = Version {
         row: Row::from(Vec::new(alloc)),
         keys: [0; KEYS_IN_A_VERSION],
@@ -94,7 +95,7 @@ fn count_of_one(alloc: Global) -> Result<Answer, NoMemory> {
 fn a_row_is_folded_by_itself(rt: HostRuntime) -> Result<(), Fail> {
     let cells = ListOf::from(vec![in rt.alloc(); Cell::Full(Value::Int(1))]?);
     let wanted = Answer::Rows(ListOf::from(vec![in rt.alloc(); cells]?));
-    assert!(rt; count_of_one(rt.alloc())? == wanted);
+    assert!(rt; count_of_one(rt.alloc(), RandomState::new(&rt)?)? == wanted);
     Ok(())
 }
 

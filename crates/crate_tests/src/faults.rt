@@ -7,6 +7,7 @@ use session_server::{SessionEnd, serve_session};
 use star_io::{ListSink, PieceSource, RunEnd};
 use star_values::NoMemory;
 use std::alloc::{AllocError, Global};
+use std::hash::RandomState;
 use std::test::Fail;
 use std::thread::Threads;
 
@@ -29,12 +30,13 @@ load sales
 fn ends_over<R: Threads + Sync>(
     rt: &R,
     alloc: Global,
+    hash_keys: RandomState,
     mut source: PieceSource,
     mut sink: ListSink,
     end: RunEnd,
     replies: &str,
 ) -> bool {
-    let ended = run_script(rt, alloc, SETTINGS, &mut source, &mut sink).end;
+    let ended = run_script(rt, alloc, hash_keys, SETTINGS, &mut source, &mut sink).end;
     ended == end && sink.bytes() == replies.as_bytes()
 }
 
@@ -42,6 +44,7 @@ fn ends_over<R: Threads + Sync>(
 fn ends<R: Threads + Sync>(
     rt: &R,
     alloc: Global,
+    hash_keys: RandomState,
     read_fault: u64,
     write_fault: u64,
     end: RunEnd,
@@ -52,14 +55,15 @@ fn ends<R: Threads + Sync>(
     let writes = [write_fault].to_vec(alloc)?;
     let source = PieceSource::new(script, 150, reads);
     let sink = ListSink::new(alloc, 8, writes);
-    Ok(ends_over(rt, alloc, source, sink, end, replies))
+    Ok(ends_over(rt, alloc, hash_keys, source, sink, end, replies))
 }
 
 #[test]
 fn a_run_ends_at_a_fault_in_mid_stream(rt: HostRuntime) -> Result<(), Fail> {
     let replies = "table store\ntable sales\ncommit 1 rows 2\n";
-    assert!(rt; ends(&rt, rt.alloc(), 1, NEVER, RunEnd::ReadFault, replies)?);
-    assert!(rt; ends(&rt, rt.alloc(), NEVER, 1, RunEnd::WriteFault, "table st")?);
+    let hash_keys = RandomState::new(&rt)?;
+    assert!(rt; ends(&rt, rt.alloc(), hash_keys, 1, NEVER, RunEnd::ReadFault, replies)?);
+    assert!(rt; ends(&rt, rt.alloc(), hash_keys, NEVER, 1, RunEnd::WriteFault, "table st")?);
     Ok(())
 }
 
@@ -82,8 +86,12 @@ fn is_served<R: Threads + Sync>(
 }
 
 /// Whether both sessions over a new core are served so: the fourth write of the first fails, in its answer.
-fn are_served<R: Threads + Sync>(rt: &R, alloc: Global) -> Result<bool, NoMemory> {
-    let mut front = Front::new(alloc, SETTINGS)?;
+fn are_served<R: Threads + Sync>(
+    rt: &R,
+    alloc: Global,
+    hash_keys: RandomState,
+) -> Result<bool, NoMemory> {
+    let mut front = Front::new(alloc, hash_keys, SETTINGS)?;
     let first = "table f\ncommit 1 rows 2\nanswer 1";
     let second = "refused 13 out of order\ncommit 2 rows 2\nanswer 2 rows 1\n6\n";
     Ok(
@@ -94,6 +102,6 @@ fn are_served<R: Threads + Sync>(rt: &R, alloc: Global) -> Result<bool, NoMemory
 
 #[test]
 fn a_session_goes_on_behind_one_that_was_cut_off(rt: HostRuntime) -> Result<(), Fail> {
-    assert!(rt; are_served(&rt, rt.alloc())?);
+    assert!(rt; are_served(&rt, rt.alloc(), RandomState::new(&rt)?)?);
     Ok(())
 }

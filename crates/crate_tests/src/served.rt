@@ -7,6 +7,7 @@ use star_io::{
     a_write_leaves_the_reads,
 };
 use std::alloc::{AllocError, Global};
+use std::hash::RandomState;
 use std::test::Fail;
 use std::thread::Threads;
 
@@ -55,20 +56,27 @@ fn connections_are_served_until_the_door_ends(rt: HostRuntime) -> Result<(), Fai
     links.push(link_of(alloc, "wait\n", NEVER)?)?;
     let mut door = ListDoor::new(links, Vec::new(alloc));
     assert_eq!(rt;
-        serve(&rt, alloc, SETTINGS, 5432, 0, &mut door),
+        serve(&rt, alloc, RandomState::new(&rt)?, SETTINGS, 5432, 0, &mut door),
         ServeEnd::Ended
     );
     Ok(())
 }
 
 /// How the made workload without sales ends.
-fn made<R: Threads + Sync>(rt: &R, alloc: Global, sink: &mut ListSink) -> MadeEnd {
-    run_made(rt, alloc, SETTINGS, 7, 0, sink).end
+fn made<R: Threads + Sync>(
+    rt: &R,
+    alloc: Global,
+    hash_keys: RandomState,
+    sink: &mut ListSink,
+) -> MadeEnd {
+    run_made(rt, alloc, hash_keys, SETTINGS, 7, 0, sink).end
 }
 
 #[test]
-fn the_made_workload_is_told_in_a_line(rt: HostRuntime) {
+fn the_made_workload_is_told_in_a_line(rt: HostRuntime) -> Result<(), Fail> {
+    let hash_keys = RandomState::new(&rt)?;
     let mut sink = ListSink::new(rt.alloc(), 1 << 16, Vec::new(rt.alloc()));
-    assert_eq!(rt; made(&rt, rt.alloc(), &mut sink), MadeEnd::Clean);
+    assert_eq!(rt; made(&rt, rt.alloc(), hash_keys, &mut sink), MadeEnd::Clean);
     assert!(rt; sink.bytes() == MADE_LINE.as_bytes());
+    Ok(())
 }

@@ -11,8 +11,10 @@ mod words;
 use crate::story::{NO_MEMORY, NOT_UNDERSTOOD, Story};
 use star_values::NoMemory;
 use std::alloc::{AllocError, Global};
+use std::hash::RandomState;
 use std::io;
 use std::process::ExitCode;
+use std::random::RandomSource;
 use std::thread::Threads;
 
 fn main(rt: HostRuntime) -> ExitCode {
@@ -27,14 +29,18 @@ fn main(rt: HostRuntime) -> ExitCode {
 }
 
 /// Plays the stories on the standard input.
-fn play<R: Input + Print + AllocGlobal + Threads + Sync>(rt: &R) -> io::Result<()> {
-    let mut stage = Stage { story: None };
+fn play<R: Input + Print + AllocGlobal + RandomSource + Threads + Sync>(rt: &R) -> io::Result<()> {
+    let mut stage = Stage {
+        hash_keys: RandomState::new(rt)?,
+        story: None,
+    };
     stage.play_lines(rt)
 }
 
 /// Where the stories are played, one after the other.
 #[derive(Drop)]
 struct Stage {
+    hash_keys: RandomState,
     story: Option<Story>,
 }
 
@@ -57,7 +63,7 @@ impl Stage {
         line: &str,
     ) -> io::Result<()> {
         println!(rt; "{line}")?;
-        let told = told_of(rt, &mut self.story, line)?;
+        let told = told_of(rt, self.hash_keys, &mut self.story, line)?;
         print_told(rt, told.as_str())
     }
 }
@@ -73,6 +79,7 @@ fn print_told(rt: &impl Print, told: &str) -> io::Result<()> {
 /// What is told of a line of the story that goes on, or that begins with it.
 fn told_of<R: AllocGlobal + Threads + Sync>(
     rt: &R,
+    hash_keys: RandomState,
     story: &mut Option<Story>,
     line: &str,
 ) -> Result<String, AllocError> {
@@ -80,7 +87,7 @@ fn told_of<R: AllocGlobal + Threads + Sync>(
     if line.is_empty() || line.starts_with("# ") {
         return Ok(String::new(alloc));
     }
-    match Story::of_line(alloc, line) {
+    match Story::of_line(alloc, hash_keys, line) {
         Err(NoMemory) => String::from_str(alloc, NO_MEMORY),
         Ok(Some(begun)) => {
             *story = Some(begun);

@@ -13,6 +13,7 @@ use reply_text::print_reply;
 use script_reader::{Next, ScriptReader};
 use star_values::{ByteText, NoMemory};
 use std::alloc::{AllocError, Global};
+use std::hash::RandomState;
 use std::fmt::Write;
 use std::str;
 use std::thread::Threads;
@@ -78,12 +79,16 @@ fn settings_within(workers: u32, slots: u32, batch: u32, seats: u32) -> Option<R
 
 impl Story {
     /// The story that begins with a line, if one does.
-    pub(crate) fn of_line(alloc: Global, line: &str) -> Result<Option<Story>, NoMemory> {
+    pub(crate) fn of_line(
+        alloc: Global,
+        hash_keys: RandomState,
+        line: &str,
+    ) -> Result<Option<Story>, NoMemory> {
         match settings_of(line) {
             None => Ok(None),
             Some(settings) => Ok(Some(Story {
                 alloc,
-                core: Core::new(alloc, settings)?,
+                core: Core::new(alloc, hash_keys, settings)?,
                 script: ScriptReader::new(alloc),
             })),
         }

@@ -12,6 +12,7 @@ use core_state::RunSettings;
 use event_core::Core;
 use star_io::{Failed, Sink, write_all};
 use std::alloc::Global;
+use std::hash::RandomState;
 use std::thread::Threads;
 
 /// How a run of the made workload ended.
@@ -39,6 +40,7 @@ pub struct MadeDone {
 pub fn run_made<R: Threads + Sync, K: Sink>(
     rt: &R,
     alloc: Global,
+    hash_keys: RandomState,
     settings: RunSettings,
     seed: u32,
     rows: u32,
@@ -52,7 +54,7 @@ pub fn run_made<R: Threads + Sync, K: Sink>(
     ensures core { IsNone result.core ↔ (result.end ≡ end.NoMemory) }
     ensures run { IfSome result.core (λ core. IsRun (empty_core settings) (state_of core)) }
 {
-    let Ok(told) = told_made(rt, alloc, settings, seed, rows) else {
+    let Ok(told) = told_made(rt, alloc, hash_keys, settings, seed, rows) else {
         return MadeDone {
             end: MadeEnd::NoMemory,
             core: None,

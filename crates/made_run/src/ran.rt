@@ -16,6 +16,7 @@ use script_run::run_script;
 use star_io::{ListSink, RunEnd};
 use star_values::NoMemory;
 use std::alloc::Global;
+use std::hash::RandomState;
 use std::thread::Threads;
 
 /// The replies to a script, whether some reply is a refusal or `memory`, and the core that ran the script.
@@ -30,6 +31,7 @@ pub(crate) struct Ran {
 pub(crate) fn run_text<R: Threads + Sync>(
     rt: &R,
     alloc: Global,
+    hash_keys: RandomState,
     settings: RunSettings,
     script: &[u8],
 ) -> Result<Ran, NoMemory>
@@ -41,7 +43,7 @@ pub(crate) fn run_text<R: Threads + Sync>(
 {
     let mut source = TextSource::new(script);
     let mut sink = ListSink::new(alloc, usize::MAX, Vec::new(alloc));
-    let done = run_script(rt, alloc, settings, &mut source, &mut sink);
+    let done = run_script(rt, alloc, hash_keys, settings, &mut source, &mut sink);
     let refused = refused_of(done.end)?;
     Ok(Ran {
         replies: sink,

@@ -13,6 +13,7 @@ use event_core::Core;
 use make_load::{made_scripts_are_within_the_limit, make_script};
 use star_values::{ByteText, NoMemory};
 use std::alloc::Global;
+use std::hash::RandomState;
 use std::thread::Threads;
 
 /// The line, whether some reply is a refusal or `memory`, and the core that ran the script.
@@ -27,6 +28,7 @@ pub(crate) struct Told {
 pub(crate) fn told_made<R: Threads + Sync>(
     rt: &R,
     alloc: Global,
+    hash_keys: RandomState,
     settings: RunSettings,
     seed: u32,
     rows: u32,
@@ -39,7 +41,7 @@ pub(crate) fn told_made<R: Threads + Sync>(
     made_scripts_are_within_the_limit();
     let script = make_script(alloc, seed, rows)?;
     let bytes = script.as_bytes();
-    let ran = run_text(rt, alloc, settings, bytes)?;
+    let ran = run_text(rt, alloc, hash_keys, settings, bytes)?;
     let line = line_of(alloc, ran.replies.bytes(), bytes)?;
     Ok(Told {
         line,

@@ -10,10 +10,12 @@ use star_io::{Sink, write_all};
 use star_store::Store;
 use star_values::{ByteText, NoMemory};
 use std::alloc::Global;
+use std::hash::RandomState;
 
 /// Writes the reply to each statement that is whole, in order, and tells whether some reply is a refusal.
 pub(crate) fn answer_whole<K: Sink>(
     alloc: Global,
+    hash_keys: RandomState,
     store: &mut Store,
     reader: &mut ScriptReader,
     sink: &mut K,
@@ -25,7 +27,7 @@ pub(crate) fn answer_whole<K: Sink>(
 {
     let mut refused = false;
     'statements: loop {
-        let Some(answered) = answer_next(alloc, store, reader)? else {
+        let Some(answered) = answer_next(alloc, hash_keys, store, reader)? else {
             return Ok(refused);
         };
         write_all(sink, answered.text.as_bytes())?;
@@ -43,6 +45,7 @@ struct Answered {
 /// Does what the first statement that is whole says, and gives its reply, where there is one.
 fn answer_next(
     alloc: Global,
+    hash_keys: RandomState,
     store: &mut Store,
     reader: &mut ScriptReader,
 ) -> Result<Option<Answered>, NoMemory>
@@ -52,7 +55,7 @@ fn answer_next(
     let Next::Got(statement) = reader.next_statement()? else {
         return Ok(None);
     };
-    let reply = reply_to(alloc, store, statement)?;
+    let reply = reply_to(alloc, hash_keys, store, statement)?;
     let refused = is_refusal(&reply);
     let text = text_of(alloc, &reply);
     drop(reply);

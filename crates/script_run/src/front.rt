@@ -31,6 +31,7 @@ use script_reader::Statement;
 use star_io::{Sink, write_all};
 use star_values::NoMemory;
 use std::alloc::Global;
+use std::hash::RandomState;
 use std::marker::Model;
 use std::thread::Threads;
 
@@ -69,13 +70,17 @@ impl Model for Front {
 }
 
 impl Front {
-    /// A core of these settings, to which nothing was given.
-    pub fn new(alloc: Global, settings: RunSettings) -> Result<Front, NoMemory>
+    /// A core of these settings, which hashes by these keys, and to which nothing was given.
+    pub fn new(
+        alloc: Global,
+        hash_keys: RandomState,
+        settings: RunSettings,
+    ) -> Result<Front, NoMemory>
         requires { AreWithin settings }
         ensures core { IfOk result (λ front. state_of front.core ≡ empty_core settings) }
         ensures home { IfOk result IsAtHome }
     {
-        let core = Core::new(alloc, settings)?;
+        let core = Core::new(alloc, hash_keys, settings)?;
         Ok(Front {
             alloc,
             core,

@@ -16,10 +16,12 @@ use star_statement::{Applied, apply};
 use star_store::Store;
 use star_values::{ByteText, NoMemory};
 use std::alloc::Global;
+use std::hash::RandomState;
 
 /// Does what a statement says, and gives its reply. A query is answered over the commits before it.
 pub(crate) fn reply_to(
     alloc: Global,
+    hash_keys: RandomState,
     store: &mut Store,
     statement: Statement,
 ) -> Result<Reply, NoMemory>
@@ -30,13 +32,16 @@ pub(crate) fn reply_to(
     drop(statement);
     match applied? {
         Applied::Replied(reply) | Applied::Changed { reply, .. } => Ok(reply),
-        Applied::Accepted { query, snapshot } => reply_to_query(alloc, store, &query, snapshot),
+        Applied::Accepted { query, snapshot } => {
+            reply_to_query(alloc, hash_keys, store, &query, snapshot)
+        }
     }
 }
 
 /// The reply to a query: its answer alone.
 fn reply_to_query(
     alloc: Global,
+    hash_keys: RandomState,
     store: &Store,
     query: &StarQuery,
     snapshot: u64,
@@ -45,7 +50,14 @@ fn reply_to_query(
     ensures { IfOk result (λ reply.
         reply ≡ answer_reply snapshot (alone (plain store.now) (query_of query.now) snapshot)) }
 {
-    let answer = answer_alone(alloc, store.facts(), store.dims(), query, snapshot)?;
+    let answer = answer_alone(
+        alloc,
+        hash_keys,
+        store.facts(),
+        store.dims(),
+        query,
+        snapshot,
+    )?;
     Ok(match answer {
         Answer::Rows(rows) => Reply::Answer { snapshot, rows },
         Answer::Overflow => Reply::Overflow { snapshot },

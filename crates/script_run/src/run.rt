@@ -15,29 +15,37 @@ use star_io::{RunEnd, Sink, Source};
 use star_statement::replies_follow_from_the_tables;
 use star_store::Store;
 use std::alloc::Global;
+use std::hash::RandomState;
 
 /// The most bytes that one read asks for.
 pub const PIECE_BYTES: usize = 64 * 1024;
 
 /// Reads a script to its end, and writes the reply to each of its statements, in order, before it reads on.
-/// Each query is answered by itself, at its place. Where memory is wanted the run ends, and no reply tells it.
+/// Each query is answered by itself, at its place. Where memory is wanted the run ends, and no reply tells it. Rows and groups are
+/// found by hashes with these keys, on which no reply depends.
 ///
 /// At a read that fails, and at the byte past the limit, the statements that are whole before it
 /// are answered. After a write that fails nothing more is written or read.
-pub fn run_alone<S: Source, K: Sink>(alloc: Global, source: &mut S, sink: &mut K) -> RunEnd
+pub fn run_alone<S: Source, K: Sink>(
+    alloc: Global,
+    hash_keys: RandomState,
+    source: &mut S,
+    sink: &mut K,
+) -> RunEnd
     ensures answers { AnswersAlone result (S.reading source.old) (S.reading source.new)
         (K.writing sink.old) (K.writing sink.new) }
     ensures faults { CountsFaults result
         (S.reading source.old) (S.reading source.new) (K.writing sink.old) (K.writing sink.new) }
 {
-    let mut store = Store::new(alloc);
+    let mut store = Store::new(alloc, hash_keys);
     let mut reader = ScriptReader::new(alloc);
-    answer_script(alloc, &mut store, &mut reader, source, sink)
+    answer_script(alloc, hash_keys, &mut store, &mut reader, source, sink)
 }
 
 /// Reads a script to its end by a reader that was fed with nothing, and answers its statements, where no table is there yet.
 fn answer_script<S: Source, K: Sink>(
     alloc: Global,
+    hash_keys: RandomState,
     store: &mut Store,
     reader: &mut ScriptReader,
     source: &mut S,
@@ -54,7 +62,7 @@ fn answer_script<S: Source, K: Sink>(
     let mut piece = [0u8; PIECE_BYTES];
     let mut refused = false;
     'pieces: loop {
-        match answer_whole(alloc, store, reader, sink) {
+        match answer_whole(alloc, hash_keys, store, reader, sink) {
             Ok(some) => refused |= some,
             Err(halt) => return end_of_halt(halt),
         }
@@ -67,7 +75,7 @@ fn answer_script<S: Source, K: Sink>(
         }
     }
     reader.finish();
-    match answer_whole(alloc, store, reader, sink) {
+    match answer_whole(alloc, hash_keys, store, reader, sink) {
         Ok(some) => end_of_all(refused | some),
         Err(halt) => end_of_halt(halt),
     }

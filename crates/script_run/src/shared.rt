@@ -26,6 +26,7 @@ use script_reader::{Next, ScriptReader};
 use star_io::{RunEnd, Sink, Source};
 use star_values::NoMemory;
 use std::alloc::Global;
+use std::hash::RandomState;
 use std::thread::Threads;
 
 /// How a run ended, and the core that ran the script. There is none where no memory was left for the run.
@@ -42,10 +43,11 @@ pub struct RunDone {
 /// found none.
 ///
 /// At a read that fails, and at the byte past the limit, the statements that are whole before it are answered. After a write
-/// that fails nothing more is written or read.
+/// that fails nothing more is written or read. Rows and groups are found by hashes with these keys, on which no reply depends.
 pub fn run_script<R: Threads + Sync, S: Source, K: Sink>(
     rt: &R,
     alloc: Global,
+    hash_keys: RandomState,
     settings: RunSettings,
     source: &mut S,
     sink: &mut K,
@@ -60,7 +62,7 @@ pub fn run_script<R: Threads + Sync, S: Source, K: Sink>(
     ensures core { IsNone result.core ↔ (result.end ≡ end.NoMemory) }
     ensures run { IfSome result.core (λ core. IsRun (empty_core settings) (state_of core)) }
 {
-    let Ok(mut front) = Front::new(alloc, settings) else {
+    let Ok(mut front) = Front::new(alloc, hash_keys, settings) else {
         return RunDone {
             end: RunEnd::NoMemory,
             core: None,

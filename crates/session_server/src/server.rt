@@ -10,16 +10,19 @@ use core_state::RunSettings;
 use script_run::Front;
 use star_io::{Door, Failed, ServeEnd};
 use std::alloc::Global;
+use std::hash::RandomState;
 use std::sync::Wait;
 use std::thread::Threads;
 
 /// Listens at a port of this machine, and serves connections, one after the other, until the door ends or so many were taken,
 /// where that number is not 0. Each session sees what those before it committed. A session that ends early leaves the others.
 ///
-/// The core is made before the door is asked: where it finds no memory, the door is untouched.
+/// The core is made before the door is asked: where it finds no memory, the door is untouched. It hashes by these keys, on which no
+/// reply depends.
 pub fn serve<R: Threads + Sync + Wait, D: Door>(
     rt: &R,
     alloc: Global,
+    hash_keys: RandomState,
     settings: RunSettings,
     port: u16,
     accept: u32,
@@ -32,7 +35,7 @@ pub fn serve<R: Threads + Sync + Wait, D: Door>(
     ensures faults { CountsDoor result (D.door_faults door.old) (D.door_faults door.new) (D.door_failed door.new) }
     ensures untouched { result ≡ ServeEnd.NoMemory → door.new ≡ door.old }
 {
-    let Ok(mut front) = Front::new(alloc, settings) else {
+    let Ok(mut front) = Front::new(alloc, hash_keys, settings) else {
         return ServeEnd::NoMemory;
     };
     listen(rt, alloc, &mut front, port, accept, door)

@@ -7,8 +7,10 @@ mod outcome;
 
 use crate::case::case_names;
 use crate::outcome::{are_all_right, check_case, count_right};
+use std::hash::RandomState;
 use std::io;
 use std::process::ExitCode;
+use std::random::RandomSource;
 use std::rt::Files;
 use std::thread::Threads;
 
@@ -25,13 +27,14 @@ fn main(rt: HostRuntime) -> ExitCode {
 }
 
 /// Runs the cases of a folder, prints what came of them, and answers whether all are right.
-fn check_folder<R: Files + Print + AllocGlobal + Threads + Sync + Clone + Drop>(
+fn check_folder<R: Files + Print + AllocGlobal + RandomSource + Threads + Sync + Clone + Drop>(
     rt: &R,
     folder: &str,
 ) -> io::Result<bool> {
+    let hash_keys = RandomState::new(rt)?;
     let mut outcomes = Vec::new(rt.alloc());
     for name in case_names(rt, folder)? {
-        let outcome = check_case(rt, folder, name)?;
+        let outcome = check_case(rt, hash_keys, folder, name)?;
         println!(rt; "{outcome}")?;
         outcomes.push(outcome)?;
     }

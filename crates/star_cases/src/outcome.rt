@@ -12,6 +12,7 @@ use script_run::{run_alone, run_script};
 use star_io::{ListSink, PieceSource, RunEnd, Sink, Source};
 use std::alloc::{AllocError, Global};
 use std::fmt;
+use std::hash::RandomState;
 use std::rt::Files;
 use std::thread::Threads;
 
@@ -104,11 +105,12 @@ pub(crate) fn are_all_right(outcomes: &[Outcome]) -> bool
 /// Runs a case of a folder. Files that cannot be read are wrong.
 pub(crate) fn check_case<R: Files + AllocGlobal + Threads + Sync>(
     rt: &R,
+    hash_keys: RandomState,
     folder: &str,
     name: String,
 ) -> Result<Outcome, AllocError> {
     let wrong = match read_case(rt, folder, name.as_str()) {
-        Ok(case) => wrong_in(rt, &case)?,
+        Ok(case) => wrong_in(rt, hash_keys, &case)?,
         Err(error) => Some(format!(in rt.alloc(); "not read: {error}")?),
     };
     Ok(Outcome { name, wrong })
@@ -117,16 +119,18 @@ pub(crate) fn check_case<R: Files + AllocGlobal + Threads + Sync>(
 /// What is wrong with the first run of a case that is wrong: first each query by itself, then in a core.
 fn wrong_in<R: AllocGlobal + Threads + Sync>(
     rt: &R,
+    hash_keys: RandomState,
     case: &Case,
 ) -> Result<Option<String>, AllocError>
     ensures { IfOk result
         (λ wrong. IsNone wrong → Answers Alone case.now.script.items case.now.replies.items) }
 {
-    if let Some(wrong) = wrong_in_way(rt, case, Way::Alone)? {
+    if let Some(wrong) = wrong_in_way(rt, hash_keys, case, Way::Alone)? {
         return Ok(Some(wrong));
     }
     for number in 0..SETTINGS {
-        if let Some(wrong) = wrong_in_way(rt, case, Way::Shared(settings_of(number)))? {
+        let way = Way::Shared(settings_of(number));
+        if let Some(wrong) = wrong_in_way(rt, hash_keys, case, way)? {
             return Ok(Some(wrong));
         }
     }
@@ -136,6 +140,7 @@ fn wrong_in<R: AllocGlobal + Threads + Sync>(
 /// What is wrong with the first run in a way that is wrong.
 fn wrong_in_way<R: AllocGlobal + Threads + Sync>(
     rt: &R,
+    hash_keys: RandomState,
     case: &Case,
     way: Way,
 ) -> Result<Option<String>, AllocError>
@@ -144,16 +149,17 @@ fn wrong_in_way<R: AllocGlobal + Threads + Sync>(
         (λ wrong. IsNone wrong → Answers way case.now.script.items case.now.replies.items) }
 {
     for piece in FEW_BYTES {
-        if let Some(wrong) = wrong_in_pieces(rt, case, way, piece)? {
+        if let Some(wrong) = wrong_in_pieces(rt, hash_keys, case, way, piece)? {
             return Ok(Some(wrong));
         }
     }
-    wrong_in_pieces(rt, case, way, ALL_BYTES)
+    wrong_in_pieces(rt, hash_keys, case, way, ALL_BYTES)
 }
 
 /// What is wrong with a run whose bytes come and go in pieces of this size.
 fn wrong_in_pieces<R: AllocGlobal + Threads + Sync>(
     rt: &R,
+    hash_keys: RandomState,
     case: &Case,
     way: Way,
     piece: usize,
@@ -166,7 +172,7 @@ fn wrong_in_pieces<R: AllocGlobal + Threads + Sync>(
     let alloc = rt.alloc();
     let mut source = PieceSource::new(case.script.clone()?, piece, Vec::new(alloc));
     let mut sink = ListSink::new(alloc, piece, Vec::new(alloc));
-    let end = run(rt, alloc, way, &mut source, &mut sink);
+    let end = run(rt, alloc, hash_keys, way, &mut source, &mut sink);
     match fault_of(sink.bytes(), end, &case.replies) {
         None => Ok(None),
         Some(fault) => Ok(Some(told(alloc, fault, way, piece, sink.bytes(), &case.replies)?)),
@@ -177,6 +183,7 @@ fn wrong_in_pieces<R: AllocGlobal + Threads + Sync>(
 fn run<R: Threads + Sync, S: Source, K: Sink>(
     rt: &R,
     alloc: Global,
+    hash_keys: RandomState,
     way: Way,
     source: &mut S,
     sink: &mut K,
@@ -186,8 +193,8 @@ fn run<R: Threads + Sync, S: Source, K: Sink>(
         (S.reading source.old) (S.reading source.new) (K.writing sink.old) (K.writing sink.new) }
 {
     match way {
-        Way::Alone => run_alone(alloc, source, sink),
-        Way::Shared(settings) => run_script(rt, alloc, settings, source, sink).end,
+        Way::Alone => run_alone(alloc, hash_keys, source, sink),
+        Way::Shared(settings) => run_script(rt, alloc, hash_keys, settings, source, sink).end,
     }
 }
 

@@ -1,7 +1,7 @@
 -- What the program tells of a status on its standard error.
 use Rattle.std.specs.Prelude.{ℕ, ◌==◌, Option, Some, None, if◌then◌else◌}
 use Rattle.star_main.specs.declared.fault.Fault.{Fault}
-use Rattle.star_main.specs.declared.fault.Fault.TheVariants.{Words, Read, Write, Memory, Limit, Door}
+use Rattle.star_main.specs.declared.fault.Fault.TheVariants.{Words, Read, Write, Memory, Limit, Door, Random}
 
 -- nothing where the input was read to its end and every reply was written
 abbrev pub fault_of : ℕ → Option Fault
@@ -11,4 +11,5 @@ fault_of status =
     if status == 4 then Some Write else
     if status == 5 then Some Memory else
     if status == 6 then Some Limit else
-    if status == 7 then Some Door else None
+    if status == 7 then Some Door else
+    if status == 8 then Some Random else None

@@ -19,6 +19,8 @@ pub(crate) enum Fault {
     Limit,
     #[error("door fault")]
     Door,
+    #[error("no random numbers")]
+    Random,
 }
 
 impl Fault {
@@ -33,6 +35,7 @@ impl Fault {
             5 => Some(Fault::Memory),
             6 => Some(Fault::Limit),
             7 => Some(Fault::Door),
+            8 => Some(Fault::Random),
             _ => None,
         }
     }

@@ -11,25 +11,45 @@ use crate::fault::Fault;
 use crate::top::{FAULTY_WORDS, OUT_OF_MEMORY, cjoin};
 use star_io::{StdSink, StdSource, TcpDoor};
 use std::env::{self, Env};
+use std::hash::RandomState;
 use std::io::{self, ErrorKind};
 use std::process::ExitCode;
+use std::random::RandomSource;
+
+/// The status where the system gives no random numbers, by which keys would be hashed. Nothing was read or written.
+const NO_RANDOM_NUMBERS: u8 = 8;
 
 /// Runs the script on the standard input, or serves connections, as the words say, and ends with the status of that.
 fn main(rt: HostRuntime) -> ExitCode {
-    let status = match words(&rt) {
-        Ok(words) => {
+    let status = match words_and_keys(&rt) {
+        Ok((words, hash_keys)) => {
             let mut source = StdSource::new(rt.reader());
             let mut sink = StdSink::new(io::writer(&rt));
             let mut door = TcpDoor::new(&rt);
-            cjoin(&rt, rt.alloc(), &words, &mut source, &mut sink, &mut door).status
+            let alloc = rt.alloc();
+            cjoin(&rt, alloc, hash_keys, &words, &mut source, &mut sink, &mut door).status
         }
-        Err(error) => status_without_words(&error),
+        Err(status) => status,
     };
     if let Some(fault) = Fault::of_status(status) {
         // There is nowhere to tell of a standard error that fails.
         let _ = eprintln!(rt; "{fault}");
     }
     ExitCode::from(status)
+}
+
+/// The words behind the program's name, and keys for hashes, drawn at random; or the status where either is not to be had.
+fn words_and_keys(
+    rt: &(impl Env + AllocGlobal + RandomSource),
+) -> Result<(Vec<String>, RandomState), u8> {
+    let words = match words(rt) {
+        Ok(words) => words,
+        Err(error) => return Err(status_without_words(&error)),
+    };
+    match RandomState::new(rt) {
+        Ok(hash_keys) => Ok((words, hash_keys)),
+        Err(_) => Err(NO_RANDOM_NUMBERS),
+    }
 }
 
 /// The words behind the program's name. A word that is not text is an error.

@@ -21,6 +21,7 @@ use session_server::serve;
 use star_io::{Door, RunEnd, ServeEnd, Sink, Source};
 use star_values::NoMemory;
 use std::alloc::Global;
+use std::hash::RandomState;
 use std::sync::Wait;
 use std::thread::Threads;
 
@@ -66,11 +67,14 @@ pub enum Words {
 /// until the door ends, or as many were taken as `accept` says, where that is not 0; neither source nor sink is touched. The
 /// status is 0, 5 or 7: what becomes of a connection has no part in it. Where no connection comes, it waits for one.
 ///
+/// Rows and groups are found by hashes with these keys. No reply and no status depends on them.
+///
 /// Of the settings the mode has an effect, in the modes `run`, `make` and `serve` the slots and the batch, in `make` the seed and
 /// the rows, and in `serve` the port and `accept`. Workers are read, and have none yet.
 pub fn cjoin<R: Threads + Sync + Wait, S: Source, K: Sink, D: Door>(
     rt: &R,
     alloc: Global,
+    hash_keys: RandomState,
     words: &[String],
     source: &mut S,
     sink: &mut K,
@@ -98,9 +102,9 @@ pub fn cjoin<R: Threads + Sync + Wait, S: Source, K: Sink, D: Door>(
     ensures run { IfSome result.core (λ core. IfSome (settings_of (map string_bytes words.now)) (λ settings.
         IsRun (empty_core (run_settings_of settings)) (state_of core))) }
 {
-    match run_words(rt, alloc, words, source, sink) {
+    match run_words(rt, alloc, hash_keys, words, source, sink) {
         Words::Ran(done) => done,
-        Words::Serve(settings) => serve_connections(rt, alloc, &settings, door),
+        Words::Serve(settings) => serve_connections(rt, alloc, hash_keys, &settings, door),
     }
 }
 
@@ -110,6 +114,7 @@ pub fn cjoin<R: Threads + Sync + Wait, S: Source, K: Sink, D: Door>(
 pub fn run_words<R: Threads + Sync, S: Source, K: Sink>(
     rt: &R,
     alloc: Global,
+    hash_keys: RandomState,
     words: &[String],
     source: &mut S,
     sink: &mut K,
@@ -137,9 +142,11 @@ pub fn run_words<R: Threads + Sync, S: Source, K: Sink>(
 {
     match read_words(alloc, words) {
         Ok(Some(settings)) => match settings.mode {
-            Mode::Run => Words::Ran(run_shared(rt, alloc, &settings, source, sink)),
-            Mode::Alone => Words::Ran(run_each_alone(alloc, source, sink)),
-            Mode::Make => Words::Ran(run_workload(rt, alloc, &settings, sink)),
+            Mode::Run => {
+                Words::Ran(run_shared(rt, alloc, hash_keys, &settings, source, sink))
+            }
+            Mode::Alone => Words::Ran(run_each_alone(alloc, hash_keys, source, sink)),
+            Mode::Make => Words::Ran(run_workload(rt, alloc, hash_keys, &settings, sink)),
             Mode::Serve => Words::Serve(settings),
         },
         Ok(None) => Words::Ran(without_core(FAULTY_WORDS)),
@@ -151,6 +158,7 @@ pub fn run_words<R: Threads + Sync, S: Source, K: Sink>(
 fn run_shared<R: Threads + Sync, S: Source, K: Sink>(
     rt: &R,
     alloc: Global,
+    hash_keys: RandomState,
     settings: &Settings,
     source: &mut S,
     sink: &mut K,
@@ -164,11 +172,17 @@ fn run_shared<R: Threads + Sync, S: Source, K: Sink>(
     ensures core { IsNone result.core ↔ (result.status ≡ 5) }
     ensures run { IfSome result.core (λ core. IsRun (empty_core (run_settings_of settings.now)) (state_of core)) }
 {
-    done_of(run_script(rt, alloc, run_settings(settings), source, sink))
+    let settings = run_settings(settings);
+    done_of(run_script(rt, alloc, hash_keys, settings, source, sink))
 }
 
 /// Runs a script each of whose queries is answered by itself, without a core.
-fn run_each_alone<S: Source, K: Sink>(alloc: Global, source: &mut S, sink: &mut K) -> TopDone
+fn run_each_alone<S: Source, K: Sink>(
+    alloc: Global,
+    hash_keys: RandomState,
+    source: &mut S,
+    sink: &mut K,
+) -> TopDone
     ensures headline { (slots : ℕ) → Headline slots result.core result.status
         (S.reading source.old) (S.reading source.new)
         (K.writing sink.old) (K.writing sink.new) }
@@ -176,7 +190,7 @@ fn run_each_alone<S: Source, K: Sink>(alloc: Global, source: &mut S, sink: &mut 
         (K.writing sink.old) (K.writing sink.new) }
     ensures core { IsNone result.core }
 {
-    without_core(status_of(run_alone(alloc, source, sink)))
+    without_core(status_of(run_alone(alloc, hash_keys, source, sink)))
 }
 
 /// Runs the made workload, whose queries share the scan of one core, writes the line that sums its replies up, and hands
@@ -184,6 +198,7 @@ fn run_each_alone<S: Source, K: Sink>(alloc: Global, source: &mut S, sink: &mut 
 fn run_workload<R: Threads + Sync, K: Sink>(
     rt: &R,
     alloc: Global,
+    hash_keys: RandomState,
     settings: &Settings,
     sink: &mut K,
 ) -> TopDone
@@ -196,13 +211,22 @@ fn run_workload<R: Threads + Sync, K: Sink>(
     ensures run { IfSome result.core (λ core. IsRun (empty_core (run_settings_of settings.now)) (state_of core)) }
 {
     let core = run_settings(settings);
-    made_of(run_made(rt, alloc, core, settings.seed, settings.rows, sink))
+    made_of(run_made(
+        rt,
+        alloc,
+        hash_keys,
+        core,
+        settings.seed,
+        settings.rows,
+        sink,
+    ))
 }
 
 /// Serves connections at the port, one after the other, over one core.
 fn serve_connections<R: Threads + Sync + Wait, D: Door>(
     rt: &R,
     alloc: Global,
+    hash_keys: RandomState,
     settings: &Settings,
     door: &mut D,
 ) -> TopDone
@@ -213,7 +237,15 @@ fn serve_connections<R: Threads + Sync + Wait, D: Door>(
     ensures core { IsNone result.core }
 {
     let core = run_settings(settings);
-    let end = serve(rt, alloc, core, settings.port, settings.accept, door);
+    let end = serve(
+        rt,
+        alloc,
+        hash_keys,
+        core,
+        settings.port,
+        settings.accept,
+        door,
+    );
     without_core(serve_status_of(end))
 }
 
