@@ -172,8 +172,7 @@ fn run_shared<R: Threads + Sync, S: Source, K: Sink>(
     ensures core { IsNone result.core ↔ (result.status ≡ 5) }
     ensures run { IfSome result.core (λ core. IsRun (empty_core (run_settings_of settings.now)) (state_of core)) }
 {
-    let settings = run_settings(settings);
-    done_of(run_script(rt, alloc, hash_keys, settings, source, sink))
+    done_of(run_script(rt, alloc, hash_keys, run_settings(settings), source, sink))
 }
 
 /// Runs a script each of whose queries is answered by itself, without a core.
