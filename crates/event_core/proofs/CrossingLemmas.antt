@@ -109,6 +109,6 @@ core_send =
     let numbers : IsSend u64 × (IsSend u64 × (IsSend u64 × (IsSend u64 × Unit {0}))) = (number, (number, (number, (number, tt)))) in
     let moving = both distributor.the_send (both flights.the_send (both pool.the_send numbers)) in
     let running = both manager.the_send (both filters.the_send (both scan_send moving)) in
-    let asking = both (roomy.the_send _ logged.the_send) (both (list.the_send _ seat.the_send) (both (roomy.the_send _ asked_send) running)) in
+    let asking = both (search (sendable, crosses) depth 20) (both (list.the_send _ seat.the_send) (both (roomy.the_send _ asked_send) running)) in
     let fields = declared_send inside_core.the_type (heap.the_send, (search sendable depth 8, (search (sendable, crosses) depth 20, (store.the_send, asking)))) in
     view_send inside_core.the_row _ _ _ _ fields

@@ -63,9 +63,9 @@ first-of settings tables log seats asked lives filters scan attached flights poo
     none = replicate settings.slots None
 
 -- the parts that the code makes are those of an empty core
-pub becomes-empty : NewLaw → (settings : RunSettings) (tables : KeyedStore) (log : Roomy Logged) (seats : List (Roomy Submitted))
+pub becomes-empty : NewLaw → (settings : RunSettings) (tables : KeyedStore) (log : List Logged) (seats : List (Roomy Submitted))
     (asked : Roomy AskedQuery) (lives : Lives) (filters : state.Filters) (scan : Scanning) (attached : List (Option Grouped))
-    (flights : Roomy Flight) (pool : Stock) → AreWithin settings → plain tables ≡ empty_store → log.items ≡ []
+    (flights : Roomy Flight) (pool : Stock) → AreWithin settings → plain tables ≡ empty_store → log ≡ []
     → map (λ seat. seat.items) seats ≡ replicate settings.seats [] → asked.items ≡ []
     → lives ≡ record { queries = []; slots = replicate settings.slots Free; filters = 0 } → filters ≡ no_filters
     → scan ≡ new_scan settings.slots → attached ≡ replicate settings.slots None → flights.items ≡ []
@@ -77,7 +77,7 @@ pub becomes-empty : NewLaw → (settings : RunSettings) (tables : KeyedStore) (l
     → Becomes (parts_by settings tables log seats asked lives filters scan attached flights pool 0 0 0 0) (empty_core settings)
 becomes-empty law settings tables log seats asked lives filters scan attached flights pool within none same_log same_seats same_asked same_lives same_filters same_scan same_attached same_flights same_pool =
     subst (λ parts. Becomes parts (empty_core settings))
-    (sym (first-of settings tables log.items (map (λ (seat : Roomy Submitted). seat.items) seats) asked.items lives filters scan attached
+    (sym (first-of settings tables log (map (λ (seat : Roomy Submitted). seat.items) seats) asked.items lives filters scan attached
     flights.items pool (replicate (frames_of settings) (replicate (16 + settings.batch * 16) 0)) same_log same_seats same_asked same_lives same_filters same_scan same_attached same_flights same_pool))
     (law settings (replicate (frames_of settings) (replicate (16 + settings.batch * 16) 0)) tables within refl none
     (none-keyed (HasKeyNumbers tables.schema tables.dimensions) tables.versions (ap (λ (store : Store). store.versions) none)))

@@ -32,12 +32,12 @@ pub record Parts : Type 0 where
   pub numbers : state.Numbers
 
 -- the parts, of which some have room for more
-abbrev pub parts_by : RunSettings → KeyedStore → Roomy Logged → List (Roomy Submitted) → Roomy AskedQuery → Lives → state.Filters
+abbrev pub parts_by : RunSettings → KeyedStore → List Logged → List (Roomy Submitted) → Roomy AskedQuery → Lives → state.Filters
     → Scanning → List (Option Grouped) → Roomy Flight → Stock → (cut statement batch version : ℕ) → Parts
 parts_by settings tables log seats asked lives filters scan attached flights pool cut statement batch version = record {
   settings = settings;
   tables = tables;
-  log = log.items;
+  log = log;
   seats = map (λ seat. seat.items) seats;
   asked = asked.items;
   lives = lives;

@@ -24,7 +24,7 @@ use event_choice::has;
 use filter_order::Tally;
 use frame_pool::Pool;
 use pipeline_manager::{Life, Manager};
-use star_lists::{ListOf, ListWithRoom};
+use star_lists::{ListOf, ListWithRoom, Trail};
 use star_store::Store;
 use star_values::NoMemory;
 use std::alloc::Global;
@@ -42,8 +42,8 @@ pub struct Core {
     pub(crate) settings: RunSettings,
     pub(crate) store: Store,
 
-    /// The kinds of the changes that led to the tables.
-    pub(crate) log: ListWithRoom<Logged>,
+    /// The kinds of the changes that led to the tables. They are told of alone, and have no bytes.
+    pub(crate) log: Trail<Logged>,
     pub(crate) seats: ListOf<Seat>,
 
     /// The accepted queries. Their numbers rise.
@@ -110,7 +110,7 @@ impl Core {
             hash_keys,
             settings,
             store: Store::new(alloc, hash_keys),
-            log: ListWithRoom::new(alloc),
+            log: Trail::new(),
             seats,
             asked: ListWithRoom::new(alloc),
             manager,

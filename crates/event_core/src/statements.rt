@@ -50,7 +50,7 @@ impl Core {
             return Err(NoMemory);
         };
         // All that a change of the tables needs is there before it is made: after it nothing may fail.
-        make_room(&mut self.seats, seat, &mut self.log, &mut self.asked)?;
+        make_room(&mut self.seats, seat, &mut self.asked)?;
         let all = Filters::of_all(self.alloc)?;
         match apply_to(self.alloc, &mut self.store, statement)? {
             Applied::Replied(reply) => {
@@ -59,7 +59,7 @@ impl Core {
                 Ok(())
             }
             Applied::Changed { kind, reply } => {
-                self.log.push_reserved(Logged {
+                self.log.push(Logged {
                     seat,
                     statement: number,
                     kind,
@@ -98,22 +98,18 @@ fn a_declared_fact_table_finds_free_slots()
     accepted_histories_are_settled();
 }
 
-/// Makes room for a statement more of a seat, for a change more, and for a query more.
+/// Makes room for a statement more of a seat, and for a query more.
 fn make_room(
     seats: &mut ListOf<Seat>,
     seat: u32,
-    log: &mut ListWithRoom<Logged>,
     asked: &mut ListWithRoom<Asked>,
 ) -> Result<(), NoMemory>
     requires { seat < length seats.old }
     ensures statements { map (λ seat. seat.items) seats.new ≡ map (λ seat. seat.items) seats.old }
-    ensures changes { log.new.items ≡ log.old.items }
     ensures queries { asked.new.items ≡ asked.old.items }
     ensures for_statement { OnOk result ((d : Roomy Submitted) → 0 < (slice_index_or seats.new seat d).room) }
-    ensures for_change { OnOk result (0 < log.new.room) }
     ensures for_query { OnOk result (0 < asked.new.room) }
 {
-    log.reserve(1)?;
     asked.reserve(1)?;
     reserve_at(seats, seat)
 }

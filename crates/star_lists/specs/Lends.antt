@@ -3,6 +3,8 @@ use Rattle.std.specs.Prelude.{ℕ, List, length, slice_set, Option}
 use Rattle.std.specs.List.{refill}
 use Rattle.std.specs.Borrow.{Lends, LendsIf, MutBor, Fml, Array, RattleType}
 use Rattle.star_lists.specs.Roomy.{Roomy}
+use Rattle.star_lists.specs.Faded.{Faded}
+use Rattle.star_lists.specs.contracts.fading.Fading.{the_row as fading_layout}
 use Rattle.star_lists.specs.contracts.list_of.ListOf.{the_row as list_layout}
 use Rattle.star_lists.specs.contracts.list_with_room.ListWithRoom.{the_row as roomy_layout}
 
@@ -21,3 +23,9 @@ module _ (T : RattleType) where
   lends_roomy_members list members =
       Lends (roomy_layout T) (Array T 0) list members
       (λ written. record { items = refill (length list.now.items) list.now.items written; room = list.now.room })
+
+  -- the same of a list whose front was let go, of which the rest is lent
+  abbrev pub lends_fading_members : MutBor (Faded T.Denot) → MutBor (List T.Denot) → Fml
+  lends_fading_members list members =
+      Lends (fading_layout T) (Array T 0) list members
+      (λ written. record { gone = list.now.gone; rest = refill (length list.now.rest) list.now.rest written; room = list.now.room })

@@ -7,7 +7,7 @@ invariant_of-result c =
     let frames = c.in_ok-flights in
     let becomes = becomes-empty c.a_new_core_is_empty.ensures c.args.settings c.new.result c.new-2.result c.in_ok-seats.seats
     c.new-3.result slots.manager c.new-4.result slots.scan slots.distributor frames.flights frames.pool c.requires c.new.ensures
-    c.new-2.ensures.items c.in_ok-seats.ensures c.new-3.ensures.items slots.ensures.lives c.new-4.ensures slots.ensures.scan
+    c.new-2.ensures c.in_ok-seats.ensures c.new-3.ensures.items slots.ensures.lives c.new-4.ensures slots.ensures.scan
     slots.ensures.groups frames.ensures.none frames.ensures.pool in
     (becomes.core, room-made c.args.settings frames.flights frames.ensures.room)
 
@@ -17,6 +17,6 @@ returns c =
     let frames = c.in_ok-flights in
     let becomes = becomes-empty c.a_new_core_is_empty.ensures c.args.settings c.new.result c.new-2.result c.in_ok-seats.seats
     c.new-3.result slots.manager c.new-4.result slots.scan slots.distributor frames.flights frames.pool c.requires c.new.ensures
-    c.new-2.ensures.items c.in_ok-seats.ensures c.new-3.ensures.items slots.ensures.lives c.new-4.ensures slots.ensures.scan
+    c.new-2.ensures c.in_ok-seats.ensures c.new-3.ensures.items slots.ensures.lives c.new-4.ensures slots.ensures.scan
     slots.ensures.groups frames.ensures.none frames.ensures.pool in
     becomes.state

@@ -8,7 +8,7 @@ use Rattle.event_core.proofs.machine.Core.submit.Goals as goal
 replied : (c : goal.After-drop-all-inside-in-Replied-3)
     → Becomes (record (the_view c.self.inside) {
       tables = c.apply_to.new.store;
-      log = c.make_room.new.log.items;
+      log = c.self.inside.log;
       seats = statements_in c.stand.new.seats;
       asked = c.make_room.new.asked.items;
       numbers = record (the_view c.self.inside).numbers { statement = c.in-Some.number };
@@ -23,8 +23,8 @@ replied c =
     subst (λ (applied : Applied). Follows c.self.inside.store c.apply_to.new.store (Ok applied)
     (outcome_of (plain c.self.inside.store) c.args.statement.now)) c.in-Replied.is c.in_ok-reply.ensures.follows in
     replies c.submissions_follow_the_core.ensures.replied (the_view c.self.inside) c.args.seat c.in-Some.number c.args.statement.now
-    c.in-Replied.reply c.apply_to.new.store c.make_room.new.log.items (statements_in c.make_room.new.seats)
-    (statements_in c.stand.new.seats) c.make_room.new.asked.items c.self.invariant.0 there counts c.make_room.ensures.changes
+    c.in-Replied.reply c.apply_to.new.store c.self.inside.log (statements_in c.make_room.new.seats)
+    (statements_in c.stand.new.seats) c.make_room.new.asked.items c.self.invariant.0 there counts refl
     c.make_room.ensures.queries c.make_room.ensures.statements c.stand.ensures follows c.apply_to.ensures.keyed
 
 pub invariant_of-self-in-Replied-1 : goal.invariant_of-self-in-Replied-1
@@ -58,7 +58,7 @@ accept-requires-clause-is_new c = λ k d low.
 accepted : (c : goal.After-drop-all-inside-in-Accepted-3)
     → Becomes (record (the_view c.self.inside) {
       tables = c.apply_to.new.store;
-      log = c.make_room.new.log.items;
+      log = c.self.inside.log;
       seats = statements_in c.stand-in-Accepted.new.seats;
       asked = c.accept.new.asked.items;
       lives = c.accept.new.manager;
@@ -75,9 +75,9 @@ accepted c =
     (outcome_of (plain c.self.inside.store) c.args.statement.now)) c.in-Accepted.is c.in_ok-reply.ensures.follows in
     accepts c.submissions_follow_the_core.ensures.accepted (the_view c.self.inside) c.args.seat c.in-Some.number c.args.statement.now
     c.in-Accepted.query c.in-Accepted.snapshot c.len-extent.result c.apply_to.new.store c.accept.new.manager
-    c.in_ok-asked-in-Accepted.asked c.make_room.new.log.items (statements_in c.make_room.new.seats)
+    c.in_ok-asked-in-Accepted.asked c.self.inside.log (statements_in c.make_room.new.seats)
     (statements_in c.stand-in-Accepted.new.seats) c.make_room.new.asked.items c.accept.new.asked.items c.self.invariant.0 there counts
-    c.make_room.ensures.changes c.make_room.ensures.queries c.make_room.ensures.statements c.in_ok-asked-in-Accepted.ensures
+    refl c.make_room.ensures.queries c.make_room.ensures.statements c.in_ok-asked-in-Accepted.ensures
     c.in_ok-accept-in-Accepted.ensures.queries
     (c.len-extent.ensures.count ∙ ap length c.facts.ensures.versions) c.in_ok-accept-in-Accepted.ensures.lives
     c.stand-in-Accepted.ensures follows
@@ -93,7 +93,7 @@ returns-in_ok-accept-in-Accepted-clause-ok c =
 changed : (c : goal.After-self-in-Changed-1)
     → Becomes (record (the_view c.self.inside) {
       tables = c.apply_to.new.store;
-      log = c.push_reserved.new.self.items;
+      log = c.push.new.self;
       seats = statements_in c.stand-in-Changed.new.seats;
       asked = c.make_room.new.asked.items;
       lives = c.filter_for.new.manager;
@@ -111,9 +111,9 @@ changed c =
     (outcome_of (plain c.self.inside.store) c.args.statement.now)) c.in-Changed.is c.in_ok-reply.ensures.follows in
     changes c.submissions_follow_the_core.ensures.changed (the_view c.self.inside) c.args.seat c.in-Some.number c.args.statement.now
     c.in-Changed.kind c.in-Changed.reply c.apply_to.new.store c.schema.result.now c.filter_for.new.manager c.filter_for.new.filters
-    c.filter_for.new.last_version c.make_room.new.log.items c.push_reserved.new.self.items (statements_in c.make_room.new.seats)
+    c.filter_for.new.last_version c.self.inside.log c.push.new.self (statements_in c.make_room.new.seats)
     (statements_in c.stand-in-Changed.new.seats) c.make_room.new.asked.items c.self.invariant.0 there counts
-    c.make_room.ensures.changes c.push_reserved.ensures.items c.make_room.ensures.queries c.make_room.ensures.statements
+    refl c.push.ensures c.make_room.ensures.queries c.make_room.ensures.statements
     c.stand-in-Changed.ensures follows c.apply_to.ensures.keyed c.schema.ensures.schema c.filter_for.ensures
 
 pub invariant_of-self-in-Changed : goal.invariant_of-self-in-Changed
@@ -125,43 +125,43 @@ returns-in-Changed-clause-ok c =
 
 pub invariant_of-self : goal.invariant_of-self
 invariant_of-self c =
-    let same = same-parts (the_view c.self.inside) c.self.inside.store c.make_room.new.log.items (statements_in c.make_room.new.seats)
-    c.make_room.new.asked.items c.self.inside.manager refl c.make_room.ensures.changes c.make_room.ensures.statements
+    let same = same-parts (the_view c.self.inside) c.self.inside.store c.self.inside.log (statements_in c.make_room.new.seats)
+    c.make_room.new.asked.items c.self.inside.manager refl refl c.make_room.ensures.statements
     c.make_room.ensures.queries refl in
     (subst IsCore (sym same) c.self.invariant.0, c.self.invariant.1)
 
 pub returns-in_err-make_room-clause-err : goal.returns-in_err-make_room-clause-err
 returns-in_err-make_room-clause-err c =
-    let same = same-parts (the_view c.self.inside) c.self.inside.store c.make_room.new.log.items (statements_in c.make_room.new.seats)
-    c.make_room.new.asked.items c.self.inside.manager refl c.make_room.ensures.changes c.make_room.ensures.statements
+    let same = same-parts (the_view c.self.inside) c.self.inside.store c.self.inside.log (statements_in c.make_room.new.seats)
+    c.make_room.new.asked.items c.self.inside.manager refl refl c.make_room.ensures.statements
     c.make_room.ensures.queries refl in
     on-error c.from_residual.result (same ∙ c.self.view_is)
 
 pub invariant_of-self-in_err-all : goal.invariant_of-self-in_err-all
 invariant_of-self-in_err-all c =
-    let same = same-parts (the_view c.self.inside) c.self.inside.store c.make_room.new.log.items (statements_in c.make_room.new.seats)
-    c.make_room.new.asked.items c.self.inside.manager refl c.make_room.ensures.changes c.make_room.ensures.statements
+    let same = same-parts (the_view c.self.inside) c.self.inside.store c.self.inside.log (statements_in c.make_room.new.seats)
+    c.make_room.new.asked.items c.self.inside.manager refl refl c.make_room.ensures.statements
     c.make_room.ensures.queries refl in
     (subst IsCore (sym same) c.self.invariant.0, c.self.invariant.1)
 
 pub returns-in_err-all-clause-err : goal.returns-in_err-all-clause-err
 returns-in_err-all-clause-err c =
-    let same = same-parts (the_view c.self.inside) c.self.inside.store c.make_room.new.log.items (statements_in c.make_room.new.seats)
-    c.make_room.new.asked.items c.self.inside.manager refl c.make_room.ensures.changes c.make_room.ensures.statements
+    let same = same-parts (the_view c.self.inside) c.self.inside.store c.self.inside.log (statements_in c.make_room.new.seats)
+    c.make_room.new.asked.items c.self.inside.manager refl refl c.make_room.ensures.statements
     c.make_room.ensures.queries refl in
     on-error c.from_residual-in_err-all.result (same ∙ c.self.view_is)
 
 pub invariant_of-self-in_err-reply : goal.invariant_of-self-in_err-reply
 invariant_of-self-in_err-reply c =
-    let same = same-parts (the_view c.self.inside) c.apply_to.new.store c.make_room.new.log.items (statements_in c.make_room.new.seats)
-    c.make_room.new.asked.items c.self.inside.manager c.in_err-reply.ensures.follows c.make_room.ensures.changes c.make_room.ensures.statements
+    let same = same-parts (the_view c.self.inside) c.apply_to.new.store c.self.inside.log (statements_in c.make_room.new.seats)
+    c.make_room.new.asked.items c.self.inside.manager c.in_err-reply.ensures.follows refl c.make_room.ensures.statements
     c.make_room.ensures.queries refl in
     (subst IsCore (sym same) c.self.invariant.0, c.self.invariant.1)
 
 pub returns-in_err-reply-clause-err : goal.returns-in_err-reply-clause-err
 returns-in_err-reply-clause-err c =
-    let same = same-parts (the_view c.self.inside) c.apply_to.new.store c.make_room.new.log.items (statements_in c.make_room.new.seats)
-    c.make_room.new.asked.items c.self.inside.manager c.in_err-reply.ensures.follows c.make_room.ensures.changes c.make_room.ensures.statements
+    let same = same-parts (the_view c.self.inside) c.apply_to.new.store c.self.inside.log (statements_in c.make_room.new.seats)
+    c.make_room.new.asked.items c.self.inside.manager c.in_err-reply.ensures.follows refl c.make_room.ensures.statements
     c.make_room.ensures.queries refl in
     on-error c.from_residual-in_err-reply.result (same ∙ c.self.view_is)
 
@@ -171,8 +171,8 @@ invariant_of-self-in_err-asked-in-Accepted c =
     (outcome_of (plain c.self.inside.store) c.args.statement.now) =
     subst (λ (applied : Applied). Follows c.self.inside.store c.apply_to.new.store (Ok applied)
     (outcome_of (plain c.self.inside.store) c.args.statement.now)) c.in-Accepted.is c.in_ok-reply.ensures.follows in
-    let same = same-parts (the_view c.self.inside) c.apply_to.new.store c.make_room.new.log.items (statements_in c.make_room.new.seats)
-    c.make_room.new.asked.items c.self.inside.manager follows.3.1 c.make_room.ensures.changes c.make_room.ensures.statements
+    let same = same-parts (the_view c.self.inside) c.apply_to.new.store c.self.inside.log (statements_in c.make_room.new.seats)
+    c.make_room.new.asked.items c.self.inside.manager follows.3.1 refl c.make_room.ensures.statements
     c.make_room.ensures.queries refl in
     (subst IsCore (sym same) c.self.invariant.0, c.self.invariant.1)
 
@@ -182,8 +182,8 @@ returns-in_err-asked-in-Accepted-clause-err c =
     (outcome_of (plain c.self.inside.store) c.args.statement.now) =
     subst (λ (applied : Applied). Follows c.self.inside.store c.apply_to.new.store (Ok applied)
     (outcome_of (plain c.self.inside.store) c.args.statement.now)) c.in-Accepted.is c.in_ok-reply.ensures.follows in
-    let same = same-parts (the_view c.self.inside) c.apply_to.new.store c.make_room.new.log.items (statements_in c.make_room.new.seats)
-    c.make_room.new.asked.items c.self.inside.manager follows.3.1 c.make_room.ensures.changes c.make_room.ensures.statements
+    let same = same-parts (the_view c.self.inside) c.apply_to.new.store c.self.inside.log (statements_in c.make_room.new.seats)
+    c.make_room.new.asked.items c.self.inside.manager follows.3.1 refl c.make_room.ensures.statements
     c.make_room.ensures.queries refl in
     on-error c.from_residual-in_err-asked-in-Accepted.result (same ∙ c.self.view_is)
 
@@ -193,8 +193,8 @@ invariant_of-self-in_err-accept-in-Accepted c =
     (outcome_of (plain c.self.inside.store) c.args.statement.now) =
     subst (λ (applied : Applied). Follows c.self.inside.store c.apply_to.new.store (Ok applied)
     (outcome_of (plain c.self.inside.store) c.args.statement.now)) c.in-Accepted.is c.in_ok-reply.ensures.follows in
-    let same = same-parts (the_view c.self.inside) c.apply_to.new.store c.make_room.new.log.items (statements_in c.make_room.new.seats)
-    c.accept.new.asked.items c.accept.new.manager follows.3.1 c.make_room.ensures.changes c.make_room.ensures.statements
+    let same = same-parts (the_view c.self.inside) c.apply_to.new.store c.self.inside.log (statements_in c.make_room.new.seats)
+    c.accept.new.asked.items c.accept.new.manager follows.3.1 refl c.make_room.ensures.statements
     (ap (λ (list : Roomy AskedQuery). list.items) c.in_err-accept-in-Accepted.ensures.err_queries ∙ c.make_room.ensures.queries) c.in_err-accept-in-Accepted.ensures.err_lives in
     (subst IsCore (sym same) c.self.invariant.0, c.self.invariant.1)
 
@@ -204,8 +204,8 @@ returns-in_err-accept-in-Accepted-clause-err c =
     (outcome_of (plain c.self.inside.store) c.args.statement.now) =
     subst (λ (applied : Applied). Follows c.self.inside.store c.apply_to.new.store (Ok applied)
     (outcome_of (plain c.self.inside.store) c.args.statement.now)) c.in-Accepted.is c.in_ok-reply.ensures.follows in
-    let same = same-parts (the_view c.self.inside) c.apply_to.new.store c.make_room.new.log.items (statements_in c.make_room.new.seats)
-    c.accept.new.asked.items c.accept.new.manager follows.3.1 c.make_room.ensures.changes c.make_room.ensures.statements
+    let same = same-parts (the_view c.self.inside) c.apply_to.new.store c.self.inside.log (statements_in c.make_room.new.seats)
+    c.accept.new.asked.items c.accept.new.manager follows.3.1 refl c.make_room.ensures.statements
     (ap (λ (list : Roomy AskedQuery). list.items) c.in_err-accept-in-Accepted.ensures.err_queries ∙ c.make_room.ensures.queries) c.in_err-accept-in-Accepted.ensures.err_lives in
     on-error c.from_residual-in_err-accept-in-Accepted.result (same ∙ c.self.view_is)
 
@@ -241,9 +241,6 @@ stand-requires-in-Accepted-clause-there c =
 
 pub stand-requires-in-Accepted-clause-room : goal.stand-requires-in-Accepted-clause-room
 stand-requires-in-Accepted-clause-room c = c.in_ok-make_room.ensures.for_statement
-
-pub push_reserved-requires : goal.push_reserved-requires
-push_reserved-requires c = c.in_ok-make_room.ensures.for_change
 
 pub accept-requires-clause-room : goal.accept-requires-clause-room
 accept-requires-clause-room c = c.in_ok-make_room.ensures.for_query
