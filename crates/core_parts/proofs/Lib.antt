@@ -5,4 +5,5 @@ pub mod NumberLemmas
 pub mod OrderLemmas
 pub mod PassingLemmas
 pub mod SeatLemmas
+pub mod GoneLemmas
 pub mod TurnLemmas

@@ -74,6 +74,10 @@ NoneIsWaited count statements = All (λ submitted. is_waited submitted.standing 
 abbrev pub NoneIsTaken : (place : ℕ) → List Submitted → Type 0
 NoneIsTaken place statements = All (λ submitted. is_taken submitted.standing ≡ false) (drop place statements)
 
+-- none of the statements that were let go is waited for
+abbrev pub AreGone : List Submitted → Type 0
+AreGone gone = All (λ submitted. is_waited submitted.standing ≡ false) gone
+
 -- the next reply is to a statement at this place or behind it, and so is none that was taken
 pub record AreInTurn (next : ℕ) (statements : List Submitted) : Type 0 where
   pub in_range : next ≤ length statements

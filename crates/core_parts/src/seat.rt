@@ -4,40 +4,43 @@ ghost use Rattle.std.specs.Option.{option_map_or};
 ghost use Rattle.std.specs.List.Sorted.{IsPartitionPoint};
 ghost use Rattle.pipeline_manager.specs.Conditions.{is_open};
 ghost use Rattle.pipeline_manager.specs.Lives.{life_of};
+ghost use Rattle.star_lists.specs.Faded.{items_of};
 ghost use Rattle.core_parts.specs.Seated.{with_taken, without_pending};
 ghost use Rattle.core_parts.specs.Known.{Known};
-ghost use Rattle.core_parts.specs.Seats.{seat_as, pending_as, is_waited, when_taken, standing_as, is_waited_as, NoneIsWaitedAs, IsWaitedAt, AreInTurn, is_open_in};
+ghost use Rattle.core_parts.specs.Seats.{seat_as, pending_as, is_waited, when_taken, standing_as, is_waited_as, NoneIsWaitedAs, IsWaitedAt, AreGone, AreInTurn, is_open_in};
 ghost use Rattle.core_parts.specs.declared.submitted.Submitted.{Submitted};
 ghost use Rattle.core_parts.specs.declared.submitted.Standing.TheVariants.{IsAbandoned};
 
 use crate::submitted::{Standing, Submitted};
 use pipeline_manager::{Life, Manager};
-use star_lists::ListWithRoom;
+use star_lists::Fading;
 use star_values::NoMemory;
 use std::alloc::Global;
 use std::marker::Model;
 use std::mem;
 
-/// The statements that a seat submitted, in their order. Replies are taken in that order.
+/// The statements that a seat submitted, in their order. Replies are taken in that order, and a statement that is not waited for
+/// any more costs nothing once those before it are not either.
 #[derive(Debug, Drop)]
 pub struct Seat {
-    statements: ListWithRoom<Submitted>,
+    statements: Fading<Submitted>,
 
-    /// How many statements at the front are known not to be waited for. It only grows, and with each
-    /// reply it comes to the next statement that is waited for, so no search begins at the front.
+    /// How many statements at the front of those that were not let go are known not to be waited for. With each reply it comes to
+    /// the next statement that is waited for, so no search begins at the front.
     next: usize,
 }
 
 impl Model for Seat {
     ghost use Rattle.star_lists.specs.Roomy.{Roomy};
+    ghost use Rattle.star_lists.specs.Faded.{items_of};
     ghost use Rattle.core_parts.specs.declared.submitted.Submitted.{Submitted};
-    ghost use Rattle.core_parts.specs.Seats.{AreInTurn};
+    ghost use Rattle.core_parts.specs.Seats.{AreGone, AreInTurn};
 
     ghost Value = { Roomy Submitted };
 
-    ghost view = { λ seat. seat.statements };
+    ghost view = { λ seat. record { items = items_of seat.statements; room = seat.statements.room } };
 
-    ghost invariant = { λ seat. AreInTurn seat.next seat.statements.items };
+    ghost invariant = { λ seat. AreInTurn seat.next seat.statements.rest × AreGone seat.statements.gone };
 }
 
 impl Seat {
@@ -45,15 +48,9 @@ impl Seat {
         ensures { result.items ≡ [] }
     {
         Seat {
-            statements: ListWithRoom::new(alloc),
+            statements: Fading::new(alloc),
             next: 0,
         }
-    }
-
-    pub fn statements(&self) -> &[Submitted]
-        ensures { result.now ≡ self.now.items }
-    {
-        self.statements.as_slice()
     }
 
     /// Makes room for one statement more.
@@ -80,7 +77,7 @@ impl Seat {
         ensures pending { (known : List Known) → option_and_then (pending_as known) (option_map (λ submitted. submitted.now) result)
             ≡ slice_get (seat_as known self.now.items).pending 0 }
     {
-        first_in(self.statements.as_slice(), self.next)
+        first_in(self.statements.rest(), self.next)
     }
 
     /// Takes the reply to the first statement that is waited for, and gives how that statement stood.
@@ -91,9 +88,10 @@ impl Seat {
         ensures taken { (known : List Known) → seat_as known self.new.items ≡ with_taken (seat_as known self.old.items) }
         ensures numbers { map (λ submitted. submitted.number) self.new.items ≡ map (λ submitted. submitted.number) self.old.items }
     {
-        let place = first_waited(self.statements.as_slice(), self.next);
+        let place = first_waited(self.statements.rest(), self.next);
         let standing = take_at(&mut self.statements, place);
-        self.next = first_waited(self.statements.as_slice(), place + 1);
+        self.next = first_waited(self.statements.rest(), place + 1);
+        settle(&mut self.statements, &mut self.next);
         standing
     }
 
@@ -104,7 +102,8 @@ impl Seat {
         ensures numbers { map (λ submitted. submitted.number) self.new.items ≡ map (λ submitted. submitted.number) self.old.items }
     {
         abandon_in(&mut self.statements, number);
-        self.next = first_waited(self.statements.as_slice(), self.next);
+        self.next = first_waited(self.statements.rest(), self.next);
+        settle(&mut self.statements, &mut self.next);
     }
 
     /// The number of the first statement that is waited for and is a query that may still be answered.
@@ -112,7 +111,22 @@ impl Seat {
         ensures { (known : List Known) → result ≡ option_map (λ pending. pending.statement)
             (find (λ pending. option_map_or is_open (life_of manager.now pending.statement) false) (seat_as known self.now.items).pending) }
     {
-        first_open_in(self.statements.as_slice(), self.next, manager)
+        first_open_in(self.statements.rest(), self.next, manager)
+    }
+}
+
+/// Lets the first statements go, so many, none of which is waited for, once they are as many as those behind them. So each is moved
+/// twice at most.
+fn settle(statements: &mut Fading<Submitted>, next: &mut usize)
+    requires turn { AreInTurn next.old statements.old.rest }
+    requires gone { AreGone statements.old.gone }
+    ensures turn { AreInTurn next.new statements.new.rest }
+    ensures gone { AreGone statements.new.gone }
+    ensures items { items_of statements.new ≡ items_of statements.old }
+{
+    if *next >= statements.rest().len() - *next {
+        statements.forget(*next);
+        *next = 0;
     }
 }
 
@@ -160,37 +174,40 @@ fn first_in(statements: &[Submitted], from: usize) -> Option<&Submitted>
 
 /// Writes how the statement at a place stands, and gives how it stood.
 fn replace_standing(
-    statements: &mut ListWithRoom<Submitted>,
+    statements: &mut Fading<Submitted>,
     place: usize,
     standing: Standing,
 ) -> Standing
-    requires { place < length statements.old.items }
-    ensures before { (d : Submitted) → result ≡ (slice_index_or statements.old.items place d).standing }
-    ensures after { (d : Submitted) → statements.new.items
-        ≡ slice_set statements.old.items place (standing_as standing (slice_index_or statements.old.items place d)) }
+    requires { place < length statements.old.rest }
+    ensures before { (d : Submitted) → result ≡ (slice_index_or statements.old.rest place d).standing }
+    ensures after { (d : Submitted) → statements.new.rest
+        ≡ slice_set statements.old.rest place (standing_as standing (slice_index_or statements.old.rest place d)) }
+    ensures gone { statements.new.gone ≡ statements.old.gone }
 {
-    mem::replace(&mut statements.as_mut_slice()[place].standing, standing)
+    mem::replace(&mut statements.rest_mut()[place].standing, standing)
 }
 
 /// Takes the reply to the statement at a place, and gives how the statement stood.
-fn take_at(statements: &mut ListWithRoom<Submitted>, place: usize) -> Standing
-    requires { place < length statements.old.items }
-    ensures before { (d : Submitted) → result ≡ (slice_index_or statements.old.items place d).standing }
-    ensures after { (d : Submitted) → statements.new.items ≡ slice_set statements.old.items place
-        (standing_as (when_taken (slice_index_or statements.old.items place d).standing) (slice_index_or statements.old.items place d)) }
+fn take_at(statements: &mut Fading<Submitted>, place: usize) -> Standing
+    requires { place < length statements.old.rest }
+    ensures before { (d : Submitted) → result ≡ (slice_index_or statements.old.rest place d).standing }
+    ensures after { (d : Submitted) → statements.new.rest ≡ slice_set statements.old.rest place
+        (standing_as (when_taken (slice_index_or statements.old.rest place d).standing) (slice_index_or statements.old.rest place d)) }
+    ensures gone { statements.new.gone ≡ statements.old.gone }
 {
-    let standing = when_taken(&statements.as_slice()[place].standing);
+    let standing = when_taken(&statements.rest()[place].standing);
     replace_standing(statements, place, standing)
 }
 
 /// Gives up the statement of this number, if it is waited for.
-fn abandon_in(statements: &mut ListWithRoom<Submitted>, number: u64)
-    requires { AllPairs (λ statement later. statement < later) (map (λ submitted. submitted.number) statements.old.items) }
-    ensures seat { (known : List Known) → seat_as known statements.new.items ≡ without_pending number (seat_as known statements.old.items) }
-    ensures numbers { map (λ submitted. submitted.number) statements.new.items ≡ map (λ submitted. submitted.number) statements.old.items }
-    ensures turn { (next : ℕ) → AreInTurn next statements.old.items → AreInTurn next statements.new.items }
+fn abandon_in(statements: &mut Fading<Submitted>, number: u64)
+    requires { AllPairs (λ statement later. statement < later) (map (λ submitted. submitted.number) statements.old.rest) }
+    ensures seat { (known : List Known) → seat_as known statements.new.rest ≡ without_pending number (seat_as known statements.old.rest) }
+    ensures numbers { map (λ submitted. submitted.number) statements.new.rest ≡ map (λ submitted. submitted.number) statements.old.rest }
+    ensures turn { (next : ℕ) → AreInTurn next statements.old.rest → AreInTurn next statements.new.rest }
+    ensures gone { statements.new.gone ≡ statements.old.gone }
 {
-    if let Some(place) = waited_place(statements.as_slice(), number) {
+    if let Some(place) = waited_place(statements.rest(), number) {
         replace_standing(statements, place, Standing::IsAbandoned);
     }
 }
