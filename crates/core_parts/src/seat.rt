@@ -115,8 +115,8 @@ impl Seat {
     }
 }
 
-/// Lets the first statements go, so many, none of which is waited for, once they are as many as those behind them. So each is moved
-/// twice at most.
+/// Lets the first statements go, so many, none of which is waited for, once they are as many as those behind them: no more are
+/// moved than let go.
 fn settle(statements: &mut Fading<Submitted>, next: &mut usize)
     requires turn { AreInTurn next.old statements.old.rest }
     requires gone { AreGone statements.old.gone }

@@ -14,7 +14,7 @@ use star_parser::{AstItem, Column, Relation, Tree};
 use star_plan::{
     Choice, ChoiceList, How, Item, ItemList, Place, PlaceList, Predicate, PredicateList, Table,
 };
-use star_values::{LiteralList, NoMemory, Value};
+use star_values::{LiteralList, NoMemory};
 use std::alloc::Global;
 
 /// A condition on one table as a predicate on its rows.
@@ -50,7 +50,7 @@ fn bound_test(alloc: Global, scope: &Scope, tree: &Tree) -> Result<Predicate, No
         }),
         Tree::OneOf { column, values } => Ok(Predicate::OneOf {
             column: scope.number_of(column),
-            values: copied(alloc, values.as_slice())?,
+            values: LiteralList::copy_of(alloc, values.as_slice())?,
         }),
     }
 }
@@ -79,16 +79,6 @@ fn how_of(how: Relation) -> How
         Relation::Gt => How::Gt,
         Relation::Ge => How::Ge,
     }
-}
-
-fn copied(alloc: Global, values: &[Value]) -> Result<LiteralList, NoMemory>
-    ensures { IfOk result (λ copy. copy ≡ values.now) }
-{
-    let mut copy = Vec::with_capacity(alloc, values.len())?;
-    'values: for value in values {
-        copy.push(value.copy()?)?;
-    }
-    Ok(LiteralList::from(copy))
 }
 
 /// The conditions on a table among the conjuncts, as one predicate.

@@ -1,5 +1,10 @@
 -- The test that a predicate is, by its parts; and where a test holds and fits comes from where its members do.
-use Rattle.std.proofs.Common.{◌≡◌, ◌↔◌, ℕ, Bool, true, ◌||◌, ◌&&◌, List, [], ◌∷◌, map, not, refl, ap, ◌∙◌, sym}
+use Rattle.std.proofs.Common.{◌≡◌, ◌↔◌, ℕ, Bool, true, false, ◌||◌, ◌&&◌, List, [], ◌∷◌, map, not, None, Option, Some, option_map, pos, slice_get, refl, ap, ◌∙◌, sym}
+use Rattle.std.specs.Option.{option_map_or}
+use Rattle.std.proofs.lemmas.Option.{get_or_from_slice_get, slice_get-map}
+use Rattle.star_values.specs.Literals.{is_same}
+use Rattle.star_values.specs.Value.{kind_of}
+use Rattle.star_values.specs.declared.value.Value.TheVariants.{Int}
 use Rattle.std.specs.Bool.{Decides, IsTrue}
 use Rattle.std.specs.List.{All, Any, list_all, list_any}
 use Rattle.std.proofs.lemmas.Bool.Decides.{Decides-and, Decides-at, Decides-by_and, Decides-not}
@@ -19,7 +24,7 @@ use Rattle.star_plan.specs.Members.{members_of}
 use Rattle.star_plan.specs.Test.{Test, test_of, test_step, tests}
 use Rattle.star_plan.specs.Test as plain
 use Rattle.star_plan.specs.Truth.{all_hold, compares_at, some_holds, test_holds}
-use Rattle.star_plan.specs.Fits.{all_fit, test_fits}
+use Rattle.star_plan.specs.Fits.{all_fit, fits_column, same_kind, test_fits}
 
 pub test_of-Compare : (column : ℕ) (how : How) (value : Value) → test_of (Compare column how value) ≡ plain.Compare column how value
 test_of-Compare column how value =
@@ -130,3 +135,20 @@ OneOf-law row column values = Decides-list_any (compares_at row column Eq) value
 pub any_alike : {X : Type 0} (p q : X → Bool) (xs : List X) → ((x : X) → p x ≡ q x) → list_any p xs ≡ list_any q xs
 any_alike p q [] e = refl
 any_alike p q (x ∷ xs) e = ap (λ b. b || list_any p xs) (e x) ∙ ap (λ b. q x || b) (any_alike p q xs e)
+
+-- Whether a value is among others.
+
+-- where a row has no such column, no value fits there
+pub past-equals : (row : List Value) (column : ℕ) (values : List Value) → IsTrue (list_all (fits_column (map kind_of row) column) values)
+    → slice_get row column ≡ None → false ≡ list_any (compares_at row column Eq) values
+past-equals row column [] fits past = refl
+past-equals row column (value ∷ values) fits past =
+    let none : fits_column (map kind_of row) column value ≡ false =
+    ap (λ kind. option_map_or (λ k. same_kind k (kind_of value)) kind false) (slice_get-map kind_of row column ∙ ap (option_map kind_of) past) in
+    absurd (let apart : false ≡ true = sym (ap (λ test. test && list_all (fits_column (map kind_of row) column) values) none) ∙ fits in cc)
+
+-- and else the value there is compared with each
+pub own-equals : (row : List Value) (column : ℕ) (values : List Value) (own : Value) (found : Bool) → slice_get row column ≡ Some own
+    → found ≡ list_any (is_same own) values → found ≡ list_any (compares_at row column Eq) values
+own-equals row column values own found there is =
+    is ∙ ap (λ (value : Value). list_any (is_same value) values) (sym (get_or_from_slice_get row column own (Int (pos 0)) there))

@@ -36,16 +36,21 @@ fn compare_at(row: &Row, column: u8, how: How, value: &Value) -> bool
     compare(&row.as_slice()[column as usize], how, value)
 }
 
+/// The value in a column of a row, where there is one.
+fn value_at(row: &Row, column: u8) -> Option<&Value>
+    ensures { option_map (λ value. value.now) result ≡ slice_get row.now column }
+{
+    row.as_slice().get(column as usize)
+}
+
 fn equals_one(row: &Row, column: u8, values: &LiteralList) -> bool
     requires { IsTrue (list_all (fits_column (kinds_in row.now) column) values.now) }
     ensures { result ≡ list_any (compares_at row.now column Eq) values.now }
 {
-    for value in values.as_slice() {
-        if compare_at(row, column, How::Eq, value) {
-            return true;
-        }
+    match value_at(row, column) {
+        None => false,
+        Some(own) => values.has(own),
     }
-    false
 }
 
 /// Whether a predicate holds on a row.

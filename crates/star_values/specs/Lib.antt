@@ -8,3 +8,4 @@ pub mod TextFault
 pub mod StatementFault
 pub mod OrderLaws
 pub mod Lends
+pub mod Literals

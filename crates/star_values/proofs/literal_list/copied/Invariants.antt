@@ -1,5 +1,5 @@
 use Rattle.std.proofs.Common.{◌≡◌, ◌++◌, drop}
-use Rattle.star_binder.proofs.bound.copied.Given as goal
+use Rattle.star_values.proofs.literal_list.copied.Given as goal
 
 -- the copies so far, and the values that are left, are all
 abbrev pub invariant-values : goal.invariant-values
