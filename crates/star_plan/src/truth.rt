@@ -1,5 +1,5 @@
 //! When a predicate holds on a row.
-ghost use Rattle.std.specs.Prelude.{◌≡◌, ◌↔◌, ℕ, IsTrue, All, Any, List};
+ghost use Rattle.std.specs.Prelude.{◌≡◌, ◌↔◌, ℕ, IsTrue, All, Any, List, option_map, slice_get};
 ghost use Rattle.std.specs.List.{list_all, list_any};
 ghost use Rattle.star_values.specs.declared.value.Value.{Value};
 ghost use Rattle.star_plan.specs.declared.predicate.How.{How};
