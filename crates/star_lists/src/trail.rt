@@ -25,15 +25,16 @@ enum Past<T> {
 
 impl<T> Model for Trail<T> {
     ghost use Rattle.std.specs.Prelude.{List, length};
-    ghost use Rattle.star_lists.specs.Past.{entries_of};
 
     ghost Value = { List T };
 
+    ghost use Rattle.star_lists.specs.Past.{entries_of};
+
     ghost view = { λ trail. entries_of trail.past.value };
 
-    ghost use Rattle.std.proofs.Common.{arith, length-append};
-
     ghost size = { length };
+
+    ghost use Rattle.std.proofs.Common.{arith, length-append};
 
     ghost size_decreases = { λ trail holds. Prim.grind (arith, length-append) };
 }
