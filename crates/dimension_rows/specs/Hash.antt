@@ -3,7 +3,7 @@ use Rattle.std.specs.Prelude.{ℕ, List, map, Option, Some, None}
 use Rattle.std.specs.Int.{w64, cast_unsigned}
 use Rattle.std.specs.RandomState.{initial_hasher}
 use Rattle.std.specs.declared.random_state.RandomState.{RandomState}
-use Rattle.core.specs.Hash.DefaultHasher as sip
+use Rattle.std.specs.Hash.DefaultHasher as sip
 use Rattle.star_values.specs.declared.value.Value.{Value}
 use Rattle.star_values.specs.declared.value.Value.TheVariants.{Int, Str}
 use Rattle.dimension_rows.specs.declared.dimension_row.DimensionRow.{DimensionRow}
