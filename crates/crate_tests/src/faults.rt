@@ -62,8 +62,28 @@ fn ends<R: Threads + Sync>(
 fn a_run_ends_at_a_fault_in_mid_stream(rt: HostRuntime) -> Result<(), Fail> {
     let replies = "table store\ntable sales\ncommit 1 rows 2\n";
     let hash_keys = RandomState::new(&rt)?;
-    assert!(rt; ends(&rt, rt.alloc(), hash_keys, 1, NEVER, RunEnd::ReadFault, replies)?);
-    assert!(rt; ends(&rt, rt.alloc(), hash_keys, NEVER, 1, RunEnd::WriteFault, "table st")?);
+    assert!(rt;
+        ends(
+            &rt,
+            rt.alloc(),
+            hash_keys,
+            1,
+            NEVER,
+            RunEnd::ReadFault,
+            replies
+        )?
+    );
+    assert!(rt;
+        ends(
+            &rt,
+            rt.alloc(),
+            hash_keys,
+            NEVER,
+            1,
+            RunEnd::WriteFault,
+            "table st"
+        )?
+    );
     Ok(())
 }
 

@@ -56,7 +56,15 @@ fn connections_are_served_until_the_door_ends(rt: HostRuntime) -> Result<(), Fai
     links.push(link_of(alloc, "wait\n", NEVER)?)?;
     let mut door = ListDoor::new(links, Vec::new(alloc));
     assert_eq!(rt;
-        serve(&rt, alloc, RandomState::new(&rt)?, SETTINGS, 5432, 0, &mut door),
+        serve(
+            &rt,
+            alloc,
+            RandomState::new(&rt)?,
+            SETTINGS,
+            5432,
+            0,
+            &mut door
+        ),
         ServeEnd::Ended
     );
     Ok(())

@@ -67,7 +67,10 @@ pub(crate) fn push_row(
 {
     let before = rows.len();
     let kept = append_to_columns(integers, codes, before, &entry.row);
-    let inserted: Result<Option<u32>, _> = newest.insert(row_hash(hash_keys, &entry.row), before as u32);
+    let inserted: Result<Option<u32>, _> = newest.insert(
+        row_hash(hash_keys, &entry.row),
+        before as u32,
+    );
     older.push_reserved(inserted.unwrap());
     rows.push_reserved(entry);
     kept

@@ -13,8 +13,8 @@ use reply_text::print_reply;
 use script_reader::{Next, ScriptReader};
 use star_values::{ByteText, NoMemory};
 use std::alloc::{AllocError, Global};
-use std::hash::RandomState;
 use std::fmt::Write;
+use std::hash::RandomState;
 use std::str;
 use std::thread::Threads;
 

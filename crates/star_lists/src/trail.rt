@@ -1,10 +1,9 @@
 //! A list that grows and has no bytes. A list whose front becomes one is in `fading`.
 ghost use Rattle.std.specs.Prelude.{◌≡◌, [], ◌∷◌, ◌++◌};
 
-use std::fmt;
 use std::marker::Model;
-use std::mem;
 use std::snapshot::Snapshot;
+use std::{fmt, mem};
 
 /// All that was put in, in order, as contracts see it. It has no bytes, and no code can read it.
 ///

@@ -27,7 +27,16 @@ fn main(rt: HostRuntime) -> ExitCode {
             let mut sink = StdSink::new(io::writer(&rt));
             let mut door = TcpDoor::new(&rt);
             let alloc = rt.alloc();
-            cjoin(&rt, alloc, hash_keys, &words, &mut source, &mut sink, &mut door).status
+            cjoin(
+                &rt,
+                alloc,
+                hash_keys,
+                &words,
+                &mut source,
+                &mut sink,
+                &mut door,
+            )
+            .status
         }
         Err(status) => status,
     };

@@ -142,9 +142,7 @@ pub fn run_words<R: Threads + Sync, S: Source, K: Sink>(
 {
     match read_words(alloc, words) {
         Ok(Some(settings)) => match settings.mode {
-            Mode::Run => {
-                Words::Ran(run_shared(rt, alloc, hash_keys, &settings, source, sink))
-            }
+            Mode::Run => { Words::Ran(run_shared(rt, alloc, hash_keys, &settings, source, sink)) }
             Mode::Alone => Words::Ran(run_each_alone(alloc, hash_keys, source, sink)),
             Mode::Make => Words::Ran(run_workload(rt, alloc, hash_keys, &settings, sink)),
             Mode::Serve => Words::Serve(settings),
