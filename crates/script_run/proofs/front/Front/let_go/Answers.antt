@@ -6,7 +6,7 @@ use Rattle.script_run.proofs.HomeLetLemmas.{leaving-then, left-home}
 use Rattle.script_run.proofs.front.Front.let_go.Goals as goal
 
 pub abandon_open-requires : goal.abandon_open-requires
-abandon_open-requires c = subst (λ (front : FrontParts). Owns (state_of front.core)) (sym c.self.view_is) c.requires.own
+abandon_open-requires c = record { own = subst (λ (front : FrontParts). Owns (state_of front.core)) (sym c.self.view_is) c.requires.own }
 
 pub invariant_of-self : goal.invariant_of-self
 invariant_of-self c =
