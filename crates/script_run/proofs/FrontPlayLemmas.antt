@@ -1,5 +1,5 @@
 -- A statement that the front gives to a core, or for which no memory was left, and the replies that are written then.
-use Rattle.script_run.proofs.Words.{◌++◌, ◌+◌, ◌<◌, ◌||◌, ◌∙◌, ◌∷◌, ◌≡◌, ◌≢◌, ◌≤◌, ◌⊎◌, [], after_submitting, Answered, ap, append_assoc, Appends, Appends-nil, AppendsFront, aside-outcome, Bool, Err, false, Finishes, Gives, GoesRound, Halt, IfOk, inl, inr, is_refusal, is_wait, IsSound, IsTrue, length, List, list_any, Memory, NoMemory, None, Ok, OnOk, Option, outcome_of, queries_awaited, refl, Result, seat_at, Some, State, Statement, Submit, subst, sym, tables_of, take, text_of, Took, true, ℕ, ⊎_elim}
+use Rattle.script_run.proofs.Words.{◌++◌, ◌+◌, ◌<◌, ◌||◌, ◌∙◌, ◌∷◌, ◌≡◌, ◌≢◌, ◌≤◌, ◌⊎◌, [], after_submitting, Answered, ap, append_assoc, Appends, Appends-nil, AppendsFront, aside-outcome, Bool, CountsOne, Err, false, Finishes, Gives, GoesRound, Halt, IfOk, inl, inr, is_refusal, is_wait, IsSound, IsTrue, length, List, list_any, Memory, NoMemory, None, Ok, OnOk, Option, outcome_of, queries_awaited, refl, Result, seat_at, Some, State, Statement, Submit, subst, sym, tables_of, take, text_of, Took, true, ℕ, ⊎_elim}
 use Rattle.std.specs.Prelude.{OnErr}
 use Rattle.std.proofs.lemmas.List.Folds.{list_any-append}
 use Rattle.core_state.specs.Events.{after_event}

@@ -9,7 +9,7 @@ ghost use Rattle.script_run.specs.Answer.{CountsHalt};
 ghost use Rattle.script_run.specs.Home.{IsAtHome, IsServed, LetsGo, Owns, RepliesWhole, Serves};
 ghost use Rattle.script_run.specs.Leaving.{IsLeaving};
 
-use crate::front::Front;
+use crate::front::{Front, every_front_is_sound};
 use crate::halt::Halt;
 use crate::shared::play_whole;
 use core_state::{Event, a_reply_that_may_be_taken_is_right};
@@ -37,6 +37,8 @@ impl Front {
         ensures faults { CountsHalt result (K.writing sink.old) (K.writing sink.new) }
         ensures apart { K.reading_side sink.new ≡ K.reading_side sink.old }
     {
+        // It is called for what it ensures.
+        every_front_is_sound(self);
         play_whole(rt, self, reader, sink)?;
         self.play_out(rt, sink)?;
         Ok(())

@@ -3,7 +3,7 @@ use Rattle.script_run.proofs.SharedEndLemmas.{none-shared, run-by, shared-by}
 use Rattle.script_run.proofs.shared.run_script.Goals as goal
 
 pub play_script-end-requires-clause-empty : goal.play_script-end-requires-clause-empty
-play_script-end-requires-clause-empty g c =
+play_script-end-requires-clause-empty g c κs within =
     c.in-Ok.ensures.core ∙ ap (λ (state : State). empty_core state.settings) (sym c.in-Ok.ensures.core)
 
 pub returns-in_default-clause-answers : goal.returns-in_default-clause-answers

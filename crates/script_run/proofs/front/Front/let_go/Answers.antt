@@ -6,7 +6,7 @@ use Rattle.script_run.proofs.HomeLetLemmas.{leaving-then, left-home}
 use Rattle.script_run.proofs.front.Front.let_go.Goals as goal
 
 pub abandon_open-requires : goal.abandon_open-requires
-abandon_open-requires c = subst (λ (front : FrontParts). Owns (state_of front.core)) (sym c.self.view_is) c.requires
+abandon_open-requires c = record { own = subst (λ (front : FrontParts). Owns (state_of front.core)) (sym c.self.view_is) c.requires.own }
 
 pub invariant_of-self : goal.invariant_of-self
 invariant_of-self c =
@@ -17,7 +17,7 @@ invariant_of-self c =
 pub returns-clause-home : goal.returns-clause-home
 returns-clause-home c =
     left-home c.drop_ready.new.core (state_of c.self.inside.core) (state_of c.abandon_open.new.core)
-    (subst (λ (front : FrontParts). Owns (state_of front.core)) (sym c.self.view_is) c.requires) c.self.invariant.hands
+    (subst (λ (front : FrontParts). Owns (state_of front.core)) (sym c.self.view_is) c.requires.own) c.self.invariant.hands
     c.abandon_open.ensures.leaves c.drop_ready.ensures.leaves c.drop_ready.ensures.sound (c.drop_ready.ensures.all c.abandon_open.ensures.closed)
 
 pub returns-clause-lets_go : goal.returns-clause-lets_go

@@ -1,8 +1,13 @@
-use Rattle.script_run.proofs.Words.{err_from_is_err_and, state_of}
+use Rattle.script_run.proofs.Words.{◌<◌, err_from_is_err_and, state_of, subst, sym}
+use Rattle.script_run.proofs.FrontNewLemmas.{some-slots}
 use Rattle.script_run.proofs.FrontRunLemmas.{run-then}
 use Rattle.script_run.proofs.HomeReplyLemmas.{replies-halted, replies-stopped, replies-whole}
 use Rattle.script_run.proofs.HomeStepsLemmas.{owns-after, served-run}
 use Rattle.script_run.proofs.front.Front.reply_whole.Goals as goal
+
+pub play_whole-requires-clause-free : goal.play_whole-requires-clause-free
+play_whole-requires-clause-free g c κs within =
+    subst (λ n. n < (state_of c.args.self.now.core).settings.slots) (sym c.requires.home.none) (some-slots _ c.every_front_is_sound.ensures.settings)
 
 pub returns-in_err-play_whole-clause-replies : goal.returns-in_err-play_whole-clause-replies
 returns-in_err-play_whole-clause-replies g c =
