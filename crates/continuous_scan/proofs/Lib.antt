@@ -12,3 +12,4 @@ pub mod LimitLemmas
 pub mod MetLemmas
 pub mod VectorLemmas
 pub mod MeantLemmas
+pub mod CrossingLemmas

@@ -1,9 +1,9 @@
 //! Which integers stand for all others where the range tests of a column are asked. What these let pass
 //! is in `by_value`.
-ghost use Rattle.std.specs.Prelude.{All, IfSome};
+ghost use Rattle.std.specs.Prelude.{◌≡◌, ◌==◌, All, IfSome};
 ghost use Rattle.continuous_scan.specs.ByValue.{IsConditionInside, IsInside, IsTestInside, IsWider, Surrounds};
 
-use range_tests::{Condition, RangeTest};
+use range_tests::{Bounds, Condition, RangeTest};
 
 /// How many range tests a column has at least that is met by value.
 const FEWEST_TESTS: u32 = 2;
@@ -49,18 +49,45 @@ fn with_bound(limits: Limits, bound: &Option<i64>) -> Limits
     }
 }
 
+/// The same limits of one range test more.
+fn with_one_more(limits: Limits) -> Limits
+    ensures { IsWider limits result }
+{
+    Limits {
+        tests: limits.tests.saturating_add(1),
+        least: limits.least,
+        greatest: limits.greatest,
+    }
+}
+
+/// Limits within which the bounds of one range test more are too.
+fn with_bounds(limits: Limits, bounds: &Bounds) -> Limits
+    ensures wider { IsWider limits result }
+    ensures least { IsInside result bounds.now.least }
+    ensures greatest { IsInside result bounds.now.greatest }
+{
+    let more = with_one_more(limits);
+    let below = with_bound(more, &bounds.least);
+    with_bound(below, &bounds.greatest)
+}
+
+/// Whether a range test is one of a column.
+pub(crate) fn is_in(test: &RangeTest, column: u8) -> bool
+    ensures { result ≡ (test.now.column == column) }
+{
+    test.column == column
+}
+
 /// Limits within which the bounds of a range test are too, if it is one of the column.
 fn with_test(limits: Limits, test: &RangeTest, column: u8) -> Limits
     ensures wider { IsWider limits result }
     ensures inside { IsTestInside column result test.now }
 {
-    if test.column != column {
-        return limits;
+    if is_in(test, column) {
+        with_bounds(limits, &test.bounds)
+    } else {
+        limits
     }
-    let below = with_bound(limits, &test.bounds.least);
-    let mut both = with_bound(below, &test.bounds.greatest);
-    both.tests = both.tests.saturating_add(1);
-    both
 }
 
 /// The same with each of some range tests.
