@@ -8,3 +8,8 @@ pub mod BitLemmas
 pub mod UsedLemmas
 pub mod SeenLemmas
 pub mod KeptLemmas
+pub mod LimitLemmas
+pub mod MetLemmas
+pub mod VectorLemmas
+pub mod MeantLemmas
+pub mod CrossingLemmas

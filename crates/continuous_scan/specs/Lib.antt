@@ -6,4 +6,5 @@ pub mod Stamped
 pub mod Batches
 pub mod Calls
 pub mod Examples
+pub mod ByValue
 pub mod Inside

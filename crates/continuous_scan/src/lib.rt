@@ -1,9 +1,12 @@
 //! Which positions of the fact table come next. What is done to the rows of a batch is in the crates above.
 #![tactic(auto)]
 
+mod by_value;
+mod conditions;
 mod crossing;
 mod keeping;
 mod laws;
+mod limits;
 mod range;
 mod runner;
 mod scan;

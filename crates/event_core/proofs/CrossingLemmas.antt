@@ -1,31 +1,16 @@
 -- That a core may be sent to another thread: each of its parts may. Of most parts the crates that declare them have it, as `the_send`.
-use denote.RattleType.{RattleType}
-use denote.Builtin.{u32, u64}
-use denote.Param.Send.{IsSend, IsSync, view_send, sendable}
-use denote.Param.SendFields.{declared_send, declared_sync, as_row_send, as_row_sync}
+use denote.Builtin.{u64}
+use denote.Param.Send.{IsSend, view_send, sendable}
+use denote.Param.SendFields.{declared_send}
 use Rattle.std.proofs.Crossing.{crosses, Arc-send}
 use Rattle.std.proofs.alloc.Global.TheSendSync as heap
-use Rattle.std.specs.contracts.option.Option as option
-use Rattle.star_values.proofs.value.Value.TheSendSync as value
-use Rattle.star_values.proofs.literal_list.LiteralList.TheSendSync as literals
 use Rattle.star_lists.proofs.list_of.ListOf.TheSendSync as list
 use Rattle.star_lists.proofs.list_with_room.ListWithRoom.TheSendSync as roomy
-use Rattle.star_plan.specs.contracts.predicate.Predicate as predicate
-use Rattle.star_plan.proofs.predicate.Predicate.TheLaws.TheKnot as predicates
-use Rattle.star_plan.proofs.predicate.How.TheSendSync as how
-use Rattle.star_plan.specs.contracts.choice.Choice as choice
-use Rattle.star_plan.proofs.place.Place.TheSendSync as place
-use Rattle.star_plan.proofs.item.Item.TheSendSync as item
 use Rattle.star_plan.specs.contracts.star_query.StarQuery as query
 use Rattle.aggregations.proofs.groups.Groups.TheSendSync as groups
+use Rattle.continuous_scan.proofs.CrossingLemmas.{option_send, query_send, query_sync, scan_send}
 use Rattle.core_parts.specs.contracts.asked.Asked as asked
 use Rattle.core_parts.specs.contracts.asked.Asked.TheInside as inside_asked
-use Rattle.continuous_scan.specs.contracts.runner.Runner as runner
-use Rattle.continuous_scan.specs.contracts.runner.Runner.TheInside as inside_runner
-use Rattle.continuous_scan.specs.contracts.slots.Slots as slots
-use Rattle.continuous_scan.specs.contracts.slots.Slots.TheInside as inside_slots
-use Rattle.continuous_scan.specs.contracts.scan.Scan as scan
-use Rattle.continuous_scan.specs.contracts.scan.Scan.TheInside as inside_scan
 use Rattle.star_store.proofs.store.Store.TheSendSync as store
 use Rattle.event_core.proofs.logged.Logged.TheSendSync as logged
 use Rattle.core_parts.proofs.seat.Seat.TheSendSync as seat
@@ -37,66 +22,12 @@ use Rattle.frame_pool.proofs.pool.Pool.TheSendSync as pool
 use Rattle.event_core.specs.contracts.machine.Core as core
 use Rattle.event_core.specs.contracts.machine.Core.TheInside as inside_core
 
--- an option may be sent where its member may
-option_send : (T : RattleType) → IsSend T → IsSend (option.the_row T)
-option_send T sent = search sendable depth 12
-
--- and shared where its member may
-option_sync : (T : RattleType) → IsSync T → IsSync (option.the_row T)
-option_sync T shared = search sendable depth 12
-
--- a predicate may be sent, as a field of another type
-predicate_send : IsSend predicate.the_field.row
-predicate_send = search (sendable, crosses, predicates.crosses, how.the_field_send, value.the_field_send, literals.the_send) depth 20
-
--- and shared
-predicate_sync : IsSync predicate.the_field.row
-predicate_sync = search (sendable, crosses, predicates.crosses, how.the_field_sync, value.the_field_sync, literals.the_sync) depth 20
-
--- what a query asks of a dimension may be sent
-choice_send : IsSend choice.the_row
-choice_send = search (sendable, predicate_send) depth 10
-
--- and shared
-choice_sync : IsSync choice.the_row
-choice_sync = search (sendable, predicate_sync) depth 10
-
--- a query may be sent
-query_send : IsSend query.the_row
-query_send =
-    let fact = option_send predicate.the_row (as_row_send predicate.the_field predicate_send) in
-    declared_send query.the_type (fact, (list.the_send choice.the_row choice_send, (list.the_send _ place.the_send, (list.the_send _ item.the_send, tt))))
-
--- and shared, by all that hold it
-query_sync : IsSync query.the_row
-query_sync =
-    let fact = option_sync predicate.the_row (as_row_sync predicate.the_field predicate_sync) in
-    declared_sync query.the_type (fact, (list.the_sync choice.the_row choice_sync, (list.the_sync _ place.the_sync, (list.the_sync _ item.the_sync, tt))))
-
 -- an accepted query may be sent
 asked_send : IsSend asked.the_row
 asked_send =
     let query = Arc-send query.the_row query_send query_sync in
     let fields = declared_send inside_asked.the_type (search sendable, (search sendable, (query, (search sendable, (option_send _ groups.the_send, tt))))) in
     view_send inside_asked.the_row _ _ _ _ fields
-
--- a query that is given rows, with its condition on the fact table
-runner_send : IsSend runner.the_row
-runner_send =
-    let query = Arc-send query.the_row query_send query_sync in
-    let number : IsSend u32 = search sendable in
-    let fields = declared_send inside_runner.the_type (query, (search sendable, (number, (number, (number, (search (sendable, crosses) depth 40, tt)))))) in
-    view_send inside_runner.the_row _ _ _ _ fields
-
--- the slots of the scan, with those that run in them
-slots_send : IsSend slots.the_row
-slots_send =
-    let running = list.the_send (option.the_row runner.the_row) (option_send runner.the_row runner_send) in
-    view_send inside_slots.the_row _ _ _ _ (declared_send inside_slots.the_type (running, (search sendable, tt)))
-
--- the scan
-scan_send : IsSend scan.the_row
-scan_send = view_send inside_scan.the_row _ _ _ _ (declared_send inside_scan.the_type (search sendable, (slots_send, tt)))
 
 -- two facts as one
 both : {A B : Type 0} → A → B → A × B

@@ -1,5 +1,5 @@
 -- How the holders of the slots are gone through, one after the other.
-use Rattle.event_core.proofs.Words.{◌++◌, ◌+◌, ◌<◌, ◌∙◌, ◌∷◌, ◌≡◌, [], after_spoil, after_stop, All, All-contains, All-head, All-nil, All-tail, ap, arith, bit_at, Bool, CanSpoil, cases_eq, cond, cons_option, eqb, false, filter_map, filter_map-append, fold-append, Free, get_or, get_or-range_with_len, get_or-set_other, get_or-set_same, Has, Held, holder_of, holders_in, IfSome, is_begun, is_held_by, IsTrue, length, length-range_with_len, length-set, life_of, List, list_any, list_any_none, Lives, ne_eqb, None, one-slot, Option, option_map_or, others-stay, position, range_parts, range_with_len, refl, Scanning, set, slot_at, slot_of, slot_of-holder, Some, some-by, stopped_for, subst, sym, true, ℕ, ⊎_elim}
+use Rattle.event_core.proofs.Words.{◌++◌, ◌+◌, ◌-◌, ◌<◌, ◌∙◌, ◌∷◌, ◌≡◌, ◌≤◌, [], after_spoil, after_stop, All, All-contains, All-head, All-nil, All-tail, ap, append-nil, arith, bit_at, Bool, CanSpoil, cases_eq, cond, cons_option, eqb, false, filter_map, filter_map-append, fold-append, Free, get_or, get_or-range_with_len, get_or-set_other, get_or-set_same, Has, Held, holder_of, holders_in, IfSome, is_begun, is_held_by, IsTrue, length, length-range_with_len, length-set, life_of, List, list_any, list_any_none, Lives, ne_eqb, None, one-slot, Option, option_map_or, others-stay, position, range_parts, range_with_len, refl, Scanning, set, slot_at, slot_of, slot_of-holder, Some, some-by, stopped_for, subst, suc, sym, true, zero, ℕ, ⊎_elim}
 use Rattle.std.proofs.Common.{◌↔◌, unwrap_or}
 use Rattle.std.specs.List.{fold}
 use Rattle.pipeline_manager.specs.Sound as managed
@@ -140,6 +140,43 @@ module _ (lives : Lives) (scan : Scanning) (slots slot : ℕ) (now : Lives) (lef
 pub same-below : (lives : Lives) (scan : Scanning) (slots slot : ℕ) (now later : Lives) (left last : Scanning)
     → later ≡ now → last ≡ left → AreSpoiledBelow lives scan slots slot now left → AreSpoiledBelow lives scan slots slot later last
 same-below lives scan slots slot now later left last is at so_far = record { spoiled = is ∙ so_far.spoiled; stopped = at ∙ so_far.stopped }
+
+-- a free slot is held by none
+held-free : (lives : Lives) (slots slot : ℕ) → slot_at lives slot ≡ Free → held_of lives slots slot ≡ None
+held-free lives slots slot free =
+    ap (λ state. cond {A = Option ℕ} (eqb (bit_at slots slot) 1) (holder_of state) None) free ∙ either (eqb (bit_at slots slot) 1)
+  where
+    either : (t : Bool) → cond {A = Option ℕ} t None None ≡ None
+    either true = refl
+    either false = refl
+
+-- free slots behind others change nothing
+held-behind : (lives : Lives) (slots used more : ℕ) → ((slot : ℕ) → used ≤ slot → slot_at lives slot ≡ Free)
+    → held_below lives slots (used + more) ≡ held_below lives slots used
+held-behind lives slots used zero free = let same : used + 0 ≡ used = omega arith in ap (held_below lives slots) same
+held-behind lives slots used (suc more) free =
+    let next : used + suc more ≡ used + more + 1 = omega arith in
+    ap (held_below lives slots) next
+    ∙ held-more lives slots (used + more)
+    ∙ ap (λ holder. held_below lives slots (used + more) ++ cons_option holder [])
+    (held-free lives slots (used + more) (free (used + more) (omega arith)))
+    ∙ append-nil (held_below lives slots (used + more))
+    ∙ held-behind lives slots used more free
+
+-- so the queries that hold slots are those that hold the slots in use, behind which each is free
+pub all-spoiled : (lives : Lives) (scan : Scanning) (slots used slot : ℕ) (now : Lives) (left : Scanning) → slot ≡ used
+    → used ≤ length lives.slots → ((place : ℕ) → used ≤ place → slot_at lives place ≡ Free)
+    → AreSpoiledBelow lives scan slots slot now left → AreSpoiledBelow lives scan slots (length lives.slots) now left
+all-spoiled lives scan slots used slot now left at within free so_far =
+    let whole : used + (length lives.slots - used) ≡ length lives.slots = omega arith in
+    let held : held_below lives slots slot ≡ held_below lives slots (length lives.slots) =
+    ap (held_below lives slots) at
+    ∙ sym (held-behind lives slots used (length lives.slots - used) free)
+    ∙ ap (held_below lives slots) whole in
+    record {
+      spoiled = so_far.spoiled ∙ ap (λ queries. spoiled_all queries lives) held;
+      stopped = so_far.stopped ∙ ap (λ queries. fold (λ before query. stopped_for lives query before) scan queries) held;
+    }
 
 -- a number that is there, or else 0
 pub number-or : (o : Option ℕ) → unwrap_or o 0 ≡ option_map_or (λ number. number) o 0

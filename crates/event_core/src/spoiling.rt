@@ -26,12 +26,12 @@ fn query_at(manager: &Manager, slot: u32) -> Option<u64>
     }
 }
 
-/// For each slot the number of the query that holds it, and 0 where none does.
+/// For each slot the number of the query that holds it, and 0 where none does. Only the slots in use are read.
 pub(crate) fn holders_of(manager: &Manager) -> [u64; MAX_SLOTS]
     ensures { AreHolders manager.now result }
 {
     let mut holders = [0; MAX_SLOTS];
-    for slot in 0..manager.slots() {
+    for slot in 0..manager.used() {
         holders[slot as usize] = query_at(manager, slot).unwrap_or(0);
     }
     holders
@@ -49,13 +49,14 @@ fn query_in(manager: &Manager, slots: Bits<1>, slot: u32) -> Option<u64>
 }
 
 /// Spoils the queries that hold the slots of a set, which all have begun and may still be answered, and ends what runs there.
+/// Only the slots in use are gone over.
 pub(crate) fn spoil_holders(manager: &mut Manager, scan: &mut Scan, slots: Bits<1>)
     requires begun { All (λ query. CanSpoil query manager.old) (holders_in manager.old slots) }
     requires slots { length manager.old.slots ≡ length scan.old.running }
     ensures lives { manager.new ≡ fold (λ lives query. after_spoil query lives) manager.old (holders_in manager.old slots) }
     ensures scan { scan.new ≡ fold (λ now query. stopped_for manager.old query now) scan.old (holders_in manager.old slots) }
 {
-    for slot in 0..manager.slots() {
+    for slot in 0..manager.used() {
         if let Some(query) = query_in(manager, slots, slot) {
             scan.stop(slot);
             manager.spoil(query);
