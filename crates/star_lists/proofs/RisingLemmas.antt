@@ -1,5 +1,5 @@
 -- Lists of members whose numbers rise: where the one of a number stands, what is found of it, and what is written there.
-use Rattle.std.proofs.Common.{◌≡◌, ℕ, zero, suc, ◌<◌, ◌≤◌, Bool, true, false, cond, eqb, List, [], ◌∷◌, length, get_or, set, slice_get, map, Some, None, refl, ap, sym, ◌∙◌, arith, ◌⊎◌, inl, inr, eq-eqb}
+use Rattle.std.proofs.Common.{◌≡◌, ℕ, zero, suc, ◌<◌, ◌≤◌, Bool, true, false, cond, eqb, List, [], ◌∷◌, length, get_or, set, map, Some, None, refl, ap, sym, ◌∙◌, arith, ◌⊎◌, inl, inr, eq-eqb}
 use Rattle.std.specs.List.{All, AllPairs, find, position, position_or_len, refill}
 use Rattle.std.specs.List.Sorted.{IsNonDecreasingBy, IsPartitionPoint}
 use Rattle.std.proofs.lemmas.Bool.{cases_lt, eqb-false, ne_eqb}

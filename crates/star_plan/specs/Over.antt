@@ -5,7 +5,7 @@ use Rattle.star_values.specs.declared.value.Kind.TheVariants as kind
 use Rattle.star_plan.specs.declared.item.Item.{Item}
 use Rattle.star_plan.specs.declared.item.Item.TheVariants.{Plain, CountAll, Count, Sum, Min, Max}
 use Rattle.star_plan.specs.declared.place.Place.{Place}
-use Rattle.star_plan.specs.declared.place.Place.TheVariants.{Fact, Dimension}
+use Rattle.star_plan.specs.declared.place.Place.TheVariants.{Dimension}
 use Rattle.star_plan.specs.declared.schema.Schema.{Schema}
 use Rattle.star_plan.specs.Columns.{dimension_columns, fact_columns, kind_at, kinds_of}
 use Rattle.star_plan.specs.Test.{Query, Selection, Unnamed, AllRows, Chosen}
