@@ -9,11 +9,12 @@ use Rattle.star_lists.proofs.list_with_room.ListWithRoom.TheSendSync as roomy
 use Rattle.star_plan.specs.contracts.star_query.StarQuery as query
 use Rattle.aggregations.proofs.groups.Groups.TheSendSync as groups
 use Rattle.continuous_scan.proofs.CrossingLemmas.{option_send, query_send, query_sync, scan_send}
+use Rattle.star_lists.proofs.CrossingLemmas.{trail_send}
+use Rattle.core_parts.proofs.CrossingLemmas.{seat_send}
 use Rattle.core_parts.specs.contracts.asked.Asked as asked
 use Rattle.core_parts.specs.contracts.asked.Asked.TheInside as inside_asked
 use Rattle.star_store.proofs.store.Store.TheSendSync as store
 use Rattle.event_core.proofs.logged.Logged.TheSendSync as logged
-use Rattle.core_parts.proofs.seat.Seat.TheSendSync as seat
 use Rattle.pipeline_manager.proofs.manager.Manager.TheSendSync as manager
 use Rattle.core_filters.proofs.filters.Filters.TheSendSync as filters
 use Rattle.distributor.proofs.distributor.Distributor.TheSendSync as distributor
@@ -40,6 +41,6 @@ core_send =
     let numbers : IsSend u64 × (IsSend u64 × (IsSend u64 × (IsSend u64 × Unit {0}))) = (number, (number, (number, (number, tt)))) in
     let moving = both distributor.the_send (both flights.the_send (both pool.the_send numbers)) in
     let running = both manager.the_send (both filters.the_send (both scan_send moving)) in
-    let asking = both (search (sendable, crosses) depth 20) (both (list.the_send _ seat.the_send) (both (roomy.the_send _ asked_send) running)) in
+    let asking = both (trail_send _ logged.the_send) (both (list.the_send _ seat_send) (both (roomy.the_send _ asked_send) running)) in
     let fields = declared_send inside_core.the_type (heap.the_send, (search sendable depth 8, (search (sendable, crosses) depth 20, (store.the_send, asking)))) in
     view_send inside_core.the_row _ _ _ _ fields
