@@ -1,5 +1,5 @@
 -- Queries that were let go, whose lives are over, in front of others: what is read and written of all is so of those behind.
-use Rattle.std.proofs.Common.{◌≡◌, ℕ, zero, suc, ◌<◌, ◌≤◌, Bool, true, false, cond, eqb, ltb, List, [], ◌∷◌, ◌++◌, take, drop, map, find, Option, Some, None, take-append-drop, option_map, refl, ap, sym, ◌∙◌, subst, arith}
+use Rattle.std.proofs.Common.{◌≡◌, ℕ, zero, suc, Bool, true, false, cond, eqb, ltb, List, [], ◌∷◌, ◌++◌, map, find, Option, Some, None, option_map, refl, ap, sym, ◌∙◌, subst, arith}
 use Rattle.std.specs.Bool.{IsTrue}
 use Rattle.std.specs.List.{All, list_any}
 use Rattle.std.specs.Option.{option_map_or, option_or}
@@ -11,7 +11,7 @@ use Rattle.std.proofs.lemmas.Option.{none-some}
 use Rattle.star_lists.proofs.PlaceLemmas.{find-holds}
 use Rattle.star_lists.proofs.RisingLemmas.{IsMissing, head_is_only, map-missing, tail_rises}
 use Rattle.pipeline_manager.specs.declared.life.Life.{Life}
-use Rattle.pipeline_manager.specs.declared.life.Life.TheVariants.{Waiting, Building, Running, Ending, Answered, Spoiled, Abandoned}
+use Rattle.pipeline_manager.specs.declared.life.Life.TheVariants.{Waiting, Running, Ending, Answered}
 use Rattle.pipeline_manager.specs.declared.life.SlotState.{SlotState}
 use Rattle.pipeline_manager.specs.declared.life.SlotState.TheVariants.{Free, Held, Clearing}
 use Rattle.pipeline_manager.specs.declared.life.QueryLife.{QueryLife}
@@ -22,10 +22,6 @@ use Rattle.pipeline_manager.specs.Inside.{is_running, holder_runs}
 use Rattle.pipeline_manager.specs.LetGo.{IsClosed, IsOpenIn, cut_held}
 use Rattle.pipeline_manager.specs.Sound.{AreRising, slots_held}
 use Rattle.pipeline_manager.proofs.QueryLemmas.{query_in-missing}
-
--- the number of a query
-abbrev number_of : QueryLife → ℕ
-number_of entry = entry.query
 
 -- among closed queries and others is none that may still be answered and has the number of a closed one
 pub open-missing : (gone rest : List QueryLife) (query : ℕ) → All IsClosed gone → IsOpenIn (gone ++ rest) query

@@ -1,20 +1,18 @@
 -- What is kept of all queries stays kept: at each change of those that were not let go, and where the first of them are let go.
-use Rattle.std.proofs.Common.{◌≡◌, ℕ, ◌+◌, ◌-◌, ◌<◌, ◌≤◌, Bool, true, false, cond, eqb, ltb, List, [], ◌∷◌, ◌++◌, length, get_or, take, drop, map, append_assoc, take-append-drop, refl, ap, sym, ◌∙◌, subst, arith, inl, inr, ◌⊎◌}
+use Rattle.std.proofs.Common.{◌≡◌, ℕ, ◌+◌, ◌-◌, ◌<◌, ◌≤◌, Bool, true, false, cond, List, ◌++◌, length, get_or, take, drop, map, take-append-drop, refl, ap, sym, ◌∙◌, subst, arith, inl, inr}
 use Rattle.std.specs.List.{All}
 use Rattle.std.specs.Option.{option_map_or}
 use Rattle.std.proofs.lemmas.Bool.{cases_lt}
-use Rattle.std.proofs.lemmas.List.{length-append, length-map, length-drop, length-take, length-take-le, take-map, drop-take, get_or-take, get_or_append_left, get_or-append-add, get_or_default}
-use Rattle.std.proofs.lemmas.List.Elements.{All-append, All-drop, All-map, All-nil, All-weaker}
+use Rattle.std.proofs.lemmas.List.{length-append, length-map, length-take, length-take-le, take-map, get_or-take, get_or_append_left, get_or-append-add, get_or_default}
+use Rattle.std.proofs.lemmas.List.Elements.{All-append, All-map, All-weaker}
 use Rattle.pipeline_manager.specs.declared.life.Life.{Life}
-use Rattle.pipeline_manager.specs.declared.life.Life.TheVariants.{Waiting, Answered}
+use Rattle.pipeline_manager.specs.declared.life.Life.TheVariants.{Answered}
 use Rattle.pipeline_manager.specs.declared.life.SlotState.{SlotState}
 use Rattle.pipeline_manager.specs.declared.life.QueryLife.{QueryLife}
 use Rattle.pipeline_manager.specs.Lives.{life_in, is_waiting}
-use Rattle.pipeline_manager.specs.Changes.{with_life, with_answer, is_ending, renewed, cut_query}
-use Rattle.pipeline_manager.specs.Conditions.{is_open}
-use Rattle.pipeline_manager.specs.Inside.{ArePassed}
+use Rattle.pipeline_manager.specs.Changes.{with_life, with_answer, is_ending, renewed}
 use Rattle.pipeline_manager.specs.LetGo.{AreClosed, AreKept, IsClosed, IsOpenIn, LetGo, cut_held}
-use Rattle.pipeline_manager.specs.Sound.{AreRising, slots_held}
+use Rattle.pipeline_manager.specs.Sound.{AreRising}
 use Rattle.pipeline_manager.proofs.CutLemmas.{cut_held-number}
 use Rattle.pipeline_manager.proofs.GoneLemmas.{cut-closed, ending-open, open-rest, written-closed}
 use Rattle.pipeline_manager.proofs.LifeLemmas.{renewed-number}
@@ -84,45 +82,6 @@ kept-cut gone rest passed closed first last slots kept = record {
   not_waiting = passed-cut_held first last slots rest passed kept.not_waiting;
   ready = closed-map closed (cut_held first last slots) rest (cut-closed first last slots (take closed rest) kept.ready.over) kept.ready;
 }
-
--- the first queries are let go
-passed-dropped : (queries : List QueryLife) (passed count : ℕ) → count ≤ length queries → ArePassed passed queries
-    → ArePassed (passed - count) (drop count queries)
-passed-dropped queries passed count within so_far = by_order (cases_lt passed count)
-  where
-    many : length (drop count queries) ≡ length queries - count
-    many = length-drop count queries
-
-    by_order : (passed < count) ⊎ (count ≤ passed) → ArePassed (passed - count) (drop count queries)
-    by_order (inl fewer) =
-        let none : 0 ≡ passed - count = omega arith in
-        subst (λ n. ArePassed n (drop count queries)) none
-        (record { in_range = omega arith; none_waits = All-nil (λ entry. is_waiting entry.life ≡ false) })
-    by_order (inr more) = record {
-      in_range = let counted = many in let in_range = so_far.in_range in omega arith;
-      none_waits =
-          let all : count + (passed - count) ≡ passed = omega arith in
-          subst (All (λ entry. is_waiting entry.life ≡ false))
-          (ap (λ n. drop count (take n queries)) (sym all) ∙ drop-take count (passed - count) queries)
-          (All-drop (λ entry. is_waiting entry.life ≡ false) count (take passed queries) so_far.none_waits);
-    }
-
-pub kept-let_go : (old new : LetGo) (rest left : List QueryLife) (passed closed : ℕ) → new.queries ≡ old.queries ++ take closed rest
-    → new.room ≡ old.room → left ≡ drop closed rest → AreKept old rest passed closed → AreKept new left (passed - closed) 0
-kept-let_go old new rest left passed closed queries room same kept = record {
-  over = subst (All IsClosed) (sym queries) (All-append IsClosed old.queries (take closed rest) kept.over kept.ready.over);
-  room = subst (λ n. All (FitsBelow n) left) (sym room)
-      (subst (All (FitsBelow old.room)) (sym same) (All-drop (FitsBelow old.room) closed rest kept.room));
-  not_waiting = subst (ArePassed (passed - closed)) (sym same) (passed-dropped rest passed closed kept.ready.in_range kept.not_waiting);
-  ready = record { in_range = omega arith; over = All-nil IsClosed };
-}
-
--- all queries stay
-pub all-let_go : (old new : List QueryLife) (rest left : List QueryLife) (count : ℕ) → new ≡ old ++ take count rest → left ≡ drop count rest
-    → new ++ left ≡ old ++ rest
-all-let_go old new rest left count queries same =
-    ap (λ list. list ++ left) queries ∙ ap (λ list. (old ++ take count rest) ++ list) same
-    ∙ append_assoc old (take count rest) (drop count rest) ∙ ap (λ list. old ++ list) (take-append-drop count rest)
 
 -- the next query to be let go has a greater number than those before it
 pub next-above : (gone queries : List QueryLife) (i : ℕ) (d : QueryLife) → AreRising (gone ++ queries) → i < length queries

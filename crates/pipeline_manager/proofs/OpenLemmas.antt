@@ -3,7 +3,7 @@ use Rattle.std.proofs.Common.{false, Option, Some, None, refl}
 use Rattle.std.specs.Bool.{IsTrue}
 use Rattle.std.specs.Option.{option_map_or}
 use Rattle.pipeline_manager.specs.declared.life.Life.{Life}
-use Rattle.pipeline_manager.specs.declared.life.Life.TheVariants.{Waiting, Building, Running, Ending, Answered, Spoiled, Abandoned}
+use Rattle.pipeline_manager.specs.declared.life.Life.TheVariants.{Building, Running, Ending}
 use Rattle.pipeline_manager.specs.Conditions.{is_begun, is_open}
 
 -- what has begun may still be answered

@@ -1,7 +1,7 @@
 -- Queries of which the first do not wait.
-use Rattle.std.proofs.Common.{◌≡◌, ℕ, ◌+◌, ◌-◌, false, true, Bool, cond, eqb, ltb, List, [], ◌∷◌, ◌++◌, length, take, map, refl, sym, arith, subst}
+use Rattle.std.proofs.Common.{◌≡◌, ℕ, ◌+◌, ◌-◌, false, true, Bool, cond, eqb, ltb, List, length, take, map, refl, sym, arith, subst}
 use Rattle.std.specs.List.{All}
-use Rattle.std.proofs.lemmas.List.{length-map, take-map, take-append-le, length_push}
+use Rattle.std.proofs.lemmas.List.{length-map, take-map}
 use Rattle.std.proofs.lemmas.List.Elements.{All-map, All-weaker}
 use Rattle.pipeline_manager.specs.declared.life.Life.{Life}
 use Rattle.pipeline_manager.specs.declared.life.Life.TheVariants.{Waiting, Building, Running, Ending, Answered, Spoiled, Abandoned}
@@ -65,12 +65,3 @@ passed-cut_held first last slots queries count passed =
     by_held : (entry : QueryLife) (held : Bool) → WaitsNot entry → WaitsNot (cond {A = QueryLife} held (cut_query first last entry) entry)
     by_held entry true waits = cut_life-waits (covered first last entry.extent) entry.life waits
     by_held entry false waits = waits
-
--- a query behind all others
-pub passed-push : (queries : List QueryLife) (count : ℕ) (entry : QueryLife) → ArePassed count queries
-    → ArePassed count (queries ++ entry ∷ [])
-passed-push queries count entry passed = record {
-  in_range = let more : length (queries ++ entry ∷ []) ≡ length queries + 1 = length_push queries entry in
-      let in_range = passed.in_range in omega arith;
-  none_waits = subst (All WaitsNot) (sym (take-append-le count queries (entry ∷ []) passed.in_range)) passed.none_waits;
-}

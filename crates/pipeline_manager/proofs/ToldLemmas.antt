@@ -8,7 +8,7 @@ use Rattle.std.proofs.lemmas.Nat.Bits.{bit_at-lt, bit_at-pow_same, bit_at-pow_ot
 use Rattle.bit_words.specs.Sets.{with_number}
 use Rattle.star_lists.proofs.RisingLemmas.{IsMissing}
 use Rattle.pipeline_manager.specs.declared.life.Life.{Life}
-use Rattle.pipeline_manager.specs.declared.life.Life.TheVariants.{Waiting, Building, Running, Ending, Answered, Spoiled, Abandoned}
+use Rattle.pipeline_manager.specs.declared.life.Life.TheVariants.{Answered, Spoiled, Abandoned}
 use Rattle.pipeline_manager.specs.declared.life.QueryLife.{QueryLife}
 use Rattle.pipeline_manager.specs.Lives.{life_in}
 use Rattle.pipeline_manager.specs.Conditions.{is_open}

@@ -67,11 +67,7 @@ impl NumberSet {
 fn word_at(words: &[u64], place: usize) -> u64
     ensures { result ≡ slice_index words.now place }
 {
-    if place < words.len() {
-        words[place]
-    } else {
-        0
-    }
+    if place < words.len() { words[place] } else { 0 }
 }
 
 fn has_bit(word: u64, bit: u32) -> bool

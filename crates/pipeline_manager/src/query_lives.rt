@@ -150,11 +150,7 @@ impl QueryLives {
 }
 
 /// Puts a query behind the others, and makes room for its life among those that were let go.
-fn push(
-    gone: &mut OldLives,
-    rest: &mut ListOf<QueryLife>,
-    entry: QueryLife,
-) -> Result<(), NoMemory>
+fn push(gone: &mut OldLives, rest: &mut ListOf<QueryLife>, entry: QueryLife) -> Result<(), NoMemory>
     ensures gone { gone.new.queries ≡ gone.old.queries }
     ensures more { gone.old.room ≤ gone.new.room }
     ensures room { OnOk result (entry.query < gone.new.room) }

@@ -1,5 +1,4 @@
 use Rattle.std.proofs.Common.{◌<◌, ◌/◌, ◌&&◌, ◌||◌, ap, sym, subst, eqb, length, ◌∙◌}
-use Rattle.std.proofs.lemmas.List.{length-set}
 use Rattle.pipeline_manager.specs.LetGo.{is_in}
 use Rattle.pipeline_manager.proofs.ToldLemmas.{put-in_if}
 use Rattle.pipeline_manager.proofs.number_set.NumberSet.put_if.Goals as goal

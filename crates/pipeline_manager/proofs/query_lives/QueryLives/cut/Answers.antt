@@ -1,5 +1,4 @@
 use Rattle.std.proofs.Common.{ap, sym, subst, map, ◌∙◌, ◌++◌}
-use Rattle.pipeline_manager.specs.Changes.{cut_query}
 use Rattle.pipeline_manager.specs.LetGo.{AreKept, cut_held}
 use Rattle.pipeline_manager.specs.Sound.{AreRising}
 use Rattle.pipeline_manager.proofs.CutLemmas.{cut_held-all}
