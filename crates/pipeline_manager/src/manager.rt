@@ -15,8 +15,8 @@ use star_values::NoMemory;
 use std::alloc::Global;
 use std::marker::Model;
 
-/// The lives of all queries that were submitted, and the states of all slots. A query whose life is over
-/// keeps two bits, once those before it are over too.
+/// The lives of all queries that were submitted, and the states of all slots. A query whose life is
+/// over keeps two bits, once those before it are over too.
 ///
 /// No call takes memory but `new` and `submit`.
 #[derive(Debug, Drop)]

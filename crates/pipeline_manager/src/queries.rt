@@ -128,7 +128,7 @@ pub(crate) fn oldest_waiting(queries: &[QueryLife], from: usize) -> Option<u64>
     Some(queries.get(place)?.query)
 }
 
-/// How many lives at the front are over, at most, where so many are known to be.
+/// How many lives at the front are over. The first `from` are.
 pub(crate) fn first_open(queries: &[QueryLife], from: usize) -> usize
     requires { AreClosed from queries.now }
     ensures { AreClosed result queries.now }
@@ -186,7 +186,8 @@ fn cut_life(positions: u32, life: Life) -> Life
     }
 }
 
-/// Notes that the positions from `first` to `last` were scanned, of each query that holds a slot. None holds two.
+/// Notes that the positions from `first` to `last` were scanned, of each query that holds a slot. None
+/// holds two.
 pub(crate) fn cut_holders(
     queries: &mut ListOf<QueryLife>,
     slots: &[SlotState],

@@ -1,5 +1,5 @@
-//! The lives of all queries, of which those in front are let go once they are over. What is read and written of the
-//! others is in `queries`.
+//! The lives of all queries, of which those in front are let go once they are over. What is read and
+//! written of the others is in `queries`.
 ghost use Rattle.std.specs.Prelude.{◌≡◌, ℕ, ◌<◌, ◌≤◌, ◌↔◌, [], ◌∷◌, ◌++◌, length, map, take, drop, find, option_map, All, Any, IsTrue, OnOk, OnErr, false};
 ghost use Rattle.pipeline_manager.specs.declared.life.Life.TheVariants.{Waiting};
 ghost use Rattle.pipeline_manager.specs.Lives.{is_waiting, life_in, extent_in};
@@ -19,7 +19,8 @@ use std::mem;
 
 /// The queries in the order of their submission, each with its life.
 ///
-/// Those in front whose lives are over are let go, and keep two bits. No call takes memory but `push`.
+/// Those in front whose lives are over are let go, and keep two bits each. No call takes memory but
+/// `push`.
 #[derive(Debug, Drop)]
 pub(crate) struct QueryLives {
     alloc: Global,
@@ -59,7 +60,7 @@ impl QueryLives {
         }
     }
 
-    /// Puts a query behind all others, which waits, and makes room for what it keeps once its life is over.
+    /// Puts a query behind all others, which waits, and makes room for the bits that it keeps at last.
     pub(crate) fn push(&mut self, query: u64, extent: u32) -> Result<(), NoMemory>
         ensures ok { OnOk result
             (self.new ≡ self.old ++ record { query = query; extent = extent; life = Waiting } ∷ []) }
@@ -139,7 +140,8 @@ impl QueryLives {
         );
     }
 
-    /// Notes that the positions from `first` to `last`, both included, were scanned. Only the holders of slots are looked at.
+    /// Notes that the positions from `first` to `last`, both included, were scanned. Only the holders of
+    /// slots are looked at.
     pub(crate) fn cut(&mut self, slots: &[SlotState], first: u32, last: u32)
         requires rising { AreRising self.old }
         requires held { (query : ℕ) → FitsSlots (life_in self.old query) (slots_held query slots.now) }
@@ -161,8 +163,8 @@ fn push(gone: &mut OldLives, rest: &mut ListOf<QueryLife>, entry: QueryLife) -> 
     rest.push(entry)
 }
 
-/// Notes which queries in front do not wait any more, and which lives there are over. Once the latter are as many as those behind
-/// them, they are let go. So each query is moved as often as one is let go, and no more.
+/// Notes which queries in front do not wait any more, and which lives there are over. Once the latter are
+/// as many as those behind them, they are let go. So no more are moved down than are let go.
 fn settle(
     alloc: Global,
     gone: &mut OldLives,
