@@ -1,5 +1,5 @@
 -- The parts of a core where a query has begun its lap.
-use Rattle.event_core.proofs.Words.{◌∙◌, ◌≡◌, ◌≢◌, after_run, after_start, ap, asked_at, AskedQuery, Becomes, Bool, CanRun, cond, eqb, eqb-true, extent_in, false, Grouped, IsCore, IsSome, length, List, Lives, None, Option, option_and_then, Parts, refl, Scanning, set, slice_get, slot_of, Some, StarQuery, started, state_of, subst, sym, true, with_kept_at, ℕ}
+use Rattle.event_core.proofs.Words.{◌∙◌, ◌≡◌, ◌≢◌, after_run, after_start, ap, asked_at, AskedQuery, Becomes, Bool, CanAbandon, CanRun, cond, eqb, eqb-true, extent_in, false, Grouped, IsCore, is_open, IsSome, length, List, Lives, None, Option, option_and_then, option_map_or, Parts, refl, Scanning, set, slice_get, slot_of, Some, StarQuery, started, state_of, subst, sym, true, with_kept_at, ℕ}
 use Rattle.std.proofs.lemmas.Bool.{eq-eqb}
 use Rattle.continuous_scan.specs.Calls.{CanStart}
 use Rattle.continuous_scan.specs.Range as scanned
@@ -47,6 +47,12 @@ starting parts now query slot asked held entries is core can held-is held-some e
   place = sym held-is ∙ held-some;
   found = ap (λ list. asked_at list query) (sym entries-is) ∙ found;
 }
+
+-- it may still be answered
+pub start-open : (parts now : Parts) (query : ℕ) → parts ≡ now → CanRun query (state_of now).lives → CanAbandon query parts.lives
+start-open parts now query is can =
+    let here : CanRun query parts.lives = subst (λ (p : Parts). CanRun query p.lives) (sym is) can in
+    ap (λ life. option_map_or is_open life false) here.building
 
 -- the scan may begin to give it rows
 pub start-scans : StartsMay → (parts : Parts) (query slot : ℕ) (asked : AskedQuery) (extent many : ℕ) → Starting parts query slot asked

@@ -11,12 +11,9 @@ use Rattle.pipeline_manager.specs.declared.life.QueryLife.{QueryLife}
 use Rattle.pipeline_manager.specs.Lives.{life_in, is_held_by}
 use Rattle.pipeline_manager.specs.Changes.{cut_query, cut_life, covered}
 use Rattle.pipeline_manager.specs.Inside.{changed_if}
+use Rattle.pipeline_manager.specs.LetGo.{cut_held}
 use Rattle.pipeline_manager.specs.Sound.{FitsSlots, AreRising, slots_held}
 use Rattle.pipeline_manager.proofs.QueryLemmas.{query_in-found}
-
--- the query, cut if it holds one of these slots
-abbrev pub cut_held : (first last : ℕ) → List SlotState → QueryLife → QueryLife
-cut_held first last slots entry = cond (ltb 0 (slots_held entry.query slots)) (cut_query first last entry) entry
 
 -- the same change at each query is the same list
 map-same : (change other : QueryLife → QueryLife) (queries : List QueryLife) → ((entry : QueryLife) → change entry ≡ other entry)

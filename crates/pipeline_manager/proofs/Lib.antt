@@ -9,3 +9,7 @@ pub mod LawLemmas
 pub mod HolderLemmas
 pub mod RunLemmas
 pub mod UsedLemmas
+pub mod GoneLemmas
+pub mod ToldLemmas
+pub mod KeptLemmas
+pub mod OpenLemmas

@@ -1,15 +1,17 @@
 -- Queries of which the first do not wait.
-use Rattle.std.proofs.Common.{◌≡◌, ℕ, ◌+◌, ◌-◌, false, true, Bool, eqb, List, [], ◌∷◌, ◌++◌, length, take, map, refl, sym, arith, subst}
+use Rattle.std.proofs.Common.{◌≡◌, ℕ, ◌+◌, ◌-◌, false, true, Bool, cond, eqb, ltb, List, length, take, map, refl, sym, arith, subst}
 use Rattle.std.specs.List.{All}
-use Rattle.std.proofs.lemmas.List.{length-map, take-map, take-append-le, length_push}
+use Rattle.std.proofs.lemmas.List.{length-map, take-map}
 use Rattle.std.proofs.lemmas.List.Elements.{All-map, All-weaker}
-use Rattle.std.specs.Option.{option_map_or}
 use Rattle.pipeline_manager.specs.declared.life.Life.{Life}
 use Rattle.pipeline_manager.specs.declared.life.Life.TheVariants.{Waiting, Building, Running, Ending, Answered, Spoiled, Abandoned}
+use Rattle.pipeline_manager.specs.declared.life.SlotState.{SlotState}
 use Rattle.pipeline_manager.specs.declared.life.QueryLife.{QueryLife}
-use Rattle.pipeline_manager.specs.Lives.{is_waiting, life_in}
-use Rattle.pipeline_manager.specs.Changes.{with_life, with_answer, is_ending, renewed, cut_query, cut_life, covered, started}
+use Rattle.pipeline_manager.specs.Lives.{is_waiting}
+use Rattle.pipeline_manager.specs.Changes.{with_life, renewed, cut_query, cut_life, covered, started}
 use Rattle.pipeline_manager.specs.Inside.{ArePassed}
+use Rattle.pipeline_manager.specs.LetGo.{cut_held}
+use Rattle.pipeline_manager.specs.Sound.{slots_held}
 
 -- a query does not wait
 abbrev pub WaitsNot : QueryLife → Type 0
@@ -55,27 +57,11 @@ cut_life-waits positions Waiting waits = waits
 cut_life-waits positions (Running start left) waits = started-waits start (left - positions)
 cut_life-waits positions other waits = refl
 
-pub passed-cut : (first last : ℕ) (queries : List QueryLife) (count : ℕ) → ArePassed count queries
-    → ArePassed count (map (cut_query first last) queries)
-passed-cut first last queries count passed =
-    passed-map (cut_query first last) queries count
-    (λ entry waits. cut_life-waits (covered first last entry.extent) entry.life waits) passed
-
--- an answer makes no query wait
-pub passed-with_answer : (query : ℕ) (queries : List QueryLife) (count : ℕ) → ArePassed count queries
-    → ArePassed count (with_answer query queries)
-passed-with_answer query queries count passed = by_test (option_map_or is_ending (life_in queries query) false) refl
+pub passed-cut_held : (first last : ℕ) (slots : List SlotState) (queries : List QueryLife) (count : ℕ) → ArePassed count queries
+    → ArePassed count (map (cut_held first last slots) queries)
+passed-cut_held first last slots queries count passed =
+    passed-map (cut_held first last slots) queries count (λ entry waits. by_held entry (ltb 0 (slots_held entry.query slots)) waits) passed
   where
-    by_test : (ends : Bool) → ends ≡ option_map_or is_ending (life_in queries query) false
-        → ArePassed count (with_answer query queries)
-    by_test true e = rw (sym e) (passed-with_life query Answered queries count refl passed)
-    by_test false e = rw (sym e) passed
-
--- a query behind all others
-pub passed-push : (queries : List QueryLife) (count : ℕ) (entry : QueryLife) → ArePassed count queries
-    → ArePassed count (queries ++ entry ∷ [])
-passed-push queries count entry passed = record {
-  in_range = let more : length (queries ++ entry ∷ []) ≡ length queries + 1 = length_push queries entry in
-      let in_range = passed.in_range in omega arith;
-  none_waits = subst (All WaitsNot) (sym (take-append-le count queries (entry ∷ []) passed.in_range)) passed.none_waits;
-}
+    by_held : (entry : QueryLife) (held : Bool) → WaitsNot entry → WaitsNot (cond {A = QueryLife} held (cut_query first last entry) entry)
+    by_held entry true waits = cut_life-waits (covered first last entry.extent) entry.life waits
+    by_held entry false waits = waits

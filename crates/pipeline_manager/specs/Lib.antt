@@ -4,3 +4,4 @@ pub mod Conditions
 pub mod Changes
 pub mod Sound
 pub mod Inside
+pub mod LetGo

@@ -6,7 +6,10 @@ mod crossing;
 mod laws;
 mod life;
 mod manager;
+mod number_set;
+mod old_lives;
 mod queries;
+mod query_lives;
 mod slots;
 
 pub use crossing::{managers_may_be_sent, managers_may_be_shared};

@@ -6,7 +6,8 @@ ghost use Rattle.pipeline_manager.specs.Conditions.{IsRunning, IsNew, CanReserve
 ghost use Rattle.pipeline_manager.specs.Sound.{IsSound};
 ghost use Rattle.pipeline_manager.specs.Changes.{after_submit, after_reserve, after_built, after_run, after_cut, after_end, after_cleared, after_free, after_spoil, after_abandon};
 
-use crate::life::{Life, QueryLife, SlotState};
+use crate::life::{Life, SlotState};
+use crate::query_lives::QueryLives;
 use crate::{queries, slots};
 use bit_words::numbers_go_in_and_out;
 use star_lists::ListOf;
@@ -14,17 +15,15 @@ use star_values::NoMemory;
 use std::alloc::Global;
 use std::marker::Model;
 
-/// The lives of all queries that were submitted, and the states of all slots.
+/// The lives of all queries that were submitted, and the states of all slots. A query whose life is
+/// over keeps two bits, once those before it are over too.
 ///
 /// No call takes memory but `new` and `submit`.
 #[derive(Debug, Drop)]
 pub struct Manager {
-    queries: ListOf<QueryLife>,
+    queries: QueryLives,
     slots: ListOf<SlotState>,
     filters: u8,
-
-    /// How many queries at the front are known not to wait.
-    passed: usize,
 
     /// How many slots at the front have all that are in use. From there on each is Free.
     used: usize,
@@ -33,7 +32,7 @@ pub struct Manager {
 impl Model for Manager {
     ghost use Rattle.pipeline_manager.specs.Lives.{Lives};
     ghost use Rattle.pipeline_manager.specs.Sound.{IsSound};
-    ghost use Rattle.pipeline_manager.specs.Inside.{ArePassed, UsesFirst};
+    ghost use Rattle.pipeline_manager.specs.Inside.{UsesFirst};
 
     ghost Value = { Lives };
 
@@ -45,7 +44,6 @@ impl Model for Manager {
 
     ghost invariant = { λ manager.
         IsSound (record { queries = manager.queries; slots = manager.slots; filters = manager.filters })
-        × ArePassed manager.passed manager.queries
         × UsesFirst manager.used manager.slots };
 }
 
@@ -61,10 +59,9 @@ impl Manager {
         }) }
     {
         Ok(Manager {
-            queries: ListOf::new(alloc),
+            queries: QueryLives::new(alloc),
             slots: ListOf::from(vec![in alloc; SlotState::Free; slots as usize]?),
             filters,
-            passed: 0,
             used: 0,
         })
     }
@@ -75,11 +72,7 @@ impl Manager {
         ensures ok { OnOk result (self.new ≡ after_submit query extent self.old) }
         ensures err { OnErr result (self.new ≡ self.old) }
     {
-        self.queries.push(QueryLife {
-            query,
-            extent,
-            life: Life::Waiting,
-        })?;
+        self.queries.push(query, extent)?;
         Ok(())
     }
 
@@ -88,8 +81,7 @@ impl Manager {
         ensures oldest { result ≡ oldest_waiting self.now }
         ensures sound { IsSound self.now }
     {
-        let place = queries::first_waiting(self.queries.as_slice(), self.passed);
-        Some(self.queries.as_slice().get(place)?.query)
+        self.queries.oldest_waiting()
     }
 
     /// The least slot that is Free, or `None` where none is.
@@ -107,14 +99,15 @@ impl Manager {
         ensures life { result ≡ life_of self.now query }
         ensures sound { IsSound self.now }
     {
-        Some(queries::find_query(self.queries.as_slice(), query)?.life)
+        self.queries.life(query)
     }
 
-    /// How many positions the scan gives a query, 0 where none with this number was submitted.
+    /// How many positions the scan gives a query that may still be answered.
     pub fn extent(&self, query: u64) -> u32
+        requires { CanAbandon query self.now }
         ensures { result ≡ extent_in self.now.queries query }
     {
-        queries::extent_of(self.queries.as_slice(), query)
+        self.queries.extent(query)
     }
 
     /// The slot that a query holds, or `None` where it holds none.
@@ -132,7 +125,7 @@ impl Manager {
         ensures sound { IsSound self.now }
     {
         let in_use = slots::in_front(self.slots.as_slice(), self.used);
-        queries::some_run(self.queries.as_slice(), in_use)
+        self.queries.some_run(in_use)
     }
 
     pub fn slot(&self, slot: u32) -> SlotState
@@ -183,11 +176,10 @@ impl Manager {
         ensures { self.new ≡ after_reserve slot self.old }
     {
         if let Some(query) = self.oldest_waiting() {
-            queries::set_life(&mut self.queries, query, Life::Building);
+            self.queries.set_life(query, Life::Building);
             let held = SlotState::Held { query, built: 0 };
             slots::set_slot(&mut self.slots, slot as usize, held);
             self.used = self.used.max(slot as usize + 1);
-            self.passed = queries::first_waiting(self.queries.as_slice(), self.passed);
         }
     }
 
@@ -209,8 +201,9 @@ impl Manager {
         requires { CanRun query self.old }
         ensures { self.new ≡ after_run query start self.old }
     {
-        let extent = queries::extent_of(self.queries.as_slice(), query);
-        queries::set_life(&mut self.queries, query, queries::started(start, extent));
+        let extent = self.queries.extent(query);
+        let life = queries::started(start, extent);
+        self.queries.set_life(query, life);
     }
 
     /// Notes that the scan has given all Running queries the positions from `first` to `last`, both
@@ -220,7 +213,7 @@ impl Manager {
         ensures { self.new ≡ after_cut first last self.old }
     {
         let in_use = slots::in_front(self.slots.as_slice(), self.used);
-        queries::cut_holders(&mut self.queries, in_use, first, last);
+        self.queries.cut(in_use, first, last);
     }
 
     /// Takes a slot from its holder, which is Ending, Spoiled or Abandoned. What is Ending is Answered.
@@ -230,7 +223,7 @@ impl Manager {
         ensures { self.new ≡ after_end slot self.old }
     {
         if let SlotState::Held { query, built } = self.slots.as_slice()[slot as usize] {
-            queries::answer(&mut self.queries, query);
+            self.queries.answer(query);
             slots::set_slot(&mut self.slots, slot as usize, SlotState::Clearing(built));
         }
     }
@@ -262,7 +255,7 @@ impl Manager {
         requires { CanSpoil query self.old }
         ensures { self.new ≡ after_spoil query self.old }
     {
-        queries::set_life(&mut self.queries, query, Life::Spoiled);
+        self.queries.set_life(query, Life::Spoiled);
     }
 
     /// Notes that nobody wants a query's answer. If it has a slot, it keeps it.
@@ -270,7 +263,6 @@ impl Manager {
         requires { CanAbandon query self.old }
         ensures { self.new ≡ after_abandon query self.old }
     {
-        queries::set_life(&mut self.queries, query, Life::Abandoned);
-        self.passed = queries::first_waiting(self.queries.as_slice(), self.passed);
+        self.queries.set_life(query, Life::Abandoned);
     }
 }

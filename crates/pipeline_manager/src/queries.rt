@@ -1,19 +1,20 @@
 //! The queries in the order of their submission, found by their numbers, which rise.
-ghost use Rattle.std.specs.Prelude.{◌≡◌, ℕ, ◌<◌, ◌≤◌, ◌↔◌, length, map, find, option_map, slice_index_or, MatchOption, All, Any, IsTrue, false, true, nat_lt, ◌==◌, slice_get, Some};
+ghost use Rattle.std.specs.Prelude.{◌≡◌, ℕ, ◌<◌, ◌≤◌, length, map, take, find, option_map, slice_index_or, MatchOption, All, false, true, nat_lt, ◌==◌, slice_get, Some};
 ghost use Rattle.std.specs.List.{list_any};
 ghost use Rattle.std.specs.List.Sorted.{IsPartitionPoint};
 ghost use Rattle.pipeline_manager.specs.Lives.{is_waiting, query_in, life_in, extent_in};
-ghost use Rattle.pipeline_manager.specs.Conditions.{IsRunning};
+ghost use Rattle.pipeline_manager.specs.Conditions.{is_open};
 ghost use Rattle.pipeline_manager.specs.Changes.{with_life, is_ending, with_answer, started, covered, cut_life, cut_query};
 ghost use Rattle.std.specs.Option.{option_map_or};
-ghost use Rattle.pipeline_manager.specs.Sound.{AreRising, FitsSlots, slots_held};
+ghost use Rattle.pipeline_manager.specs.Sound.{AreRising, slots_held};
 ghost use Rattle.pipeline_manager.specs.Inside.{NoneWaits, changed_if, is_running, holder_runs};
+ghost use Rattle.pipeline_manager.specs.LetGo.{AreClosed, cut_held};
 
 use crate::life::{Life, QueryLife, SlotState};
 use star_lists::ListOf;
 
 /// The query with this number.
-pub(crate) fn find_query(queries: &[QueryLife], query: u64) -> Option<&QueryLife>
+fn find_query(queries: &[QueryLife], query: u64) -> Option<&QueryLife>
     requires { AreRising queries.now }
     ensures { option_map (λ entry. entry.now) result ≡ query_in queries.now query }
 {
@@ -30,6 +31,14 @@ pub(crate) fn extent_of(queries: &[QueryLife], query: u64) -> u32
         None => 0,
         Some(entry) => entry.extent,
     }
+}
+
+/// The life of a query, or `None` where none has the number.
+pub(crate) fn life_of(queries: &[QueryLife], query: u64) -> Option<Life>
+    requires { AreRising queries.now }
+    ensures { result ≡ life_in queries.now query }
+{
+    Some(find_query(queries, query)?.life)
 }
 
 /// Whether a query is Ending.
@@ -109,6 +118,43 @@ fn is_waiting(life: &Life) -> bool
     matches!(life, Life::Waiting)
 }
 
+/// The number of the first query that waits, or `None` where none does. None in front of `from` waits.
+pub(crate) fn oldest_waiting(queries: &[QueryLife], from: usize) -> Option<u64>
+    requires in_range { from ≤ length queries.now }
+    requires passed { NoneWaits from queries.now }
+    ensures { result ≡ option_map (λ entry. entry.query) (find (λ entry. is_waiting entry.life) queries.now) }
+{
+    let place = first_waiting(queries, from);
+    Some(queries.get(place)?.query)
+}
+
+/// How many lives at the front are over. The first `from` are.
+pub(crate) fn first_open(queries: &[QueryLife], from: usize) -> usize
+    requires { AreClosed from queries.now }
+    ensures { AreClosed result queries.now }
+{
+    for place in from..queries.len() {
+        if is_open(&queries[place].life) {
+            return place;
+        }
+    }
+    queries.len()
+}
+
+fn is_open(life: &Life) -> bool
+    ensures { result ≡ is_open life.now }
+{
+    !matches!(life, Life::Answered | Life::Spoiled | Life::Abandoned)
+}
+
+/// The queries at the front, of which there are so many.
+pub(crate) fn in_front(queries: &[QueryLife], count: usize) -> &[QueryLife]
+    requires { count ≤ length queries.now }
+    ensures { result.now ≡ take count queries.now }
+{
+    &queries[..count]
+}
+
 /// The life of a query of this extent that is to be given rows from `start` on.
 pub(crate) fn started(start: u32, extent: u32) -> Life
     ensures { result ≡ started start extent }
@@ -140,8 +186,8 @@ fn cut_life(positions: u32, life: Life) -> Life
     }
 }
 
-/// Notes that the positions from `first` to `last` were scanned. Each Running query holds a slot, and
-/// no query two, so only the holders of slots are looked at.
+/// Notes that the positions from `first` to `last` were scanned, of each query that holds a slot. None
+/// holds two.
 pub(crate) fn cut_holders(
     queries: &mut ListOf<QueryLife>,
     slots: &[SlotState],
@@ -149,8 +195,8 @@ pub(crate) fn cut_holders(
     last: u32,
 )
     requires rising { AreRising queries.old }
-    requires held { (query : ℕ) → FitsSlots (life_in queries.old query) (slots_held query slots.now) }
-    ensures { queries.new ≡ map (cut_query first last) queries.old }
+    requires one { (query : ℕ) → slots_held query slots.now ≤ 1 }
+    ensures { queries.new ≡ map (cut_held first last slots.now) queries.old }
 {
     for state in slots {
         if let SlotState::Held { query, .. } = state {
@@ -170,17 +216,8 @@ fn cut_query(queries: &mut ListOf<QueryLife>, query: u64, first: u32, last: u32)
     }
 }
 
-/// Whether some query is Running. Each Running query holds a slot, so only the holders of slots are
-/// looked at.
-pub(crate) fn some_run(queries: &[QueryLife], slots: &[SlotState]) -> bool
-    requires rising { AreRising queries.now }
-    requires held { (query : ℕ) → FitsSlots (life_in queries.now query) (slots_held query slots.now) }
-    ensures { IsTrue result ↔ Any (λ entry. IsRunning entry.life) queries.now }
-{
-    some_holder_runs(queries, slots)
-}
-
-fn some_holder_runs(queries: &[QueryLife], slots: &[SlotState]) -> bool
+/// Whether the holder of some slot is Running.
+pub(crate) fn some_holder_runs(queries: &[QueryLife], slots: &[SlotState]) -> bool
     requires { AreRising queries.now }
     ensures { result ≡ list_any (holder_runs queries.now) slots.now }
 {

@@ -2,9 +2,10 @@ use Rattle.std.proofs.Common.{sym, ap, subst, ◌∙◌, map, take, ◌<◌, ◌
 use Rattle.std.proofs.lemmas.List.{take_all}
 use Rattle.pipeline_manager.specs.Changes.{cut_query}
 use Rattle.pipeline_manager.specs.Inside.{changed_if}
+use Rattle.pipeline_manager.specs.LetGo.{cut_held}
 use Rattle.pipeline_manager.specs.Sound.{AreRising}
-use Rattle.pipeline_manager.proofs.SoundLemmas.{rising-map, fits-one}
-use Rattle.pipeline_manager.proofs.CutLemmas.{cut_held, cut_held-none, cut_held-more, cut_held-unheld, cut_held-all, cut_held-number, unheld}
+use Rattle.pipeline_manager.proofs.SoundLemmas.{rising-map}
+use Rattle.pipeline_manager.proofs.CutLemmas.{cut_held-none, cut_held-more, cut_held-unheld, cut_held-number, unheld}
 use Rattle.pipeline_manager.proofs.queries.cut_holders.Goals as goal
 use Rattle.pipeline_manager.proofs.queries.cut_holders.Goals.{in-Held, in_default}
 
@@ -26,7 +27,7 @@ loop-state-preserved c =
           w.queries-is ∙ w.cut_query.ensures
           ∙ ap (map (changed_if w.in-Held.query (cut_query c.args.first c.args.last))) c.loop-state.invariant
           ∙ cut_held-more c.args.first c.args.last c.args.queries.now c.args.slots.now c.loop-state.state-index _
-          w.in-Held.query w.in-Held.built within w.in-Held.is (fits-one _ _ (c.requires.held w.in-Held.query))
+          w.in-Held.query w.in-Held.built within w.in-Held.is (c.requires.one w.in-Held.query)
       | in_default w ↦
           w.queries-is ∙ c.loop-state.invariant
           ∙ cut_held-unheld c.args.first c.args.last c.args.queries.now c.args.slots.now c.loop-state.state-index _ within
@@ -38,4 +39,3 @@ returns c =
     let whole : length c.args.slots.now ≤ c.loop-state.state-index = omega arith in
     c.loop-state.invariant
     ∙ ap (λ slots. map (cut_held c.args.first c.args.last slots) c.args.queries.now) (take_all _ c.args.slots.now whole)
-    ∙ cut_held-all c.args.first c.args.last c.args.queries.now c.args.slots.now c.requires.rising c.requires.held

@@ -1,5 +1,5 @@
 use Rattle.std.proofs.Common.{◌≡◌, take, map}
-use Rattle.pipeline_manager.proofs.CutLemmas.{cut_held}
+use Rattle.pipeline_manager.specs.LetGo.{cut_held}
 use Rattle.pipeline_manager.proofs.queries.cut_holders.Given as goal
 
 abbrev pub invariant-loop-state : goal.invariant-loop-state

@@ -2,8 +2,11 @@ use Rattle.event_core.proofs.Words.{◌∙◌, ap, AskedQuery, length, Roomy}
 use Rattle.std.specs.Arc.{arc_value}
 use Rattle.event_core.proofs.AskedKeptLemmas.{asked-rise}
 use Rattle.event_core.proofs.SlotEventLemmas.{asked-rising}
-use Rattle.event_core.proofs.StartEventLemmas.{start-becomes, start-free, start-kept, start-scans, start-some, starting}
+use Rattle.event_core.proofs.StartEventLemmas.{start-becomes, start-free, start-kept, start-open, start-scans, start-some, starting}
 use Rattle.event_core.proofs.machine.Core.start.Goals as goal
+
+pub extent-extent-requires : goal.extent-extent-requires
+extent-extent-requires c = start-open _ c.args.self.now c.args.query c.self.view_is c.requires
 
 pub asked_of-asked-requires-clause-rising : goal.asked_of-asked-requires-clause-rising
 asked_of-asked-requires-clause-rising c = asked-rising _ _ c.self.invariant.0 c.as_slice.ensures

@@ -23,7 +23,6 @@ invariant_of-self c =
           (filters-with_dimension c.numbers_go_in_and_out.ensures.put_in c.self.inside.filters c.args.dimension state is_filter
           (All-get_or (IsOfFilters c.self.inside.filters) c.self.inside.slots slot Free within c.self.invariant.0.of_filters))
           c.self.invariant.0,
-      c.self.invariant.1,
       uses-set c.self.inside.used c.self.inside.used slot (with_dimension c.args.dimension state) c.self.inside.slots (omega arith)
-          c.self.invariant.2.in_range within (λ from free. ap (with_dimension c.args.dimension) free) c.self.invariant.2,
+          c.self.invariant.1.in_range within (λ from free. ap (with_dimension c.args.dimension) free) c.self.invariant.1,
     )

@@ -2,7 +2,6 @@ use Rattle.std.proofs.Common.{◌≡◌, ◌<◌, sym, subst, ◌∙◌, length,
 use Rattle.pipeline_manager.specs.declared.life.SlotState.TheVariants.{Free, Held, Clearing}
 use Rattle.pipeline_manager.specs.Conditions.{CanEnd}
 use Rattle.pipeline_manager.proofs.UsedLemmas.{uses-set}
-use Rattle.pipeline_manager.proofs.PassedLemmas.{passed-with_answer}
 use Rattle.pipeline_manager.proofs.EndLemmas.{sound-ended}
 use Rattle.pipeline_manager.proofs.manager.Manager.end.Goals as goal
 
@@ -14,8 +13,7 @@ invariant_of-self c =
     let over = rw holds at (subst (CanEnd c.args.slot) (sym c.self.view_is) c.requires.can) in
     rw (c.answer.ensures, c.set_slot.ensures) (
       sound-ended c.args.slot c.in-Held.query c.in-Held.built _ within holds over c.self.invariant.0,
-      passed-with_answer c.in-Held.query _ _ c.self.invariant.1,
       uses-set c.self.inside.used c.self.inside.used c.args.slot (Clearing c.in-Held.built) c.self.inside.slots (omega arith)
-          c.self.invariant.2.in_range within (λ from free. absurd (let both : Held c.in-Held.query c.in-Held.built ≡ Free = sym holds ∙ free in cc))
-          c.self.invariant.2,
+          c.self.invariant.1.in_range within (λ from free. absurd (let both : Held c.in-Held.query c.in-Held.built ≡ Free = sym holds ∙ free in cc))
+          c.self.invariant.1,
     )

@@ -1,13 +1,15 @@
-use Rattle.std.proofs.Common.{refl}
-use Rattle.pipeline_manager.specs.declared.life.Life.TheVariants.{Spoiled}
-use Rattle.pipeline_manager.proofs.PassedLemmas.{passed-with_life}
+use Rattle.std.proofs.Common.{sym, subst}
+use Rattle.pipeline_manager.specs.Conditions.{CanSpoil}
 use Rattle.pipeline_manager.proofs.CallLemmas.{sound-after_spoil}
+use Rattle.pipeline_manager.proofs.OpenLemmas.{begun-open}
 use Rattle.pipeline_manager.proofs.manager.Manager.spoil.Goals as goal
+
+pub set_life-requires-clause-may : goal.set_life-requires-clause-may
+set_life-requires-clause-may c = begun-open _ (subst (CanSpoil c.args.query) (sym c.self.view_is) c.requires)
 
 pub invariant_of-self : goal.invariant_of-self
 invariant_of-self c =
     rw c.set_life.ensures (
       sound-after_spoil c.args.query _ c.self.invariant.0,
-      passed-with_life c.args.query Spoiled _ _ refl c.self.invariant.1,
-      c.self.invariant.2,
+      c.self.invariant.1,
     )
