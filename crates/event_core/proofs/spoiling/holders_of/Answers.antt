@@ -3,7 +3,7 @@ use Rattle.event_core.proofs.SpoilingLemmas.{number-or, written-more}
 use Rattle.event_core.proofs.spoiling.holders_of.Goals as goal
 
 -- no slot has a number yet
-none-yet : (n k : ℕ) → get_or (replicate n 0) k 0 ≡ 0
+none-yet : (n k : ℕ) → get_or {A = ℕ} (replicate n 0) k 0 ≡ 0
 none-yet zero k = refl
 none-yet (suc n) zero = refl
 none-yet (suc n) (suc k) = none-yet n k
