@@ -1,5 +1,9 @@
--- Lemmas of this crate.
-mod KeyLemmas
+-- Lemmas of this crate. Those on parts of rows, and on homes, are for the crates above, too.
+pub mod KeyLemmas
+pub mod EachLemmas
+pub mod PartLemmas
+pub mod PartialLemmas
+pub mod HomeLemmas
 mod FoldLemmas
 mod ListLemmas
 mod PlainLemmas

@@ -1,6 +1,8 @@
 -- What is kept of rows by groups, what one row more makes of it, how it lies in memory, and what it ends as.
 pub mod Grouped
 pub mod Folding
+pub mod Partial
+pub mod Homes
 pub mod Cells
 pub mod Finish
 pub mod Entries

@@ -1,5 +1,5 @@
-//! What one row more makes of groups, and what groups end as, as laws.
-ghost use Rattle.std.specs.Prelude.{◌≡◌, ◌==◌, List, [], ◌∷◌, ◌++◌, IsPermutation, length};
+//! What one row more, or a part of rows, makes of groups, and what groups end as, as laws.
+ghost use Rattle.std.specs.Prelude.{◌≡◌, ◌==◌, List, [], ◌∷◌, ◌++◌, IsPermutation, fold, length};
 ghost use Rattle.std.specs.List.{IsDistinct};
 ghost use Rattle.std.specs.List.Sorted.{IsSortedByKey};
 ghost use Rattle.std.specs.Ordering.{eq_by_cmp};
@@ -16,16 +16,19 @@ ghost use Rattle.star_history.specs.Keyed.{joined_by_keys};
 ghost use Rattle.star_history.specs.Read.{NamesItsPlaces, value_by_key};
 ghost use Rattle.aggregations.specs.declared.ordered.NumberedKey.{NumberedKey};
 ghost use Rattle.aggregations.specs.Grouped.{Tally, grouped_of};
-ghost use Rattle.aggregations.specs.Folding.{with_row};
+ghost use Rattle.aggregations.specs.Folding.{with_row, with_value};
 ghost use Rattle.aggregations.specs.Cells.{groups_in};
 ghost use Rattle.aggregations.specs.Finish.{answer_from, each_of, group_at, group_end, numbered_from};
+ghost use Rattle.aggregations.specs.Homes.{CodesAreOfOneKey};
+ghost use Rattle.aggregations.specs.Partial.{PartsAdd, PartsCommute, part_of_all, with_part};
 
 use star_history::values_by_key_are_those_of_joined_rows;
 use star_plan::{
     answers_overflow_by_whole_sums, cells_take_one_row_more, groups_are_the_keys_of_the_rows,
-    groups_take_one_row_more,
+    groups_take_one_row_more, the_least_of_values_ignores_their_order,
 };
 use star_values::rows_are_in_order;
+use value_columns::codes_tell_values_apart;
 
 /// The groups of rows, with one row more, are the groups of the rows and the one.
 pub fn one_row_more_is_folded()
@@ -46,6 +49,24 @@ pub fn values_by_key_fold_the_same()
 {
     one_row_more_is_folded();
     values_by_key_are_those_of_joined_rows();
+}
+
+/// Parts of rows may be taken in any order, and two of them at once. So a part stands for its rows: their
+/// values, one after another, make the same of a tally.
+pub fn parts_may_come_in_any_order()
+    ensures commute { PartsCommute }
+    ensures add { PartsAdd }
+    ensures values { (values : List Value) (tally : Tally) →
+        fold (λ before value. with_value value before) tally values ≡ with_part (part_of_all values) tally }
+{
+    the_least_of_values_ignores_their_order();
+}
+
+/// Two codes of which none is `NO_CODE` are those of one key: so a group is known by them.
+pub fn codes_are_of_one_key()
+    ensures { CodesAreOfOneKey }
+{
+    codes_tell_values_apart();
 }
 
 /// The groups of rows, ended in the ascending order of their keys, are the answer.

@@ -15,10 +15,14 @@ mod kept_groups;
 mod keys;
 mod laws;
 mod ordered;
+mod partial;
 mod taking;
 mod taking_rows;
 mod texts;
 
 pub use crossing::groups_may_be_sent;
 pub use groups::Groups;
-pub use laws::{one_row_more_is_folded, values_by_key_fold_the_same};
+pub use laws::{
+    codes_are_of_one_key, one_row_more_is_folded, parts_may_come_in_any_order,
+    values_by_key_fold_the_same,
+};
