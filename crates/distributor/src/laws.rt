@@ -10,8 +10,7 @@ ghost use Rattle.aggregations.specs.Homes.{CodesAreOfOneKey};
 ghost use Rattle.aggregations.specs.Partial.{PartsAdd, PartsCommute};
 ghost use Rattle.distributor.specs.Folded.{versions_for, with_versions};
 
-use aggregations::parts_may_come_in_any_order;
-use value_columns::codes_tell_values_apart;
+use aggregations::{codes_are_of_one_key, parts_may_come_in_any_order};
 
 /// A row goes into the groups of exactly those slots whose bit it has, and behind the rows before it.
 pub fn rows_go_where_their_bits_say()
@@ -44,6 +43,6 @@ pub(crate) fn kinds_may_wait()
     ensures commute { PartsCommute }
     ensures add { PartsAdd }
 {
-    codes_tell_values_apart();
+    codes_are_of_one_key();
     parts_may_come_in_any_order();
 }
