@@ -14,3 +14,4 @@ pub mod WayLemmas
 pub mod JoinLemmas
 pub mod GiveLemmas
 pub mod SharingLemmas
+pub mod HeldLemmas
