@@ -1,7 +1,7 @@
 -- What a distributor has after a batch is what the core keeps after it.
 use Rattle.core_state.proofs.Words.{◌<◌, ◌∙◌, ◌≡◌, ◌≤◌, after_distribute, All-contains, All-contains_itself, Any, ap, AreFed, AreKeyedTablesOf, arith, attached_at, attached_to, bit_at, Bool, cases_lt, cond, Contains, DimensionRow, eqb, false, fed_at, fed_in, Flight, flight_at, frame_words, Free, get_or, get_or-map-range_with_len, get_or_past, Grouped, Has, Held, holder_of, IfSome, IsFed, IsOnRoster, IsSomeAnd, IsSound, IsSoundBatch, KeyedStore, length, length-map-range_with_len, List, map, None, Option, option_map, range_with_len, Roomy, Rows, slot_at, SlotState, Some, State, subst, sym, tables_of, true, Version, with_batch, ℕ, ⊎_elim}
 use Rattle.distributor.specs.Folded.{after_batch}
-use Rattle.distributor.specs.Masked.{HaveRows}
+use Rattle.distributor.specs.Slots.{HaveRows}
 use Rattle.core_state.specs.Handed.{HasWhatIsKept}
 use Rattle.core_state.proofs.AcceptedLemmas.{find-holds}
 use Rattle.core_state.proofs.CutFoundLemmas.{map-below}

@@ -6,7 +6,7 @@ use Rattle.std.proofs.lemmas.List.Sums.{count_by-le-length, length-filter}
 use Rattle.star_plan.specs.Joined.{kept_of}
 use Rattle.star_history.specs.Alone.{visible}
 use Rattle.pipeline_manager.specs.declared.life.Life.TheVariants as life
-use Rattle.distributor.specs.Masked.{HaveRoom}
+use Rattle.distributor.specs.Slots.{HaveRoom}
 use Rattle.core_state.proofs.AcceptedLemmas.{accepted-lives, find-holds}
 use Rattle.core_state.proofs.CutFoundLemmas.{all-below}
 use Rattle.core_state.proofs.DistributedLemmas.{found-itself}

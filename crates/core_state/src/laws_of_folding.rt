@@ -6,7 +6,7 @@ ghost use Rattle.dimension_rows.specs.declared.dimension_row.DimensionRow.{Dimen
 ghost use Rattle.star_history.specs.Keyed.{KeyedStore};
 ghost use Rattle.aggregations.specs.Grouped.{Grouped, grouped_of};
 ghost use Rattle.distributor.specs.Folded.{after_batch, with_batch};
-ghost use Rattle.distributor.specs.Masked.{HaveRoom, HaveRows};
+ghost use Rattle.distributor.specs.Slots.{HaveRoom, HaveRows};
 ghost use Rattle.core_state.specs.Cutting.{after_distribute, rows_for, with_rows};
 ghost use Rattle.core_state.specs.Events.{AreFed};
 ghost use Rattle.core_state.specs.Found.{flight_at};

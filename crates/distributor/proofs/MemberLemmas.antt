@@ -7,18 +7,11 @@ use Rattle.std.proofs.lemmas.List.Elements.{Contains-append_left, Contains-appen
 use Rattle.bit_words.specs.Sets.{Has}
 use Rattle.fact_versions.specs.declared.version.Version.{Version}
 use Rattle.distributor.specs.Folded.{versions_for}
-use Rattle.distributor.proofs.VersionLemmas.{versions_for-append, versions_for-one}
+use Rattle.distributor.proofs.VersionLemmas.{first_of, versions_for-append, versions_for-one}
 
 -- a version stands in a row that has the bit of a slot
 abbrev pub StandsFor : (slot : ℕ) → List ℕ → List Version → Version → Type 0
 StandsFor slot bits versions version = (row : ℕ) × (slice_get versions row ≡ Some version) × Has (get_or bits row 0) slot
-
--- the first version, if it has the bit, and the others
-first_of : (slot word : ℕ) (bits : List ℕ) (first : Version) (versions : List Version)
-    → versions_for slot (word ∷ bits) (first ∷ versions) ≡ cond (bit_at word slot == 1) (first ∷ []) [] ++ versions_for slot bits versions
-first_of slot word bits first versions =
-    versions_for-append slot (word ∷ []) bits (first ∷ []) versions refl
-    ∙ ap (λ l. l ++ versions_for slot bits versions) (versions_for-one slot word first)
 
 -- a version that is the one, if that is there
 only_one : (t : Bool) (first version : Version) → Contains (cond t (first ∷ []) []) version → (t ≡ true) × (first ≡ version)

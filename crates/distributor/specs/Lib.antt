@@ -1,4 +1,7 @@
 -- What the contracts of this crate, and of those above it, say of the rows that go into groups.
 pub mod Folded
-pub mod Masked
-pub mod Crossed
+pub mod Slots
+pub mod Kinds
+pub mod Sharings
+pub mod Making
+pub mod Counted

@@ -6,7 +6,11 @@ ghost use Rattle.star_lists.specs.Roomy.{Roomy};
 ghost use Rattle.fact_versions.specs.declared.version.Version.{Version};
 ghost use Rattle.dimension_rows.specs.declared.dimension_row.DimensionRow.{DimensionRow};
 ghost use Rattle.aggregations.specs.Grouped.{Grouped};
+ghost use Rattle.aggregations.specs.Homes.{CodesAreOfOneKey};
+ghost use Rattle.aggregations.specs.Partial.{PartsAdd, PartsCommute};
 ghost use Rattle.distributor.specs.Folded.{versions_for, with_versions};
+
+use aggregations::{codes_are_of_one_key, parts_may_come_in_any_order};
 
 /// A row goes into the groups of exactly those slots whose bit it has, and behind the rows before it.
 pub fn rows_go_where_their_bits_say()
@@ -31,3 +35,14 @@ pub fn batches_may_be_folded_in_parts()
         versions_for slot (bits ++ more) (versions ++ others)
         ≡ versions_for slot bits versions ++ versions_for slot more others }
 {}
+
+/// Rows of one kind may wait, and be taken at once: they are of one group, and what they come to may be added at any
+/// time, alone or with others.
+pub(crate) fn kinds_may_wait()
+    ensures codes { CodesAreOfOneKey }
+    ensures commute { PartsCommute }
+    ensures add { PartsAdd }
+{
+    codes_are_of_one_key();
+    parts_may_come_in_any_order();
+}

@@ -1,14 +1,21 @@
 //! Into which queries' groups does each row of a batch go? What groups are is in the crate below.
 #![tactic(auto)]
 
+mod apart;
 mod blocks;
 mod coding;
 mod crossing;
 mod distributor;
-mod folding;
+mod giving;
+mod homes;
+mod joining;
+mod kind;
+mod kind_table;
 mod laws;
-mod masks;
+mod sharing;
 mod slots;
+mod taking;
+mod ways;
 
 pub use crossing::distributors_may_be_sent;
 pub use distributor::{Distributor, Spoils};

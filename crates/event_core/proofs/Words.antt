@@ -55,7 +55,7 @@ pub use Rattle.continuous_scan.specs.Scanning.{Running, Scanning}
 pub use Rattle.continuous_scan.specs.Stamped.{batch_of, CanTestAll}
 pub use Rattle.aggregations.specs.Grouped.{Grouped, grouped_of}
 pub use Rattle.distributor.specs.Folded.{after_batch}
-pub use Rattle.distributor.specs.Masked.{AreAttached}
+pub use Rattle.distributor.specs.Slots.{AreAttached}
 pub use Rattle.reply_text.specs.declared.reply.Reply.{Reply}
 pub use Rattle.star_statement.specs.Applied.{Follows}
 pub use Rattle.star_statement.specs.Kinds.{kind_of_change}

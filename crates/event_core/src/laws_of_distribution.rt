@@ -4,7 +4,7 @@ ghost use Rattle.star_lists.specs.Roomy.{Roomy};
 ghost use Rattle.dimension_rows.specs.declared.dimension_row.DimensionRow.{DimensionRow};
 ghost use Rattle.star_history.specs.Kept.{rows_of_all};
 ghost use Rattle.pipeline_manager.specs.Conditions.{CanSpoil};
-ghost use Rattle.distributor.specs.Masked.{AreAttached, HaveRoom, HaveRows};
+ghost use Rattle.distributor.specs.Slots.{AreAttached, HaveRoom, HaveRows};
 ghost use Rattle.core_state.specs.Cutting.{after_distribute};
 ghost use Rattle.core_state.specs.Events.{AreFed, MayDistribute};
 ghost use Rattle.core_state.specs.Handed.{fed_in};

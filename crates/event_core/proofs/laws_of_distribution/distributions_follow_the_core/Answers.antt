@@ -1,5 +1,5 @@
 use Rattle.event_core.proofs.Words.{All, fed_in, state_of, subst, sym}
-use Rattle.distributor.specs.Masked.{HaveRoom}
+use Rattle.distributor.specs.Slots.{HaveRoom}
 use Rattle.event_core.proofs.DistributedLemmas.{attached-seen, batch-frame, batch-within, distributed-becomes, held-begun, seen, seen-among, seen-there}
 use Rattle.event_core.proofs.DistributedSlotLemmas.{held-are-fed}
 use Rattle.event_core.proofs.laws_of_distribution.distributions_follow_the_core.Goals as goal
