@@ -10,7 +10,7 @@ pub abandon_in-requires : goal.abandon_in-requires
 abandon_in-requires c =
     rising-behind c.self.inside.statements.gone c.self.inside.statements.rest
     (subst (λ seat. AllPairs (λ statement later. statement < later) (map (λ (submitted : Submitted). submitted.number) seat.items)) (sym c.self.view_is)
-    c.requires)
+    c.requires.rising)
 
 pub first_waited-self-inside-requires : goal.first_waited-self-inside-requires
 first_waited-self-inside-requires c =

@@ -12,6 +12,16 @@ use Rattle.core_parts.proofs.seat.Seat.take.Goals as goal
 abbrev some : Submitted
 some = record { number = 0; standing = IsAbandoned }
 
+pub take_at-standing-requires : goal.take_at-standing-requires
+take_at-standing-requires c =
+    let statements = c.self.inside.statements.rest in
+    let place = c.first_waited-place.result in
+    let next : IsNext place statements =
+    next-found statements _ place c.rest.ensures c.first_waited-place.ensures.waited
+    (subst (λ o. IsSome o) (sym (first-behind c.self.inside.statements.gone statements c.self.invariant.1))
+    (subst (λ seat. IsSome (first_of seat.items)) (sym c.self.view_is) c.requires)) in
+    next.within
+
 pub first_waited-self-inside-requires : goal.first_waited-self-inside-requires
 first_waited-self-inside-requires c =
     let statements = c.self.inside.statements.rest in
