@@ -1,5 +1,5 @@
 -- That a core may be sent to another thread: each of its parts may. Of most parts the crates that declare them have it, as `the_send`.
-use denote.Builtin.{u64}
+use denote.Builtin.{u8, u64, usize}
 use denote.Param.Send.{IsSend, view_send, sendable}
 use denote.Param.SendFields.{declared_send}
 use Rattle.std.proofs.Crossing.{crosses, Arc-send}
@@ -15,7 +15,15 @@ use Rattle.core_parts.specs.contracts.asked.Asked as asked
 use Rattle.core_parts.specs.contracts.asked.Asked.TheInside as inside_asked
 use Rattle.star_store.proofs.store.Store.TheSendSync as store
 use Rattle.event_core.proofs.logged.Logged.TheSendSync as logged
-use Rattle.pipeline_manager.proofs.manager.Manager.TheSendSync as manager
+use Rattle.pipeline_manager.proofs.life.QueryLife.TheSendSync as life
+use Rattle.pipeline_manager.proofs.life.SlotState.TheSendSync as slot_state
+use Rattle.pipeline_manager.proofs.number_set.NumberSet.TheSendSync as number_set
+use Rattle.pipeline_manager.specs.contracts.old_lives.OldLives as old_lives
+use Rattle.pipeline_manager.specs.contracts.old_lives.OldLives.TheInside as inside_old_lives
+use Rattle.pipeline_manager.specs.contracts.query_lives.QueryLives as query_lives
+use Rattle.pipeline_manager.specs.contracts.query_lives.QueryLives.TheInside as inside_query_lives
+use Rattle.pipeline_manager.specs.contracts.manager.Manager as manager
+use Rattle.pipeline_manager.specs.contracts.manager.Manager.TheInside as inside_manager
 use Rattle.core_filters.proofs.filters.Filters.TheSendSync as filters
 use Rattle.distributor.proofs.distributor.Distributor.TheSendSync as distributor
 use Rattle.core_parts.proofs.flights.Flights.TheSendSync as flights
@@ -30,6 +38,27 @@ asked_send =
     let fields = declared_send inside_asked.the_type (search sendable, (search sendable, (query, (search sendable, (option_send _ groups.the_send, tt))))) in
     view_send inside_asked.the_row _ _ _ _ fields
 
+-- the lives that are over may be sent
+old_lives_send : IsSend old_lives.the_row
+old_lives_send =
+    let fields = declared_send inside_old_lives.the_type (trail_send _ life.the_send, (number_set.the_send, (number_set.the_send, tt))) in
+    view_send inside_old_lives.the_row _ _ _ _ fields
+
+-- and all lives
+query_lives_send : IsSend query_lives.the_row
+query_lives_send =
+    let place : IsSend usize = search sendable in
+    let fields = declared_send inside_query_lives.the_type (heap.the_send, (old_lives_send, (list.the_send _ life.the_send, (place, (place, tt))))) in
+    view_send inside_query_lives.the_row _ _ _ _ fields
+
+-- a manager of lives and slots may be sent
+manager_send : IsSend manager.the_row
+manager_send =
+    let set : IsSend u8 = search sendable in
+    let place : IsSend usize = search sendable in
+    let fields = declared_send inside_manager.the_type (query_lives_send, (list.the_send _ slot_state.the_send, (set, (place, tt)))) in
+    view_send inside_manager.the_row _ _ _ _ fields
+
 -- two facts as one
 both : {A B : Type 0} → A → B → A × B
 both one other = (one, other)
@@ -40,7 +69,7 @@ core_send =
     let number : IsSend u64 = search sendable in
     let numbers : IsSend u64 × (IsSend u64 × (IsSend u64 × (IsSend u64 × Unit {0}))) = (number, (number, (number, (number, tt)))) in
     let moving = both distributor.the_send (both flights.the_send (both pool.the_send numbers)) in
-    let running = both manager.the_send (both filters.the_send (both scan_send moving)) in
+    let running = both manager_send (both filters.the_send (both scan_send moving)) in
     let asking = both (trail_send _ logged.the_send) (both (list.the_send _ seat_send) (both (roomy.the_send _ asked_send) running)) in
     let fields = declared_send inside_core.the_type (heap.the_send, (search sendable depth 8, (search (sendable, crosses) depth 20, (store.the_send, asking)))) in
     view_send inside_core.the_row _ _ _ _ fields
