@@ -105,19 +105,30 @@ fn is_served<R: Threads + Sync>(
     Ok(ended == end && link.bytes() == replies.as_bytes())
 }
 
-/// Whether both sessions over a new core are served so: the fourth write of the first fails, in its answer.
+/// Whether both sessions over a core are served so: the fourth write of the first fails, in its answer.
+fn both_are_served<R: Threads + Sync>(
+    rt: &R,
+    alloc: Global,
+    front: &mut Front,
+) -> Result<bool, NoMemory>
+    requires { IsAtHome front.old }
+{
+    let first = "table f\ncommit 1 rows 2\nanswer 1";
+    let second = "refused 13 out of order\ncommit 2 rows 2\nanswer 2 rows 1\n6\n";
+    Ok(
+        is_served(rt, alloc, front, 4, SessionEnd::WriteFault, first)?
+            && is_served(rt, alloc, front, NEVER, SessionEnd::Done, second)?,
+    )
+}
+
+/// Whether they are so over a new core.
 fn are_served<R: Threads + Sync>(
     rt: &R,
     alloc: Global,
     hash_keys: RandomState,
 ) -> Result<bool, NoMemory> {
     let mut front = Front::new(alloc, hash_keys, SETTINGS)?;
-    let first = "table f\ncommit 1 rows 2\nanswer 1";
-    let second = "refused 13 out of order\ncommit 2 rows 2\nanswer 2 rows 1\n6\n";
-    Ok(
-        is_served(rt, alloc, &mut front, 4, SessionEnd::WriteFault, first)?
-            && is_served(rt, alloc, &mut front, NEVER, SessionEnd::Done, second)?,
-    )
+    both_are_served(rt, alloc, &mut front)
 }
 
 #[test]

@@ -52,19 +52,12 @@ fn a_link_keeps_its_sides_apart(rt: HostRuntime) -> Result<(), Fail> {
 #[test]
 fn connections_are_served_until_the_door_ends(rt: HostRuntime) -> Result<(), Fail> {
     let alloc = rt.alloc();
+    let hash_keys = RandomState::new(&rt)?;
     let mut links = Vec::new(alloc);
     links.push(link_of(alloc, "wait\n", NEVER)?)?;
     let mut door = ListDoor::new(links, Vec::new(alloc));
     assert_eq!(rt;
-        serve(
-            &rt,
-            alloc,
-            RandomState::new(&rt)?,
-            SETTINGS,
-            5432,
-            0,
-            &mut door
-        ),
+        serve(&rt, alloc, hash_keys, SETTINGS, 5432, 0, &mut door),
         ServeEnd::Ended
     );
     Ok(())
