@@ -133,7 +133,7 @@ def connections(program, count):
                 time.sleep(0.1)
         for number in range(1, count + 1):
             ask(port, COUNT * QUERIES)
-            if number == 100 or number % (count // 10) == 0:
+            if number == 100 or number % max(1, count // 10) == 0:
                 print(f"connections: after {number:,}: {status_of(server.pid, 'VmRSS'):.1f} MB", flush=True)
     finally:
         server.kill()
