@@ -1,11 +1,9 @@
 -- Statements that were let go, in front of others.
-use Rattle.std.proofs.Common.{◌≡◌, ℕ, zero, suc, ◌<◌, false, List, [], ◌∷◌, ◌++◌, take, drop, map, find, Option, None, append_assoc, take-append-drop, option_map, refl, ap, sym, subst, ◌∙◌, arith}
-use Rattle.std.specs.List.{All, AllPairs, filter_map}
-use Rattle.std.specs.Option.{option_map_or}
+use Rattle.std.proofs.Common.{◌≡◌, ℕ, suc, ◌<◌, false, List, [], ◌∷◌, ◌++◌, take, drop, map, find, append_assoc, take-append-drop, refl, ap, sym, ◌∙◌, arith}
+use Rattle.std.specs.List.{AllPairs, filter_map}
 use Rattle.std.proofs.lemmas.List.{map-append}
 use Rattle.std.proofs.lemmas.List.Elements.{All-append, All-head, All-tail, filter_map-append}
-use Rattle.pipeline_manager.specs.Conditions.{is_open}
-use Rattle.pipeline_manager.specs.Lives.{Lives, life_of}
+use Rattle.pipeline_manager.specs.Lives.{Lives}
 use Rattle.star_lists.specs.Faded.{Faded, items_of}
 use Rattle.core_parts.specs.Seated.{Pending, Seat, with_taken, without_pending}
 use Rattle.core_parts.specs.declared.submitted.Submitted.{Submitted}
@@ -92,7 +90,7 @@ turn-settled rest next turn = record {
   none_is_taken = turn.none_is_taken;
 }
 
-pub items-settled : (gone rest : List Submitted) (next : ℕ) → (gone ++ take next rest) ++ drop next rest ≡ gone ++ rest
+pub items-settled : {X : Type 0} (gone rest : List X) (next : ℕ) → (gone ++ take next rest) ++ drop next rest ≡ gone ++ rest
 items-settled gone rest next =
     append_assoc gone (take next rest) (drop next rest) ∙ ap (λ list. gone ++ list) (take-append-drop next rest)
 

@@ -1,4 +1,5 @@
 pub mod AskedLemmas
+pub mod LetGoLemmas
 pub mod CrossingLemmas
 pub mod FirstFilterLemmas
 pub mod FlightLemmas

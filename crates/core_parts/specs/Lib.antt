@@ -6,6 +6,7 @@ pub mod Held
 pub mod Numbered
 pub mod Known
 pub mod Asked
+pub mod LetGo
 pub mod Seats
 pub mod Flights
 pub mod Filters

@@ -1,5 +1,5 @@
 //! An accepted query. The lives of queries are in the manager.
-ghost use Rattle.std.specs.Prelude.{◌≡◌, [], IfOk, None, Some};
+ghost use Rattle.std.specs.Prelude.{◌≡◌, ◌↔◌, [], IfOk, IfSome, IsTrue, None, Some, is_some, true, false};
 ghost use Rattle.std.specs.Arc.{arc_value};
 ghost use Rattle.star_plan.specs.Test.{query_of};
 ghost use Rattle.aggregations.specs.Grouped.{grouped_of};
@@ -8,12 +8,16 @@ use aggregations::Groups;
 use star_plan::StarQuery;
 use star_values::NoMemory;
 use std::alloc::Global;
+use std::fmt;
 use std::hash::RandomState;
 use std::marker::Model;
+use std::snapshot::Snapshot;
 use std::sync::Arc;
 
 /// A query that was accepted.
-#[derive(Debug, Drop)]
+///
+/// Its bound form is handed on to the scan as the query starts, or let go where it never does: contracts go on seeing it.
+#[derive(Drop)]
 pub struct Asked {
     /// Its number, which is that of its statement.
     number: u64,
@@ -21,7 +25,11 @@ pub struct Asked {
     /// Who submitted it.
     seat: u32,
 
-    query: Arc<StarQuery, Global>,
+    /// The query as it was bound, for contracts.
+    seen: Snapshot<Arc<StarQuery, Global>>,
+
+    /// The query, until it is handed on.
+    query: Option<Arc<StarQuery, Global>>,
 
     /// The last commit that it sees.
     snapshot: u64,
@@ -31,10 +39,11 @@ pub struct Asked {
 }
 
 impl Model for Asked {
+    ghost use Rattle.std.specs.Prelude.{◌≡◌, IfSome, is_some};
     ghost use Rattle.std.specs.Arc.{arc_value};
-    ghost use Rattle.core_parts.specs.Asked.{AskedQuery};
+    ghost use Rattle.core_parts.specs.Asked.{AskedEntry};
 
-    ghost Value = { AskedQuery };
+    ghost Value = { AskedEntry };
 
     ghost use Rattle.star_plan.specs.contracts.star_query.StarQuery as star_query;
     ghost use Rattle.std.specs.Coded.{codes};
@@ -42,12 +51,17 @@ impl Model for Asked {
     ghost coded = { Prim.hlevel (codes, star_query.the_row.coded) };
 
     ghost view = { λ asked. record {
-      number = asked.number;
-      seat = asked.seat;
-      query = arc_value asked.query;
-      snapshot = asked.snapshot;
-      kept = asked.kept;
+      asked = record {
+        number = asked.number;
+        seat = asked.seat;
+        query = arc_value asked.seen.value;
+        snapshot = asked.snapshot;
+        kept = asked.kept;
+      };
+      whole = is_some asked.query;
     } };
+
+    ghost invariant = { λ asked. IfSome asked.query (λ query. arc_value query ≡ arc_value asked.seen.value) };
 }
 
 impl Asked {
@@ -60,20 +74,22 @@ impl Asked {
         query: StarQuery,
         snapshot: u64,
     ) -> Result<Asked, NoMemory>
-        ensures { IfOk result (λ asked. asked ≡ record {
+        ensures asked { IfOk result (λ asked. asked.asked ≡ record {
           number = number;
           seat = seat;
           query = query;
           snapshot = snapshot;
           kept = Some (grouped_of (query_of query) []);
         }) }
+        ensures whole { IfOk result (λ asked. asked.whole ≡ true) }
     {
         let groups = Groups::new(alloc, hash_keys, &query)?;
         match Arc::new(alloc, query) {
             Ok(query) => Ok(Asked {
                 number,
                 seat,
-                query,
+                seen: Snapshot::of(&query),
+                query: Some(query),
                 snapshot,
                 kept: Some(groups),
             }),
@@ -82,49 +98,79 @@ impl Asked {
     }
 
     pub fn number(&self) -> u64
-        ensures { result ≡ self.now.number }
+        ensures { result ≡ self.now.asked.number }
     {
         self.number
     }
 
     pub fn seat(&self) -> u32
-        ensures { result ≡ self.now.seat }
+        ensures { result ≡ self.now.asked.seat }
     {
         self.seat
     }
 
     pub fn snapshot(&self) -> u64
-        ensures { result ≡ self.now.snapshot }
+        ensures { result ≡ self.now.asked.snapshot }
     {
         self.snapshot
     }
 
-    pub fn query(&self) -> &StarQuery
-        ensures { result.now ≡ self.now.query }
+    /// Whether nothing is kept beside it.
+    pub fn is_bare(&self) -> bool
+        ensures { IsTrue result ↔ (self.now.asked.kept ≡ None) }
     {
-        &self.query
+        matches!(self.kept, None)
     }
 
-    /// The query once more, shared and not copied.
-    pub fn shared_query(&self) -> Result<Arc<StarQuery, Global>, NoMemory>
-        ensures { IfOk result (λ query. arc_value query ≡ self.now.query) }
+    /// The query, which was not handed on.
+    pub fn query(&self) -> &StarQuery
+        requires { self.now.whole ≡ true }
+        ensures { result.now ≡ self.now.asked.query }
     {
-        let query = Arc::try_clone(&self.query)?;
-        Ok(query)
+        match &self.query {
+            Some(query) => query,
+            None => unreachable!(),
+        }
+    }
+
+    /// Hands the query on, which was not handed on before.
+    pub fn hand_on(&mut self) -> Arc<StarQuery, Global>
+        requires { self.old.whole ≡ true }
+        ensures query { arc_value result ≡ self.old.asked.query }
+        ensures handed { self.new ≡ record self.old { whole = false } }
+    {
+        match self.query.take() {
+            Some(query) => query,
+            None => unreachable!(),
+        }
+    }
+
+    /// Lets the query go, and what is kept beside it.
+    pub fn give_up(&mut self)
+        ensures { self.new ≡ record { asked = record self.old.asked { kept = None }; whole = false } }
+    {
+        self.query = None;
+        self.kept = None;
     }
 
     /// Keeps these groups, or none, beside the query.
     pub fn keep(&mut self, kept: Option<Groups>)
-        ensures { self.new ≡ record self.old { kept = kept } }
+        ensures { self.new ≡ record self.old { asked = record self.old.asked { kept = kept } } }
     {
         self.kept = kept;
     }
 
     /// Takes the groups away that are kept, if some are.
     pub fn take_kept(&mut self) -> Option<Groups>
-        ensures groups { result ≡ self.old.kept }
-        ensures left { self.new ≡ record self.old { kept = None } }
+        ensures groups { result ≡ self.old.asked.kept }
+        ensures left { self.new ≡ record self.old { asked = record self.old.asked { kept = None } } }
     {
         self.kept.take()
+    }
+}
+
+impl fmt::Debug for Asked {
+    fn fmt<W: fmt::Write>(&self, f: &mut fmt::Formatter<W>) -> fmt::Result {
+        f.write_str("Asked")
     }
 }

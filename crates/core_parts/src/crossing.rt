@@ -1,6 +1,6 @@
 //! That batches in flight, seats and accepted queries may cross to other threads, and that filters may be shared with them.
-use crate::asked::Asked;
 use crate::flights::Flights;
+use crate::queries::Queries;
 use crate::seat::Seat;
 use core_filters::Filters;
 
@@ -9,10 +9,14 @@ pub fn flights_may_be_sent() {
     is_sent::<Flights>();
 }
 
-/// Seats and accepted queries may be sent to another thread.
+/// Seats may be sent to another thread.
 pub fn seats_may_be_sent() {
     is_sent::<Seat>();
-    is_sent::<Asked>();
+}
+
+/// Accepted queries may be sent to another thread.
+pub fn queries_may_be_sent() {
+    is_sent::<Queries>();
 }
 
 /// Filters may be shared with another thread.

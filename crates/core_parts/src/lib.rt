@@ -6,14 +6,17 @@ mod crossing;
 mod flight;
 pub mod flights;
 mod passing;
-pub mod queries;
+mod queries;
 mod seat;
 mod submitted;
 
 pub use asked::Asked;
 pub use core_filters::{Filters, Version};
-pub use crossing::{filters_may_be_shared, flights_may_be_sent, seats_may_be_sent};
+pub use crossing::{
+    filters_may_be_shared, flights_may_be_sent, queries_may_be_sent, seats_may_be_sent,
+};
 pub use flight::{Flight, Hand, MAX_SLOTS};
 pub use flights::Flights;
+pub use queries::Queries;
 pub use seat::{Seat, may_be_answered};
 pub use submitted::{Standing, Submitted};

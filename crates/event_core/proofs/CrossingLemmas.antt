@@ -2,17 +2,12 @@
 use denote.Builtin.{u8, u64, usize}
 use denote.Param.Send.{IsSend, view_send, sendable}
 use denote.Param.SendFields.{declared_send}
-use Rattle.std.proofs.Crossing.{crosses, Arc-send}
+use Rattle.std.proofs.Crossing.{crosses}
 use Rattle.std.proofs.alloc.Global.TheSendSync as heap
 use Rattle.star_lists.proofs.list_of.ListOf.TheSendSync as list
-use Rattle.star_lists.proofs.list_with_room.ListWithRoom.TheSendSync as roomy
-use Rattle.star_plan.specs.contracts.star_query.StarQuery as query
-use Rattle.aggregations.proofs.groups.Groups.TheSendSync as groups
-use Rattle.continuous_scan.proofs.CrossingLemmas.{option_send, query_send, query_sync, scan_send}
+use Rattle.continuous_scan.proofs.CrossingLemmas.{scan_send}
 use Rattle.star_lists.proofs.CrossingLemmas.{trail_send}
-use Rattle.core_parts.proofs.CrossingLemmas.{seat_send}
-use Rattle.core_parts.specs.contracts.asked.Asked as asked
-use Rattle.core_parts.specs.contracts.asked.Asked.TheInside as inside_asked
+use Rattle.core_parts.proofs.CrossingLemmas.{queries_send, seat_send}
 use Rattle.star_store.proofs.store.Store.TheSendSync as store
 use Rattle.event_core.proofs.logged.Logged.TheSendSync as logged
 use Rattle.pipeline_manager.proofs.life.QueryLife.TheSendSync as life
@@ -30,13 +25,6 @@ use Rattle.core_parts.proofs.flights.Flights.TheSendSync as flights
 use Rattle.frame_pool.proofs.pool.Pool.TheSendSync as pool
 use Rattle.event_core.specs.contracts.machine.Core as core
 use Rattle.event_core.specs.contracts.machine.Core.TheInside as inside_core
-
--- an accepted query may be sent
-asked_send : IsSend asked.the_row
-asked_send =
-    let query = Arc-send query.the_row query_send query_sync in
-    let fields = declared_send inside_asked.the_type (search sendable, (search sendable, (query, (search sendable, (option_send _ groups.the_send, tt))))) in
-    view_send inside_asked.the_row _ _ _ _ fields
 
 -- the lives that are over may be sent
 old_lives_send : IsSend old_lives.the_row
@@ -70,6 +58,6 @@ core_send =
     let numbers : IsSend u64 × (IsSend u64 × (IsSend u64 × (IsSend u64 × Unit {0}))) = (number, (number, (number, (number, tt)))) in
     let moving = both distributor.the_send (both flights.the_send (both pool.the_send numbers)) in
     let running = both manager_send (both filters.the_send (both scan_send moving)) in
-    let asking = both (trail_send _ logged.the_send) (both (list.the_send _ seat_send) (both (roomy.the_send _ asked_send) running)) in
+    let asking = both (trail_send _ logged.the_send) (both (list.the_send _ seat_send) (both queries_send running)) in
     let fields = declared_send inside_core.the_type (heap.the_send, (search sendable depth 8, (search (sendable, crosses) depth 20, (store.the_send, asking)))) in
     view_send inside_core.the_row _ _ _ _ fields

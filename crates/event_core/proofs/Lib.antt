@@ -33,6 +33,7 @@ pub mod HandLemmas
 pub mod IdleLemmas
 pub mod HeldSlotLemmas
 pub mod KeptLifeLemmas
+pub mod LetGoLemmas
 pub mod LivedLemmas
 pub mod MachineLemmas
 pub mod MadeLemmas

@@ -1,5 +1,5 @@
 -- The parts of a new core.
-use Rattle.event_core.proofs.Words.{◌*◌, ◌+◌, ◌∙◌, ◌∷◌, ◌≡◌, ◌≤◌, [], All, All-nil, ap, AreWithin, arith, AskedQuery, Becomes, empty_core, empty_store, first_parts, Flight, frame_words, frames_of, Free, Grouped, HasRoom, IsKeyed, KeyedStore, List, Lives, Logged, map, new_scan, None, Option, Parts, parts_by, plain, plain_version, refl, replicate, Roomy, RunSettings, Scanning, Stock, Store, Submitted, subst, sym, Version, ℕ}
+use Rattle.event_core.proofs.Words.{◌*◌, ◌+◌, ◌∙◌, ◌∷◌, ◌≡◌, ◌≤◌, [], All, All-nil, ap, AreWithin, arith, AskedQueries, AskedQuery, Becomes, empty_core, empty_store, first_parts, Flight, frame_words, frames_of, Free, Grouped, HasRoom, IsKeyed, KeyedStore, List, Lives, Logged, map, new_scan, None, Option, Parts, parts_by, plain, plain_version, refl, replicate, Roomy, RunSettings, Scanning, Stock, Store, Submitted, subst, sym, Version, ℕ}
 use Rattle.star_history.specs.Keyed.{HasKeyNumbers}
 use Rattle.core_state.specs.State as state
 use Rattle.core_parts.specs.Filters.{no_filters}
@@ -64,7 +64,7 @@ first-of settings tables log seats asked lives filters scan attached flights poo
 
 -- the parts that the code makes are those of an empty core
 pub becomes-empty : NewLaw → (settings : RunSettings) (tables : KeyedStore) (log : List Logged) (seats : List (Roomy Submitted))
-    (asked : Roomy AskedQuery) (lives : Lives) (filters : state.Filters) (scan : Scanning) (attached : List (Option Grouped))
+    (asked : AskedQueries) (lives : Lives) (filters : state.Filters) (scan : Scanning) (attached : List (Option Grouped))
     (flights : Roomy Flight) (pool : Stock) → AreWithin settings → plain tables ≡ empty_store → log ≡ []
     → map (λ seat. seat.items) seats ≡ replicate settings.seats [] → asked.items ≡ []
     → lives ≡ record { queries = []; slots = replicate settings.slots Free; filters = 0 } → filters ≡ no_filters

@@ -1,6 +1,6 @@
 -- The parts of a core where a reply was taken, and what was taken.
 use Rattle.event_core.proofs.Words.{◌∙◌, ◌≡◌, after_taking, ap, AskedQuery, Becomes, Bool, cond, false, first_of, forgotten_at, Grouped, IfSome, is_open, IsAbandoned, IsAnswered, IsAsked, IsCore, IsRight, IsSome, IsSound, IsTaken, kept_for, Known, known_in, life_of, List, Lives, next_ready, None, none-some, not, Option, option_and_then, option_map_or, Parts, Pending, Ready, ready_with, refl, same_Some, seat_as, seat_at, set, slice_get, snapshot_for, Some, some-at, some-by, Standing, State, state_of, statements_at, Submitted, subst, sym, true, Waits, with_kept_at, with_taken, ℕ}
-use Rattle.event_core.specs.Taking.{may_be_taken, next_number, number_to_take}
+use Rattle.event_core.specs.Taking.{groups_or_memory, may_be_taken, next_number, number_to_take}
 
 -- nothing may be taken where nothing is waited for
 abbrev pub NothingNext : Type 0
@@ -103,10 +103,17 @@ next-as parts seat number is = by_first (first_of (statements_at parts.seats sea
     by_first None found e = absurd (none-some number e)
     by_first (Some first) found e = by_test first found (may_be_taken parts.lives first.number first.standing) refl e
 
--- what the code has taken: the number that it found, how the statement stood, its snapshot and what was kept
+-- the snapshot tells nothing where nothing is kept
+ready-same : (standing : Standing) (given snapshot : ℕ) (groups : Option Grouped) → (IsSome groups → given ≡ snapshot)
+    → ready_with standing given groups ≡ ready_with standing snapshot groups
+ready-same (Waits answer) given snapshot groups same = refl
+ready-same other given snapshot None same = refl
+ready-same other given snapshot (Some groups) same = ap (λ n. groups_or_memory n (Some groups)) (same refl)
+
+-- what the code has taken: the number that it found, how the statement stood, its snapshot where groups are kept, and these
 pub record TakesFirst (parts : Parts) (seat number snapshot : ℕ) (groups : Option Grouped) (standing : Standing) (ready : Ready) : Type 0 where
   pub number_is : next_number parts.lives (statements_at parts.seats seat) ≡ Some number
-  pub snapshot_is : snapshot ≡ snapshot_for parts.asked number
+  pub snapshot_is : IsSome groups → snapshot ≡ snapshot_for parts.asked number
   pub groups_are : groups ≡ kept_for parts.asked number
   pub standing_is : IfSome (first_of (statements_at parts.seats seat)) (λ submitted. submitted.standing ≡ standing)
   pub ready_is : ready ≡ ready_with standing snapshot groups
@@ -118,9 +125,8 @@ reply-ready closed parts seat number snapshot groups standing ready core took =
     closed parts seat first core there.1.found there.1.closed
     ∙ ap (λ n. Some (ready_with first.standing (snapshot_for parts.asked n) (kept_for parts.asked n))) there.1.number_is
     ∙ ap (λ s. Some (ready_with s (snapshot_for parts.asked number) (kept_for parts.asked number))) stands
-    ∙ ap (λ n. Some (ready_with standing n (kept_for parts.asked number))) (sym took.snapshot_is)
-    ∙ ap (λ o. Some (ready_with standing snapshot o)) (sym took.groups_are)
-    ∙ ap Some (sym took.ready_is)
+    ∙ ap (λ o. Some (ready_with standing (snapshot_for parts.asked number) o)) (sym took.groups_are)
+    ∙ ap Some (sym (took.ready_is ∙ ready-same standing snapshot (snapshot_for parts.asked number) groups took.snapshot_is))
   where
     there : (first : Submitted) × IsNextAs parts seat number first
     there = next-as parts seat number took.number_is

@@ -1,9 +1,8 @@
 -- The parts of a core where a slot has been given to a query, or taken from it.
-use Rattle.event_core.proofs.Words.{◌<◌, ◌∙◌, ◌≡◌, ◌≢◌, ◌⊎◌, after_end, after_finish, after_reserve, after_reserving, ap, AreRising, arith, AskedQuery, Becomes, cases_lt, finished, Free, get_or, get_or_past, Grouped, Held, inl, inr, IsCore, length, length-range_with_len, Life, life_of, List, Lives, MayFinish, MayReserve, None, Option, Parts, range_with_len, refl, reserved, Roomy, set, slot_at, Some, state_of, subst, sym, unheld, with_kept_at, ℕ, ⊎_elim}
+use Rattle.event_core.proofs.Words.{◌<◌, ◌∙◌, ◌≡◌, ◌≢◌, ◌⊎◌, after_end, after_finish, after_reserve, after_reserving, ap, arith, AskedQueries, Becomes, cases_lt, finished, Free, get_or, get_or_past, Grouped, Held, inl, inr, IsCore, length, length-range_with_len, Life, life_of, List, Lives, MayFinish, MayReserve, None, Option, Parts, range_with_len, refl, reserved, set, slot_at, Some, state_of, subst, sym, unheld, with_kept_at, ℕ, ⊎_elim}
 use Rattle.std.proofs.Math.ListN as lists
 use Rattle.pipeline_manager.specs.declared.life.Life.TheVariants.{Ending}
 use Rattle.core_state.specs.Handed.{attached_at}
-use Rattle.event_core.proofs.AskedKeptLemmas.{asked-rise}
 
 -- a query that gets a slot
 abbrev pub Reserves : Type 0
@@ -18,10 +17,6 @@ reserve-becomes law parts now query slot lives is core may written =
     subst (λ seen. MayReserve query slot (state_of seen) → Becomes (record parts { lives = lives }) (after_reserving slot (state_of seen)))
     is (λ may. subst (λ lives. Becomes (record parts { lives = lives }) (after_reserving slot (state_of parts))) (sym written)
     (law parts query slot core may)) may
-
--- the numbers of the accepted queries rise
-pub asked-rising : (parts : Parts) (asked : List AskedQuery) → IsCore parts → asked ≡ parts.asked → AreRising asked
-asked-rising parts asked core is = subst AreRising (sym is) (asked-rise parts core)
 
 -- there are as many places for groups as slots
 pub attached-count : (parts : Parts) → IsCore parts → length parts.attached ≡ length parts.lives.slots
@@ -60,13 +55,13 @@ FinishesUnanswered = (parts : Parts) (slot query built : ℕ) → IsCore parts �
     Becomes (unheld slot parts) (after_finish slot (state_of parts))
 
 -- what is kept beside a query with this life, if it is to be answered
-pub record KeepsEnding (query : ℕ) (life : Option Life) (groups : Option Grouped) (old new : Roomy AskedQuery) : Type 0 where
+pub record KeepsEnding (query : ℕ) (life : Option Life) (groups : Option Grouped) (old new : AskedQueries) : Type 0 where
   pub ending : life ≡ Some Ending → new ≡ record old { items = with_kept_at query groups old.items }
   pub others : life ≢ Some Ending → new ≡ old
 
 -- the parts where a slot was taken from its query
 pub finish-becomes : FinishesAnswered → FinishesUnanswered → (parts now : Parts) (slot query built : ℕ) (life : Option Life)
-    (groups : Option Grouped) (old new : Roomy AskedQuery) (attached : List (Option Grouped)) (lives : Lives) → parts ≡ now → IsCore parts
+    (groups : Option Grouped) (old new : AskedQueries) (attached : List (Option Grouped)) (lives : Lives) → parts ≡ now → IsCore parts
     → MayFinish slot (state_of now) → slot_at parts.lives slot ≡ Held query built → life ≡ life_of parts.lives query
     → groups ≡ get_or parts.attached slot None → old.items ≡ parts.asked → KeepsEnding query life groups old new
     → attached ≡ set parts.attached slot None → lives ≡ after_end slot parts.lives
@@ -85,7 +80,7 @@ finish-becomes answered unanswered parts now slot query built life groups old ne
     answered-is : life ≡ Some Ending → finished slot query (get_or parts.attached slot None) parts ≡ later
     answered-is ending =
         let kept : new.items ≡ with_kept_at query (get_or parts.attached slot None) parts.asked =
-        ap (λ (r : Roomy AskedQuery). r.items) (keeps.ending ending)
+        ap (λ (r : AskedQueries). r.items) (keeps.ending ending)
         ∙ ap (λ g. with_kept_at query g old.items) groups-is
         ∙ ap (with_kept_at query (get_or parts.attached slot None)) asked-is in
         ap (λ a. record parts { asked = a; attached = set parts.attached slot None; lives = after_end slot parts.lives }) (sym kept)
@@ -94,7 +89,7 @@ finish-becomes answered unanswered parts now slot query built life groups old ne
 
     unanswered-is : life ≢ Some Ending → unheld slot parts ≡ later
     unanswered-is other =
-        let left : new.items ≡ parts.asked = ap (λ (r : Roomy AskedQuery). r.items) (keeps.others other) ∙ asked-is in
+        let left : new.items ≡ parts.asked = ap (λ (r : AskedQueries). r.items) (keeps.others other) ∙ asked-is in
         ap (λ a. record parts { asked = a; attached = set parts.attached slot None; lives = after_end slot parts.lives }) (sym left)
         ∙ ap (λ a. record parts { asked = new.items; attached = a; lives = after_end slot parts.lives }) (sym attached-is)
         ∙ ap (λ l. record parts { asked = new.items; attached = attached; lives = l }) (sym lives-is)

@@ -64,7 +64,7 @@ pub use Rattle.star_statement.specs.declared.applied.Applied.TheVariants.{Change
 pub use Rattle.star_statement.specs.declared.applied.ChangeKind.{ChangeKind}
 pub use Rattle.star_lists.proofs.PlaceLemmas.{refill-all}
 pub use Rattle.core_parts.proofs.TurnLemmas.{first_of}
-pub use Rattle.core_parts.specs.Asked.{AreRising, asked_at, AskedQuery, known_in, with_kept, with_kept_at}
+pub use Rattle.core_parts.specs.Asked.{AreFinished, AreRising, asked_at, AskedQueries, AskedQuery, known_in, with_kept, with_kept_at}
 pub use Rattle.core_parts.specs.Filters.{next_of, plus, with_new}
 pub use Rattle.core_parts.specs.Flights.{entry_by, flight_as, flights_as, passed_in, roster_by, Through, Wants}
 pub use Rattle.core_parts.specs.InFlight.{passed_by}

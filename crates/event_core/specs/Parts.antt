@@ -8,7 +8,7 @@ use Rattle.continuous_scan.specs.Scanning.{Scanning}
 use Rattle.aggregations.specs.Grouped.{Grouped}
 use Rattle.core_state.specs.State as state
 use Rattle.core_state.specs.declared.settings.RunSettings.{RunSettings}
-use Rattle.core_parts.specs.Asked.{AskedQuery}
+use Rattle.core_parts.specs.Asked.{AskedQueries, AskedQuery}
 use Rattle.core_parts.specs.declared.flight.Flight.{Flight}
 use Rattle.event_core.specs.declared.logged.Logged.{Logged}
 use Rattle.core_parts.specs.declared.submitted.Submitted.{Submitted}
@@ -32,7 +32,7 @@ pub record Parts : Type 0 where
   pub numbers : state.Numbers
 
 -- the parts, of which some have room for more
-abbrev pub parts_by : RunSettings → KeyedStore → List Logged → List (Roomy Submitted) → Roomy AskedQuery → Lives → state.Filters
+abbrev pub parts_by : RunSettings → KeyedStore → List Logged → List (Roomy Submitted) → AskedQueries → Lives → state.Filters
     → Scanning → List (Option Grouped) → Roomy Flight → Stock → (cut statement batch version : ℕ) → Parts
 parts_by settings tables log seats asked lives filters scan attached flights pool cut statement batch version = record {
   settings = settings;

@@ -17,14 +17,14 @@ ghost use Rattle.event_core.specs.Seen.{state_of};
 use crate::laws_of_core::a_new_core_is_empty;
 use crate::logged::Logged;
 use continuous_scan::Scan;
-use core_parts::{Asked, Filters, Flights, Seat};
+use core_parts::{Filters, Flights, Queries, Seat};
 use core_state::RunSettings;
 use distributor::Distributor;
 use event_choice::has;
 use filter_order::Tally;
 use frame_pool::Pool;
 use pipeline_manager::{Life, Manager};
-use star_lists::{ListOf, ListWithRoom, Trail};
+use star_lists::{ListOf, Trail};
 use star_store::Store;
 use star_values::NoMemory;
 use std::alloc::Global;
@@ -46,8 +46,8 @@ pub struct Core {
     pub(crate) log: Trail<Logged>,
     pub(crate) seats: ListOf<Seat>,
 
-    /// The accepted queries. Their numbers rise.
-    pub(crate) asked: ListWithRoom<Asked>,
+    /// The accepted queries. Their numbers rise. Those that were handed on have begun, and those that were let go are over.
+    pub(crate) asked: Queries,
 
     /// Their lives, and which of them holds which slot.
     pub(crate) manager: Manager,
@@ -73,6 +73,7 @@ pub struct Core {
 impl Model for Core {
     ghost use Rattle.event_core.specs.Parts.{Parts, parts_by};
     ghost use Rattle.event_core.specs.Core.{IsCore, HasRoom};
+    ghost use Rattle.core_parts.specs.Asked.{AreFinished};
 
     ghost Value = { Parts };
 
@@ -87,7 +88,7 @@ impl Model for Core {
     ghost invariant = { λ core.
         IsCore (parts_by core.settings core.store core.log core.seats core.asked core.manager core.filters core.scan
         core.distributor core.flights core.pool core.cut core.last_statement core.last_batch core.last_version)
-        × HasRoom core.settings core.flights };
+        × HasRoom core.settings core.flights × AreFinished core.manager core.asked };
 }
 
 impl Core {
@@ -112,7 +113,7 @@ impl Core {
             store: Store::new(alloc, hash_keys),
             log: Trail::new(),
             seats,
-            asked: ListWithRoom::new(alloc),
+            asked: Queries::new(alloc),
             manager,
             filters: Filters::new(alloc),
             scan,

@@ -3,18 +3,17 @@ ghost use Rattle.std.specs.Prelude.{◌≡◌, ◌<◌, ℕ, List, length, find,
 ghost use Rattle.core_state.specs.Answers.{IsRight};
 ghost use Rattle.core_state.specs.Sound.{IsSound};
 ghost use Rattle.core_state.specs.Submitting.{after_taking, next_ready, seat_at, with_taken};
-ghost use Rattle.core_parts.specs.Asked.{AreRising};
 ghost use Rattle.event_core.specs.Changes.{statements_at};
 ghost use Rattle.core_parts.specs.Known.{Known};
 ghost use Rattle.event_core.specs.Replies.{IsReplyOf, ready_of};
 ghost use Rattle.core_parts.specs.Seats.{is_waited, seat_as};
 ghost use Rattle.event_core.specs.Seen.{state_of};
-ghost use Rattle.event_core.specs.Taking.{may_be_taken, next_number, ready_with, snapshot_for};
+ghost use Rattle.event_core.specs.Taking.{may_be_taken, next_number, ready_with};
 
 use crate::laws_of_statements::taken_replies_follow_the_core;
 use crate::machine::Core;
 use aggregations::Groups;
-use core_parts::{Asked, Seat, Standing, Submitted, may_be_answered, queries};
+use core_parts::{Seat, Standing, Submitted, may_be_answered};
 use core_state::a_reply_that_may_be_taken_is_right;
 use pipeline_manager::Manager;
 use reply_text::Reply;
@@ -63,9 +62,10 @@ impl Core {
         taken_replies_follow_the_core();
         a_reply_that_may_be_taken_is_right();
         let number = next_number(&self.seats.as_slice()[seat as usize], &self.manager)?;
-        let snapshot = snapshot_of(self.asked.as_slice(), number);
-        let groups = queries::take_kept(&mut self.asked, number);
+        let snapshot = self.asked.snapshot_of(number);
+        let groups = self.asked.take_kept(number);
         let standing = take_first(&mut self.seats, seat as usize);
+        self.asked.settle(&self.manager);
         Some(ready_with(standing, snapshot, groups))
     }
 }
@@ -89,17 +89,6 @@ fn may_be_taken(submitted: &Submitted, manager: &Manager) -> bool
     match submitted.standing {
         Standing::IsAsked => !may_be_answered(submitted.number, manager),
         _ => true,
-    }
-}
-
-/// The snapshot of an accepted query, 0 where none has this number.
-fn snapshot_of(asked: &[Asked], query: u64) -> u64
-    requires { AreRising asked.now }
-    ensures { result ≡ snapshot_for asked.now query }
-{
-    match queries::place_of(asked, query) {
-        None => 0,
-        Some(place) => asked[place].snapshot(),
     }
 }
 

@@ -1,5 +1,5 @@
 //! How a query gets a slot, begins its lap, and leaves its slot.
-ghost use Rattle.std.specs.Prelude.{◌≡◌, ◌≢◌, ◌↔◌, ◌<◌, List, length, map, slice_set, AllPairs, Some, None, IfSome, IsTrue, OnOk, OnErr};
+ghost use Rattle.std.specs.Prelude.{◌≡◌, ◌≢◌, ◌↔◌, ◌<◌, List, length, map, slice_set, AllPairs, Some, None, IfSome, IsTrue};
 ghost use Rattle.std.specs.Arc.{arc_value};
 ghost use Rattle.std.specs.Option.{option_map_or};
 ghost use Rattle.pipeline_manager.specs.Conditions.{CanAbandon, CanFree, CanRun};
@@ -10,7 +10,7 @@ ghost use Rattle.continuous_scan.specs.Range.{after_stop, first_of};
 ghost use Rattle.core_state.specs.Admitting.{after_finish, after_release, after_reserving, after_start};
 ghost use Rattle.core_state.specs.Events.{MayFinish, MayReserve};
 ghost use Rattle.core_state.specs.Submitting.{after_abandoning, without_pending};
-ghost use Rattle.core_parts.specs.Asked.{AreRising, with_kept_at};
+ghost use Rattle.core_parts.specs.Asked.{AreRising, IsNotAmong, with_kept_at};
 ghost use Rattle.event_core.specs.Changes.{statements_at};
 ghost use Rattle.core_parts.specs.Known.{Known};
 ghost use Rattle.core_parts.specs.Seats.{seat_as};
@@ -23,12 +23,11 @@ use crate::laws_of_slots::{
 use crate::machine::Core;
 use aggregations::Groups;
 use continuous_scan::Scan;
-use core_parts::{Asked, Seat, queries};
+use core_parts::{Queries, Seat};
 use distributor::Distributor;
 use pipeline_manager::{Life, SlotState};
-use star_lists::{ListOf, ListWithRoom};
+use star_lists::ListOf;
 use star_plan::StarQuery;
-use star_values::NoMemory;
 use std::alloc::Global;
 use std::sync::Arc;
 
@@ -43,26 +42,22 @@ impl Core {
         self.manager.reserve(slot);
     }
 
-    /// A query for which every filter is built begins its lap. Where no memory is left for one reference more, nothing has
-    /// changed.
-    pub(crate) fn start(&mut self, query: u64) -> Result<(), NoMemory>
+    /// A query for which every filter is built begins its lap. Its bound form is handed on to the scan.
+    pub(crate) fn start(&mut self, query: u64)
         requires { CanRun query (state_of self.old).lives }
-        ensures ok { OnOk result (state_of self.new ≡ after_start query (state_of self.old)) }
-        ensures err { OnErr result (self.new ≡ self.old) }
+        ensures { state_of self.new ≡ after_start query (state_of self.old) }
     {
         starts_follow_the_core();
         let slot = self.manager.slot_of(query).unwrap();
         let extent = self.manager.extent(query);
         let length = self.store.facts().len();
-        let asked = queries::asked_of(self.asked.as_slice(), query);
-        let snapshot = asked.snapshot();
-        let shared = asked.shared_query()?;
+        let snapshot = self.asked.asked_of(query).snapshot();
+        let bound = self.asked.hand_on(query);
         let start = first_position(&self.scan, length);
-        start_scan(&mut self.scan, slot, shared, snapshot, extent, length);
-        let groups = queries::take_kept(&mut self.asked, query).unwrap();
+        start_scan(&mut self.scan, slot, bound, snapshot, extent, length);
+        let groups = self.asked.take_kept(query).unwrap();
         self.distributor.attach(slot, groups);
         self.manager.run(query, start);
-        Ok(())
     }
 
     /// A slot is taken from its query, which no batch in flight has on its roster. The groups of one that is answered are
@@ -95,13 +90,14 @@ impl Core {
         ensures { state_of self.new ≡ after_abandoning query (state_of self.old) }
     {
         abandoned_queries_follow_the_core();
-        let seat = queries::asked_of(self.asked.as_slice(), query).seat();
+        let seat = self.asked.asked_of(query).seat();
         let slot = self.manager.slot_of(query);
         give_up(&mut self.seats, seat, query);
-        queries::keep(&mut self.asked, query, None);
+        self.asked.give_up(query);
         detach_at(&mut self.distributor, slot);
         stop_at(&mut self.scan, slot);
         self.manager.abandon(query);
+        self.asked.settle(&self.manager);
     }
 }
 
@@ -135,18 +131,16 @@ fn start_scan(
 }
 
 /// Keeps these groups beside a query with this life, if it is to be answered.
-fn keep_ending(
-    asked: &mut ListWithRoom<Asked>,
-    query: u64,
-    life: Option<Life>,
-    groups: Option<Groups>,
-)
-    requires { AreRising asked.old.items }
+fn keep_ending(asked: &mut Queries, query: u64, life: Option<Life>, groups: Option<Groups>)
+    requires rising { AreRising asked.old.items }
+    requires stands { life ≡ Some Ending → IsNotAmong asked.old.gone query }
     ensures ending { life ≡ Some Ending → asked.new ≡ record asked.old { items = with_kept_at query groups asked.old.items } }
     ensures others { life ≢ Some Ending → asked.new ≡ asked.old }
+    ensures gone { asked.new.gone ≡ asked.old.gone }
+    ensures handed { asked.new.handed ≡ asked.old.handed }
 {
     if is_ending(life) {
-        queries::keep(asked, query, groups);
+        asked.keep(query, groups);
     }
 }
 

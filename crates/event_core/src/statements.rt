@@ -26,11 +26,11 @@ ghost use Rattle.event_core.specs.Seen.{state_of};
 use crate::laws_of_statements::submissions_follow_the_core;
 use crate::logged::Logged;
 use crate::machine::Core;
-use core_parts::{Asked, Filters, Seat, Standing};
+use core_parts::{Asked, Filters, Queries, Seat, Standing};
 use pipeline_manager::Manager;
 use script_reader::Statement;
 use star_history::accepted_histories_are_settled;
-use star_lists::{ListOf, ListWithRoom};
+use star_lists::ListOf;
 use star_plan::Schema;
 use star_statement::{Applied, ChangeKind, apply, outcomes_fit_the_tables};
 use star_store::Store;
@@ -99,18 +99,16 @@ fn a_declared_fact_table_finds_free_slots()
 }
 
 /// Makes room for a statement more of a seat, and for a query more.
-fn make_room(
-    seats: &mut ListOf<Seat>,
-    seat: u32,
-    asked: &mut ListWithRoom<Asked>,
-) -> Result<(), NoMemory>
+fn make_room(seats: &mut ListOf<Seat>, seat: u32, asked: &mut Queries) -> Result<(), NoMemory>
     requires { seat < length seats.old }
     ensures statements { map (λ seat. seat.items) seats.new ≡ map (λ seat. seat.items) seats.old }
     ensures queries { asked.new.items ≡ asked.old.items }
+    ensures gone { asked.new.gone ≡ asked.old.gone }
+    ensures handed { asked.new.handed ≡ asked.old.handed }
     ensures for_statement { OnOk result ((d : Roomy Submitted) → 0 < (slice_index_or seats.new seat d).room) }
     ensures for_query { OnOk result (0 < asked.new.room) }
 {
-    asked.reserve(1)?;
+    asked.reserve()?;
     reserve_at(seats, seat)
 }
 
@@ -158,7 +156,8 @@ fn filter_for(
     requires all { all ≡ first_filters (range_with_len 0 8) }
     requires few { length schema.now.dimensions ≤ 8 }
     requires quiet { kind ≡ DeclaresFact → All (λ slot. slot ≡ Free) manager.old.slots }
-    ensures { (parts : Parts) → parts.tables.schema ≡ schema.now → parts.lives ≡ manager.old →
+    ensures queries { manager.new.queries ≡ manager.old.queries }
+    ensures parts { (parts : Parts) → parts.tables.schema ≡ schema.now → parts.lives ≡ manager.old →
         parts.filters ≡ filters.old → parts.numbers.version ≡ last_version.old →
         with_filters_for kind parts ≡ record parts {
           lives = manager.new;
@@ -181,19 +180,22 @@ fn filter_for(
 /// Puts a query behind the others that were accepted, into room that was made. It waits, and the scan gives it this many
 /// positions.
 fn accept(
-    asked: &mut ListWithRoom<Asked>,
+    asked: &mut Queries,
     manager: &mut Manager,
     query: Asked,
     extent: u32,
 ) -> Result<(), NoMemory>
     requires room { 0 < asked.old.room }
-    requires is_new { IsNew query.number manager.old }
-    ensures queries { OnOk result (asked.new.items ≡ asked.old.items ++ query ∷ []) }
-    ensures lives { OnOk result (manager.new ≡ after_submit query.number extent manager.old) }
+    requires whole { query.whole ≡ true }
+    requires is_new { IsNew query.asked.number manager.old }
+    ensures queries { OnOk result (asked.new.items ≡ asked.old.items ++ query.asked ∷ []) }
+    ensures gone { asked.new.gone ≡ asked.old.gone }
+    ensures handed { asked.new.handed ≡ asked.old.handed }
+    ensures lives { OnOk result (manager.new ≡ after_submit query.asked.number extent manager.old) }
     ensures err_queries { OnErr result (asked.new ≡ asked.old) }
     ensures err_lives { OnErr result (manager.new ≡ manager.old) }
 {
     manager.submit(query.number(), extent)?;
-    asked.push_reserved(query);
+    asked.push(query);
     Ok(())
 }

@@ -40,8 +40,8 @@ pub struct EventsFault {
 
 impl Core {
     /// Takes an event, if it may come. A query that finds no memory as its filter is built, or as its rows are folded, is
-    /// spoiled. Where any other event finds none, nothing has changed. Only a statement, a query that begins to run, a batch that is
-    /// taken and a filter that is cleared may find none.
+    /// spoiled. Where any other event finds none, nothing has changed. Only a statement, a batch that is taken and a filter that is
+    /// cleared may find none.
     pub fn step(&mut self, event: Event) -> Result<(), StepFault>
         ensures disabled { IsErrOf result StepFault.NotEnabled ↔ (IsEnabled (state_of self.old) event → ⊥) }
         ensures taken { OnOk result (Took event (state_of self.old) (state_of self.new)) }
@@ -79,7 +79,7 @@ impl Core {
             Event::Submit { seat, statement } => self.submit(seat, &statement)?,
             Event::Reserve { query, slot } => self.reserve(query, slot),
             Event::Build { query, dimension } => self.build(query, dimension),
-            Event::Start { query } => self.start(query)?,
+            Event::Start { query } => self.start(query),
             Event::Cut => self.cut(),
             Event::Take { worker, batch } => self.take(worker, batch)?,
             Event::Give { worker } => self.give(worker),

@@ -1,14 +1,20 @@
-use Rattle.std.proofs.Common.{refl, sym}
+use Rattle.event_core.proofs.Words.{◌∙◌, false, is_open, IsTrue, Life, Option, option_map_or, refl, subst, sym}
 use Rattle.event_core.proofs.AskedKeptLemmas.{asked-rise}
 use Rattle.event_core.proofs.SlotEventLemmas.{finish-becomes, held-attached}
+use Rattle.event_core.proofs.LetGoLemmas.{finished-on, on-ended, open-stands}
 use Rattle.event_core.proofs.machine.Core.finish.Goals as goal
 
 pub detach-groups-requires : goal.detach-groups-requires
 detach-groups-requires c =
     held-attached _ c.args.slot c.in-Held.query c.in-Held.built c.self.invariant.0 (sym c.in-Held.ensures.state)
 
-pub keep_ending-requires : goal.keep_ending-requires
-keep_ending-requires c = asked-rise _ c.self.invariant.0
+pub keep_ending-requires-clause-rising : goal.keep_ending-requires-clause-rising
+keep_ending-requires-clause-rising c = asked-rise _ c.self.invariant.0
+
+pub keep_ending-requires-clause-stands : goal.keep_ending-requires-clause-stands
+keep_ending-requires-clause-stands c = λ ending.
+    open-stands c.self.inside.manager c.self.inside.asked.gone c.in-Held.query c.self.invariant.2.over
+    (subst (λ (o : Option Life). IsTrue (option_map_or is_open o false)) (sym (sym c.life-life.ensures.life ∙ ending)) refl)
 
 pub invariant_of-self : goal.invariant_of-self
 invariant_of-self c =
@@ -16,8 +22,13 @@ invariant_of-self c =
     c.args.slot c.in-Held.query c.in-Held.built c.life-life.result c.detach-groups.result c.self.inside.asked c.keep_ending.new.asked
     c.detach-groups.new.self c.end.new.self c.self.view_is c.self.invariant.0 c.requires (sym c.in-Held.ensures.state)
     c.life-life.ensures.life c.detach-groups.ensures.groups refl
-    (record { ending = c.keep_ending.ensures.ending; others = c.keep_ending.ensures.others }) c.detach-groups.ensures.left c.end.ensures in
-    (becomes.core, c.self.invariant.1)
+    (record { ending = c.keep_ending.ensures.ending; others = c.keep_ending.ensures.others }) c.detach-groups.ensures.left c.end.ensures in (
+      becomes.core,
+      c.self.invariant.1,
+      finished-on c.self.inside.manager c.end.new.self c.self.inside.asked c.keep_ending.new.asked
+          (on-ended c.args.slot c.self.inside.manager c.end.new.self c.end.ensures) c.keep_ending.ensures.gone c.keep_ending.ensures.handed
+          c.self.invariant.2,
+    )
 
 pub returns-in-Held : goal.returns-in-Held
 returns-in-Held c =

@@ -1,63 +1,95 @@
-use Rattle.event_core.proofs.Words.{◌∙◌, ap, AskedQuery, length, Roomy}
+use Rattle.event_core.proofs.Words.{◌∙◌, ◌≡◌, after_start, All, ap, AreRising, asked_at, AskedQueries, AskedQuery, Becomes, IfSome, IsSome, length, None, option_and_then, refl, state_of, subst, sym, the_view, with_kept_at}
 use Rattle.std.specs.Arc.{arc_value}
 use Rattle.event_core.proofs.AskedKeptLemmas.{asked-rise}
-use Rattle.event_core.proofs.SlotEventLemmas.{asked-rising}
 use Rattle.event_core.proofs.StartEventLemmas.{start-becomes, start-free, start-kept, start-open, start-scans, start-some, starting}
+use Rattle.core_parts.specs.Asked.{HasBegun}
+use Rattle.event_core.proofs.LetGoLemmas.{building-stands, finished-more, handed-more, has-begun, on-run}
 use Rattle.event_core.proofs.machine.Core.start.Goals as goal
 
 pub extent-extent-requires : goal.extent-extent-requires
 extent-extent-requires c = start-open _ c.args.self.now c.args.query c.self.view_is c.requires
 
-pub asked_of-asked-requires-clause-rising : goal.asked_of-asked-requires-clause-rising
-asked_of-asked-requires-clause-rising c = asked-rising _ _ c.self.invariant.0 c.as_slice.ensures
+pub asked_of-requires-clause-rising : goal.asked_of-requires-clause-rising
+asked_of-requires-clause-rising c = asked-rise _ c.self.invariant.0
+
+pub asked_of-requires-clause-stands : goal.asked_of-requires-clause-stands
+asked_of-requires-clause-stands c =
+    (building-stands _ c.args.self.now c.self.inside.asked c.args.query c.self.view_is c.self.invariant.2 c.requires.building).gone
+
+pub hand_on-bound-requires-clause-rising : goal.hand_on-bound-requires-clause-rising
+hand_on-bound-requires-clause-rising c = asked-rise _ c.self.invariant.0
+
+pub hand_on-bound-requires-clause-there : goal.hand_on-bound-requires-clause-there
+hand_on-bound-requires-clause-there c = subst (λ o. IsSome o) (sym c.asked_of.ensures.asked) refl
+
+pub hand_on-bound-requires-clause-stands : goal.hand_on-bound-requires-clause-stands
+hand_on-bound-requires-clause-stands c =
+    (building-stands _ c.args.self.now c.self.inside.asked c.args.query c.self.view_is c.self.invariant.2 c.requires.building).gone
+
+pub hand_on-bound-requires-clause-whole : goal.hand_on-bound-requires-clause-whole
+hand_on-bound-requires-clause-whole c =
+    (building-stands _ c.args.self.now c.self.inside.asked c.args.query c.self.view_is c.self.invariant.2 c.requires.building).handed
 
 pub start_scan-requires : goal.start_scan-requires
 start_scan-requires c =
-    let starts = starting _ c.args.self.now c.args.query c.unwrap-slot.result c.asked_of-asked.result.now c.slot_of.result c.as_slice.result.now
-    c.self.view_is c.self.invariant.0 c.requires c.slot_of.ensures.slot c.unwrap-slot.ensures c.as_slice.ensures c.asked_of-asked.ensures in
-    start-scans c.starts_follow_the_core.ensures.may _ c.args.query c.unwrap-slot.result c.asked_of-asked.result.now c.extent-extent.result
+    let starts = starting _ c.args.self.now c.args.query c.unwrap-slot.result c.asked_of.result.now.asked c.slot_of.result c.self.inside.asked.items
+    c.self.view_is c.self.invariant.0 c.requires c.slot_of.ensures.slot c.unwrap-slot.ensures refl c.asked_of.ensures.asked in
+    start-scans c.starts_follow_the_core.ensures.may _ c.args.query c.unwrap-slot.result c.asked_of.result.now.asked c.extent-extent.result
     c.len-length.result starts c.extent-extent.ensures (c.len-length.ensures.count ∙ ap length c.facts.ensures.versions)
 
 pub take_kept-requires : goal.take_kept-requires
-take_kept-requires c = asked-rise _ c.self.invariant.0
+take_kept-requires c = subst AreRising (sym c.hand_on-bound.ensures.items) (asked-rise _ c.self.invariant.0)
 
 pub unwrap-groups-requires : goal.unwrap-groups-requires
 unwrap-groups-requires c =
-    let starts = starting _ c.args.self.now c.args.query c.unwrap-slot.result c.asked_of-asked.result.now c.slot_of.result c.as_slice.result.now
-    c.self.view_is c.self.invariant.0 c.requires c.slot_of.ensures.slot c.unwrap-slot.ensures c.as_slice.ensures c.asked_of-asked.ensures in
-    start-some c.starts_follow_the_core.ensures.kept _ c.args.query c.unwrap-slot.result c.asked_of-asked.result.now c.take_kept.result starts
-    c.take_kept.ensures.groups
+    let starts = starting _ c.args.self.now c.args.query c.unwrap-slot.result c.asked_of.result.now.asked c.slot_of.result c.self.inside.asked.items
+    c.self.view_is c.self.invariant.0 c.requires c.slot_of.ensures.slot c.unwrap-slot.ensures refl c.asked_of.ensures.asked in
+    start-some c.starts_follow_the_core.ensures.kept _ c.args.query c.unwrap-slot.result c.asked_of.result.now.asked c.take_kept.result starts
+    (c.take_kept.ensures.groups
+    ∙ ap (λ items. option_and_then (λ (entry : AskedQuery). entry.kept) (asked_at items c.args.query)) c.hand_on-bound.ensures.items)
 
 pub attach-requires : goal.attach-requires
 attach-requires c =
-    let starts = starting _ c.args.self.now c.args.query c.unwrap-slot.result c.asked_of-asked.result.now c.slot_of.result c.as_slice.result.now
-    c.self.view_is c.self.invariant.0 c.requires c.slot_of.ensures.slot c.unwrap-slot.ensures c.as_slice.ensures c.asked_of-asked.ensures in
-    start-free c.starts_follow_the_core.ensures.may _ c.args.query c.unwrap-slot.result c.asked_of-asked.result.now starts
+    let starts = starting _ c.args.self.now c.args.query c.unwrap-slot.result c.asked_of.result.now.asked c.slot_of.result c.self.inside.asked.items
+    c.self.view_is c.self.invariant.0 c.requires c.slot_of.ensures.slot c.unwrap-slot.ensures refl c.asked_of.ensures.asked in
+    start-free c.starts_follow_the_core.ensures.may _ c.args.query c.unwrap-slot.result c.asked_of.result.now.asked starts
+
+-- the parts are those where it has begun its lap
+becomes : (c : goal.After-run) → Becomes
+    (record (the_view c.self.inside) {
+      scan = c.start_scan.new.scan;
+      asked = c.take_kept.new.self.items;
+      attached = c.attach.new.self;
+      lives = c.run.new.self;
+    })
+    (after_start c.args.query (state_of c.args.self.now))
+becomes c =
+    let starts = starting _ c.args.self.now c.args.query c.unwrap-slot.result c.asked_of.result.now.asked c.slot_of.result c.self.inside.asked.items
+    c.self.view_is c.self.invariant.0 c.requires c.slot_of.ensures.slot c.unwrap-slot.ensures refl c.asked_of.ensures.asked in
+    let kept = c.take_kept.ensures.groups
+    ∙ ap (λ items. option_and_then (λ (entry : AskedQuery). entry.kept) (asked_at items c.args.query)) c.hand_on-bound.ensures.items in
+    start-becomes c.starts_follow_the_core.ensures.done _ c.args.self.now c.args.query c.unwrap-slot.result c.asked_of.result.now.asked
+    c.unwrap-groups.result c.extent-extent.result c.len-length.result c.first_position-start.result c.snapshot-snapshot.result
+    (arc_value c.hand_on-bound.result) c.start_scan.new.scan c.take_kept.new.self.items c.attach.new.self c.run.new.self c.self.view_is starts
+    (start-kept _ c.args.query c.unwrap-slot.result c.asked_of.result.now.asked c.take_kept.result starts kept ∙ c.unwrap-groups.ensures)
+    c.extent-extent.ensures (c.len-length.ensures.count ∙ ap length c.facts.ensures.versions) c.snapshot-snapshot.ensures
+    (subst (λ o. IfSome o (λ (entry : AskedQuery). arc_value c.hand_on-bound.result ≡ entry.query)) c.asked_of.ensures.asked c.hand_on-bound.ensures.query)
+    c.first_position-start.ensures (record { none = c.start_scan.ensures.none; some = c.start_scan.ensures.some })
+    (ap (λ (r : AskedQueries). r.items) c.take_kept.ensures.left ∙ ap (with_kept_at c.args.query None) c.hand_on-bound.ensures.items)
+    c.attach.ensures c.run.ensures
 
 pub invariant_of-self : goal.invariant_of-self
-invariant_of-self c =
-    let starts = starting _ c.args.self.now c.args.query c.unwrap-slot.result c.asked_of-asked.result.now c.slot_of.result c.as_slice.result.now
-    c.self.view_is c.self.invariant.0 c.requires c.slot_of.ensures.slot c.unwrap-slot.ensures c.as_slice.ensures c.asked_of-asked.ensures in
-    let becomes = start-becomes c.starts_follow_the_core.ensures.done _ c.args.self.now c.args.query c.unwrap-slot.result c.asked_of-asked.result.now
-    c.unwrap-groups.result c.extent-extent.result c.len-length.result c.first_position-start.result c.snapshot-snapshot.result
-    (arc_value c.in_ok-shared.shared) c.start_scan.new.scan c.take_kept.new.asked.items c.attach.new.self c.run.new.self c.self.view_is starts
-    (start-kept _ c.args.query c.unwrap-slot.result c.asked_of-asked.result.now c.take_kept.result starts c.take_kept.ensures.groups
-    ∙ c.unwrap-groups.ensures)
-    c.extent-extent.ensures (c.len-length.ensures.count ∙ ap length c.facts.ensures.versions) c.snapshot-snapshot.ensures
-    c.in_ok-shared.ensures c.first_position-start.ensures (record { none = c.start_scan.ensures.none; some = c.start_scan.ensures.some })
-    (ap (λ (r : Roomy AskedQuery). r.items) c.take_kept.ensures.left) c.attach.ensures c.run.ensures in
-    (becomes.core, c.self.invariant.1)
+invariant_of-self c = (
+  (becomes c).core,
+  c.self.invariant.1,
+  finished-more c.self.inside.manager c.run.new.self c.self.inside.asked c.take_kept.new.self
+      (on-run _ c.args.self.now c.args.query c.first_position-start.result c.run.new.self c.self.view_is c.requires c.run.ensures)
+      (ap (λ (r : AskedQueries). r.gone) c.take_kept.ensures.left ∙ c.hand_on-bound.ensures.gone)
+      (λ all. subst (All (HasBegun c.run.new.self)) (sym (ap (λ (r : AskedQueries). r.handed) c.take_kept.ensures.left))
+      (handed-more (HasBegun c.run.new.self) c.args.query c.self.inside.asked.handed c.hand_on-bound.new.self.handed c.hand_on-bound.ensures.handed
+      (has-begun _ c.args.self.now c.args.query c.first_position-start.result c.run.new.self c.self.view_is c.requires c.run.ensures) all))
+      c.self.invariant.2,
+)
 
-pub returns-clause-ok : goal.returns-clause-ok
-returns-clause-ok c =
-    let starts = starting _ c.args.self.now c.args.query c.unwrap-slot.result c.asked_of-asked.result.now c.slot_of.result c.as_slice.result.now
-    c.self.view_is c.self.invariant.0 c.requires c.slot_of.ensures.slot c.unwrap-slot.ensures c.as_slice.ensures c.asked_of-asked.ensures in
-    let becomes = start-becomes c.starts_follow_the_core.ensures.done _ c.args.self.now c.args.query c.unwrap-slot.result c.asked_of-asked.result.now
-    c.unwrap-groups.result c.extent-extent.result c.len-length.result c.first_position-start.result c.snapshot-snapshot.result
-    (arc_value c.in_ok-shared.shared) c.start_scan.new.scan c.take_kept.new.asked.items c.attach.new.self c.run.new.self c.self.view_is starts
-    (start-kept _ c.args.query c.unwrap-slot.result c.asked_of-asked.result.now c.take_kept.result starts c.take_kept.ensures.groups
-    ∙ c.unwrap-groups.ensures)
-    c.extent-extent.ensures (c.len-length.ensures.count ∙ ap length c.facts.ensures.versions) c.snapshot-snapshot.ensures
-    c.in_ok-shared.ensures c.first_position-start.ensures (record { none = c.start_scan.ensures.none; some = c.start_scan.ensures.some })
-    (ap (λ (r : Roomy AskedQuery). r.items) c.take_kept.ensures.left) c.attach.ensures c.run.ensures in
-    becomes.state
+pub returns : goal.returns
+returns c = (becomes c).state

@@ -1,7 +1,8 @@
-use Rattle.event_core.proofs.Words.{◌+◌, ◌<◌, ◌∙◌, ◌≡◌, after_submitting, ap, arith, AskedQuery, Becomes, Changed, Follows, get_or, IsCore, length, Ok, outcome_of, Parts, plain, refl, Roomy, state_of, subst, sym, the_view}
+use Rattle.event_core.proofs.Words.{◌+◌, ◌<◌, ◌∙◌, ◌≡◌, after_submitting, ap, arith, AskedQueries, AskedQuery, Becomes, Changed, Follows, get_or, IsCore, length, Lives, Ok, outcome_of, Parts, plain, refl, Roomy, state_of, subst, sym, the_view}
 use Rattle.star_statement.specs.declared.applied.Applied.{Applied}
 use Rattle.star_statement.specs.declared.applied.Applied.TheVariants.{Replied, Accepted}
 use Rattle.event_core.proofs.EventsSubmitLemmas.{IsChange, accepts, changes, on-error, replies, same-parts, seat-kept, seat-there, some-change, statements_in}
+use Rattle.event_core.proofs.LetGoLemmas.{finished-on, on-same, on-submitted}
 use Rattle.event_core.proofs.machine.Core.submit.Goals as goal
 
 -- the parts are those after a statement that is told a reply
@@ -28,7 +29,12 @@ replied c =
     c.make_room.ensures.queries c.make_room.ensures.statements c.stand.ensures follows c.apply_to.ensures.keyed
 
 pub invariant_of-self-in-Replied-1 : goal.invariant_of-self-in-Replied-1
-invariant_of-self-in-Replied-1 c = ((replied c).core, c.self.invariant.1)
+invariant_of-self-in-Replied-1 c = (
+  (replied c).core,
+  c.self.invariant.1,
+  finished-on c.self.inside.manager c.self.inside.manager c.self.inside.asked c.make_room.new.asked
+      (on-same c.self.inside.manager c.self.inside.manager refl) c.make_room.ensures.gone c.make_room.ensures.handed c.self.invariant.2,
+)
 
 pub returns-in-Replied-clause-ok : goal.returns-in-Replied-clause-ok
 returns-in-Replied-clause-ok c =
@@ -46,12 +52,15 @@ filter_for-requires-clause-quiet c = λ declares.
     (ap (λ store. (outcome_of store c.args.statement.now).change) (sym c.self.invariant.0.tables.same) ∙ change.is)
     (sym change.same ∙ declares)
 
+pub accept-requires-clause-whole : goal.accept-requires-clause-whole
+accept-requires-clause-whole c = c.in_ok-asked-in-Accepted.ensures.whole
+
 pub accept-requires-clause-is_new : goal.accept-requires-clause-is_new
 accept-requires-clause-is_new c = λ k d low.
     let new : (get_or c.self.inside.manager.queries k d).query < c.self.inside.last_statement + 1 =
     c.submissions_follow_the_core.ensures.new (the_view c.self.inside) c.self.invariant.0 k d low in
-    let number : c.in_ok-asked-in-Accepted.asked.number ≡ c.in-Some.number =
-    ap (λ (asked : AskedQuery). asked.number) c.in_ok-asked-in-Accepted.ensures in
+    let number : c.in_ok-asked-in-Accepted.asked.asked.number ≡ c.in-Some.number =
+    ap (λ (asked : AskedQuery). asked.number) c.in_ok-asked-in-Accepted.ensures.asked in
     omega (arith, c.in-Some.ensures)
 
 -- the parts are those after a query that is accepted
@@ -75,15 +84,21 @@ accepted c =
     (outcome_of (plain c.self.inside.store) c.args.statement.now)) c.in-Accepted.is c.in_ok-reply.ensures.follows in
     accepts c.submissions_follow_the_core.ensures.accepted (the_view c.self.inside) c.args.seat c.in-Some.number c.args.statement.now
     c.in-Accepted.query c.in-Accepted.snapshot c.len-extent.result c.apply_to.new.store c.accept.new.manager
-    c.in_ok-asked-in-Accepted.asked c.self.inside.log (statements_in c.make_room.new.seats)
+    c.in_ok-asked-in-Accepted.asked.asked c.self.inside.log (statements_in c.make_room.new.seats)
     (statements_in c.stand-in-Accepted.new.seats) c.make_room.new.asked.items c.accept.new.asked.items c.self.invariant.0 there counts
-    refl c.make_room.ensures.queries c.make_room.ensures.statements c.in_ok-asked-in-Accepted.ensures
+    refl c.make_room.ensures.queries c.make_room.ensures.statements c.in_ok-asked-in-Accepted.ensures.asked
     c.in_ok-accept-in-Accepted.ensures.queries
     (c.len-extent.ensures.count ∙ ap length c.facts.ensures.versions) c.in_ok-accept-in-Accepted.ensures.lives
     c.stand-in-Accepted.ensures follows
 
 pub invariant_of-self-in-Accepted-1 : goal.invariant_of-self-in-Accepted-1
-invariant_of-self-in-Accepted-1 c = ((accepted c).core, c.self.invariant.1)
+invariant_of-self-in-Accepted-1 c = (
+  (accepted c).core,
+  c.self.invariant.1,
+  finished-on c.self.inside.manager c.accept.new.manager c.self.inside.asked c.accept.new.asked
+      (on-submitted _ _ c.self.inside.manager c.accept.new.manager c.in_ok-accept-in-Accepted.ensures.lives)
+      (c.accept.ensures.gone ∙ c.make_room.ensures.gone) (c.accept.ensures.handed ∙ c.make_room.ensures.handed) c.self.invariant.2,
+)
 
 pub returns-in_ok-accept-in-Accepted-clause-ok : goal.returns-in_ok-accept-in-Accepted-clause-ok
 returns-in_ok-accept-in-Accepted-clause-ok c =
@@ -114,10 +129,16 @@ changed c =
     c.filter_for.new.last_version c.self.inside.log c.push.new.self (statements_in c.make_room.new.seats)
     (statements_in c.stand-in-Changed.new.seats) c.make_room.new.asked.items c.self.invariant.0 there counts
     refl c.push.ensures c.make_room.ensures.queries c.make_room.ensures.statements
-    c.stand-in-Changed.ensures follows c.apply_to.ensures.keyed c.schema.ensures.schema c.filter_for.ensures
+    c.stand-in-Changed.ensures follows c.apply_to.ensures.keyed c.schema.ensures.schema c.filter_for.ensures.parts
 
 pub invariant_of-self-in-Changed : goal.invariant_of-self-in-Changed
-invariant_of-self-in-Changed c = ((changed c).core, c.self.invariant.1)
+invariant_of-self-in-Changed c = (
+  (changed c).core,
+  c.self.invariant.1,
+  finished-on c.self.inside.manager c.filter_for.new.manager c.self.inside.asked c.make_room.new.asked
+      (on-same c.self.inside.manager c.filter_for.new.manager c.filter_for.ensures.queries) c.make_room.ensures.gone
+      c.make_room.ensures.handed c.self.invariant.2,
+)
 
 pub returns-in-Changed-clause-ok : goal.returns-in-Changed-clause-ok
 returns-in-Changed-clause-ok c =
@@ -127,8 +148,12 @@ pub invariant_of-self : goal.invariant_of-self
 invariant_of-self c =
     let same = same-parts (the_view c.self.inside) c.self.inside.store c.self.inside.log (statements_in c.make_room.new.seats)
     c.make_room.new.asked.items c.self.inside.manager refl refl c.make_room.ensures.statements
-    c.make_room.ensures.queries refl in
-    (subst IsCore (sym same) c.self.invariant.0, c.self.invariant.1)
+    c.make_room.ensures.queries refl in (
+      subst IsCore (sym same) c.self.invariant.0,
+      c.self.invariant.1,
+      finished-on c.self.inside.manager c.self.inside.manager c.self.inside.asked c.make_room.new.asked
+          (on-same c.self.inside.manager c.self.inside.manager refl) c.make_room.ensures.gone c.make_room.ensures.handed c.self.invariant.2,
+    )
 
 pub returns-in_err-make_room-clause-err : goal.returns-in_err-make_room-clause-err
 returns-in_err-make_room-clause-err c =
@@ -141,8 +166,12 @@ pub invariant_of-self-in_err-all : goal.invariant_of-self-in_err-all
 invariant_of-self-in_err-all c =
     let same = same-parts (the_view c.self.inside) c.self.inside.store c.self.inside.log (statements_in c.make_room.new.seats)
     c.make_room.new.asked.items c.self.inside.manager refl refl c.make_room.ensures.statements
-    c.make_room.ensures.queries refl in
-    (subst IsCore (sym same) c.self.invariant.0, c.self.invariant.1)
+    c.make_room.ensures.queries refl in (
+      subst IsCore (sym same) c.self.invariant.0,
+      c.self.invariant.1,
+      finished-on c.self.inside.manager c.self.inside.manager c.self.inside.asked c.make_room.new.asked
+          (on-same c.self.inside.manager c.self.inside.manager refl) c.make_room.ensures.gone c.make_room.ensures.handed c.self.invariant.2,
+    )
 
 pub returns-in_err-all-clause-err : goal.returns-in_err-all-clause-err
 returns-in_err-all-clause-err c =
@@ -155,8 +184,12 @@ pub invariant_of-self-in_err-reply : goal.invariant_of-self-in_err-reply
 invariant_of-self-in_err-reply c =
     let same = same-parts (the_view c.self.inside) c.apply_to.new.store c.self.inside.log (statements_in c.make_room.new.seats)
     c.make_room.new.asked.items c.self.inside.manager c.in_err-reply.ensures.follows refl c.make_room.ensures.statements
-    c.make_room.ensures.queries refl in
-    (subst IsCore (sym same) c.self.invariant.0, c.self.invariant.1)
+    c.make_room.ensures.queries refl in (
+      subst IsCore (sym same) c.self.invariant.0,
+      c.self.invariant.1,
+      finished-on c.self.inside.manager c.self.inside.manager c.self.inside.asked c.make_room.new.asked
+          (on-same c.self.inside.manager c.self.inside.manager refl) c.make_room.ensures.gone c.make_room.ensures.handed c.self.invariant.2,
+    )
 
 pub returns-in_err-reply-clause-err : goal.returns-in_err-reply-clause-err
 returns-in_err-reply-clause-err c =
@@ -173,8 +206,12 @@ invariant_of-self-in_err-asked-in-Accepted c =
     (outcome_of (plain c.self.inside.store) c.args.statement.now)) c.in-Accepted.is c.in_ok-reply.ensures.follows in
     let same = same-parts (the_view c.self.inside) c.apply_to.new.store c.self.inside.log (statements_in c.make_room.new.seats)
     c.make_room.new.asked.items c.self.inside.manager follows.3.1 refl c.make_room.ensures.statements
-    c.make_room.ensures.queries refl in
-    (subst IsCore (sym same) c.self.invariant.0, c.self.invariant.1)
+    c.make_room.ensures.queries refl in (
+      subst IsCore (sym same) c.self.invariant.0,
+      c.self.invariant.1,
+      finished-on c.self.inside.manager c.self.inside.manager c.self.inside.asked c.make_room.new.asked
+          (on-same c.self.inside.manager c.self.inside.manager refl) c.make_room.ensures.gone c.make_room.ensures.handed c.self.invariant.2,
+    )
 
 pub returns-in_err-asked-in-Accepted-clause-err : goal.returns-in_err-asked-in-Accepted-clause-err
 returns-in_err-asked-in-Accepted-clause-err c =
@@ -195,8 +232,14 @@ invariant_of-self-in_err-accept-in-Accepted c =
     (outcome_of (plain c.self.inside.store) c.args.statement.now)) c.in-Accepted.is c.in_ok-reply.ensures.follows in
     let same = same-parts (the_view c.self.inside) c.apply_to.new.store c.self.inside.log (statements_in c.make_room.new.seats)
     c.accept.new.asked.items c.accept.new.manager follows.3.1 refl c.make_room.ensures.statements
-    (ap (λ (list : Roomy AskedQuery). list.items) c.in_err-accept-in-Accepted.ensures.err_queries ∙ c.make_room.ensures.queries) c.in_err-accept-in-Accepted.ensures.err_lives in
-    (subst IsCore (sym same) c.self.invariant.0, c.self.invariant.1)
+    (ap (λ (list : AskedQueries). list.items) c.in_err-accept-in-Accepted.ensures.err_queries ∙ c.make_room.ensures.queries) c.in_err-accept-in-Accepted.ensures.err_lives in (
+      subst IsCore (sym same) c.self.invariant.0,
+      c.self.invariant.1,
+      finished-on c.self.inside.manager c.accept.new.manager c.self.inside.asked c.accept.new.asked
+          (on-same c.self.inside.manager c.accept.new.manager
+          (ap (λ (lives : Lives). lives.queries) c.in_err-accept-in-Accepted.ensures.err_lives)) (c.accept.ensures.gone ∙ c.make_room.ensures.gone)
+          (c.accept.ensures.handed ∙ c.make_room.ensures.handed) c.self.invariant.2,
+    )
 
 pub returns-in_err-accept-in-Accepted-clause-err : goal.returns-in_err-accept-in-Accepted-clause-err
 returns-in_err-accept-in-Accepted-clause-err c =
@@ -206,7 +249,7 @@ returns-in_err-accept-in-Accepted-clause-err c =
     (outcome_of (plain c.self.inside.store) c.args.statement.now)) c.in-Accepted.is c.in_ok-reply.ensures.follows in
     let same = same-parts (the_view c.self.inside) c.apply_to.new.store c.self.inside.log (statements_in c.make_room.new.seats)
     c.accept.new.asked.items c.accept.new.manager follows.3.1 refl c.make_room.ensures.statements
-    (ap (λ (list : Roomy AskedQuery). list.items) c.in_err-accept-in-Accepted.ensures.err_queries ∙ c.make_room.ensures.queries) c.in_err-accept-in-Accepted.ensures.err_lives in
+    (ap (λ (list : AskedQueries). list.items) c.in_err-accept-in-Accepted.ensures.err_queries ∙ c.make_room.ensures.queries) c.in_err-accept-in-Accepted.ensures.err_lives in
     on-error c.from_residual-in_err-accept-in-Accepted.result (same ∙ c.self.view_is)
 
 pub make_room-requires : goal.make_room-requires

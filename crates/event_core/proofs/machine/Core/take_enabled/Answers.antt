@@ -13,9 +13,9 @@ returns-in-Reserve-clause-taken c = took-done _ _ _ _ c.requires c.in-Reserve.is
 pub returns-in-Build-clause-taken : goal.returns-in-Build-clause-taken
 returns-in-Build-clause-taken c = took-build _ _ _ _ _ c.requires c.in-Build.is c.build.ensures
 
-pub returns-in_ok-start-in-Start-clause-taken : goal.returns-in_ok-start-in-Start-clause-taken
+pub returns-in-Start-clause-taken : goal.returns-in-Start-clause-taken
 unfolding after_event
-returns-in_ok-start-in-Start-clause-taken c = took-done _ _ _ _ c.requires c.in-Start.is c.in_ok-start-in-Start.ensures.ok
+returns-in-Start-clause-taken c = took-done _ _ _ _ c.requires c.in-Start.is c.start.ensures
 
 pub returns-in-Cut-clause-taken : goal.returns-in-Cut-clause-taken
 unfolding after_event

@@ -1,9 +1,10 @@
-use Rattle.event_core.proofs.Words.{◌∙◌, ◌≡◌, after_taking, ap, AreRising, Becomes, IfSome, IsRight, next_ready, None, option_map, Parts, parts_by, refl, seat_at, slice_get, snapshot_for, Some, state_of, statements_at, subst, sym}
+use Rattle.event_core.proofs.Words.{◌∙◌, ◌≡◌, after_taking, ap, AskedQueries, Becomes, IfSome, IsRight, IsSome, next_ready, None, option_map, Parts, parts_by, refl, seat_at, slice_get, Some, state_of, statements_at, subst, sym}
 use Rattle.event_core.specs.Replies.{ready_of}
 use Rattle.event_core.specs.Taking.{next_number}
 use Rattle.event_core.proofs.AskedKeptLemmas.{asked-rise}
 use Rattle.event_core.proofs.ReplyEventLemmas.{reply-becomes, reply-nothing, reply-ready, reply-right}
 use Rattle.event_core.proofs.SeatPlaceLemmas.{seat-read, seat-there, statements_in}
+use Rattle.event_core.proofs.LetGoLemmas.{finished-on, on-same}
 use Rattle.event_core.proofs.machine.Core.take_reply_of.Goals as goal
 
 pub returns-in_err-number-clause-ready : goal.returns-in_err-number-clause-ready
@@ -19,7 +20,7 @@ returns-in_err-number-clause-ready c =
     c.self.invariant.0 none))
 
 pub snapshot_of-snapshot-requires : goal.snapshot_of-snapshot-requires
-snapshot_of-snapshot-requires c = subst AreRising (sym c.as_slice-2.ensures) (asked-rise _ c.self.invariant.0)
+snapshot_of-snapshot-requires c = asked-rise _ c.self.invariant.0
 
 pub take_kept-groups-requires : goal.take_kept-groups-requires
 take_kept-groups-requires c = asked-rise _ c.self.invariant.0
@@ -43,25 +44,31 @@ ready c =
     reply-ready c.taken_replies_follow_the_core.ensures.closed (before c) c.args.seat c.in_ok-number.number c.snapshot_of-snapshot.result
     c.take_kept-groups.result c.take_first-standing.result (ready_of c.ready_with.result) c.self.invariant.0 (record {
       number_is = found c;
-      snapshot_is = c.snapshot_of-snapshot.ensures ∙ ap (λ asked. snapshot_for asked c.in_ok-number.number) c.as_slice-2.ensures;
+      snapshot_is = λ some. c.snapshot_of-snapshot.ensures (subst (λ o. IsSome o) c.take_kept-groups.ensures.groups some);
       groups_are = c.take_kept-groups.ensures.groups;
       standing_is = c.take_first-standing.ensures.first;
       ready_is = c.ready_with.ensures;
     })
 
 becomes : (c : goal.After-ready_with) → Becomes
-    (record (before c) { seats = statements_in c.take_first-standing.new.seats; asked = c.take_kept-groups.new.asked.items })
+    (record (before c) { seats = statements_in c.take_first-standing.new.seats; asked = c.settle.new.self.items })
     (after_taking c.args.seat (state_of (before c)))
 becomes c =
     reply-becomes c.taken_replies_follow_the_core.ensures.done (before c) c.args.seat c.in_ok-number.number (ready_of c.ready_with.result)
-    (statements_in c.take_first-standing.new.seats) c.take_kept-groups.new.asked.items c.self.invariant.0 (found c) (ready c) (record {
+    (statements_in c.take_first-standing.new.seats) c.settle.new.self.items c.self.invariant.0 (found c) (ready c) (record {
       seat_takes = c.take_first-standing.ensures.taken;
       others_stay = c.take_first-standing.ensures.others;
-      asked_are = ap (λ asked. asked.items) c.take_kept-groups.ensures.left;
+      asked_are = c.settle.ensures.items ∙ ap (λ (asked : AskedQueries). asked.items) c.take_kept-groups.ensures.left;
     })
 
 pub invariant_of-self : goal.invariant_of-self
-invariant_of-self c = ((becomes c).core, c.self.invariant.1)
+invariant_of-self c = (
+  (becomes c).core,
+  c.self.invariant.1,
+  c.settle.ensures.finished (finished-on c.self.inside.manager c.self.inside.manager c.self.inside.asked c.take_kept-groups.new.self
+      (on-same c.self.inside.manager c.self.inside.manager refl) (ap (λ (asked : AskedQueries). asked.gone) c.take_kept-groups.ensures.left)
+      (ap (λ (asked : AskedQueries). asked.handed) c.take_kept-groups.ensures.left) c.self.invariant.2),
+)
 
 pub returns-clause-ready : goal.returns-clause-ready
 returns-clause-ready c =
