@@ -7,9 +7,12 @@ pub mod BlockLemmas
 pub mod KeptLemmas
 pub mod KindLemmas
 pub mod CountLemmas
+pub mod PassLemmas
+pub mod ChosenLemmas
 pub mod ViewLemmas
 pub mod MadeLemmas
 pub mod RowLemmas
+pub mod RunLemmas
 pub mod WayLemmas
 pub mod JoinLemmas
 pub mod GiveLemmas

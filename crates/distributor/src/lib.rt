@@ -4,6 +4,7 @@
 mod apart;
 mod blocks;
 mod coding;
+mod counting;
 mod crossing;
 mod distributor;
 mod giving;
