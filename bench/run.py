@@ -5,11 +5,13 @@
     python3 bench/run.py                               ./cjoin over 1,000,000 sales, bursts of 1, 4, 16 and 64 queries
     python3 bench/run.py --rows 100000 --queries 1,64  smaller
     python3 bench/run.py --svg docs/speed.svg          writes the picture, too
+    python3 bench/run.py --program FILE                the same of another program
 
 Each figure is seconds of processor time for one burst, on all processors together: the least of some runs of a script
 of `bench/burst.py`, less the least of the same script without its queries. This program is asked the same burst four
-times or more in a script, so that a load, which differs from run to run, has little part in the difference; a peer,
-which takes longer, runs once, and is asked it once. The answers of all are compared with those of the first shared
+times or more in a script, so that a load, which differs from run to run, has little part in the difference. A peer,
+which takes longer, runs once, is asked it once, and tells itself what that took: sqlite3 by its timer, and PostgreSQL
+by the hundredths of a second of the process that answers. The answers of all are compared with those of the first shared
 lap, and the table is written to the standard output. A peer gets the same tables, the same rows and the same queries,
 with an index over each key of a dimension. Its server, where it has one, is started for the run alone, listens on a
 socket in a new folder and nowhere else, and is ended behind it. Python's standard library is all this needs.
@@ -30,6 +32,7 @@ import tempfile
 import burst
 
 TOP = os.path.dirname(os.path.dirname(os.path.abspath(__file__)))
+PROGRAM = os.path.join(TOP, "cjoin")
 
 
 def seconds_of_children():
@@ -82,13 +85,17 @@ class Burst:
 class Cjoin:
     """The program of this repository, in one of its modes."""
 
-    def __init__(self, name, mode):
-        self.name, self.words = name, [os.path.join(TOP, "cjoin"), "--mode", mode]
+    def __init__(self, name, program, mode):
+        self.name, self.words = name, [program, "--mode", mode]
 
     @staticmethod
     def times(queries):
         """How often a burst is asked in a script: some 64 queries at least, and four bursts."""
         return max(4, 64 // queries)
+
+    def loading(self, load, repetitions):
+        """The seconds of the loads, which are part of what is told of answers."""
+        return min(self.answers(load, 0, 1)[1] for _ in range(repetitions))
 
     def answers(self, load, queries, times):
         """The rows of each answer, and the seconds that all of it took."""
@@ -142,7 +149,12 @@ class Sqlite:
     def times(queries):
         return 1
 
+    @staticmethod
+    def loading(load, repetitions):
+        return 0.0
+
     def answers(self, load, queries, times):
+        """The rows of each answer, and the seconds of the queries alone."""
         made, statements = load.tables(), in_sql(load.declarations())
         with tempfile.TemporaryDirectory() as folder:
             for name, members in made.items():
@@ -150,15 +162,20 @@ class Sqlite:
                     file.write(records(members))
             text = "\n".join(statements) + "\n.mode csv\n"
             text += "".join(f".import {os.path.join(folder, name)} {name}\n" for name in made)
-            text += "analyze;\n" + "".join(f".print --\n{query};\n" for query in load.queries(queries) * times)
-            written, seconds = run(["sqlite3", ":memory:"], text)
-        return parts(written.replace("\r", "")), seconds
+            # A csv mode would write quotes around a text with a blank.
+            text += ".mode list\n.separator ,\n"
+            text += "analyze;\n.timer on\n" + "".join(f".print --\n{query};\n" for query in load.queries(queries) * times)
+            lines = run(["sqlite3", ":memory:"], text)[0].replace("\r", "").splitlines(keepends=True)
+        told = [line.split() for line in lines if line.startswith("Run Time: ")]
+        rows = "".join(line for line in lines if not line.startswith("Run Time: "))
+        return parts(rows), sum(float(words[5]) + float(words[7]) for words in told)
 
 
 class Postgres:
     """A server of PostgreSQL of its own, without parallel workers."""
 
     name = "PostgreSQL"
+    used = "select pg_read_file('/proc/self/stat', 0, 1000);\n"  # what the process that answers has used
 
     @staticmethod
     def folder():
@@ -181,9 +198,13 @@ class Postgres:
     def times(queries):
         return 1
 
+    @staticmethod
+    def loading(load, repetitions):
+        return 0.0
+
     def answers(self, load, queries, times):
-        made, statements = load.tables(), in_sql(load.declarations())
-        before, user = seconds_of_children(), self.user()
+        """The rows of each answer, and the seconds of the queries alone."""
+        made, statements, user = load.tables(), in_sql(load.declarations()), self.user()
         how = {"user": user} if os.geteuid() == 0 else {}
         with tempfile.TemporaryDirectory() as folder:
             shutil.chown(folder, user)
@@ -204,25 +225,27 @@ class Postgres:
                         sys.exit("PostgreSQL did not start")
                 text = "\n".join(statements) + "\n"
                 text += "".join(f"copy {name} from stdin csv;\n{records(members)}\\.\n" for name, members in made.items())
-                text += "analyze;\n" + "".join(f"\\echo --\n{query};\n" for query in load.queries(queries) * times)
+                text += "analyze;\n" + self.used
+                text += "".join(f"\\echo --\n{query};\n" for query in load.queries(queries) * times) + "\\echo --\n" + self.used
                 written, _ = run(ask, text)
             finally:
                 server.send_signal(2)  # a fast end
                 server.wait()
-        return parts(written), seconds_of_children() - before
+        *answers, last = parts(written)
+        ticks = [sum(map(int, line.rsplit(")", 1)[1].split()[11:13])) for line in (written.splitlines()[0], last[0])]
+        return answers, (ticks[1] - ticks[0]) / os.sysconf("SC_CLK_TCK")
 
 
-def measured(party, load, queries, repetitions, wanted):
-    """The seconds of the first queries alone, and their answers, which are those that are wanted if they are known."""
-    loads, all_of_it, times = [], [], party.times(queries)
+def measured(party, load, queries, repetitions, wanted, loads):
+    """The seconds of the first queries without the loads, and their answers, which are those that are wanted if they are known."""
+    all_of_it, times = [], party.times(queries)
     for _ in range(repetitions):
-        loads.append(party.answers(load, 0, 1)[1])
         answers, seconds = party.answers(load, queries, times)
         all_of_it.append(seconds)
         wanted = wanted if wanted is not None else answers[:queries]
         if answers != wanted * times:
             sys.exit(f"{party.name} answers otherwise over {load.rows} rows and {queries} queries")
-    return max(0.0, min(all_of_it) - min(loads)) / times, wanted
+    return max(0.0, min(all_of_it) - loads) / times, wanted
 
 
 def table(counts, figures):
@@ -267,9 +290,9 @@ def picture(rows, counts, figures):
     return "\n".join(out + ["</svg>"]) + "\n"
 
 
-def parties(peers):
+def parties(program, peers):
     """This program in both modes, and the peers that are installed, where they are asked for."""
-    own = [Cjoin("one shared lap", "run"), Cjoin("each alone", "alone")]
+    own = [Cjoin("one shared lap", program, "run"), Cjoin("each alone", program, "alone")]
     return own + [peer() for peer in (Sqlite, Postgres) if peers and peer.is_there()]
 
 
@@ -280,15 +303,16 @@ def main():
     reader.add_argument("--repetitions", type=int, default=3, help="runs of this program for a figure")
     reader.add_argument("--no-peers", action="store_true", help="measure this program alone")
     reader.add_argument("--svg", help="where the picture is written")
+    reader.add_argument("--program", default=PROGRAM, help="what is measured")
     words = reader.parse_args()
     counts = [int(count) for count in words.queries.split(",")]
-    asked, load = parties(not words.no_peers), Burst(words.rows)
+    asked, load = parties(words.program, not words.no_peers), Burst(words.rows)
     figures = {party.name: [] for party in asked}
     for count in counts:
         wanted = None
         for party in asked:
             runs = words.repetitions if isinstance(party, Cjoin) else 1
-            seconds, wanted = measured(party, load, count, runs, wanted)
+            seconds, wanted = measured(party, load, count, runs, wanted, party.loading(load, runs))
             figures[party.name].append(seconds)
             print(f"{party.name}: {count} queries, {seconds:.3f} s", file=sys.stderr)
     print(table(counts, figures))

@@ -3,6 +3,7 @@
 
     python3 bench/ssb.py 0.1 > benchmark               600,000 rows, and the thirteen queries behind one `wait`
     python3 bench/ssb.py 0.1 --measure                 ./cjoin, sqlite3 and PostgreSQL: each query alone, and all together
+    python3 bench/ssb.py 0.1 --measure --program FILE  the same of another program
 
 The schema, the domains of the columns and the queries are those of O'Neil, O'Neil, Chen and Revilak, "The Star Schema
 Benchmark and Augmented Fact Table Indexing" (TPCTC 2009), with fewer rows: a scale of 1 has 6,000,000 of them, and a table
@@ -188,15 +189,16 @@ class Benchmark:
         return loads_at(self.scale) + ("".join(text + "\n" for text in self.queries(queries)) + "wait\n") * times
 
 
-def measure(scale):
+def measure(scale, program):
     """Writes a table of the seconds of each query, and of all together. The answers of all parties are compared."""
-    asked = run.parties(peers=True)
+    asked = run.parties(program, peers=True)
+    loads = [party.loading(Benchmark(scale, []), 3) for party in asked]
     print("| query | " + " | ".join(party.name for party in asked) + " |")
     print("|" + "---|" * (len(asked) + 1))
     for name, numbers in [*((number, [number]) for number in QUERIES), ("all", list(QUERIES))]:
         benchmark, wanted, cells = Benchmark(scale, numbers), None, []
-        for party in asked:
-            seconds, wanted = run.measured(party, benchmark, len(numbers), 1, wanted)
+        for party, loaded in zip(asked, loads):
+            seconds, wanted = run.measured(party, benchmark, len(numbers), 1, wanted, loaded)
             cells.append(f"{seconds:.4f}")
         print(f"| {name} | " + " | ".join(cells) + " |", flush=True)
 
@@ -205,9 +207,10 @@ def main():
     reader = argparse.ArgumentParser(description="The Star Schema Benchmark, as a script.")
     reader.add_argument("scale", type=float, help="6,000,000 rows of facts times this, at most 0.174")
     reader.add_argument("--measure", action="store_true", help="compare and measure, in place of writing the script")
+    reader.add_argument("--program", default=run.PROGRAM, help="what is measured")
     words = reader.parse_args()
     if words.measure:
-        measure(words.scale)
+        measure(words.scale, words.program)
     else:
         sys.stdout.write(Benchmark(words.scale, list(QUERIES)).script(len(QUERIES), 1))
 
