@@ -2,3 +2,4 @@
 pub mod Filtered
 pub mod Numbered
 pub mod Filters
+pub mod Spares

@@ -11,7 +11,7 @@ mod seat;
 mod submitted;
 
 pub use asked::Asked;
-pub use core_filters::{Filters, Version};
+pub use core_filters::{Filters, References, Spares, Version};
 pub use crossing::{
     filters_may_be_shared, flights_may_be_sent, queries_may_be_sent, seats_may_be_sent,
 };

@@ -20,6 +20,7 @@ use Rattle.pipeline_manager.specs.contracts.query_lives.QueryLives.TheInside as 
 use Rattle.pipeline_manager.specs.contracts.manager.Manager as manager
 use Rattle.pipeline_manager.specs.contracts.manager.Manager.TheInside as inside_manager
 use Rattle.core_filters.proofs.filters.Filters.TheSendSync as filters
+use Rattle.core_filters.proofs.spares.Spares.TheSendSync as spares
 use Rattle.distributor.proofs.distributor.Distributor.TheSendSync as distributor
 use Rattle.core_parts.proofs.flights.Flights.TheSendSync as flights
 use Rattle.frame_pool.proofs.pool.Pool.TheSendSync as pool
@@ -57,7 +58,7 @@ core_send =
     let number : IsSend u64 = search sendable in
     let numbers : IsSend u64 × (IsSend u64 × (IsSend u64 × (IsSend u64 × Unit {0}))) = (number, (number, (number, (number, tt)))) in
     let moving = both distributor.the_send (both flights.the_send (both pool.the_send numbers)) in
-    let running = both manager_send (both filters.the_send (both scan_send moving)) in
+    let running = both manager_send (both filters.the_send (both spares.the_send (both scan_send moving))) in
     let asking = both (trail_send _ logged.the_send) (both (list.the_send _ seat_send) (both queries_send running)) in
     let fields = declared_send inside_core.the_type (heap.the_send, (search sendable depth 8, (search (sendable, crosses) depth 20, (store.the_send, asking)))) in
     view_send inside_core.the_row _ _ _ _ fields

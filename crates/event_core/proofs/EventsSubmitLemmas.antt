@@ -5,6 +5,7 @@ use Rattle.std.specs.Result.{OnErr}
 use Rattle.std.proofs.Math.Seq.{map-set_same}
 use Rattle.star_statement.specs.Outcome as outcome
 use Rattle.star_statement.specs.declared.applied.Applied.TheVariants.{Replied, Accepted}
+use Rattle.star_statement.specs.declared.applied.ChangeKind.TheVariants.{DeclaresFact}
 use Rattle.core_state.specs.State as state
 use Rattle.core_parts.specs.Filters.{dimensions_of, first_filters}
 use Rattle.core_parts.proofs.FirstFilterLemmas.{dimensions_of-first, length-first}
@@ -129,6 +130,21 @@ RepliedLaw = (parts : Parts) (seat : ℕ) (statement : Statement) (reply : Reply
     → Becomes (submitted seat (parts.numbers.statement + 1)
     (statements_at parts.seats seat ++ record { number = parts.numbers.statement + 1; standing = Waits reply } ∷ []) parts)
     (after_submitting seat statement (state_of parts))
+
+-- of one that declares the fact table: none was declared
+abbrev UndeclaredLaw : Type 0
+UndeclaredLaw = (parts : Parts) (statement : Statement) (change : Change) → IsCore parts
+    → (outcome_of (tables_of (state_of parts)) statement).change ≡ Some change → kind_of_change change ≡ DeclaresFact
+    → (tables_of (state_of parts)).schema.fact ≡ None
+
+pub undeclared-before : UndeclaredLaw → (parts : Parts) (statement : Statement) (kind : ChangeKind) (reply : Reply) (tables : KeyedStore)
+    → IsCore parts → Follows parts.tables tables (Ok (Changed kind reply)) (outcome_of (plain parts.tables) statement)
+    → kind ≡ DeclaresFact → parts.tables.schema.fact ≡ None
+undeclared-before law parts statement kind reply tables core follows declares =
+    let change = some-change (outcome_of (plain parts.tables) statement).change kind follows.1 in
+    ap (λ (store : Store). store.schema.fact) core.tables.same
+    ∙ law parts statement change.one core
+    (ap (λ store. (outcome_of store statement).change) (sym core.tables.same) ∙ change.is) (sym change.same ∙ declares)
 
 -- how it goes on of one that changes the tables
 abbrev ChangedLaw : Type 0

@@ -49,6 +49,7 @@ pub mod SeatPlaceLemmas
 pub mod SeenLemmas
 pub mod SlotEventLemmas
 pub mod SlotGroupsLemmas
+pub mod SparedLemmas
 pub mod SpoilingLemmas
 pub mod StartEventLemmas
 pub mod StartedLemmas

@@ -2,6 +2,7 @@
 pub mod Parts
 pub mod Seen
 pub mod Core
+pub mod Spared
 pub mod Replies
 pub mod Took
 pub mod Chosen

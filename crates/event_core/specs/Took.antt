@@ -4,7 +4,7 @@ use Rattle.core_state.specs.Events.{AreFed, IsEnabled, after_event, after_want}
 use Rattle.core_state.specs.State.{State}
 use Rattle.core_state.specs.Steps.{Step, Done, Wanting, Replying, MayStepAll, after_steps}
 use Rattle.core_state.specs.declared.event.Event.{Event}
-use Rattle.core_state.specs.declared.event.Event.TheVariants.{Submit, Build, Take, Distribute, Clear}
+use Rattle.core_state.specs.declared.event.Event.TheVariants.{Submit, Build, Distribute, Clear}
 use Rattle.event_core.specs.declared.stepping.StepFault.{StepFault}
 use Rattle.event_core.specs.declared.stepping.StepFault.TheVariants.{NotEnabled, Memory}
 
@@ -52,10 +52,9 @@ AreOf (event ∷ events) (step ∷ steps) = IsOf event step × AreOf events step
 abbrev pub StepsFor : List Event → (old new : State) → Type 0
 StepsFor events old new = (steps : List Step) × (MayStepAll old steps × (AreOf events steps × (new ≡ after_steps steps old)))
 
--- the event may find no memory: a statement is submitted, a batch is taken, or a filter is cleared of a slot
+-- the event may find no memory: a statement is submitted, or a filter is cleared of a slot
 abbrev pub MayWantMemory : Event → Type 0
 MayWantMemory (Submit seat statement) = Unit {0}
-MayWantMemory (Take worker batch) = Unit {0}
 MayWantMemory (Clear slot dimension) = Unit {0}
 MayWantMemory other = ⊥
 

@@ -17,7 +17,7 @@ ghost use Rattle.event_core.specs.Seen.{state_of};
 use crate::laws_of_core::a_new_core_is_empty;
 use crate::logged::Logged;
 use continuous_scan::Scan;
-use core_parts::{Filters, Flights, Queries, Seat};
+use core_parts::{Filters, Flights, Queries, Seat, Spares};
 use core_state::RunSettings;
 use distributor::Distributor;
 use event_choice::has;
@@ -52,6 +52,9 @@ pub struct Core {
     /// Their lives, and which of them holds which slot.
     pub(crate) manager: Manager,
     pub(crate) filters: Filters,
+
+    /// For each filter and each seat a reference to the present version, while it is not in the seat's hand.
+    pub(crate) spares: Spares,
     pub(crate) scan: Scan,
 
     /// At the slot of each query that runs or is ending, the groups of its rows.
@@ -73,6 +76,7 @@ pub struct Core {
 impl Model for Core {
     ghost use Rattle.event_core.specs.Parts.{Parts, parts_by};
     ghost use Rattle.event_core.specs.Core.{IsCore, HasRoom};
+    ghost use Rattle.event_core.specs.Spared.{AreSpare};
     ghost use Rattle.core_parts.specs.Asked.{AreFinished};
 
     ghost Value = { Parts };
@@ -88,7 +92,8 @@ impl Model for Core {
     ghost invariant = { λ core.
         IsCore (parts_by core.settings core.store core.log core.seats core.asked core.manager core.filters core.scan
         core.distributor core.flights core.pool core.cut core.last_statement core.last_batch core.last_version)
-        × HasRoom core.settings core.flights × AreFinished core.manager core.asked };
+        × HasRoom core.settings core.flights × AreFinished core.manager core.asked
+        × AreSpare core.settings.seats core.filters.versions core.flights.items core.spares };
 }
 
 impl Core {
@@ -116,6 +121,7 @@ impl Core {
             asked: Queries::new(alloc),
             manager,
             filters: Filters::new(alloc),
+            spares: Spares::new(alloc),
             scan,
             distributor,
             flights,

@@ -1,5 +1,5 @@
 //! How a statement is submitted.
-ghost use Rattle.std.specs.Prelude.{◌≡◌, ◌<◌, ◌≤◌, [], ◌∷◌, ◌++◌, All, length, map, slice_index_or, slice_set, Some, true, OnOk, OnErr};
+ghost use Rattle.std.specs.Prelude.{◌≡◌, ◌<◌, ◌≤◌, [], ◌∷◌, ◌++◌, All, length, map, slice_index_or, slice_set, None, Some, true, IfOk, IsSome, OnOk, OnErr};
 ghost use Rattle.std.specs.List.{range_with_len};
 ghost use Rattle.script_reader.specs.declared.statement.Statement.{Statement};
 ghost use Rattle.star_history.specs.History.{Change};
@@ -18,6 +18,7 @@ ghost use Rattle.core_state.specs.Tables.{tables_of};
 ghost use Rattle.core_parts.specs.declared.submitted.Submitted.{Submitted};
 ghost use Rattle.event_core.specs.Changes.{statements_at, with_filters_for};
 ghost use Rattle.event_core.specs.Core.{IsCore};
+ghost use Rattle.core_filters.specs.Spares.{first_spares};
 ghost use Rattle.core_parts.specs.Filters.{first_filters};
 ghost use Rattle.event_core.specs.Parts.{Parts};
 ghost use Rattle.core_parts.specs.Seats.{is_waited};
@@ -26,7 +27,7 @@ ghost use Rattle.event_core.specs.Seen.{state_of};
 use crate::laws_of_statements::submissions_follow_the_core;
 use crate::logged::Logged;
 use crate::machine::Core;
-use core_parts::{Asked, Filters, Queries, Seat, Standing};
+use core_parts::{Asked, Filters, Queries, Seat, Spares, Standing};
 use pipeline_manager::Manager;
 use script_reader::Statement;
 use star_history::accepted_histories_are_settled;
@@ -51,7 +52,12 @@ impl Core {
         };
         // All that a change of the tables needs is there before it is made: after it nothing may fail.
         make_room(&mut self.seats, seat, &mut self.asked)?;
-        let all = Filters::of_all(self.alloc)?;
+        let all = make_filters(
+            self.alloc,
+            &self.store,
+            self.settings.seats,
+            &mut self.spares,
+        )?;
         match apply_to(self.alloc, &mut self.store, statement)? {
             Applied::Replied(reply) => {
                 stand(&mut self.seats, seat, number, Standing::Waits(reply));
@@ -88,9 +94,12 @@ impl Core {
     }
 }
 
-/// Where the change of a statement declares the fact table, no slot is held.
+/// Where the change of a statement declares the fact table, none was declared, and no slot is held.
 fn a_declared_fact_table_finds_free_slots()
-    ensures { (parts : Parts) (statement : Statement) (change : Change) → IsCore parts →
+    ensures first { (parts : Parts) (statement : Statement) (change : Change) → IsCore parts →
+        (outcome_of (tables_of (state_of parts)) statement).change ≡ Some change → kind_of_change change ≡ DeclaresFact →
+        (tables_of (state_of parts)).schema.fact ≡ None }
+    ensures free { (parts : Parts) (statement : Statement) (change : Change) → IsCore parts →
         (outcome_of (tables_of (state_of parts)) statement).change ≡ Some change → kind_of_change change ≡ DeclaresFact →
         All (λ slot. slot ≡ Free) parts.lives.slots }
 {
@@ -119,6 +128,27 @@ fn reserve_at(seats: &mut ListOf<Seat>, seat: u32) -> Result<(), NoMemory>
     ensures room { OnOk result ((d : Roomy Submitted) → 0 < (slice_index_or seats.new seat d).room) }
 {
     seats.as_mut_slice()[seat as usize].reserve()
+}
+
+/// Makes the filters of all dimensions, and for each of so many seats a reference to each, where no fact table is declared yet.
+/// Where one is, no statement needs them: there are none, and the references stay.
+fn make_filters(
+    alloc: Global,
+    store: &Store,
+    seats: u32,
+    spares: &mut Spares,
+) -> Result<Filters, NoMemory>
+    ensures all { store.now.schema.fact ≡ None → IfOk result (λ all. all ≡ first_filters (range_with_len 0 8)) }
+    ensures spares { store.now.schema.fact ≡ None →
+        OnOk result (spares.new ≡ first_spares seats (first_filters (range_with_len 0 8)).versions) }
+    ensures declared { IsSome store.now.schema.fact → spares.new ≡ spares.old }
+{
+    if store.schema().fact.is_some() {
+        return Ok(Filters::new(alloc));
+    }
+    let all = Filters::of_all(alloc)?;
+    *spares = Spares::of_all(alloc, &all, seats)?;
+    Ok(all)
 }
 
 /// Puts a statement behind the others of a seat, into room that was made. It is waited for.
@@ -153,7 +183,7 @@ fn filter_for(
     manager: &mut Manager,
     last_version: &mut u64,
 )
-    requires all { all ≡ first_filters (range_with_len 0 8) }
+    requires all { kind ≡ DeclaresFact → all ≡ first_filters (range_with_len 0 8) }
     requires few { length schema.now.dimensions ≤ 8 }
     requires quiet { kind ≡ DeclaresFact → All (λ slot. slot ≡ Free) manager.old.slots }
     ensures queries { manager.new.queries ≡ manager.old.queries }

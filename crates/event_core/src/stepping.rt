@@ -40,8 +40,7 @@ pub struct EventsFault {
 
 impl Core {
     /// Takes an event, if it may come. A query that finds no memory as its filter is built, or as its rows are folded, is
-    /// spoiled. Where any other event finds none, nothing has changed. Only a statement, a batch that is taken and a filter that is
-    /// cleared may find none.
+    /// spoiled. Where any other event finds none, nothing has changed. Only a statement and a filter that is cleared may find none.
     pub fn step(&mut self, event: Event) -> Result<(), StepFault>
         ensures disabled { IsErrOf result StepFault.NotEnabled ↔ (IsEnabled (state_of self.old) event → ⊥) }
         ensures taken { OnOk result (Took event (state_of self.old) (state_of self.new)) }
@@ -81,7 +80,7 @@ impl Core {
             Event::Build { query, dimension } => self.build(query, dimension),
             Event::Start { query } => self.start(query),
             Event::Cut => self.cut(),
-            Event::Take { worker, batch } => self.take(worker, batch)?,
+            Event::Take { worker, batch } => self.take(worker, batch),
             Event::Give { worker } => self.give(worker),
             Event::Distribute { batch } => self.distribute(batch),
             Event::Finish { slot } => self.finish(slot),

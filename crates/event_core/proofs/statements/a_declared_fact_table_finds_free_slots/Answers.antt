@@ -33,8 +33,15 @@ accepts-change state statement change settled fit is =
     (subst (λ found. FitsTables (tables_of state) found (outcome_of (tables_of state) statement).told) is
     (fit (tables_of state) statement settled))
 
-pub returns : goal.returns
-returns c = λ parts statement change core is declares.
+pub returns-clause-first : goal.returns-clause-first
+returns-clause-first c = λ parts statement change core is declares.
+    none-before (tables_of (state_of parts)) change
+    (accepts-change (state_of parts) statement change
+    (c.accepted_histories_are_settled.ensures.all (changes_of (state_of parts).entries) core.sound.store)
+    c.outcomes_fit_the_tables.ensures is) declares
+
+pub returns-clause-free : goal.returns-clause-free
+returns-clause-free c = λ parts statement change core is declares.
     free-before (state_of parts) change core.sound
     (accepts-change (state_of parts) statement change
     (c.accepted_histories_are_settled.ensures.all (changes_of (state_of parts).entries) core.sound.store)

@@ -45,6 +45,7 @@ invariant_of-self c =
           (has-left _ c.args.self.now c.args.query c.abandon.new.self Abandoned c.self.view_is c.requires refl
           (ap (λ (lives : Lives). lives.queries) c.abandon.ensures)))
           c.self.invariant.2),
+      c.self.invariant.3,
     )
 
 pub returns : goal.returns

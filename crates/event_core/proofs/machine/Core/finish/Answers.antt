@@ -28,6 +28,7 @@ invariant_of-self c =
       finished-on c.self.inside.manager c.end.new.self c.self.inside.asked c.keep_ending.new.asked
           (on-ended c.args.slot c.self.inside.manager c.end.new.self c.end.ensures) c.keep_ending.ensures.gone c.keep_ending.ensures.handed
           c.self.invariant.2,
+      c.self.invariant.3,
     )
 
 pub returns-in-Held : goal.returns-in-Held

@@ -1,5 +1,6 @@
-use Rattle.event_core.proofs.Words.{All, All-nil, AskedQuery, subst, sym}
+use Rattle.event_core.proofs.Words.{All, All-nil, ap, AskedQuery, Filters, subst, sym}
 use Rattle.event_core.proofs.NewCoreLemmas.{becomes-empty, room-made}
+use Rattle.event_core.proofs.SparedLemmas.{spare-none}
 use Rattle.core_parts.specs.Asked.{AreOver, HasBegun, IsOver}
 use Rattle.event_core.proofs.machine.Core.new.Goals as goal
 
@@ -17,6 +18,8 @@ invariant_of-result c =
         over = subst (AreOver slots.manager) (sym c.new-3.ensures.gone) (All-nil (λ (entry : AskedQuery). IsOver slots.manager entry.number));
         begun = subst (All (HasBegun slots.manager)) (sym c.new-3.ensures.handed) (All-nil (HasBegun slots.manager));
       },
+      spare-none c.args.settings.seats c.new-4.result.versions frames.flights.items c.new-5.result
+          (ap (λ (filters : Filters). filters.versions) c.new-4.ensures),
     )
 
 pub returns : goal.returns

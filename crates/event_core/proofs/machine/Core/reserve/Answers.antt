@@ -9,6 +9,7 @@ invariant_of-self c = (
   c.self.invariant.1,
   finished-on c.self.inside.manager c.reserve.new.self c.self.inside.asked c.self.inside.asked
       (on-reserved _ c.args.slot c.reserve.new.self c.self.invariant.0 c.reserve.ensures) refl refl c.self.invariant.2,
+  c.self.invariant.3,
 )
 
 pub returns : goal.returns

@@ -89,6 +89,7 @@ invariant_of-self c = (
       (handed-more (HasBegun c.run.new.self) c.args.query c.self.inside.asked.handed c.hand_on-bound.new.self.handed c.hand_on-bound.ensures.handed
       (has-begun _ c.args.self.now c.args.query c.first_position-start.result c.run.new.self c.self.view_is c.requires c.run.ensures) all))
       c.self.invariant.2,
+  c.self.invariant.3,
 )
 
 pub returns : goal.returns

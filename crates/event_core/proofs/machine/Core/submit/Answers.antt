@@ -1,8 +1,9 @@
 use Rattle.event_core.proofs.Words.{◌+◌, ◌<◌, ◌∙◌, ◌≡◌, after_submitting, ap, arith, AskedQueries, AskedQuery, Becomes, Changed, Follows, get_or, IsCore, length, Lives, Ok, outcome_of, Parts, plain, refl, Roomy, state_of, subst, sym, the_view}
 use Rattle.star_statement.specs.declared.applied.Applied.{Applied}
 use Rattle.star_statement.specs.declared.applied.Applied.TheVariants.{Replied, Accepted}
-use Rattle.event_core.proofs.EventsSubmitLemmas.{IsChange, accepts, changes, on-error, replies, same-parts, seat-kept, seat-there, some-change, statements_in}
+use Rattle.event_core.proofs.EventsSubmitLemmas.{IsChange, accepts, changes, on-error, replies, same-parts, seat-kept, seat-there, some-change, statements_in, undeclared-before}
 use Rattle.event_core.proofs.LetGoLemmas.{finished-on, on-same, on-submitted}
+use Rattle.event_core.proofs.SparedLemmas.{spare-changed, spare-ready}
 use Rattle.event_core.proofs.machine.Core.submit.Goals as goal
 
 -- the parts are those after a statement that is told a reply
@@ -34,11 +35,20 @@ invariant_of-self-in-Replied-1 c = (
   c.self.invariant.1,
   finished-on c.self.inside.manager c.self.inside.manager c.self.inside.asked c.make_room.new.asked
       (on-same c.self.inside.manager c.self.inside.manager refl) c.make_room.ensures.gone c.make_room.ensures.handed c.self.invariant.2,
+  spare-ready (the_view c.self.inside) c.self.inside.spares c.make_filters.new.spares c.self.invariant.0 c.make_filters.ensures.declared
+      c.self.invariant.3,
 )
 
 pub returns-in-Replied-clause-ok : goal.returns-in-Replied-clause-ok
 returns-in-Replied-clause-ok c =
     (replied c).state ∙ ap (λ (parts : Parts). after_submitting c.args.seat c.args.statement.now (state_of parts)) c.self.view_is
+
+pub filter_for-requires-clause-all : goal.filter_for-requires-clause-all
+filter_for-requires-clause-all c = λ declares. c.in_ok-all.ensures.all
+    (undeclared-before c.a_declared_fact_table_finds_free_slots.ensures.first (the_view c.self.inside) c.args.statement.now c.in-Changed.kind
+    c.in-Changed.reply c.apply_to.new.store c.self.invariant.0
+    (subst (λ (applied : Applied). Follows c.self.inside.store c.apply_to.new.store (Ok applied)
+    (outcome_of (plain c.self.inside.store) c.args.statement.now)) c.in-Changed.is c.in_ok-reply.ensures.follows) declares)
 
 pub filter_for-requires-clause-quiet : goal.filter_for-requires-clause-quiet
 filter_for-requires-clause-quiet c = λ declares.
@@ -48,7 +58,7 @@ filter_for-requires-clause-quiet c = λ declares.
     (outcome_of (plain c.self.inside.store) c.args.statement.now)) c.in-Changed.is c.in_ok-reply.ensures.follows in
     let change : IsChange (outcome_of (plain c.self.inside.store) c.args.statement.now).change c.in-Changed.kind =
     some-change _ _ follows.1 in
-    c.a_declared_fact_table_finds_free_slots.ensures (the_view c.self.inside) c.args.statement.now change.one c.self.invariant.0
+    c.a_declared_fact_table_finds_free_slots.ensures.free (the_view c.self.inside) c.args.statement.now change.one c.self.invariant.0
     (ap (λ store. (outcome_of store c.args.statement.now).change) (sym c.self.invariant.0.tables.same) ∙ change.is)
     (sym change.same ∙ declares)
 
@@ -98,6 +108,8 @@ invariant_of-self-in-Accepted-1 c = (
   finished-on c.self.inside.manager c.accept.new.manager c.self.inside.asked c.accept.new.asked
       (on-submitted _ _ c.self.inside.manager c.accept.new.manager c.in_ok-accept-in-Accepted.ensures.lives)
       (c.accept.ensures.gone ∙ c.make_room.ensures.gone) (c.accept.ensures.handed ∙ c.make_room.ensures.handed) c.self.invariant.2,
+  spare-ready (the_view c.self.inside) c.self.inside.spares c.make_filters.new.spares c.self.invariant.0 c.make_filters.ensures.declared
+      c.self.invariant.3,
 )
 
 pub returns-in_ok-accept-in-Accepted-clause-ok : goal.returns-in_ok-accept-in-Accepted-clause-ok
@@ -138,6 +150,17 @@ invariant_of-self-in-Changed c = (
   finished-on c.self.inside.manager c.filter_for.new.manager c.self.inside.asked c.make_room.new.asked
       (on-same c.self.inside.manager c.filter_for.new.manager c.filter_for.ensures.queries) c.make_room.ensures.gone
       c.make_room.ensures.handed c.self.invariant.2,
+  spare-changed c.in-Changed.kind (the_view c.self.inside) c.apply_to.new.store c.filter_for.new.filters c.make_filters.new.spares
+      c.apply_to.ensures.settled.declared.limits.dimensions
+      (ap (λ (parts : Parts). parts.filters)
+      (c.filter_for.ensures.parts (record (the_view c.self.inside) { tables = c.apply_to.new.store }) (sym c.schema.ensures.schema) refl refl refl))
+      (λ declares. c.in_ok-all.ensures.spares
+      (undeclared-before c.a_declared_fact_table_finds_free_slots.ensures.first (the_view c.self.inside) c.args.statement.now c.in-Changed.kind
+      c.in-Changed.reply c.apply_to.new.store c.self.invariant.0
+      (subst (λ (applied : Applied). Follows c.self.inside.store c.apply_to.new.store (Ok applied)
+      (outcome_of (plain c.self.inside.store) c.args.statement.now)) c.in-Changed.is c.in_ok-reply.ensures.follows) declares))
+      (spare-ready (the_view c.self.inside) c.self.inside.spares c.make_filters.new.spares c.self.invariant.0 c.make_filters.ensures.declared
+      c.self.invariant.3),
 )
 
 pub returns-in-Changed-clause-ok : goal.returns-in-Changed-clause-ok
@@ -153,6 +176,7 @@ invariant_of-self c =
       c.self.invariant.1,
       finished-on c.self.inside.manager c.self.inside.manager c.self.inside.asked c.make_room.new.asked
           (on-same c.self.inside.manager c.self.inside.manager refl) c.make_room.ensures.gone c.make_room.ensures.handed c.self.invariant.2,
+      c.self.invariant.3,
     )
 
 pub returns-in_err-make_room-clause-err : goal.returns-in_err-make_room-clause-err
@@ -171,6 +195,8 @@ invariant_of-self-in_err-all c =
       c.self.invariant.1,
       finished-on c.self.inside.manager c.self.inside.manager c.self.inside.asked c.make_room.new.asked
           (on-same c.self.inside.manager c.self.inside.manager refl) c.make_room.ensures.gone c.make_room.ensures.handed c.self.invariant.2,
+      spare-ready (the_view c.self.inside) c.self.inside.spares c.make_filters.new.spares c.self.invariant.0 c.make_filters.ensures.declared
+          c.self.invariant.3,
     )
 
 pub returns-in_err-all-clause-err : goal.returns-in_err-all-clause-err
@@ -189,6 +215,8 @@ invariant_of-self-in_err-reply c =
       c.self.invariant.1,
       finished-on c.self.inside.manager c.self.inside.manager c.self.inside.asked c.make_room.new.asked
           (on-same c.self.inside.manager c.self.inside.manager refl) c.make_room.ensures.gone c.make_room.ensures.handed c.self.invariant.2,
+      spare-ready (the_view c.self.inside) c.self.inside.spares c.make_filters.new.spares c.self.invariant.0 c.make_filters.ensures.declared
+          c.self.invariant.3,
     )
 
 pub returns-in_err-reply-clause-err : goal.returns-in_err-reply-clause-err
@@ -211,6 +239,8 @@ invariant_of-self-in_err-asked-in-Accepted c =
       c.self.invariant.1,
       finished-on c.self.inside.manager c.self.inside.manager c.self.inside.asked c.make_room.new.asked
           (on-same c.self.inside.manager c.self.inside.manager refl) c.make_room.ensures.gone c.make_room.ensures.handed c.self.invariant.2,
+      spare-ready (the_view c.self.inside) c.self.inside.spares c.make_filters.new.spares c.self.invariant.0 c.make_filters.ensures.declared
+          c.self.invariant.3,
     )
 
 pub returns-in_err-asked-in-Accepted-clause-err : goal.returns-in_err-asked-in-Accepted-clause-err
@@ -239,6 +269,8 @@ invariant_of-self-in_err-accept-in-Accepted c =
           (on-same c.self.inside.manager c.accept.new.manager
           (ap (λ (lives : Lives). lives.queries) c.in_err-accept-in-Accepted.ensures.err_lives)) (c.accept.ensures.gone ∙ c.make_room.ensures.gone)
           (c.accept.ensures.handed ∙ c.make_room.ensures.handed) c.self.invariant.2,
+      spare-ready (the_view c.self.inside) c.self.inside.spares c.make_filters.new.spares c.self.invariant.0 c.make_filters.ensures.declared
+          c.self.invariant.3,
     )
 
 pub returns-in_err-accept-in-Accepted-clause-err : goal.returns-in_err-accept-in-Accepted-clause-err

@@ -21,9 +21,9 @@ pub returns-in-Cut-clause-taken : goal.returns-in-Cut-clause-taken
 unfolding after_event
 returns-in-Cut-clause-taken c = took-done _ _ _ _ c.requires c.in-Cut.is c.cut.ensures
 
-pub returns-in_ok-take-in-Take-clause-taken : goal.returns-in_ok-take-in-Take-clause-taken
+pub returns-in-Take-clause-taken : goal.returns-in-Take-clause-taken
 unfolding after_event
-returns-in_ok-take-in-Take-clause-taken c = took-done _ _ _ _ c.requires c.in-Take.is c.in_ok-take-in-Take.ensures.ok
+returns-in-Take-clause-taken c = took-done _ _ _ _ c.requires c.in-Take.is c.take.ensures
 
 pub returns-in-Give-clause-taken : goal.returns-in-Give-clause-taken
 unfolding after_event

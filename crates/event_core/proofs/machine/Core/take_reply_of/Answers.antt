@@ -68,6 +68,7 @@ invariant_of-self c = (
   c.settle.ensures.finished (finished-on c.self.inside.manager c.self.inside.manager c.self.inside.asked c.take_kept-groups.new.self
       (on-same c.self.inside.manager c.self.inside.manager refl) (ap (λ (asked : AskedQueries). asked.gone) c.take_kept-groups.ensures.left)
       (ap (λ (asked : AskedQueries). asked.handed) c.take_kept-groups.ensures.left) c.self.invariant.2),
+  c.self.invariant.3,
 )
 
 pub returns-clause-ready : goal.returns-clause-ready
