@@ -135,7 +135,7 @@ def compile_and_link(kit, room, handed):
 def build_in(room):
     """Builds the program in a folder of its own."""
     since, kit = time.monotonic(), find_kit()
-    say("a program of these sources is built once, without proving it, in some 80 s on a free processor")
+    say("a program of these sources is built once, without proving it, in two minutes or so")
     handed = hand_over(kit, room)
     say(f"its module stands, checks and all, and is compiled ({time.monotonic() - since:.0f} s so far)")
     compile_and_link(kit, room, handed)
