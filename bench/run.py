@@ -8,9 +8,9 @@
     python3 bench/run.py --program FILE                the same of another program
 
 Each figure is seconds of processor time for one burst, on all processors together: the least of some runs of a script
-of `bench/burst.py`, less the least of the same script without its queries. This program is asked the same burst four
-times or more in a script, so that a load, which differs from run to run, has little part in the difference. A peer,
-which takes longer, runs once, is asked it once, and tells itself what that took: sqlite3 by its timer, and PostgreSQL
+of `bench/burst.py`, less the least of the same script without its queries. This program is asked the same burst sixteen
+times or more in a script, and twice or more where each query is alone, so that a load, which differs from run to run, has
+little part in the difference. A peer, which takes longer, runs once, is asked it once, and tells itself what that took: sqlite3 by its timer, and PostgreSQL
 by the hundredths of a second of the process that answers. The answers of all are compared with those of the first shared
 lap, and the table is written to the standard output. A peer gets the same tables, the same rows and the same queries,
 with an index over each key of a dimension. Its server, where it has one, is started for the run alone, listens on a
@@ -86,12 +86,11 @@ class Cjoin:
     """The program of this repository, in one of its modes."""
 
     def __init__(self, name, program, mode):
-        self.name, self.words = name, [program, "--mode", mode]
+        self.name, self.words, self.shares = name, [program, "--mode", mode], mode == "run"
 
-    @staticmethod
-    def times(queries):
-        """How often a burst is asked in a script: some 64 queries at least, and four bursts."""
-        return max(4, 64 // queries)
+    def times(self, queries):
+        """How often a burst is asked in a script, so that it takes longer than the loads, which differ from run to run."""
+        return max(16, 128 // queries) if self.shares else max(2, 16 // queries)
 
     def loading(self, load, repetitions):
         """The seconds of the loads, which are part of what is told of answers."""
