@@ -1,19 +1,65 @@
--- That seats and accepted queries may be sent to another thread, with those that were let go.
+-- That batches in flight, seats and accepted queries may be sent to another thread, with those that are lent or were let go.
 use denote.Param.Send.{IsSend, view_send, sendable}
-use denote.Param.SendFields.{declared_send}
-use Rattle.std.proofs.Crossing.{Arc-send, crosses}
+use denote.Param.SendFields.{declared_send, variants_send}
+use Rattle.std.proofs.Crossing.{Arc-send, Vec-send, crosses}
+use Rattle.bit_words.proofs.bits.Bits.TheSendSync as bits
 use Rattle.star_lists.proofs.CrossingLemmas.{fading_send}
 use Rattle.star_plan.specs.contracts.star_query.StarQuery as query
 use Rattle.aggregations.proofs.groups.Groups.TheSendSync as groups
 use Rattle.continuous_scan.proofs.CrossingLemmas.{option_send, query_send, query_sync}
+use Rattle.core_parts.proofs.home.Home.TheSendSync as home
 use Rattle.core_parts.proofs.submitted.Submitted.TheSendSync as submitted
 use Rattle.core_parts.specs.contracts.asked.Asked as asked
 use Rattle.core_parts.specs.contracts.asked.Asked.TheInside as inside_asked
+use Rattle.core_parts.specs.contracts.flight.Flight as flight
+use Rattle.core_parts.specs.contracts.flight.Flight.TheInside as inside_flight
+use Rattle.core_parts.specs.contracts.flight.Stand as stand
+use Rattle.core_parts.specs.contracts.flights.Flights as flights
+use Rattle.core_parts.specs.contracts.flights.Flights.TheInside as inside_flights
+use Rattle.core_parts.specs.contracts.lent.Lent as lent
+use Rattle.core_parts.specs.contracts.lent.Lent.TheInside as inside_lent
+use Rattle.core_parts.specs.contracts.passing.Passing as passing
 use Rattle.core_parts.specs.contracts.queries.Queries as queries
 use Rattle.core_parts.specs.contracts.queries.Queries.TheInside as inside_queries
 use Rattle.core_parts.specs.contracts.seat.Seat as seat
 use Rattle.core_parts.specs.contracts.seat.Seat.TheInside as inside_seat
 
+-- what stands for a batch that is lent
+lent_send : IsSend lent.the_row
+lent_send =
+    let fields = declared_send inside_lent.the_type (
+      search sendable,
+      (
+        search sendable,
+        (
+          search (sendable, bits.the_send) depth 10,
+          (search sendable, (search (sendable, crosses) depth 10, (search (sendable, crosses) depth 10, tt))),
+        ),
+      ),
+    ) in
+    view_send inside_lent.the_row _ _ _ _ fields
+
+-- where a batch in flight is
+stand_send : IsSend stand.the_row
+stand_send = variants_send stand.enum ((home.the_send, tt), ((lent_send, tt), tt))
+
+-- a batch in flight
+flight_send : IsSend flight.the_row
+flight_send =
+    let fields = declared_send inside_flight.the_type (stand_send, (search (sendable, crosses) depth 10, tt)) in
+    view_send inside_flight.the_row _ _ _ _ fields
+
+-- one on its way through all filters
+passing_send : IsSend passing.the_row
+passing_send = declared_send passing.the_type (flight_send, (search (sendable, crosses) depth 20, tt))
+
+-- and all of them
+pub flights_send : IsSend flights.the_row
+flights_send =
+    let fields = declared_send inside_flights.the_type (Vec-send _ flight_send, (Vec-send _ passing_send, tt)) in
+    view_send inside_flights.the_row _ _ _ _ fields
+
+-- a seat may be sent
 pub seat_send : IsSend seat.the_row
 seat_send =
     view_send inside_seat.the_row _ _ _ _ (declared_send inside_seat.the_type (fading_send _ submitted.the_send, (search sendable, tt)))

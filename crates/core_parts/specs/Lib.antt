@@ -1,6 +1,8 @@
 -- The parts of a core: what they are to the core, and how code holds them.
 pub mod Filtered
 pub mod InFlight
+pub mod Lent
+pub mod Stands
 pub mod Seated
 pub mod Held
 pub mod Numbered

@@ -5,6 +5,9 @@ mod asked;
 mod crossing;
 mod flight;
 pub mod flights;
+mod hand;
+mod home;
+mod lent;
 mod passing;
 mod queries;
 mod seat;
@@ -15,8 +18,9 @@ pub use core_filters::{Filters, References, Spares, Version};
 pub use crossing::{
     filters_may_be_shared, flights_may_be_sent, queries_may_be_sent, seats_may_be_sent,
 };
-pub use flight::{Flight, Hand, MAX_SLOTS};
+pub use flight::{Flight, MAX_SLOTS};
 pub use flights::Flights;
+pub use hand::Hand;
 pub use queries::Queries;
 pub use seat::{Seat, may_be_answered};
 pub use submitted::{Standing, Submitted};

@@ -8,14 +8,20 @@ use core_parts::{Filters, Flight};
 pub fn is_wanting(filters: &Filters, flight: &Flight) -> bool
     ensures { IsTrue result ↔ Wants filters.now flight.now }
 {
-    flight.hand.is_none() && !flight.batch.all_zero() && filters.next(&flight.batch).is_some()
+    match flight.idle() {
+        Some(batch) => !batch.all_zero() && filters.next(batch).is_some(),
+        None => false,
+    }
 }
 
 /// Whether a batch is idle, and passed every filter or has no bit left.
 pub fn is_through(filters: &Filters, flight: &Flight) -> bool
     ensures { IsTrue result ↔ Through filters.now flight.now }
 {
-    flight.hand.is_none() && (flight.batch.all_zero() || filters.all_passed(&flight.batch))
+    match flight.idle() {
+        Some(batch) => batch.all_zero() || filters.all_passed(batch),
+        None => false,
+    }
 }
 
 /// The number of a batch that is idle and has passed every filter or has no bit left.
@@ -27,7 +33,7 @@ pub fn next_through(filters: &Filters, flights: &[Flight]) -> Option<u64>
 {
     for flight in flights {
         if is_through(filters, flight) {
-            return Some(flight.batch.number());
+            return Some(flight.number());
         }
     }
     None
@@ -42,7 +48,7 @@ pub fn next_wanting(filters: &Filters, flights: &[Flight]) -> Option<u64>
 {
     for flight in flights {
         if is_wanting(filters, flight) {
-            return Some(flight.batch.number());
+            return Some(flight.number());
         }
     }
     None
