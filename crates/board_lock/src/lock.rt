@@ -251,17 +251,17 @@ impl<S: Board> BoardLock<S> {
         slot.unwrap()
     }
 
-    /// The bell's number, for a later `rest`. Read it between an `enter` and its `leave`.
+    /// The bell's number, for the `rest` that follows. Read it between an `enter` and its `leave`.
     pub fn bell<R: Wait>(&self, rt: &R) -> u32 {
         self.bell.read(rt)
     }
 
-    /// Changes the bell's number and wakes all that rest. Ring after a `leave`.
+    /// Changes the bell's number and wakes all that rest, where anybody rests or is about to. Ring after a `leave`.
     pub fn ring<R: Wait>(&self, rt: &R) {
         self.bell.ring(rt);
     }
 
-    /// Waits while the bell's number is `seen`.
+    /// Waits while the bell's number is `seen`, once for each time that it was read.
     pub fn rest<R: Wait>(&self, rt: &R, seen: u32) {
         self.bell.rest(rt, seen);
     }
