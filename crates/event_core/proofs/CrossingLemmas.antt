@@ -7,9 +7,10 @@ use Rattle.std.proofs.alloc.Global.TheSendSync as heap
 use Rattle.star_lists.proofs.list_of.ListOf.TheSendSync as list
 use Rattle.continuous_scan.proofs.CrossingLemmas.{scan_send}
 use Rattle.star_lists.proofs.CrossingLemmas.{trail_send}
-use Rattle.core_parts.proofs.CrossingLemmas.{queries_send, seat_send}
+use Rattle.core_parts.proofs.CrossingLemmas.{flights_send, queries_send, seat_send}
 use Rattle.star_store.proofs.store.Store.TheSendSync as store
 use Rattle.event_core.proofs.logged.Logged.TheSendSync as logged
+use Rattle.event_core.proofs.marks.Marks.TheSendSync as marks
 use Rattle.pipeline_manager.proofs.life.QueryLife.TheSendSync as life
 use Rattle.pipeline_manager.proofs.life.SlotState.TheSendSync as slot_state
 use Rattle.pipeline_manager.proofs.number_set.NumberSet.TheSendSync as number_set
@@ -22,7 +23,6 @@ use Rattle.pipeline_manager.specs.contracts.manager.Manager.TheInside as inside_
 use Rattle.core_filters.proofs.filters.Filters.TheSendSync as filters
 use Rattle.core_filters.proofs.spares.Spares.TheSendSync as spares
 use Rattle.distributor.proofs.distributor.Distributor.TheSendSync as distributor
-use Rattle.core_parts.proofs.flights.Flights.TheSendSync as flights
 use Rattle.frame_pool.proofs.pool.Pool.TheSendSync as pool
 use Rattle.event_core.specs.contracts.machine.Core as core
 use Rattle.event_core.specs.contracts.machine.Core.TheInside as inside_core
@@ -56,8 +56,8 @@ both one other = (one, other)
 pub core_send : IsSend core.the_row
 core_send =
     let number : IsSend u64 = search sendable in
-    let numbers : IsSend u64 × (IsSend u64 × (IsSend u64 × (IsSend u64 × Unit {0}))) = (number, (number, (number, (number, tt)))) in
-    let moving = both distributor.the_send (both flights.the_send (both pool.the_send numbers)) in
+    let numbers = both number (both number (both number (both number (both marks.the_send tt)))) in
+    let moving = both distributor.the_send (both flights_send (both pool.the_send numbers)) in
     let running = both manager_send (both filters.the_send (both spares.the_send (both scan_send moving))) in
     let asking = both (trail_send _ logged.the_send) (both (list.the_send _ seat_send) (both queries_send running)) in
     let fields = declared_send inside_core.the_type (heap.the_send, (search sendable depth 8, (search (sendable, crosses) depth 20, (store.the_send, asking)))) in

@@ -1,5 +1,5 @@
 -- A batch that is cut: what becomes of the parts is what becomes of the state.
-use Rattle.event_core.proofs.Words.{◌++◌, ◌+◌, ◌-◌, ◌∙◌, ◌∷◌, ◌≡◌, [], after_cut, after_cutting, ap, AreHolders, arith, attached_to, batch_of, Becomes, cond, counted, Cut, cut_into, Event, Flight, flight_as, flights_as, frame_words, IsCore, IsEnabled, IsScannedAs, IsSound, IsTrue, Known, known_in, last_after, LeavesAttached, length, length-append, List, map, MayCut, next_number, None, Parts, Reach, reaches_in, refl, roster_of, Scanning, some_run, State, state_of, subst, sym, ℕ}
+use Rattle.event_core.proofs.Words.{[], ◌++◌, ◌+◌, ◌-◌, ◌∙◌, ◌∷◌, ◌≡◌, after_cut, after_cutting, ap, AreHolders, arith, attached_to, batch_of, Becomes, cond, counted, Cut, cut_into, Event, false, Flight, flight_as, flights_as, frame_words, IsCore, IsEnabled, IsScannedAs, IsSound, IsTrue, Known, known_in, last_after, LeavesAttached, length, length-append, List, map, MayCut, next_number, None, Parts, Reach, reaches_in, refl, roster_of, Scanning, some_run, State, state_of, subst, sym, ℕ}
 use Rattle.std.proofs.lemmas.List.{map-append}
 use Rattle.continuous_scan.specs.Range as scanned
 use Rattle.core_state.specs.Cutting.{end_in, first_in, rows_of}
@@ -42,6 +42,7 @@ new_flight holders frame parts = record {
   batch = batch_of parts.settings.batch (number_in parts) (length frame) parts.scan parts.tables.versions;
   holders = holders;
   hand = None;
+  lent = false;
 }
 
 -- and with its roster it is the batch in flight of the state

@@ -33,6 +33,7 @@ pub mod HandLemmas
 pub mod IdleLemmas
 pub mod HeldSlotLemmas
 pub mod KeptLifeLemmas
+pub mod LentLemmas
 pub mod LetGoLemmas
 pub mod LivedLemmas
 pub mod MachineLemmas
@@ -59,3 +60,4 @@ pub mod TakenReplyLemmas
 pub mod TakenStepLemmas
 pub mod TookLemmas
 pub mod UnbuiltLemmas
+pub mod WorkLemmas

@@ -3,6 +3,7 @@ use Rattle.event_core.proofs.Words.{◌*◌, ◌+◌, ◌∙◌, ◌∷◌, ◌�
 use Rattle.star_history.specs.Keyed.{HasKeyNumbers}
 use Rattle.core_state.specs.State as state
 use Rattle.core_parts.specs.Filters.{no_filters}
+use Rattle.event_core.specs.Parts.{first_marks}
 
 -- the law of new cores
 abbrev NewLaw : Type 0
@@ -32,6 +33,7 @@ parts_of settings tables log seats asked lives filters scan attached flights poo
   pool = pool;
   cut = 0;
   numbers = record { statement = 0; batch = 0; version = 0 };
+  marks = first_marks;
 }
 
 -- parts that are each as in a new core are its parts
@@ -74,7 +76,7 @@ pub becomes-empty : NewLaw → (settings : RunSettings) (tables : KeyedStore) (l
       words = 16 + settings.batch * 16;
       inside = replicate (frames_of settings) (replicate (16 + settings.batch * 16) 0);
     }
-    → Becomes (parts_by settings tables log seats asked lives filters scan attached flights pool 0 0 0 0) (empty_core settings)
+    → Becomes (parts_by settings tables log seats asked lives filters scan attached flights pool 0 0 0 0 first_marks) (empty_core settings)
 becomes-empty law settings tables log seats asked lives filters scan attached flights pool within none same_log same_seats same_asked same_lives same_filters same_scan same_attached same_flights same_pool =
     subst (λ parts. Becomes parts (empty_core settings))
     (sym (first-of settings tables log (map (λ (seat : Roomy Submitted). seat.items) seats) asked.items lives filters scan attached

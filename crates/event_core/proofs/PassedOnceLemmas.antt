@@ -1,6 +1,7 @@
 -- A batch passes the filter that it meets next: the front takes it and gives it back.
 use Rattle.event_core.proofs.Words.{◌++◌, ◌+◌, ◌<◌, ◌∙◌, ◌∷◌, ◌≡◌, ◌≢◌, [], after_give, after_take, All, All-append, All-cons, All-head, All-nil, All-tail, ap, arith, Becomes, Bool, cond, eq-eqb, eqb, false, Flight, flight_as, flights_as, get_or-append_seam, Give, inl, is_some, IsCore, IsEnabled, IsLed, IsPassing, IsSome, Known, known_in, length, length-append, length-map, List, list_all, MayTake, ne_eqb, next_of, None, not, Option, option_map_or, Parts, passed_by, plus, position_or_len, Reach, reaches_in, refl, seat_as, slice_get, slice_get-get_or, Some, state_of, subst, sym, Take, Tally, tally_of, true, ℕ}
 use Rattle.std.proofs.Math.Seq.{set-append_seam}
+use Rattle.std.proofs.lemmas.List.{map-append}
 use Rattle.std.specs.List.{position}
 use Rattle.core_state.specs.Events.{after_event}
 use Rattle.core_state.specs.State as state
@@ -9,6 +10,7 @@ use Rattle.star_lists.proofs.PlaceLemmas.{position-past, position-within}
 use Rattle.event_core.proofs.EnablingLemmas.{taken-wanting}
 use Rattle.event_core.proofs.HandLemmas.{AreApart, apart-head, apart-tail, becomes-given, becomes-taken, held-there}
 use Rattle.event_core.proofs.LivedLemmas.{QuietEventsLeave}
+use Rattle.event_core.proofs.WorkLemmas.{seen-same}
 
 -- the parts with these tallies and batches in flight
 abbrev pub parts_at : Parts → List Tally → List Flight → Parts
@@ -187,13 +189,33 @@ passes-one quiet parts tallies front flight back version core idle bits next = r
     held_at = place-behind (λ (one : Flight). option_map_or (λ (h : state.Hand). eqb h.worker 0) one.hand false) front held back
         (idle-not_held 0 front (front-all IsIdle front flight back idle)) refl
 
-    gave : Becomes last (after_give 0 (state_of mid))
-    gave = subst (λ flights. Becomes (parts_at parts
+    home : Flight
+    home = record behind { hand = None; lent = false }
+
+    -- the parts with a batch in the place of the one that was given back
+    parts_behind : Flight → Parts
+    parts_behind one = parts_at parts
         (with_tally version.filter.dimension (plus (tally_of version.filter flight.batch)) parts.filters.versions tallies)
-        flights) (after_give 0 (state_of mid)))
-        (set-append_seam front held back (record behind { hand = None })
-        ∙ ap (λ (o : Option state.Hand). front ++ record behind { hand = o } ∷ back) (sym (one-all IsIdle front flight back idle)))
+        (front ++ one ∷ back)
+
+    came : Becomes (parts_behind home) (after_give 0 (state_of mid))
+    came = subst (λ flights. Becomes (parts_at parts
+        (with_tally version.filter.dimension (plus (tally_of version.filter flight.batch)) parts.filters.versions tallies)
+        flights) (after_give 0 (state_of mid))) (set-append_seam front held back home)
         (becomes-given quiet mid 0 (length front) held hand took.core held_at (stands-behind front held back) refl)
+
+    -- whether a batch is lent is not seen
+    seen : flights_as known reaches (front ++ behind ∷ back) ≡ flights_as known reaches (front ++ home ∷ back)
+    seen = ap (λ (o : Option state.Hand). flights_as known reaches (front ++ record behind { hand = o } ∷ back))
+        (one-all IsIdle front flight back idle)
+        ∙ map-append (flight_as known reaches) front (record behind { hand = None } ∷ back)
+        ∙ sym (map-append (flight_as known reaches) front (home ∷ back))
+
+    again : Becomes last (state_of (parts_behind home))
+    again = seen-same (parts_behind home) (front ++ behind ∷ back) parts.marks seen came.core
+
+    gave : Becomes last (after_give 0 (state_of mid))
+    gave = record { state = again.state ∙ came.state; core = again.core }
 
     held_now : IsEnabled (state_of mid) (Give 0)
     held_now = subst (λ o. IsSome o)

@@ -96,6 +96,29 @@ spare-held seats versions old new spares same all = record {
     goes dimension version seat (inl kept) = inl kept
     goes dimension version seat (inr held) = inr (same seat ∙ held)
 
+-- so have batches that are in the same hands
+pub spare-hands : (seats : ℕ) (versions : List FilterVersion) (old new : List Flight) (spares : Spares)
+    → map (λ (flight : Flight). flight.hand) new ≡ map (λ (flight : Flight). flight.hand) old
+    → AreSpare seats versions old spares → AreSpare seats versions new spares
+spare-hands seats versions old new spares same all =
+    spare-held seats versions old new spares
+    (λ seat. by_hands new seat ∙ ap (λ hands. option_and_then of_hand (find (own seat) hands)) same ∙ sym (by_hands old seat)) all
+  where
+    own : (seat : ℕ) → Option Hand → Bool
+    own seat o = option_map_or (λ hand. eqb hand.worker seat) o false
+
+    of_hand : Option Hand → Option FilterVersion
+    of_hand o = option_map (λ (hand : Hand). hand.version) o
+
+    held : (o : Option Flight) → option_and_then version_in o ≡ option_and_then of_hand (option_map (λ (flight : Flight). flight.hand) o)
+    held None = refl
+    held (Some flight) = refl
+
+    by_hands : (flights : List Flight) (seat : ℕ)
+        → version_held flights seat ≡ option_and_then of_hand (find (own seat) (map (λ (flight : Flight). flight.hand) flights))
+    by_hands flights seat = held (find (is_in_hand seat) flights)
+        ∙ ap (option_and_then of_hand) (sym (find-images (own seat) (λ (flight : Flight). flight.hand) flights))
+
 -- a batch more in flight, which is idle
 pub spare-cut : (seats : ℕ) (versions : List FilterVersion) (flights new : List Flight) (flight : Flight) (spares : Spares)
     → new ≡ flights ++ flight ∷ [] → flight.hand ≡ None → AreSpare seats versions flights spares → AreSpare seats versions new spares

@@ -71,7 +71,7 @@ pub use Rattle.core_parts.specs.InFlight.{passed_by}
 pub use Rattle.core_parts.specs.Known.{Known, known_at, Reach, reach_at, reaches_in}
 pub use Rattle.core_parts.specs.Passed.{flight_behind, tally_of}
 pub use Rattle.core_parts.specs.Seats.{awaited_as, pending_as, seat_as}
-pub use Rattle.core_parts.specs.declared.flight.Flight.{Flight}
+pub use Rattle.core_parts.specs.Lent.{Flight, lent_to}
 pub use Rattle.core_parts.specs.declared.submitted.Standing.{Standing}
 pub use Rattle.core_parts.specs.declared.submitted.Standing.TheVariants.{IsAbandoned, IsAnswered, IsAsked, IsTaken, Waits}
 pub use Rattle.core_parts.specs.declared.submitted.Submitted.{Submitted}

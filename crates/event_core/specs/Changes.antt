@@ -1,5 +1,5 @@
 -- What becomes of the parts at each event.
-use Rattle.std.specs.Prelude.{ℕ, ◌+◌, ◌-◌, ◌*◌, ◌==◌, if◌then◌else◌, List, [], ◌∷◌, ◌++◌, drop, fold, length, replicate, slice_index_or, slice_set, take, Option, Some, None}
+use Rattle.std.specs.Prelude.{ℕ, ◌+◌, ◌-◌, ◌*◌, ◌==◌, if◌then◌else◌, List, [], ◌∷◌, ◌++◌, drop, fold, length, replicate, slice_index_or, slice_set, take, Option, Some, None, false}
 use Rattle.bit_words.specs.Sets.{with_number}
 use Rattle.star_lists.specs.Roomy.{Roomy}
 use Rattle.dimension_rows.specs.declared.dimension_row.DimensionRow.{DimensionRow}
@@ -22,13 +22,13 @@ use Rattle.core_state.specs.Settings.{frames_of}
 use Rattle.core_state.specs.State as state
 use Rattle.core_state.specs.declared.settings.RunSettings.{RunSettings}
 use Rattle.core_state.specs.Tables.{filter_dimensions}
-use Rattle.core_parts.specs.declared.flight.Flight.{Flight}
+use Rattle.core_parts.specs.Lent.{Flight}
 use Rattle.event_core.specs.declared.logged.Logged.{Logged}
 use Rattle.core_parts.specs.declared.submitted.Submitted.{Submitted}
 use Rattle.core_parts.specs.Asked.{AskedQuery, with_kept_at}
 use Rattle.core_parts.specs.Filters.{first_filters, no_filters, with_new}
 use Rattle.core_parts.specs.Flights.{passed_in}
-use Rattle.event_core.specs.Parts.{Parts}
+use Rattle.event_core.specs.Parts.{Parts, first_marks}
 
 -- `reserve`
 abbrev pub reserved : (slot : ℕ) → Parts → Parts
@@ -80,6 +80,7 @@ cut_into holders frame inside number parts =
         batch = batch_of size number (length frame) parts.scan versions;
         holders = holders;
         hand = None;
+        lent = false;
       } ∷ [];
       pool = record parts.pool { inside = inside };
       cut = counted parts.cut (end - first);
@@ -221,4 +222,5 @@ first_parts settings tables inside = record {
   pool = record { made = frames_of settings; words = 16 + settings.batch * 16; inside = inside };
   cut = 0;
   numbers = record { statement = 0; batch = 0; version = 0 };
+  marks = first_marks;
 }

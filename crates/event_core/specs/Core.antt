@@ -24,7 +24,7 @@ use Rattle.core_state.specs.Settings.{frames_of}
 use Rattle.core_state.specs.Sound.{IsSound}
 use Rattle.core_state.specs.State.{State}
 use Rattle.core_state.specs.declared.settings.RunSettings.{RunSettings}
-use Rattle.core_parts.specs.declared.flight.Flight.{Flight}
+use Rattle.core_parts.specs.Lent.{Flight}
 use Rattle.event_core.specs.Parts.{Parts}
 use Rattle.event_core.specs.Seen.{attached_for, state_of}
 

@@ -1,5 +1,6 @@
 -- The parts of a core in code, the state that they stand for, and what holds of them.
 pub mod Parts
+pub mod Lent
 pub mod Seen
 pub mod Core
 pub mod Spared
@@ -9,3 +10,4 @@ pub mod Chosen
 pub mod Changes
 pub mod Taking
 pub mod Passing
+pub mod Board

@@ -3,7 +3,7 @@ use Rattle.std.specs.Prelude.{◌≡◌, ◌⊎◌, ℕ, ◌<◌, ◌==◌, fals
 use Rattle.std.specs.Option.{option_and_then, option_map_or}
 use Rattle.core_filters.specs.Filtered.{FilterVersion, version_at}
 use Rattle.core_filters.specs.Spares.{spare_at, Spares}
-use Rattle.core_parts.specs.declared.flight.Flight.{Flight}
+use Rattle.core_parts.specs.Lent.{Flight}
 
 -- the version in the hand of a seat
 abbrev pub version_held : List Flight → (seat : ℕ) → Option FilterVersion

@@ -6,7 +6,7 @@ ghost use Rattle.core_state.specs.Cutting.{after_cutting, after_give, after_take
 ghost use Rattle.core_state.specs.Events.{MayCut, MayTake};
 ghost use Rattle.core_state.specs.Numbered.{next_number};
 ghost use Rattle.core_state.specs.State as state;
-ghost use Rattle.core_parts.specs.declared.flight.Flight.{Flight};
+ghost use Rattle.core_parts.specs.Lent.{Flight};
 ghost use Rattle.event_core.specs.Changes.{cut_into, given, taken};
 ghost use Rattle.event_core.specs.Core.{AreHolders, Becomes, CanCutNext, IsCore};
 ghost use Rattle.core_parts.specs.Filters.{next_of};

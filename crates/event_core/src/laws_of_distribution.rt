@@ -8,7 +8,7 @@ ghost use Rattle.distributor.specs.Slots.{AreAttached, HaveRoom, HaveRows};
 ghost use Rattle.core_state.specs.Cutting.{after_distribute};
 ghost use Rattle.core_state.specs.Events.{AreFed, MayDistribute};
 ghost use Rattle.core_state.specs.Handed.{fed_in};
-ghost use Rattle.core_parts.specs.declared.flight.Flight.{Flight};
+ghost use Rattle.core_parts.specs.Lent.{Flight};
 ghost use Rattle.event_core.specs.Changes.{distributed};
 ghost use Rattle.event_core.specs.Core.{Becomes, IsCore, holders_in};
 ghost use Rattle.event_core.specs.Parts.{Parts};

@@ -3,11 +3,13 @@
 #![tactic(auto)]
 
 mod batches;
+mod board;
 mod choosing;
 mod crossing;
 mod enabling;
 mod filtering;
 mod laws_of_batches;
+mod laws_of_boards;
 mod laws_of_core;
 mod laws_of_distribution;
 mod laws_of_filters;
@@ -17,16 +19,21 @@ mod laws_of_statements;
 mod laws_of_steps;
 mod logged;
 mod machine;
+mod marks;
 mod passing;
 mod replies;
 mod slots;
 mod spoiling;
 mod statements;
 mod stepping;
+mod work;
 
 pub use choosing::EventKind;
 pub use crossing::cores_may_be_sent;
+pub use laws_of_boards::own_steps_keep_a_board;
 pub use laws_of_steps::{every_core_is_sound, taken_events_are_steps};
 pub use machine::Core;
+pub use marks::Marks;
 pub use replies::Ready;
 pub use stepping::{EventsFault, StepFault};
+pub use work::Work;

@@ -11,11 +11,13 @@ ghost use Rattle.core_state.specs.Sound.{IsSound, empty_core};
 ghost use Rattle.core_state.specs.Submitting.{seat_at};
 ghost use Rattle.core_state.specs.Tables.{tables_of};
 ghost use Rattle.core_parts.specs.Filters.{tally_at};
+ghost use Rattle.event_core.specs.Parts.{beside_of, first_beside};
 ghost use Rattle.event_core.specs.Replies.{first_open};
 ghost use Rattle.event_core.specs.Seen.{state_of};
 
 use crate::laws_of_core::a_new_core_is_empty;
 use crate::logged::Logged;
+use crate::marks::Marks;
 use continuous_scan::Scan;
 use core_parts::{Filters, Flights, Queries, Seat, Spares};
 use core_state::RunSettings;
@@ -71,6 +73,9 @@ pub struct Core {
     pub(crate) last_statement: u64,
     pub(crate) last_batch: u64,
     pub(crate) last_version: u64,
+
+    /// What no event reads or changes.
+    pub(crate) marks: Marks,
 }
 
 impl Model for Core {
@@ -87,11 +92,11 @@ impl Model for Core {
     ghost coded = { Prim.hlevel (codes, star_query.the_row.coded) };
 
     ghost view = { λ core. parts_by core.settings core.store core.log core.seats core.asked core.manager core.filters core.scan
-        core.distributor core.flights core.pool core.cut core.last_statement core.last_batch core.last_version };
+        core.distributor core.flights core.pool core.cut core.last_statement core.last_batch core.last_version core.marks };
 
     ghost invariant = { λ core.
         IsCore (parts_by core.settings core.store core.log core.seats core.asked core.manager core.filters core.scan
-        core.distributor core.flights core.pool core.cut core.last_statement core.last_batch core.last_version)
+        core.distributor core.flights core.pool core.cut core.last_statement core.last_batch core.last_version core.marks)
         × HasRoom core.settings core.flights × AreFinished core.manager core.asked
         × AreSpare core.settings.seats core.filters.versions core.flights.items core.spares };
 }
@@ -104,7 +109,8 @@ impl Core {
         settings: RunSettings,
     ) -> Result<Core, NoMemory>
         requires { AreWithin settings }
-        ensures { IfOk result (λ core. state_of core ≡ empty_core settings) }
+        ensures state { IfOk result (λ core. state_of core ≡ empty_core settings) }
+        ensures beside { IfOk result (λ core. beside_of core ≡ first_beside) }
     {
         a_new_core_is_empty();
         // All that may find no memory comes first: each `?` takes down again what was made before it.
@@ -130,6 +136,10 @@ impl Core {
             last_statement: 0,
             last_batch: 0,
             last_version: 0,
+            marks: Marks {
+                closing: false,
+                distributed: 0,
+            },
         })
     }
 

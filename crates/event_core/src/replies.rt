@@ -5,6 +5,7 @@ ghost use Rattle.core_state.specs.Sound.{IsSound};
 ghost use Rattle.core_state.specs.Submitting.{after_taking, next_ready, seat_at, with_taken};
 ghost use Rattle.event_core.specs.Changes.{statements_at};
 ghost use Rattle.core_parts.specs.Known.{Known};
+ghost use Rattle.event_core.specs.Parts.{beside_of};
 ghost use Rattle.event_core.specs.Replies.{IsReplyOf, ready_of};
 ghost use Rattle.core_parts.specs.Seats.{is_waited, seat_as};
 ghost use Rattle.event_core.specs.Seen.{state_of};
@@ -37,6 +38,7 @@ impl Core {
         ensures ready { option_map ready_of result ≡ next_ready (state_of self.old) seat }
         ensures taken { IsSome result → state_of self.new ≡ after_taking seat (state_of self.old) }
         ensures none { result ≡ None → self.new ≡ self.old }
+        ensures beside { beside_of self.new ≡ beside_of self.old }
         ensures right { IfSome result (λ ready. IfSome (slice_get (seat_at (state_of self.old) seat).pending 0)
             (λ pending. IsRight (state_of self.old) pending.statement pending.awaited (ready_of ready))) }
         ensures sound { IsSound (state_of self.new) }
@@ -55,6 +57,7 @@ impl Core {
         ensures ready { option_map ready_of result ≡ next_ready (state_of self.old) seat }
         ensures taken { IsSome result → state_of self.new ≡ after_taking seat (state_of self.old) }
         ensures none { result ≡ None → self.new ≡ self.old }
+        ensures beside { beside_of self.new ≡ beside_of self.old }
         ensures right { IfSome result (λ ready. IfSome (slice_get (seat_at (state_of self.old) seat).pending 0)
             (λ pending. IsRight (state_of self.old) pending.statement pending.awaited (ready_of ready))) }
         ensures sound { IsSound (state_of self.new) }

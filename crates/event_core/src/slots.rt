@@ -14,6 +14,7 @@ ghost use Rattle.core_parts.specs.Asked.{AreRising, IsNotAmong, with_kept_at};
 ghost use Rattle.event_core.specs.Changes.{statements_at};
 ghost use Rattle.core_parts.specs.Known.{Known};
 ghost use Rattle.core_parts.specs.Seats.{seat_as};
+ghost use Rattle.event_core.specs.Parts.{beside_of};
 ghost use Rattle.event_core.specs.Seen.{state_of};
 
 use crate::laws_of_slots::{
@@ -35,7 +36,8 @@ impl Core {
     /// The query that waits the longest, which has this number, gets a free slot.
     pub(crate) fn reserve(&mut self, query: u64, slot: u32)
         requires { MayReserve query slot (state_of self.old) }
-        ensures { state_of self.new ≡ after_reserving slot (state_of self.old) }
+        ensures after { state_of self.new ≡ after_reserving slot (state_of self.old) }
+        ensures beside { beside_of self.new ≡ beside_of self.old }
     {
         slots_follow_the_core();
         let _ = query;
@@ -45,7 +47,8 @@ impl Core {
     /// A query for which every filter is built begins its lap. Its bound form is handed on to the scan.
     pub(crate) fn start(&mut self, query: u64)
         requires { CanRun query (state_of self.old).lives }
-        ensures { state_of self.new ≡ after_start query (state_of self.old) }
+        ensures after { state_of self.new ≡ after_start query (state_of self.old) }
+        ensures beside { beside_of self.new ≡ beside_of self.old }
     {
         starts_follow_the_core();
         let slot = self.manager.slot_of(query).unwrap();
@@ -64,7 +67,8 @@ impl Core {
     /// kept.
     pub(crate) fn finish(&mut self, slot: u32)
         requires { MayFinish slot (state_of self.old) }
-        ensures { state_of self.new ≡ after_finish slot (state_of self.old) }
+        ensures after { state_of self.new ≡ after_finish slot (state_of self.old) }
+        ensures beside { beside_of self.new ≡ beside_of self.old }
     {
         finishes_follow_the_core();
         if let SlotState::Held { query, .. } = self.manager.slot(slot) {
@@ -78,7 +82,8 @@ impl Core {
     /// A slot of which no filter has a bit is free again.
     pub(crate) fn release(&mut self, slot: u32)
         requires { CanFree slot (state_of self.old).lives }
-        ensures { state_of self.new ≡ after_release slot (state_of self.old) }
+        ensures after { state_of self.new ≡ after_release slot (state_of self.old) }
+        ensures beside { beside_of self.new ≡ beside_of self.old }
     {
         slots_follow_the_core();
         self.manager.free(slot);
@@ -87,7 +92,8 @@ impl Core {
     /// Nobody wants the answer of a query any more. It keeps its slot until that is finished.
     pub(crate) fn abandon(&mut self, query: u64)
         requires { CanAbandon query (state_of self.old).lives }
-        ensures { state_of self.new ≡ after_abandoning query (state_of self.old) }
+        ensures after { state_of self.new ≡ after_abandoning query (state_of self.old) }
+        ensures beside { beside_of self.new ≡ beside_of self.old }
     {
         abandoned_queries_follow_the_core();
         let seat = self.asked.asked_of(query).seat();

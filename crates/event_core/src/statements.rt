@@ -20,7 +20,7 @@ ghost use Rattle.event_core.specs.Changes.{statements_at, with_filters_for};
 ghost use Rattle.event_core.specs.Core.{IsCore};
 ghost use Rattle.core_filters.specs.Spares.{first_spares};
 ghost use Rattle.core_parts.specs.Filters.{first_filters};
-ghost use Rattle.event_core.specs.Parts.{Parts};
+ghost use Rattle.event_core.specs.Parts.{Parts, beside_of};
 ghost use Rattle.core_parts.specs.Seats.{is_waited};
 ghost use Rattle.event_core.specs.Seen.{state_of};
 
@@ -44,6 +44,7 @@ impl Core {
         requires { seat < length (state_of self.old).seats }
         ensures ok { OnOk result (state_of self.new ≡ after_submitting seat statement.now (state_of self.old)) }
         ensures err { OnErr result (self.new ≡ self.old) }
+        ensures beside { beside_of self.new ≡ beside_of self.old }
     {
         submissions_follow_the_core();
         a_declared_fact_table_finds_free_slots();

@@ -1,7 +1,10 @@
 //! One event after the other.
-ghost use Rattle.std.specs.Prelude.{◌≡◌, ◌<◌, ◌↔◌, ℕ, List, length, slice_get, take, IsTrue, IsErrOf, OnOk, OnErr, IfErr, IfSome};
+ghost use Rattle.std.specs.Prelude.{◌≡◌, ◌<◌, ◌↔◌, ℕ, All, List, length, slice_get, take, IsTrue, IsErrOf, OnOk, OnErr, IfErr, IfSome};
 ghost use Rattle.core_state.specs.Events.{IsEnabled};
 ghost use Rattle.core_state.specs.Sound.{IsSound};
+ghost use Rattle.core_parts.specs.Lent.{lent_to};
+ghost use Rattle.event_core.specs.Lent.{IsAtHome};
+ghost use Rattle.event_core.specs.Parts.{beside_of};
 ghost use Rattle.event_core.specs.Seen.{state_of};
 ghost use Rattle.event_core.specs.Took.{IsRefused, MayWantMemory, Took, TookAll};
 
@@ -42,10 +45,12 @@ impl Core {
     /// Takes an event, if it may come. A query that finds no memory as its filter is built, or as its rows are folded, is
     /// spoiled. Where any other event finds none, nothing has changed. Only a statement and a filter that is cleared may find none.
     pub fn step(&mut self, event: Event) -> Result<(), StepFault>
+        requires home { IsAtHome event (lent_to self.old.flights) }
         ensures disabled { IsErrOf result StepFault.NotEnabled ↔ (IsEnabled (state_of self.old) event → ⊥) }
         ensures taken { OnOk result (Took event (state_of self.old) (state_of self.new)) }
         ensures err { OnErr result (self.new ≡ self.old) }
         ensures memory { IsErrOf result StepFault.Memory → IsEnabled (state_of self.old) event × MayWantMemory event }
+        ensures beside { beside_of self.new ≡ beside_of self.old }
         ensures sound { IsSound (state_of self.new) }
     {
         let taken = self.take_if_enabled(event);
@@ -55,10 +60,12 @@ impl Core {
 
     /// Takes an event, if it may come.
     fn take_if_enabled(&mut self, event: Event) -> Result<(), StepFault>
+        requires home { IsAtHome event (lent_to self.old.flights) }
         ensures disabled { IsErrOf result StepFault.NotEnabled ↔ (IsEnabled (state_of self.old) event → ⊥) }
         ensures taken { OnOk result (Took event (state_of self.old) (state_of self.new)) }
         ensures err { OnErr result (self.new ≡ self.old) }
         ensures memory { IsErrOf result StepFault.Memory → IsEnabled (state_of self.old) event × MayWantMemory event }
+        ensures beside { beside_of self.new ≡ beside_of self.old }
     {
         if !self.enabled(&event) {
             return Err(StepFault::NotEnabled);
@@ -69,10 +76,12 @@ impl Core {
 
     /// Takes an event that may come.
     fn take_enabled(&mut self, event: Event) -> Result<(), NoMemory>
-        requires { IsEnabled (state_of self.old) event }
+        requires enabled { IsEnabled (state_of self.old) event }
+        requires home { IsAtHome event (lent_to self.old.flights) }
         ensures taken { OnOk result (Took event (state_of self.old) (state_of self.new)) }
         ensures err { OnErr result (self.new ≡ self.old) }
         ensures memory { OnErr result (MayWantMemory event) }
+        ensures beside { beside_of self.new ≡ beside_of self.old }
     {
         match event {
             Event::Submit { seat, statement } => self.submit(seat, &statement)?,
@@ -94,10 +103,12 @@ impl Core {
 
     /// Takes events, one after the other, up to the first that is not taken, and tells why that was not.
     pub fn run_events(&mut self, events: Vec<Event>) -> Result<(), EventsFault>
+        requires home { All (λ event. IsAtHome event (lent_to self.old.flights)) events.items }
         ensures all { OnOk result (TookAll events.items (state_of self.old) (state_of self.new)) }
         ensures before { IfErr result (λ fault. TookAll (take fault.at events.items) (state_of self.old) (state_of self.new)
             × (fault.at < length events.items)) }
         ensures cause { IfErr result (λ fault. IfSome (slice_get events.items fault.at) (IsRefused fault.cause (state_of self.new))) }
+        ensures beside { beside_of self.new ≡ beside_of self.old }
         ensures sound { IsSound (state_of self.new) }
     {
         let _ = &self.settings;

@@ -3,6 +3,7 @@ use Rattle.event_core.proofs.AbandonEventLemmas.{abandon-becomes, abandon-seat, 
 use Rattle.event_core.proofs.AskedKeptLemmas.{asked-rise}
 use Rattle.core_parts.specs.Asked.{HasBegun}
 use Rattle.event_core.proofs.LetGoLemmas.{finished-more, handed-more, has-left, on-abandoned, open-stands}
+use Rattle.event_core.specs.Parts.{beside_of}
 use Rattle.event_core.proofs.machine.Core.abandon.Goals as goal
 
 pub asked_of-requires-clause-rising : goal.asked_of-requires-clause-rising
@@ -48,11 +49,14 @@ invariant_of-self c =
       c.self.invariant.3,
     )
 
-pub returns : goal.returns
-returns c =
+pub returns-clause-after : goal.returns-clause-after
+returns-clause-after c =
     let becomes = abandon-becomes c.abandoned_queries_follow_the_core.ensures.done _ c.args.self.now c.args.query c.seat-seat.result
     c.asked_of.result.now.asked c.self.inside.asked.items c.settle.new.self.items c.slot_of-slot.result (statements_in c.give_up.new.seats)
     c.detach_at.new.distributor c.stop_at.new.scan c.abandon.new.self c.self.view_is c.self.invariant.0 c.requires refl
     c.asked_of.ensures.asked c.seat-seat.ensures c.slot_of-slot.ensures.slot c.give_up.ensures.seat c.give_up.ensures.others
     (c.settle.ensures.items ∙ c.give_up-2.ensures.items) c.detach_at.ensures c.stop_at.ensures c.abandon.ensures in
     becomes.state
+
+pub returns-clause-beside : goal.returns-clause-beside
+returns-clause-beside c = ap beside_of c.self.view_is

@@ -1,7 +1,8 @@
-use Rattle.event_core.proofs.Words.{◌∙◌, false, is_open, IsTrue, Life, Option, option_map_or, refl, subst, sym}
+use Rattle.event_core.proofs.Words.{◌∙◌, ap, false, is_open, IsTrue, Life, Option, option_map_or, refl, subst, sym}
 use Rattle.event_core.proofs.AskedKeptLemmas.{asked-rise}
 use Rattle.event_core.proofs.SlotEventLemmas.{finish-becomes, held-attached}
 use Rattle.event_core.proofs.LetGoLemmas.{finished-on, on-ended, open-stands}
+use Rattle.event_core.specs.Parts.{beside_of}
 use Rattle.event_core.proofs.machine.Core.finish.Goals as goal
 
 pub detach-groups-requires : goal.detach-groups-requires
@@ -31,11 +32,14 @@ invariant_of-self c =
       c.self.invariant.3,
     )
 
-pub returns-in-Held : goal.returns-in-Held
-returns-in-Held c =
+pub returns-in-Held-clause-after : goal.returns-in-Held-clause-after
+returns-in-Held-clause-after c =
     let becomes = finish-becomes c.finishes_follow_the_core.ensures.answered c.finishes_follow_the_core.ensures.unanswered _ c.args.self.now
     c.args.slot c.in-Held.query c.in-Held.built c.life-life.result c.detach-groups.result c.self.inside.asked c.keep_ending.new.asked
     c.detach-groups.new.self c.end.new.self c.self.view_is c.self.invariant.0 c.requires (sym c.in-Held.ensures.state)
     c.life-life.ensures.life c.detach-groups.ensures.groups refl
     (record { ending = c.keep_ending.ensures.ending; others = c.keep_ending.ensures.others }) c.detach-groups.ensures.left c.end.ensures in
     becomes.state
+
+pub returns-in-Held-clause-beside : goal.returns-in-Held-clause-beside
+returns-in-Held-clause-beside c = ap beside_of c.self.view_is

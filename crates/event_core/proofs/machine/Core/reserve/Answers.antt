@@ -1,6 +1,7 @@
-use Rattle.std.proofs.Common.{refl}
+use Rattle.event_core.proofs.Words.{ap, refl}
 use Rattle.event_core.proofs.SlotEventLemmas.{reserve-becomes}
 use Rattle.event_core.proofs.LetGoLemmas.{finished-on, on-reserved}
+use Rattle.event_core.specs.Parts.{beside_of}
 use Rattle.event_core.proofs.machine.Core.reserve.Goals as goal
 
 pub invariant_of-self : goal.invariant_of-self
@@ -12,6 +13,9 @@ invariant_of-self c = (
   c.self.invariant.3,
 )
 
-pub returns : goal.returns
-returns c =
+pub returns-clause-after : goal.returns-clause-after
+returns-clause-after c =
     (reserve-becomes c.slots_follow_the_core.ensures.reserve _ _ _ _ _ c.self.view_is c.self.invariant.0 c.requires c.reserve.ensures).state
+
+pub returns-clause-beside : goal.returns-clause-beside
+returns-clause-beside c = ap beside_of c.self.view_is

@@ -4,6 +4,7 @@ use Rattle.event_core.proofs.AskedKeptLemmas.{asked-rise}
 use Rattle.event_core.proofs.StartEventLemmas.{start-becomes, start-free, start-kept, start-open, start-scans, start-some, starting}
 use Rattle.core_parts.specs.Asked.{HasBegun}
 use Rattle.event_core.proofs.LetGoLemmas.{building-stands, finished-more, handed-more, has-begun, on-run}
+use Rattle.event_core.specs.Parts.{beside_of}
 use Rattle.event_core.proofs.machine.Core.start.Goals as goal
 
 pub extent-extent-requires : goal.extent-extent-requires
@@ -92,5 +93,8 @@ invariant_of-self c = (
   c.self.invariant.3,
 )
 
-pub returns : goal.returns
-returns c = (becomes c).state
+pub returns-clause-after : goal.returns-clause-after
+returns-clause-after c = (becomes c).state
+
+pub returns-clause-beside : goal.returns-clause-beside
+returns-clause-beside c = ap beside_of c.self.view_is

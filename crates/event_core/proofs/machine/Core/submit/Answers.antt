@@ -4,6 +4,7 @@ use Rattle.star_statement.specs.declared.applied.Applied.TheVariants.{Replied, A
 use Rattle.event_core.proofs.EventsSubmitLemmas.{IsChange, accepts, changes, on-error, replies, same-parts, seat-kept, seat-there, some-change, statements_in, undeclared-before}
 use Rattle.event_core.proofs.LetGoLemmas.{finished-on, on-same, on-submitted}
 use Rattle.event_core.proofs.SparedLemmas.{spare-changed, spare-ready}
+use Rattle.event_core.specs.Parts.{beside_of}
 use Rattle.event_core.proofs.machine.Core.submit.Goals as goal
 
 -- the parts are those after a statement that is told a reply
@@ -319,3 +320,27 @@ stand-requires-in-Accepted-clause-room c = c.in_ok-make_room.ensures.for_stateme
 
 pub accept-requires-clause-room : goal.accept-requires-clause-room
 accept-requires-clause-room c = c.in_ok-make_room.ensures.for_query
+
+pub returns-in-Replied-clause-beside : goal.returns-in-Replied-clause-beside
+returns-in-Replied-clause-beside c = ap beside_of c.self.view_is
+
+pub returns-in-Changed-clause-beside : goal.returns-in-Changed-clause-beside
+returns-in-Changed-clause-beside c = ap beside_of c.self.view_is
+
+pub returns-in_ok-accept-in-Accepted-clause-beside : goal.returns-in_ok-accept-in-Accepted-clause-beside
+returns-in_ok-accept-in-Accepted-clause-beside c = ap beside_of c.self.view_is
+
+pub returns-in_err-make_room-clause-beside : goal.returns-in_err-make_room-clause-beside
+returns-in_err-make_room-clause-beside c = ap beside_of c.self.view_is
+
+pub returns-in_err-all-clause-beside : goal.returns-in_err-all-clause-beside
+returns-in_err-all-clause-beside c = ap beside_of c.self.view_is
+
+pub returns-in_err-reply-clause-beside : goal.returns-in_err-reply-clause-beside
+returns-in_err-reply-clause-beside c = ap beside_of c.self.view_is
+
+pub returns-in_err-asked-in-Accepted-clause-beside : goal.returns-in_err-asked-in-Accepted-clause-beside
+returns-in_err-asked-in-Accepted-clause-beside c = ap beside_of c.self.view_is
+
+pub returns-in_err-accept-in-Accepted-clause-beside : goal.returns-in_err-accept-in-Accepted-clause-beside
+returns-in_err-accept-in-Accepted-clause-beside c = ap beside_of c.self.view_is

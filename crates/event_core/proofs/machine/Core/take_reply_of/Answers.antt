@@ -5,6 +5,7 @@ use Rattle.event_core.proofs.AskedKeptLemmas.{asked-rise}
 use Rattle.event_core.proofs.ReplyEventLemmas.{reply-becomes, reply-nothing, reply-ready, reply-right}
 use Rattle.event_core.proofs.SeatPlaceLemmas.{seat-read, seat-there, statements_in}
 use Rattle.event_core.proofs.LetGoLemmas.{finished-on, on-same}
+use Rattle.event_core.specs.Parts.{beside_of}
 use Rattle.event_core.proofs.machine.Core.take_reply_of.Goals as goal
 
 pub returns-in_err-number-clause-ready : goal.returns-in_err-number-clause-ready
@@ -30,6 +31,7 @@ abbrev before : (c : goal.After-ready_with) → Parts
 before c = parts_by c.self.inside.settings c.self.inside.store c.self.inside.log c.self.inside.seats c.self.inside.asked
     c.self.inside.manager c.self.inside.filters c.self.inside.scan c.self.inside.distributor c.self.inside.flights
     c.self.inside.pool c.self.inside.cut c.self.inside.last_statement c.self.inside.last_batch c.self.inside.last_version
+    c.self.inside.marks
 
 found : (c : goal.After-ready_with)
     → next_number (before c).lives (statements_at (before c).seats c.args.seat) ≡ Some c.in_ok-number.number
@@ -87,3 +89,9 @@ returns-clause-right c =
 
 pub returns-clause-sound : goal.returns-clause-sound
 returns-clause-sound c = (becomes c).core.sound
+
+pub returns-in_err-number-clause-beside : goal.returns-in_err-number-clause-beside
+returns-in_err-number-clause-beside c = refl
+
+pub returns-clause-beside : goal.returns-clause-beside
+returns-clause-beside c = ap beside_of c.self.view_is
