@@ -152,31 +152,16 @@ gone-on keep first old new sound gone may whole settled =
 
 -- where a turn breaks off
 pub gone-lap : StepsKeep → (first old new : State) → IsSound first → HasGone first old → MayGoOn old → IsTurn old new → SharesLap first new
-gone-lap keep first old new sound gone may turn = ⊎_elim admission round turn
-  where
-    so_sound : IsSound old
-    so_sound = led-sound keep IsDriven first old (gone-driven first old gone) sound
-
-    admission : IsLed IsOfAdmission old new → SharesLap first new
-    admission led = record {
-      cut = gone.cut + 0;
-      led = cutting-joined IsDriven gone.cut 0 first old new gone.led
-          (cutting-wider IsOfAdmission IsDriven (λ event one. inl one) 0 old new (cuts-nothing IsOfAdmission admission-cuts old new led));
+gone-lap keep first old new sound gone may turn =
+    let so_sound : IsSound old = led-sound keep IsDriven first old (gone-driven first old gone) sound in
+    let more = count-led IsOfRound turn.0 new turn.1.1 in
+    record {
+      cut = gone.cut + more.0;
+      led = cutting-joined IsDriven gone.cut more.0 first old new gone.led (halves-cut more.0 old turn.0 new turn.1.0.led more.1);
       none = λ none. absurd (never-goes old (gone.none none).0 may);
-      once = λ few none. let low = (gone.once few none).0 in omega arith;
-      twice = λ few. let low = (gone.twice few).0 in omega arith;
+      once = λ few none. (gone-round keep (versions_in first) first old turn.0 new gone more.0 so_sound (gone.once few none) turn.1.0 more.1).0;
+      twice = λ few. (gone-round keep (2 * versions_in first) first old turn.0 new gone more.0 so_sound (gone.twice few) turn.1.0 more.1).0;
     }
-
-    round : (mid : State) × (Admits old mid × IsLed IsOfRound mid new) → SharesLap first new
-    round half =
-        let more = count-led IsOfRound half.0 new half.1.1 in
-        record {
-          cut = gone.cut + more.0;
-          led = cutting-joined IsDriven gone.cut more.0 first old new gone.led (halves-cut more.0 old half.0 new half.1.0.led more.1);
-          none = λ none. absurd (never-goes old (gone.none none).0 may);
-          once = λ few none. (gone-round keep (versions_in first) first old half.0 new gone more.0 so_sound (gone.once few none) half.1.0 more.1).0;
-          twice = λ few. (gone-round keep (2 * versions_in first) first old half.0 new gone more.0 so_sound (gone.twice few) half.1.0 more.1).0;
-        }
 
 -- the lap so far
 pub gone-shares : (first now : State) → HasGone first now → SharesLap first now

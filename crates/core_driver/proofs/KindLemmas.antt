@@ -1,7 +1,8 @@
 -- Which events the kinds that are asked for make.
-use Rattle.core_driver.proofs.Words.{◌↔◌, ◌∙◌, ◌∷◌, ◌≡◌, [], All, All-cons, All-nil, arith, Bool, Build, Clear, Event, EventKind, false, Finish, IfSome, is_some, IsEnabled, IsLed, IsOfAdmission, IsOfKind, IsOfSome, IsStill, IsTrue, kind_of, List, None, NoneOfMayCome, Option, refl, Release, Reserve, Some, Start, State, subst, suc, sym, true, zero}
+use Rattle.core_driver.proofs.Words.{◌↔◌, ◌∙◌, ◌∷◌, ◌≡◌, [], All, All-cons, All-nil, arith, Bool, Build, Clear, Event, EventKind, false, Finish, Give, IfSome, is_some, IsEnabled, IsLed, IsOfAdmission, IsOfKind, IsOfSome, IsStill, IsTrue, kind_of, List, None, NoneOfMayCome, Option, refl, Release, Reserve, Some, Start, State, subst, suc, sym, true, zero, ℕ}
 use Rattle.event_core.specs.declared.choosing.EventKind.TheVariants as kind
 use Rattle.core_driver.proofs.LedLemmas.{led-wider}
+use Rattle.event_core.specs.Lent.{IsAtHome}
 
 -- a kind of events by which queries are admitted
 abbrev pub IsAdmissionKind : EventKind → Type 0
@@ -43,6 +44,10 @@ pub kind-of-some : (IsOne : EventKind → Type 0) (kinds : List EventKind) (even
     → IsKindOf IsOne (kind_of event)
 kind-of-some IsOne kinds event all some =
     subst (IsKindOf IsOne) (sym some.4) (subst IsOne some.3 (all some.0 some.1 some.2))
+
+-- no event of some kinds gives a batch back
+pub some-gives-none : (kinds : List EventKind) (worker : ℕ) → IsOfSome kinds (Give worker) → ⊥
+some-gives-none kinds worker some = let both : None ≡ Some some.1 = some.4 in cc
 
 -- an event of kinds of an admission
 pub admission-of-some : (kinds : List EventKind) (event : Event) → All IsAdmissionKind kinds → IsOfSome kinds event → IsOfAdmission event
@@ -89,3 +94,8 @@ next-told kinds state None told is one enabled none = (
       (subst (λ kind. IsOfKind kind may.0) (sym may.1.0.3) may.1.0.4) may.1.1)),
 )
 next-told kinds state (Some event) told is one enabled none = ((λ tells. (event, (one, enabled))), (λ may. is))
+
+-- an event of one of these kinds gives no batch back, so that none has to be with the core
+pub some-home : (kinds : List EventKind) (event : Event) (lent : List ℕ) → IsOfSome kinds event → IsAtHome event lent
+some-home kinds (Give worker) lent some = absurd (some-gives-none kinds worker some)
+some-home kinds other lent some = tt

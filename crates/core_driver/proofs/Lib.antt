@@ -35,6 +35,7 @@ pub mod SumLemmas
 pub mod TakenLemmas
 pub mod TurnLemmas
 pub mod WaitLemmas
+pub mod WantLemmas
 pub mod WholeLemmas
 pub mod WorkCutLemmas
 pub mod WorkLemmas

@@ -108,15 +108,19 @@ round-driven = led-wider IsOfRound IsDriven (λ event one. inr one)
 pub cut-round : (old new : State) → IsLed IsCut old new → IsLed IsOfRound old new
 cut-round = led-wider IsCut IsOfRound round-cut
 
--- and a landing behind them
+-- and so is a landing
+pub landing-led-round : (old new : State) → IsLed IsOfLanding old new → IsLed IsOfRound old new
+landing-led-round = led-wider IsOfLanding IsOfRound round-landing
+
+-- behind them
 pub landing-round : (old cut new : State) → IsLed IsCut old cut → IsLed IsOfLanding cut new → IsLed IsOfRound old new
 landing-round old cut new first second =
-    led-joined IsOfRound old cut new (cut-round old cut first) (led-wider IsOfLanding IsOfRound round-landing cut new second)
+    led-joined IsOfRound old cut new (cut-round old cut first) (landing-led-round cut new second)
 
 -- a landing and a new order are of a round
 pub rest-led : (old landed new : State) → IsLed IsOfLanding old landed → IsLed IsReorder landed new → IsLed IsOfRound old new
 rest-led old landed new first second =
-    led-joined IsOfRound old landed new (led-wider IsOfLanding IsOfRound round-landing old landed first)
+    led-joined IsOfRound old landed new (landing-led-round old landed first)
     (led-wider IsReorder IsOfRound round-reorder landed new second)
 
 -- the events of a round

@@ -14,7 +14,7 @@ use Rattle.core_parts.specs.Filtered.{order_by}
 use Rattle.core_state.specs.declared.event.Event.{Event}
 use Rattle.core_state.specs.declared.event.Event.TheVariants.{Submit, Reserve, Build, Start, Cut, Take, Give, Distribute, Finish, Clear, Release, Reorder, Abandon}
 use Rattle.event_core.specs.Chosen.{IsOfKind, NoneMayCome}
-use Rattle.event_core.specs.Took.{IsLed}
+use Rattle.event_core.specs.Took.{IsLed, MayWantMemory}
 use Rattle.event_core.specs.declared.choosing.EventKind.{EventKind}
 use Rattle.event_core.specs.declared.choosing.EventKind.TheVariants as kind
 
@@ -25,6 +25,22 @@ IsOfSome kinds event = Any (λ kind. IsOfKind kind event) kinds
 -- no event of any of these kinds may come
 abbrev pub NoneOfMayCome : List EventKind → State → Type 0
 NoneOfMayCome kinds state = All (λ kind. NoneMayCome kind state) kinds
+
+-- no event of this kind wants memory: it clears no filter of a slot
+abbrev pub NeverWants : EventKind → Type 0
+NeverWants kind.Clear = ⊥
+NeverWants other = Unit {0}
+
+-- an event of one of these kinds may come, and may find no memory
+pub record MayWantOne (kinds : List EventKind) (state : State) : Type 0 where
+  pub event : Event
+  pub is_one : IsOfSome kinds event
+  pub may : IsEnabled state event
+  pub wants : MayWantMemory event
+
+-- a filter may be cleared of a slot
+abbrev pub MayClear : State → Type 0
+MayClear state = (slot : ℕ) × (dimension : ℕ) × IsEnabled state (Clear slot dimension)
 
 -- an event by which no query begins to run, none is submitted, and none is abandoned
 abbrev pub IsOfRound : Event → Type 0
@@ -148,9 +164,9 @@ pub record IsWholeTurn (old new : State) : Type 0 where
   pub admits : Admits old mid
   pub round : IsRound mid new
 
--- a turn, which ends where memory is wanted: as queries are admitted, or in the round that follows
+-- a turn: queries are admitted, as far as they can be, and a round follows, which ends where memory is wanted
 abbrev pub IsTurn : (old new : State) → Type 0
-IsTurn old new = IsLed IsOfAdmission old new ⊎ ((mid : State) × (Admits old mid × IsLed IsOfRound mid new))
+IsTurn old new = (mid : State) × (Admits old mid × IsLed IsOfRound mid new)
 
 -- whole turns, one after the other, through these states
 abbrev pub AreTurns : List State → (old new : State) → Type 0

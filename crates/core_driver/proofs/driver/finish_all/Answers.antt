@@ -12,40 +12,51 @@ pub returns-in_err-land-clause-lap : goal.returns-in_err-land-clause-lap
 returns-in_err-land-clause-lap g c = first-lap (state_of c.args.core.now) (state_of c.land.new.core) c.land.ensures.led
 
 pub turns-init : goal.turns-init
-turns-init g c =
-    gone-first c.every_step_keeps_a_core_sound.ensures (state_of c.args.core.now) (state_of c.land.new.core) c.every_core_is_sound.ensures
-    c.land.ensures.led c.in_ok-land.ensures.landed
+turns-init g c = (
+  gone-first c.every_step_keeps_a_core_sound.ensures (state_of c.args.core.now) (state_of c.land.new.core) c.every_core_is_sound.ensures
+      c.land.ensures.led c.in_ok-land.ensures.landed,
+  c.land.ensures.beside,
+)
 
 pub turns-preserved : goal.turns-preserved
-turns-preserved g c =
-    gone-on c.every_step_keeps_a_core_sound.ensures (state_of c.args.core.now) (state_of c.turns.core) (state_of c.turn.new.core)
-    c.every_core_is_sound.ensures c.turns.invariant (c.may_go_on.ensures.0 c.turns-test.true) c.in_ok-turn.ensures.whole c.in_ok-turn.ensures.settled
+turns-preserved g c = (
+  gone-on c.every_step_keeps_a_core_sound.ensures (state_of c.args.core.now) (state_of c.turns.core) (state_of c.turn.new.core)
+      c.every_core_is_sound.ensures c.turns.invariant.0 (c.may_go_on.ensures.0 c.turns-test.true) c.in_ok-turn.ensures.whole
+      c.in_ok-turn.ensures.settled,
+  c.turn.ensures.beside ∙ c.turns.invariant.1,
+)
 
 pub returns-in_err-turn-clause-driven : goal.returns-in_err-turn-clause-driven
 returns-in_err-turn-clause-driven g c =
     led-joined IsDriven (state_of c.args.core.now) (state_of c.turns.core) (state_of c.turn.new.core)
-    (gone-driven (state_of c.args.core.now) (state_of c.turns.core) c.turns.invariant) c.turn.ensures.driven
+    (gone-driven (state_of c.args.core.now) (state_of c.turns.core) c.turns.invariant.0) c.turn.ensures.driven
 
 pub returns-in_err-turn-clause-lap : goal.returns-in_err-turn-clause-lap
 returns-in_err-turn-clause-lap g c =
     gone-lap c.every_step_keeps_a_core_sound.ensures (state_of c.args.core.now) (state_of c.turns.core) (state_of c.turn.new.core)
-    c.every_core_is_sound.ensures c.turns.invariant (c.may_go_on.ensures.0 c.turns-test.true) c.turn.ensures.turn
+    c.every_core_is_sound.ensures c.turns.invariant.0 (c.may_go_on.ensures.0 c.turns-test.true) c.turn.ensures.turn
 
 pub returns-clause-driven : goal.returns-clause-driven
-returns-clause-driven g c = gone-driven (state_of c.args.core.now) (state_of c.turns.core) c.turns.invariant
+returns-clause-driven g c = gone-driven (state_of c.args.core.now) (state_of c.turns.core) c.turns.invariant.0
 
 pub returns-clause-lap : goal.returns-clause-lap
-returns-clause-lap g c = gone-shares (state_of c.args.core.now) (state_of c.turns.core) c.turns.invariant
+returns-clause-lap g c = gone-shares (state_of c.args.core.now) (state_of c.turns.core) c.turns.invariant.0
 
 pub returns-clause-turns : goal.returns-clause-turns
-returns-clause-turns g c = c.turns.invariant.turns
+returns-clause-turns g c = c.turns.invariant.0.turns
 
 pub returns-clause-finished : goal.returns-clause-finished
 returns-clause-finished g c =
     gone-finishes c.every_step_keeps_a_core_sound.ensures (state_of c.args.core.now) (state_of c.turns.core) c.every_core_is_sound.ensures
-    c.turns.invariant (stops (state_of c.turns.core) c.may_go_on.result c.turns-test.false c.may_go_on.ensures)
+    c.turns.invariant.0 (stops (state_of c.turns.core) c.may_go_on.result c.turns-test.false c.may_go_on.ensures)
 
 pub returns-clause-answers : goal.returns-clause-answers
 returns-clause-answers g c =
     gone-answers c.every_step_keeps_a_core_sound.ensures (state_of c.args.core.now) (state_of c.turns.core) c.every_core_is_sound.ensures
-    c.turns.invariant (stops (state_of c.turns.core) c.may_go_on.result c.turns-test.false c.may_go_on.ensures)
+    c.turns.invariant.0 (stops (state_of c.turns.core) c.may_go_on.result c.turns-test.false c.may_go_on.ensures)
+
+pub returns-in_err-turn-clause-beside : goal.returns-in_err-turn-clause-beside
+returns-in_err-turn-clause-beside g c = c.turn.ensures.beside ∙ c.turns.invariant.1
+
+pub returns-clause-beside : goal.returns-clause-beside
+returns-clause-beside g c = c.turns.invariant.1

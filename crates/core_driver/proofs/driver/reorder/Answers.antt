@@ -37,6 +37,9 @@ once (Err NotEnabled) old new took same disabled memory = record {
 }
 once (Err Memory) old new took same disabled memory = absurd (memory refl).1
 
-pub returns : goal.returns
-returns c =
+pub step-requires : goal.step-requires
+step-requires c = record { home = tt }
+
+pub returns-clause-orders : goal.returns-clause-orders
+returns-clause-orders c =
     once c.step.result c.args.core.now c.step.new.self c.step.ensures.taken c.step.ensures.err c.step.ensures.disabled c.step.ensures.memory

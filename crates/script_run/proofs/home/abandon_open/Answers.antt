@@ -2,6 +2,9 @@ use Rattle.event_core.specs.Seen.{state_of}
 use Rattle.script_run.proofs.HomeLetLemmas.{abandons, abandons-less, starts-leave}
 use Rattle.script_run.proofs.home.abandon_open.Goals as goal
 
+pub step-requires : goal.step-requires
+step-requires c = record { home = tt }
+
 pub queries-init : goal.queries-init
 queries-init c = starts-leave (state_of c.args.core.now) c.every_core_is_sound.ensures c.requires.own
 
