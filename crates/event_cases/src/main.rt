@@ -6,6 +6,7 @@ mod choice;
 mod event;
 mod question;
 mod story;
+mod unlent;
 mod words;
 
 use crate::story::{NO_MEMORY, NOT_UNDERSTOOD, Story};

@@ -5,10 +5,10 @@ ghost use Rattle.core_state.specs.Settings.{AreWithin};
 use crate::choice::{kind_of, tell_next};
 use crate::event::{event_of, events_of};
 use crate::question::{Question, question_of};
+use crate::unlent::UnlentCore;
 use crate::words::{NOTHING, number_of, short_of};
-use core_driver::{finish_all, turn};
 use core_state::{Event, RunSettings};
-use event_core::{Core, EventsFault, Ready, StepFault};
+use event_core::{EventsFault, Ready, StepFault};
 use reply_text::print_reply;
 use script_reader::{Next, ScriptReader};
 use star_values::{ByteText, NoMemory};
@@ -31,7 +31,7 @@ pub(crate) const NO_MEMORY: &str = "memory";
 #[derive(Debug, Drop)]
 pub(crate) struct Story {
     alloc: Global,
-    core: Core,
+    core: UnlentCore,
     script: ScriptReader,
     ghost goes_on: { script.ended ≡ false },
 }
@@ -88,7 +88,7 @@ impl Story {
             None => Ok(None),
             Some(settings) => Ok(Some(Story {
                 alloc,
-                core: Core::new(alloc, hash_keys, settings)?,
+                core: UnlentCore::new(alloc, hash_keys, settings)?,
                 script: ScriptReader::new(alloc),
             })),
         }
@@ -155,7 +155,7 @@ impl Story {
     fn may(&self, line: &str) -> &'static str {
         match event_of(line) {
             None => NOT_UNDERSTOOD,
-            Some(event) if self.core.enabled(&event) => "yes",
+            Some(event) if self.core.as_core().enabled(&event) => "yes",
             Some(_) => "no",
         }
     }
@@ -163,11 +163,11 @@ impl Story {
     /// Tells an event of a kind that may come, or the batch that may be taken.
     fn tell_next(&self, word: &str, told: &mut String) -> Result<(), AllocError> {
         if word == "take" {
-            return tell_number(self.core.next_take(), told);
+            return tell_number(self.core.as_core().next_take(), told);
         }
         match kind_of(word) {
             None => told.push_str(NOT_UNDERSTOOD),
-            Some(kind) => tell_next(&self.core, kind, told),
+            Some(kind) => tell_next(self.core.as_core(), kind, told),
         }
     }
 
@@ -181,8 +181,8 @@ impl Story {
                 self.core.pass_all(rt);
                 ""
             }
-            Drive::Turn => driven(turn(rt, &mut self.core)),
-            Drive::FinishAll => driven(finish_all(rt, &mut self.core)),
+            Drive::Turn => driven(self.core.turn(rt)),
+            Drive::FinishAll => driven(self.core.finish_all(rt)),
         }
     }
 
@@ -192,11 +192,14 @@ impl Story {
             Question::Reply(seat) => self.take_replies(seat, 1, told),
             Question::Replies(seat) => self.take_replies(seat, MOST_REPLIES, told),
             Question::Life(query) => self.tell_life(query, told),
-            Question::Pending(seat) => tell_number(self.core.first_pending(seat), told),
+            Question::Pending(seat) => tell_number(self.core.as_core().first_pending(seat), told),
             Question::Tally(dimension) => self.tell_tally(dimension, told),
-            Question::Batches => tell_number(Some(u64::from(self.core.batch_count())), told),
-            Question::Positions => tell_number(Some(self.core.positions_cut()), told),
-            Question::Commits => tell_number(Some(self.core.commits()), told),
+            Question::Batches => tell_number(
+                Some(u64::from(self.core.as_core().batch_count())),
+                told,
+            ),
+            Question::Positions => tell_number(Some(self.core.as_core().positions_cut()), told),
+            Question::Commits => tell_number(Some(self.core.as_core().commits()), told),
         }
     }
 
@@ -213,17 +216,18 @@ impl Story {
     }
 
     fn tell_life(&self, query: u64, told: &mut String) -> Result<(), AllocError> {
-        match self.core.life(query) {
+        match self.core.as_core().life(query) {
             None => told.push_str(NOTHING),
             Some(life) => write!(told, "{life:?}"),
         }
     }
 
     fn tell_tally(&self, dimension: u8, told: &mut String) -> Result<(), AllocError> {
-        if !self.core.is_filter(dimension) {
+        let core = self.core.as_core();
+        if !core.is_filter(dimension) {
             return told.push_str("no filter");
         }
-        let tally = self.core.tally(dimension);
+        let tally = core.tally(dimension);
         let (probes, drops) = (tally.probes, tally.drops);
         write!(told, "{probes} probes {drops} drops")
     }
