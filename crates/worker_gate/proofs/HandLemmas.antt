@@ -1,0 +1,216 @@
+-- What is found in the hand of a worker: after a batch is taken, and after it is given back.
+use Rattle.std.proofs.Common.{◌≡◌, ◌≢◌, ℕ, Bool, true, false, cond, eqb, eq-eqb, List, [], ◌∷◌, find, Option, Some, None, option_map, refl, sym, ap, ◌∙◌, subst}
+use Rattle.std.proofs.lemmas.Bool.{eqb-true, ne_eqb}
+use Rattle.std.proofs.lemmas.List.Elements.{All-head, All-tail}
+use Rattle.std.specs.Int.{bit_at}
+use Rattle.std.specs.List.{cons_option, filter_map}
+use Rattle.std.specs.Option.{option_map_or}
+use Rattle.std.specs.Prelude.{All, AllPairs, IfSome, IsSome}
+use Rattle.bit_words.specs.Sets.{Has}
+use Rattle.batch_flow.specs.Rows.{Rows}
+use Rattle.core_parts.specs.InFlight.{passed_by}
+use Rattle.core_parts.specs.Passed.{tally_of}
+use Rattle.core_state.specs.Cutting.{after_give, after_take, given_back, tallies_after, with_flight}
+use Rattle.core_state.specs.Events.{IsWanting, MayTake}
+use Rattle.core_state.specs.Found.{flight_at, has_passed, held_by, is_held_by, next_filter}
+use Rattle.core_state.specs.Sound.{IsSound}
+use Rattle.core_state.specs.State.{FilterVersion, Flight, Hand, State}
+use Rattle.core_state.proofs.FoundLemmas.{find-passes, some-at, some-of, some-passes}
+use Rattle.core_state.proofs.Words.{all_pairs_head, all_pairs_tail}
+use Rattle.event_core.specs.Lent.{IsDoneFor, IsWorkOf}
+use Rattle.event_core.specs.declared.work.Work.{Work}
+use Rattle.worker_gate.specs.Hands.{Holds, IsFresh}
+
+-- What is said of a hand.
+
+-- what holds of the batch that is found in a hand, where one is
+pub holds-found : (IsSo : Flight → Hand → Type 0) (flights : List Flight) (worker : ℕ) → IsSome (held_by flights worker)
+    → IfSome (held_by flights worker) (λ flight. IfSome flight.hand (IsSo flight)) → Holds IsSo (held_by flights worker)
+holds-found IsSo flights worker some so =
+    let found = some-of (held_by flights worker) some in
+    let hand = some-passes (λ (h : Hand). eqb h.worker worker) found.0.hand (find-passes (is_held_by worker) flights found.0 found.1) in
+    record {
+      flight = found.0;
+      hand = hand.0;
+      has = found.1;
+      is_in = hand.1;
+      is_so = some-at (IsSo found.0) found.0.hand hand.0 hand.1
+          (some-at (λ (f : Flight). IfSome f.hand (IsSo f)) (held_by flights worker) found.0 found.1 so);
+    }
+
+-- and the other way round
+pub found-holds : (IsSo : Flight → Hand → Type 0) (held : Option Flight) → Holds IsSo held
+    → IfSome held (λ flight. IfSome flight.hand (IsSo flight))
+found-holds IsSo held holds =
+    subst (λ o. IfSome o (λ (f : Flight). IfSome f.hand (IsSo f))) (sym holds.has)
+    (subst (λ o. IfSome o (IsSo holds.flight)) (sym holds.is_in) holds.is_so)
+
+-- something is in it
+pub some-held : (IsSo : Flight → Hand → Type 0) (held : Option Flight) → Holds IsSo held → IsSome held
+some-held IsSo held holds = subst IsSome (sym holds.has) refl
+
+-- what holds more
+pub holds-weaker : (IsSo IsOther : Flight → Hand → Type 0) → ((flight : Flight) (hand : Hand) → IsSo flight hand → IsOther flight hand)
+    → (held : Option Flight) → Holds IsSo held → Holds IsOther held
+holds-weaker IsSo IsOther weaker held holds = record {
+  flight = holds.flight;
+  hand = holds.hand;
+  has = holds.has;
+  is_in = holds.is_in;
+  is_so = weaker holds.flight holds.hand holds.is_so;
+}
+
+-- the batch of a work did not pass the filter where that in the hand did not
+pub work-fresh : (work : Work) (flight : Flight) (hand : Hand) → IsWorkOf work flight hand
+    → has_passed flight hand.version.filter.dimension ≡ false → IsFresh work
+work-fresh work flight hand is fails = λ has.
+    let there : bit_at flight.rows.passed hand.version.filter.dimension ≡ 1 =
+    sym (ap (λ (version : FilterVersion). bit_at flight.rows.passed version.filter.dimension) is.version)
+    ∙ sym (ap (λ (rows : Rows). bit_at rows.passed work.version.filter.dimension) is.batch) ∙ has in
+    let both : false ≡ true = sym fails ∙ eq-eqb (bit_at flight.rows.passed hand.version.filter.dimension) 1 there in
+    cc
+
+-- a work whose batch passed its version is done for each batch in a hand that it was the work of
+pub done-by : (work done : Work) → done.batch ≡ passed_by work.version.filter work.batch → done.version ≡ work.version
+    → done.tally ≡ Some (tally_of work.version.filter work.batch) → (flight : Flight) (hand : Hand) → IsWorkOf work flight hand
+    → IsDoneFor done flight hand
+done-by work done batch version tally flight hand is = record {
+  batch = batch ∙ ap (λ (v : FilterVersion). passed_by v.filter work.batch) is.version ∙ ap (passed_by hand.version.filter) is.batch;
+  version = version ∙ is.version;
+  tally = tally ∙ ap (λ (v : FilterVersion). Some (tally_of v.filter work.batch)) is.version
+      ∙ ap (λ rows. Some (tally_of hand.version.filter rows)) is.batch;
+}
+
+-- A batch that is taken.
+
+-- where the batch of a number becomes one that is in the hand, one is
+held-taken : (worker number : ℕ) (change : Flight → Flight) (flights : List Flight) (flight : Flight) → flight_at flights number ≡ Some flight
+    → is_held_by worker (change flight) ≡ true → IsSome (held_by (with_flight number change flights) worker)
+held-taken worker number change [] flight is held = absurd (let both : None ≡ Some flight = is in cc)
+held-taken worker number change (first ∷ flights) flight is held =
+    by_number (eqb first.rows.number number) is (λ found. held-taken worker number change flights flight found held)
+  where
+    by_hand : (test : Bool) (one : Flight) → IsSome (held_by (with_flight number change flights) worker)
+        → IsSome (cond {A = Option Flight} test (Some one) (held_by (with_flight number change flights) worker))
+    by_hand true one some = refl
+    by_hand false one some = some
+
+    by_number : (test : Bool) → cond {A = Option Flight} test (Some first) (flight_at flights number) ≡ Some flight
+        → (flight_at flights number ≡ Some flight → IsSome (held_by (with_flight number change flights) worker))
+        → IsSome (held_by (cond {A = Flight} test (change first) first ∷ with_flight number change flights) worker)
+    by_number true found rest =
+        let same : first ≡ flight = cc in
+        subst (λ test. IsSome (cond {A = Option Flight} test (Some (change first)) (held_by (with_flight number change flights) worker)))
+        (sym (ap (λ f. is_held_by worker (change f)) same ∙ held)) refl
+    by_number false found rest = by_hand (is_held_by worker first) first (rest found)
+
+-- a batch that a worker takes is in its hand
+pub taken-held : (worker batch : ℕ) (state : State) → MayTake worker batch state
+    → IsSome (held_by (after_take worker batch state).scan.flights worker)
+taken-held worker batch state may =
+    let found = some-of (flight_at state.scan.flights batch) may.there in
+    let wants : IsWanting state.filters found.0 =
+    some-at (IsWanting state.filters) (flight_at state.scan.flights batch) found.0 found.1 may.wanting in
+    held-taken worker batch taken state.scan.flights found.0 found.1 (by_next (next_filter state.filters found.0) wants.filter)
+  where
+    taken : Flight → Flight
+    taken flight = record flight {
+      hand = option_map (λ version. record { worker = worker; version = version }) (next_filter state.filters flight);
+    }
+
+    by_next : (next : Option FilterVersion) → IsSome next
+        → option_map_or (λ h. eqb h.worker worker) (option_map {U = Hand} (λ version. record { worker = worker; version = version }) next) false
+        ≡ true
+    by_next None some = absurd (let both : false ≡ true = some in cc)
+    by_next (Some version) some = eq-eqb worker worker refl
+
+-- A batch that is given back.
+
+-- the workers in whose hands batches are
+abbrev workers_in : List Flight → List ℕ
+workers_in flights = filter_map (λ flight. option_map (λ hand. hand.worker) flight.hand) flights
+
+-- what is not in a hand is not there where batches are given back
+none-given : (worker number : ℕ) (flights : List Flight) → held_by flights worker ≡ None → held_by (with_flight number given_back flights) worker ≡ None
+none-given worker number [] none = refl
+none-given worker number (flight ∷ flights) none = by_hand (is_held_by worker flight) refl none (none-given worker number flights)
+  where
+    by_number : (test : Bool) → is_held_by worker flight ≡ false → is_held_by worker (cond {A = Flight} test (given_back flight) flight) ≡ false
+    by_number true free = refl
+    by_number false free = free
+
+    by_hand : (test : Bool) → is_held_by worker flight ≡ test → cond {A = Option Flight} test (Some flight) (held_by flights worker) ≡ None
+        → (held_by flights worker ≡ None → held_by (with_flight number given_back flights) worker ≡ None)
+        → held_by (with_flight number given_back (flight ∷ flights)) worker ≡ None
+    by_hand true is found rest = absurd (let both : Some flight ≡ None = found in cc)
+    by_hand false is found rest =
+        ap (λ t. cond {A = Option Flight} t (Some (cond {A = Flight} (eqb flight.rows.number number) (given_back flight) flight))
+        (held_by (with_flight number given_back flights) worker))
+        (by_number (eqb flight.rows.number number) is) ∙ rest found
+
+-- a worker that has none of the hands has no batch
+none-other : (worker : ℕ) (flights : List Flight) → All (λ other. worker ≢ other) (workers_in flights) → held_by flights worker ≡ None
+none-other worker [] apart = refl
+none-other worker (flight ∷ flights) apart = by_hand flight.hand apart (none-other worker flights)
+  where
+    by_hand : (hand : Option Hand) → All (λ other. worker ≢ other) (cons_option (option_map (λ h. h.worker) hand) (workers_in flights))
+        → (All (λ other. worker ≢ other) (workers_in flights) → held_by flights worker ≡ None)
+        → cond {A = Option Flight} (option_map_or (λ h. eqb h.worker worker) hand false) (Some flight) (held_by flights worker) ≡ None
+    by_hand None others rest = rest others
+    by_hand (Some hand) others rest =
+        ap (λ t. cond {A = Option Flight} t (Some flight) (held_by flights worker))
+        (ne_eqb hand.worker worker (λ same. All-head (λ other. worker ≢ other) hand.worker (workers_in flights) others (sym same)))
+        ∙ rest (All-tail (λ other. worker ≢ other) hand.worker (workers_in flights) others)
+
+-- the batch in a hand is given back, and no other is in it
+none-back : (worker number : ℕ) (flights : List Flight) (flight : Flight) → held_by flights worker ≡ Some flight → flight.rows.number ≡ number
+    → AllPairs (λ one other. one ≢ other) (workers_in flights) → held_by (with_flight number given_back flights) worker ≡ None
+none-back worker number [] flight is has apart = absurd (let both : None ≡ Some flight = is in cc)
+none-back worker number (first ∷ flights) flight is has apart =
+    by_hand (is_held_by worker first) refl is
+    (λ found. none-back worker number flights flight found has (others first.hand apart))
+  where
+    others : (hand : Option Hand) → AllPairs (λ one other. one ≢ other) (cons_option (option_map (λ h. h.worker) hand) (workers_in flights))
+        → AllPairs (λ one other. one ≢ other) (workers_in flights)
+    others None pairs = pairs
+    others (Some hand) pairs = all_pairs_tail (λ one other. one ≢ other) hand.worker (workers_in flights) pairs
+
+    rest-none : (hand : Option Hand) → option_map_or (λ h. eqb h.worker worker) hand false ≡ true
+        → AllPairs (λ one other. one ≢ other) (cons_option (option_map (λ h. h.worker) hand) (workers_in flights)) → held_by flights worker ≡ None
+    rest-none None held pairs = absurd (let both : false ≡ true = held in cc)
+    rest-none (Some hand) held pairs =
+        none-other worker flights
+        (subst (λ n. All (λ other. n ≢ other) (workers_in flights)) (eqb-true hand.worker worker held)
+        (all_pairs_head (λ one other. one ≢ other) hand.worker (workers_in flights) pairs))
+
+    by_number : (test : Bool) → is_held_by worker first ≡ false → is_held_by worker (cond {A = Flight} test (given_back first) first) ≡ false
+    by_number true free = refl
+    by_number false free = free
+
+    by_hand : (test : Bool) → is_held_by worker first ≡ test → cond {A = Option Flight} test (Some first) (held_by flights worker) ≡ Some flight
+        → (held_by flights worker ≡ Some flight → held_by (with_flight number given_back flights) worker ≡ None)
+        → held_by (with_flight number given_back (first ∷ flights)) worker ≡ None
+    by_hand true held found rest =
+        let same : first ≡ flight = cc in
+        ap (λ t. cond {A = Option Flight} (is_held_by worker (cond {A = Flight} t (given_back first) first))
+        (Some (cond {A = Flight} t (given_back first) first)) (held_by (with_flight number given_back flights) worker))
+        (eq-eqb first.rows.number number (ap (λ (f : Flight). f.rows.number) same ∙ has))
+        ∙ none-given worker number flights (rest-none first.hand held apart)
+    by_hand false held found rest =
+        ap (λ t. cond {A = Option Flight} t (Some (cond {A = Flight} (eqb first.rows.number number) (given_back first) first))
+        (held_by (with_flight number given_back flights) worker))
+        (by_number (eqb first.rows.number number) held) ∙ rest found
+
+-- a worker that gave a batch back has an empty hand
+pub given-empty : (worker : ℕ) (state : State) → IsSome (held_by state.scan.flights worker) → IsSound state
+    → held_by (after_give worker state).scan.flights worker ≡ None
+given-empty worker state some sound =
+    let found = some-of (held_by state.scan.flights worker) some in
+    ap (λ o. held_by (option_map_or given o state).scan.flights worker) found.1
+    ∙ none-back worker found.0.rows.number state.scan.flights found.0 found.1 refl sound.hands.one
+  where
+    given : Flight → State
+    given flight = record state {
+      filters = record state.filters { tallies = tallies_after flight state.filters.versions state.filters.tallies };
+      scan = record state.scan { flights = with_flight flight.rows.number given_back state.scan.flights };
+    }

@@ -1,0 +1,61 @@
+-- What a worker finds to do.
+use Rattle.std.specs.Prelude.{◌≡◌, ℕ, true, false, All, Option, None}
+use Rattle.core_state.specs.Events.{IsWanting}
+use Rattle.core_state.specs.Found.{held_by}
+use Rattle.core_state.specs.State.{Flight, State}
+use Rattle.core_state.specs.declared.event.Event.TheVariants.{Take}
+use Rattle.event_core.specs.Parts.{Parts}
+use Rattle.event_core.specs.Seen.{state_of}
+use Rattle.event_core.specs.Took.{Took}
+use Rattle.event_core.specs.declared.work.Work.{Work}
+use Rattle.worker_gate.specs.Hands.{HasWork}
+use Rattle.worker_gate.specs.Managed.{IsToClear, Manages, NoneIsLeft}
+use Rattle.worker_gate.specs.declared.working.Taken.{Taken}
+use Rattle.worker_gate.specs.declared.working.Taken.TheVariants as taken
+use Rattle.worker_gate.specs.declared.looking.Look.{Look}
+use Rattle.worker_gate.specs.declared.looking.Look.TheVariants as look
+
+-- no idle batch has a bit left and a filter that it did not pass
+abbrev pub NoneWants : State → Type 0
+NoneWants state = All (λ flight. IsWanting state.filters flight → ⊥) state.scan.flights
+
+-- a worker took a batch, and has it as its work
+pub record Takes (work : Work) (worker : ℕ) (old new : Parts) : Type 0 where
+  pub batch : ℕ
+  pub took : Took (Take worker batch) (state_of old) (state_of new)
+  pub has : HasWork work (held_by (state_of new).scan.flights worker)
+  pub marks : new.marks ≡ old.marks
+
+-- what `take_work` tells
+abbrev pub TellsTaken : Taken → (worker : ℕ) → (old new : Parts) → Type 0
+TellsTaken (taken.Got work) worker old new = Takes work worker old new
+TellsTaken taken.Nothing worker old new = (new ≡ old) × NoneWants (state_of old)
+
+-- there is nothing to do: no batch wants a filter, and no event is left to make
+pub record IsIdle (state : State) : Type 0 where
+  pub wants : NoneWants state
+  pub left : NoneIsLeft state
+
+-- no batch wants a filter, and a filter is to be cleared first
+pub record IsStuck (state : State) : Type 0 where
+  pub wants : NoneWants state
+  pub clear : IsToClear state
+
+-- no batch wants a filter, and an event was made
+pub record MakesEvent (old new : Parts) : Type 0 where
+  pub wants : NoneWants (state_of old)
+  pub manages : Manages old new
+
+-- what `worker_look` tells: a work; that an event was made; that there is nothing to do, where the core is not marked
+-- closing and where it is; and that there was no memory to clear a filter
+abbrev pub TellsLook : Look → (worker : ℕ) → (old new : Parts) → Type 0
+TellsLook (look.Got work) worker old new = Takes work worker old new
+TellsLook look.Did worker old new = MakesEvent old new
+TellsLook look.Rest worker old new = (new ≡ old) × (IsIdle (state_of old) × (old.marks.closing ≡ false))
+TellsLook look.Closed worker old new = (new ≡ old) × (IsIdle (state_of old) × (old.marks.closing ≡ true))
+TellsLook look.Memory worker old new = (new ≡ old) × IsStuck (state_of old)
+
+-- what is in a worker's hand behind a look: the work that it got, or nothing
+abbrev pub HasLooked : Look → Option Flight → Type 0
+HasLooked (look.Got work) held = HasWork work held
+HasLooked other held = held ≡ None

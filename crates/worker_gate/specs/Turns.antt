@@ -1,0 +1,61 @@
+-- What a worker's seat knows between two turns, and how a worker ends.
+use Rattle.std.specs.Prelude.{◌≡◌, ◌<◌, true, IsSomeAnd, Option, Some, None}
+use Rattle.core_state.specs.Rows.{Sight, empty_row}
+use Rattle.core_state.specs.State.{Flight}
+use Rattle.board_lock.specs.Seats.{IsOf, IsOutside, view_of}
+use Rattle.board_lock.specs.Views.{fixed_in, list_in, row_in}
+use Rattle.board_lock.specs.declared.seat.BoardLock.{BoardLock}
+use Rattle.board_lock.specs.declared.seat.BoardSeat.{BoardSeat}
+use Rattle.board_lock.specs.declared.view.View.{View}
+use Rattle.event_core.specs.Board.{core_entries, core_row, core_settings}
+use Rattle.event_core.specs.Parts.{Parts}
+use Rattle.event_core.specs.Seen.{state_of}
+use Rattle.event_core.specs.declared.work.Work.{Work}
+use Rattle.worker_gate.specs.Hands.{HasDoneIf}
+use Rattle.worker_gate.specs.Looks.{IsIdle, IsStuck}
+use Rattle.worker_gate.specs.declared.looking.Look.{Look}
+use Rattle.worker_gate.specs.declared.looking.Look.TheVariants as look
+use Rattle.worker_gate.specs.declared.looping.Turned.{Turned}
+use Rattle.worker_gate.specs.declared.looping.Turned.TheVariants as turned
+use Rattle.worker_gate.specs.declared.looping.WorkerEnd.{WorkerEnd}
+use Rattle.worker_gate.specs.declared.looping.WorkerEnd.TheVariants as end
+
+-- what a seat knows between two turns: its row as it left it, and the entries that it has seen
+abbrev pub sight_in : View Parts → Sight
+sight_in view = record {
+  row = row_in core_row empty_row view.last view.number;
+  seen = list_in core_entries view.seen;
+}
+
+-- the number of a seat is below the seats of the core
+abbrev pub IsSeated : View Parts → Type 0
+IsSeated view = IsSomeAnd (fixed_in core_settings view.last) (λ settings. view.number < settings.seats)
+
+-- a seat of this board that does not have the core, and in whose hand it is so
+pub record IsOutWith (board : BoardLock Parts) (IsHeld : Option Flight → Type 0) (seat : BoardSeat Parts) : Type 0 where
+  pub own : IsOf board seat
+  pub outside : IsOutside seat
+  pub seated : IsSeated (view_of seat)
+  pub hand : IsHeld (sight_in (view_of seat)).row.hand
+
+-- a worker may take a turn by this seat of the board: a work that it has is done for what is in its hand, and else
+-- its hand is empty
+abbrev pub IsReady : BoardLock Parts → Option Work → BoardSeat Parts → Type 0
+IsReady board done seat = IsOutWith board (HasDoneIf done) seat
+
+-- how a worker ends: of the core that it left last there is nothing to do and it is marked closing, or a filter is to
+-- be cleared
+abbrev pub EndsSo : WorkerEnd → Option Parts → Type 0
+EndsSo end.Closed last = IsSomeAnd last (λ core. IsIdle (state_of core) × (core.marks.closing ≡ true))
+EndsSo end.Memory last = IsSomeAnd last (λ core. IsStuck (state_of core))
+
+-- the same of a look at which a worker ends
+abbrev pub LooksLast : Look → Option Parts → Type 0
+LooksLast look.Closed last = EndsSo end.Closed last
+LooksLast look.Memory last = EndsSo end.Memory last
+LooksLast other last = Unit {0}
+
+-- behind a turn, and the work that was taken in it: a worker is ready for the next one, or ends so
+abbrev pub GoesOn : Turned → BoardLock Parts → BoardSeat Parts → Type 0
+GoesOn (turned.Goes done) board seat = IsReady board done seat
+GoesOn (turned.Ends how) board seat = IsReady board None seat × EndsSo how (view_of seat).last

@@ -1,0 +1,18 @@
+//! What a worker does: it takes a batch under the lock, lets it pass one filter outside, and gives it back. Where no
+//! batch wants a filter it makes one of the other events.
+#![tactic(auto)]
+
+mod crossing;
+mod looking;
+mod looping;
+mod making;
+mod managing;
+mod passing;
+mod working;
+
+pub use crossing::{boards_of_cores_may_be_shared, seats_of_cores_may_be_sent};
+pub use looking::{Look, worker_look};
+pub use looping::{WorkerEnd, worker_loop};
+pub use managing::{Managed, manage_one};
+pub use passing::{Gate, NoGate, do_work};
+pub use working::{Taken, give_work, take_work};

@@ -1,0 +1,186 @@
+//! The loop of a worker: turn after turn, until the core is marked closing and nothing is left to do.
+ghost use Rattle.std.specs.Prelude.{◌≡◌, ◌<◌, None};
+ghost use Rattle.board_lock.specs.Seats.{IsSameSeat, view_of};
+ghost use Rattle.core_state.specs.Fronts.{Passes};
+ghost use Rattle.core_state.specs.Found.{held_by};
+ghost use Rattle.event_core.specs.Seen.{state_of};
+ghost use Rattle.worker_gate.specs.Hands.{HasDoneIf};
+ghost use Rattle.worker_gate.specs.Left.{MovesHand};
+ghost use Rattle.worker_gate.specs.Looks.{HasLooked, TellsLook};
+ghost use Rattle.worker_gate.specs.Turns.{EndsSo, GoesOn, IsOutWith, IsReady, LooksLast, sight_in};
+
+use crate::looking::{Look, worker_look};
+use crate::passing::{Gate, do_work};
+use crate::working::give_work;
+use board_lock::{BoardLock, BoardSeat};
+use event_core::{Core, Work, own_steps_keep_a_board};
+use std::sync::Wait;
+
+/// How a worker ended.
+#[derive(Clone, Copy, Debug, PartialEq, Eq)]
+pub enum WorkerEnd {
+    /// The core was marked closing, and nothing was left to do.
+    Closed,
+
+    /// No memory was left to clear a filter of a slot.
+    Memory,
+}
+
+/// What follows a turn.
+#[derive(Drop)]
+enum Turned {
+    /// Another turn, in which a work is given back if there is one.
+    Goes(Option<Work>),
+
+    /// The end.
+    Ends(WorkerEnd),
+}
+
+/// Works at a core until it is marked closing and nothing is left to do, or no memory is left to clear a filter.
+///
+/// In each turn of its seat the worker gives back what it had taken, and looks for more. Outside of its turns it lets
+/// batches pass filters, behind the gate, and where there is nothing to do it rests on the bell of the board.
+pub fn worker_loop<G: Gate, R: Wait>(
+    rt: &R,
+    board: &BoardLock<Core>,
+    seat: &mut BoardSeat<Core>,
+    gate: &G,
+) -> WorkerEnd
+    requires { IsReady board.now None seat.old }
+    ensures ready { IsReady board.now None seat.new }
+    ensures same { IsSameSeat seat.old seat.new }
+    ensures passes { Passes (sight_in (view_of seat.old)) (sight_in (view_of seat.new)) }
+    ensures end { EndsSo result (view_of seat.new).last }
+{
+    let mut done = None;
+    'turns: for _ in rt.forever() {
+        match turn_and_work(rt, board, seat, gate, done) {
+            Turned::Goes(next) => done = next,
+            Turned::Ends(end) => return end,
+        }
+    }
+    unreachable!()
+}
+
+/// One turn, and outside of it the work that was taken in it.
+fn turn_and_work<G: Gate, R: Wait>(
+    rt: &R,
+    board: &BoardLock<Core>,
+    seat: &mut BoardSeat<Core>,
+    gate: &G,
+    done: Option<Work>,
+) -> Turned
+    requires { IsReady board.now done seat.old }
+    ensures on { GoesOn result board.now seat.new }
+    ensures same { IsSameSeat seat.old seat.new }
+    ensures passes { Passes (sight_in (view_of seat.old)) (sight_in (view_of seat.new)) }
+{
+    match take_turn(rt, board, seat, done) {
+        Look::Got(work) => Turned::Goes(Some(do_work(work, seat.number(), gate))),
+        Look::Did => Turned::Goes(None),
+        Look::Rest => Turned::Goes(None),
+        Look::Closed => Turned::Ends(WorkerEnd::Closed),
+        Look::Memory => Turned::Ends(WorkerEnd::Memory),
+    }
+}
+
+/// One turn: gives back a work that is done, and looks for more. Then rings for others, or rests until somebody rings.
+fn take_turn<R: Wait>(
+    rt: &R,
+    board: &BoardLock<Core>,
+    seat: &mut BoardSeat<Core>,
+    done: Option<Work>,
+) -> Look
+    requires { IsReady board.now done seat.old }
+    ensures out { IsOutWith board.now (HasLooked result) seat.new }
+    ensures same { IsSameSeat seat.old seat.new }
+    ensures passes { Passes (sight_in (view_of seat.old)) (sight_in (view_of seat.new)) }
+    ensures last { LooksLast result (view_of seat.new).last }
+{
+    // It is called for what it ensures.
+    own_steps_keep_a_board();
+    let worker = seat.number();
+    let given = batch_of(&done);
+    let mut core = board.enter(rt, seat);
+    let look = give_and_look(&mut core, worker, done);
+    let bell = bell_for(rt, board, &look);
+    board.leave(seat, core);
+    ring_or_rest(rt, board, &look, given, bell);
+    look
+}
+
+/// What a worker does with the core while it has its turn.
+fn give_and_look(core: &mut Core, worker: u32, done: Option<Work>) -> Look
+    requires seat { worker < (state_of core.old).settings.seats }
+    requires hand { HasDoneIf done (held_by (state_of core.old).scan.flights worker) }
+    ensures moves { MovesHand worker (state_of core.old) (state_of core.new) }
+    ensures hand { HasLooked result (held_by (state_of core.new).scan.flights worker) }
+    ensures last { LooksLast result (Some core.new) }
+{
+    give_if_done(core, worker, done);
+    worker_look(core, worker)
+}
+
+/// Gives a work back, if there is one.
+fn give_if_done(core: &mut Core, worker: u32, done: Option<Work>)
+    requires { HasDoneIf done (held_by (state_of core.old).scan.flights worker) }
+    ensures moves { MovesHand worker (state_of core.old) (state_of core.new) }
+    ensures empty { held_by (state_of core.new).scan.flights worker ≡ None }
+{
+    match done {
+        Some(work) => give_work(core, worker, work),
+        None => {}
+    }
+}
+
+/// The number of the batch of a work, if there is one.
+fn batch_of(done: &Option<Work>) -> Option<u64> {
+    match done {
+        Some(work) => Some(work.batch.number()),
+        None => None,
+    }
+}
+
+/// The bell's number, where the worker is to rest. It is read in the turn, so that whoever has the next one rings for
+/// the worker.
+fn bell_for<R: Wait>(rt: &R, board: &BoardLock<Core>, look: &Look) -> Option<u32> {
+    match look {
+        Look::Rest => Some(board.bell(rt)),
+        _ => None,
+    }
+}
+
+/// Rings where others may have something to do that they had not before the turn, and rests where there was nothing
+/// to do.
+fn ring_or_rest<R: Wait>(
+    rt: &R,
+    board: &BoardLock<Core>,
+    look: &Look,
+    given: Option<u64>,
+    bell: Option<u32>,
+) {
+    if is_for_others(look, given) {
+        board.ring(rt);
+    }
+    if let Some(seen) = bell {
+        board.rest(rt, seen);
+    }
+}
+
+/// Whether a turn left something for others: an event was made, or a batch was given back that the worker did not
+/// take again. They are to find, too, that no memory is left.
+fn is_for_others(look: &Look, given: Option<u64>) -> bool {
+    match look {
+        Look::Did | Look::Memory => true,
+        Look::Got(work) => is_another(given, work.batch.number()),
+        Look::Rest | Look::Closed => false,
+    }
+}
+
+/// Whether a batch was given back, and this is another.
+fn is_another(given: Option<u64>, number: u64) -> bool {
+    match given {
+        Some(other) => other != number,
+        None => false,
+    }
+}
