@@ -5,3 +5,4 @@ pub mod Kinds
 pub mod Sharings
 pub mod Making
 pub mod Counted
+pub mod Blocks

@@ -2,6 +2,7 @@
 #![tactic(auto)]
 
 mod apart;
+mod block;
 mod blocks;
 mod coding;
 mod counting;
