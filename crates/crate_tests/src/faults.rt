@@ -2,7 +2,7 @@
 ghost use Rattle.script_run.specs.Home.{IsAtHome};
 
 use crate::served::{NEVER, SETTINGS, link_of};
-use script_run::{Front, run_script};
+use script_run::{Front, run_on_one_thread};
 use session_server::{SessionEnd, serve_session};
 use star_io::{ListSink, PieceSource, RunEnd};
 use star_values::NoMemory;
@@ -36,7 +36,7 @@ fn ends_over<R: Threads + Sync>(
     end: RunEnd,
     replies: &str,
 ) -> bool {
-    let ended = run_script(rt, alloc, hash_keys, SETTINGS, &mut source, &mut sink).end;
+    let ended = run_on_one_thread(rt, alloc, hash_keys, SETTINGS, &mut source, &mut sink).end;
     ended == end && sink.bytes() == replies.as_bytes()
 }
 

@@ -10,6 +10,8 @@ mod faults;
 #[cfg(test)]
 mod frames;
 #[cfg(test)]
+mod lent;
+#[cfg(test)]
 mod outside;
 #[cfg(test)]
 mod served;
@@ -17,3 +19,5 @@ mod served;
 mod sets;
 #[cfg(test)]
 mod words;
+#[cfg(test)]
+mod workers;

@@ -1,6 +1,5 @@
-//! Connections and the made workload, to which no stored run of a program comes.
+//! Connections, to which no stored run of a program comes.
 use core_state::RunSettings;
-use made_run::{MadeEnd, run_made};
 use session_server::serve;
 use star_io::{
     ListDoor, ListSink, PairLink, PieceSource, ServeEnd, a_read_leaves_the_writes,
@@ -9,7 +8,6 @@ use star_io::{
 use std::alloc::{AllocError, Global};
 use std::hash::RandomState;
 use std::test::Fail;
-use std::thread::Threads;
 
 /// The settings of the program, where no word says more.
 pub(crate) const SETTINGS: RunSettings = RunSettings {
@@ -21,10 +19,6 @@ pub(crate) const SETTINGS: RunSettings = RunSettings {
 
 /// The number of a call that is never made.
 pub(crate) const NEVER: u64 = u64::MAX;
-
-/// What is written of the made workload without sales, as another program reckoned it.
-const MADE_LINE: &str =
-    "summary statements 85 commits 18 answers 60 rows 12 overflows 0 refused 0 memory 0 bytes 1531 sum 125847\n";
 
 /// A link in memory that gives a script, and takes 8 bytes at once. The write of this number fails.
 pub(crate) fn link_of(
@@ -60,24 +54,5 @@ fn connections_are_served_until_the_door_ends(rt: HostRuntime) -> Result<(), Fai
         serve(&rt, alloc, hash_keys, SETTINGS, 5432, 0, &mut door),
         ServeEnd::Ended
     );
-    Ok(())
-}
-
-/// How the made workload without sales ends.
-fn made<R: Threads + Sync>(
-    rt: &R,
-    alloc: Global,
-    hash_keys: RandomState,
-    sink: &mut ListSink,
-) -> MadeEnd {
-    run_made(rt, alloc, hash_keys, SETTINGS, 7, 0, sink).end
-}
-
-#[test]
-fn the_made_workload_is_told_in_a_line(rt: HostRuntime) -> Result<(), Fail> {
-    let hash_keys = RandomState::new(&rt)?;
-    let mut sink = ListSink::new(rt.alloc(), 1 << 16, Vec::new(rt.alloc()));
-    assert_eq!(rt; made(&rt, rt.alloc(), hash_keys, &mut sink), MadeEnd::Clean);
-    assert!(rt; sink.bytes() == MADE_LINE.as_bytes());
     Ok(())
 }

@@ -5,6 +5,5 @@ mod line;
 mod made;
 mod ran;
 mod text_source;
-mod told;
 
-pub use made::{MadeDone, MadeEnd, run_made};
+pub use made::{MadeDone, MadeEnd, run_made, run_made_on_one_thread};

@@ -29,7 +29,7 @@ abandoned-before only (step ∷ steps) state number each is = ⊎_elim (λ befor
     (only step state number (abandoned-before only steps (after_step step state) number (All-tail IsOfRun step steps each) is))
 
 -- every seat of an empty core is empty
-new-seats : (settings : RunSettings) (seat : ℕ) → seat_at (empty_core settings) seat ≡ empty_seat
+pub new-seats : (settings : RunSettings) (seat : ℕ) → seat_at (empty_core settings) seat ≡ empty_seat
 new-seats settings seat = by_count settings.seats seat
   where
     by_count : (n k : ℕ) → get_or (replicate n empty_seat) k empty_seat ≡ empty_seat

@@ -23,7 +23,7 @@ ready-some state ready may = subst IsSome may refl
 -- by what code tells of a reply
 pub takes-reply : (old new : State) (ready : Ready) (reply : Reply) → IsSound old → Some (ready_of ready) ≡ next_ready old 0 → new ≡ after_taking 0 old
     → IfSome (slice_get (seat_at old 0).pending 0) (λ pending. IsRight old pending.statement pending.awaited (ready_of ready))
-    → IsReplyOf ready reply → TakesReply old new ready reply
+    → IsReplyOf ready reply → TakesReply 0 old new ready reply
 takes-reply old new ready reply sound may taken right is = record { sound = sound; may = may; taken = taken; right = right; is = is }
 
 -- a reply that is taken leaves all else
@@ -48,7 +48,7 @@ starts-writing state taken sound = record {
 
 -- a reply was taken, and so much of it was written
 abbrev took-part : (result : Result Bool Halt) (old new : State) (due : List Sent) (reply : Reply) (written : List ℕ) (taken taken' : Option (List ℕ))
-    → TookFirst old new due reply → IsSome (next_ready old 0) → new ≡ after_taking 0 old → Appends taken taken' written
+    → TookFirst 0 old new due reply → IsSome (next_ready old 0) → new ≡ after_taking 0 old → Appends taken taken' written
     → ((Left : Type 0) → EndsSo (halt_of result) [] written (reply ∷ []) Left) → PlaysIn (halt_of result) old due [] ⊥ new taken taken'
 took-part result old new due reply written taken taken' takes may is took ends = record {
   on = record {
@@ -69,14 +69,14 @@ took-part result old new due reply written taken taken' takes may is took ends =
 }
 
 -- all of it, or not
-took-ok : (told : Bool) (old new : State) (due : List Sent) (reply : Reply) (taken taken' : Option (List ℕ)) → TookFirst old new due reply
+took-ok : (told : Bool) (old new : State) (due : List Sent) (reply : Reply) (taken taken' : Option (List ℕ)) → TookFirst 0 old new due reply
     → IsSome (next_ready old 0) → new ≡ after_taking 0 old → Appends taken taken' (text_of reply) → told ≡ is_refusal reply → PlaysBy (Ok told) old due [] ⊥ new taken taken'
 took-ok told old new due reply taken taken' takes may is took is_told = (
   took-part (Ok told) old new due reply (text_of reply) taken taken' takes may is took (λ Left. (refl, sym (text-one reply))),
   is_told ∙ sym (or_false (is_refusal reply)),
 )
 
-took-err : (halt : Halt) (old new : State) (due : List Sent) (reply : Reply) (taken taken' : Option (List ℕ)) → TookFirst old new due reply
+took-err : (halt : Halt) (old new : State) (due : List Sent) (reply : Reply) (taken taken' : Option (List ℕ)) → TookFirst 0 old new due reply
     → IsSome (next_ready old 0) → new ≡ after_taking 0 old → AppendsFront taken taken' (text_of reply) → PlaysBy (Err halt) old due [] ⊥ new taken taken'
 took-err halt old new due reply taken taken' takes may is took = (
   took-part (Err halt) old new due reply (take took.0 (text_of reply)) taken taken' takes may is took.2
@@ -86,7 +86,7 @@ took-err halt old new due reply taken taken' takes may is took = (
 
 -- one reply more was taken and written
 pub writes-more : RowTells → (old now new : State) (refused told : Bool) (before taken taken' : Option (List ℕ)) (ready : Ready) (reply : Reply)
-    → IsWriting old now refused before taken → TakesReply now new ready reply → IsSound new → Appends taken taken' (text_of reply)
+    → IsWriting old now refused before taken → TakesReply 0 now new ready reply → IsSound new → Appends taken taken' (text_of reply)
     → told ≡ is_refusal reply → IsWriting old new (refused || told) before taken'
 writes-more tells old now new refused told before taken taken' ready reply writing takes sound wrote is_told =
     let may = ready-some now ready takes.may in record {
@@ -94,7 +94,7 @@ writes-more tells old now new refused told before taken taken' ready reply writi
           let first = writing.plays due waits in
           by-ok refused told old now new due [] [] ⊥ ⊥ ⊥ before taken taken' first
           (took-ok told now new first.0.on.still reply taken taken'
-          (took-first tells now new ready reply takes first.0.on.still first.0.on.goes.waits) may takes.taken wrote is_told);
+          (took-first tells 0 now new ready reply takes first.0.on.still first.0.on.goes.waits) may takes.taken wrote is_told);
       run = run-then old now new writing.run (run-taken now new may takes.taken);
       beside = beside-taken old now new takes.taken writing.beside;
       closed = λ none. taken-closed now new may takes.taken (writing.closed none);
@@ -103,13 +103,13 @@ writes-more tells old now new refused told before taken taken' ready reply writi
 
 -- a reply was taken, and not all of it was written
 pub halts-writing : RowTells → (old now new : State) (refused : Bool) (before taken taken' : Option (List ℕ)) (ready : Ready) (reply : Reply) (halt : Halt)
-    → IsWriting old now refused before taken → TakesReply now new ready reply → AppendsFront taken taken' (text_of reply)
+    → IsWriting old now refused before taken → TakesReply 0 now new ready reply → AppendsFront taken taken' (text_of reply)
     → Plays (Err halt) old [] new before taken'
 halts-writing tells old now new refused before taken taken' ready reply halt writing takes wrote due waits =
     let first = writing.plays due waits in
     by-err refused halt old now new due [] [] ⊥ ⊥ ⊥ before taken taken' (λ never. never) first
     (took-err halt now new first.0.on.still reply taken taken'
-    (took-first tells now new ready reply takes first.0.on.still first.0.on.goes.waits) (ready-some now ready takes.may) takes.taken wrote)
+    (took-first tells 0 now new ready reply takes first.0.on.still first.0.on.goes.waits) (ready-some now ready takes.may) takes.taken wrote)
 
 -- where no query that the front waited for could still be answered, it waits for nothing
 pub wrote-idle : WaitsForOpen → (old now new : State) (refused : Bool) (before taken : Option (List ℕ)) → IsWriting old now refused before taken

@@ -138,7 +138,7 @@ leaves-abandoned query old new sound mine can is =
     }
 
 -- the event was taken, since it may come and wants no memory
-took-abandon : {A : Type 0} (query : ℕ) (old new : State) (result : Result A StepFault) → CanAbandon query old.lives
+pub took-abandon : {A : Type 0} (query : ℕ) (old new : State) (result : Result A StepFault) → CanAbandon query old.lives
     → (IsErrOf result NotEnabled ↔ (IsEnabled old (Abandon query) → ⊥)) → (IsErrOf result Memory → IsEnabled old (Abandon query) × MayWantMemory (Abandon query))
     → OnOk result (Took (Abandon query) old new) → new ≡ after_abandoning query old
 unfolding after_event
@@ -191,27 +191,30 @@ filter-less test query (first ∷ pending) found = by_test (test first) found (f
         (sym (eq-eqb first.statement query same)) (omega arith)
     by_test false is others = by_kept (not (eqb first.statement query)) (others is)
 
--- the pending statements of seat 0 behind it
-pending-after : (query : ℕ) (state : State) (accepted : Accepted) → accepted.seat ≡ 0 → 0 < length state.seats
-    → (seat_at (without_it query state accepted) 0).pending ≡ filter (λ p. not (eqb p.statement query)) (seat_at state 0).pending
-pending-after query state accepted zero there =
-    ap (λ n. (get_or (set state.seats n (without_pending query (get_or state.seats n empty_seat))) 0 empty_seat).pending) zero
-    ∙ ap (λ (s : Seat). s.pending) (get_or-set_same state.seats 0 (without_pending query (seat_at state 0)) empty_seat there)
+-- the pending statements of its seat behind it
+pending-after : (query : ℕ) (state : State) (accepted : Accepted) (seat : ℕ) → accepted.seat ≡ seat → seat < length state.seats
+    → (seat_at (without_it query state accepted) seat).pending ≡ filter (λ p. not (eqb p.statement query)) (seat_at state seat).pending
+pending-after query state accepted seat is there =
+    ap (λ n. (get_or (set state.seats n (without_pending query (get_or state.seats n empty_seat))) seat empty_seat).pending) is
+    ∙ ap (λ (s : Seat). s.pending) (get_or-set_same state.seats seat (without_pending query (seat_at state seat)) empty_seat there)
 
-abandoned-less : (query : ℕ) (state : State) → IsSound state → Owns state → first_open state.lives (seat_at state 0) ≡ Some query
-    → length (seat_at (after_abandoning query state) 0).pending < length (seat_at state 0).pending
-abandoned-less query state sound mine opens =
+-- a seat whose query is abandoned waits for less
+pub abandoned-less : (query : ℕ) (state : State) (seat : ℕ) → IsSound state
+    → ((accepted : Accepted) → accepted_at state.accepted query ≡ Some accepted → accepted.seat ≡ seat)
+    → first_open state.lives (seat_at state seat) ≡ Some query
+    → length (seat_at (after_abandoning query state) seat).pending < length (seat_at state seat).pending
+abandoned-less query state seat sound own opens =
     by_accepted (accepted_at state.accepted query) refl
-    (can-accepted state query sound (open-can state.lives (seat_at state 0) query opens))
+    (can-accepted state query sound (open-can state.lives (seat_at state seat) query opens))
   where
     by_accepted : (o : Option Accepted) → accepted_at state.accepted query ≡ o → IsSome o
-        → length (seat_at (option_map_or (without_it query state) o state) 0).pending < length (seat_at state 0).pending
+        → length (seat_at (option_map_or (without_it query state) o state) seat).pending < length (seat_at state seat).pending
     by_accepted None found some = absurd (let both : false ≡ true = some in cc)
     by_accepted (Some accepted) found some =
-        let zero : accepted.seat ≡ 0 = find-holds (λ (a : Accepted). a.seat ≡ 0) (λ (a : Accepted). eqb a.number query) state.accepted accepted found mine in
-        let there = subst (λ n. n < length state.seats) zero (owner-there state accepted query sound found) in
-        subst (λ (list : List Pending). length list < length (seat_at state 0).pending) (sym (pending-after query state accepted zero there))
-        (filter-less (λ p. option_map_or is_open (life_of state.lives p.statement) false) query (seat_at state 0).pending opens)
+        let is : accepted.seat ≡ seat = own accepted found in
+        let there = subst (λ n. n < length state.seats) is (owner-there state accepted query sound found) in
+        subst (λ (list : List Pending). length list < length (seat_at state seat).pending) (sym (pending-after query state accepted seat is there))
+        (filter-less (λ p. option_map_or is_open (life_of state.lives p.statement) false) query (seat_at state seat).pending opens)
 
 pub abandons-less : {A : Type 0} (first old new : State) (query : ℕ) (result : Result A StepFault) → IsOnLeave first old → Some query ≡ first_open old.lives (seat_at old 0)
     → (IsErrOf result NotEnabled ↔ (IsEnabled old (Abandon query) → ⊥)) → (IsErrOf result Memory → IsEnabled old (Abandon query) × MayWantMemory (Abandon query))
@@ -219,7 +222,9 @@ pub abandons-less : {A : Type 0} (first old new : State) (query : ℕ) (result :
 abandons-less first old new query result way opens disabled memory took =
     let can = open-can old.lives (seat_at old 0) query (sym opens) in
     subst (λ state. length (seat_at state 0).pending < length (seat_at old 0).pending) (sym (took-abandon query old new result can disabled memory took))
-    (abandoned-less query old way.sound way.own (sym opens))
+    (abandoned-less query old 0 way.sound
+    (λ accepted found. find-holds (λ (a : Accepted). a.seat ≡ 0) (λ (a : Accepted). eqb a.number query) old.accepted accepted found way.own)
+    (sym opens))
 
 -- a reply is taken
 pub record IsDropping (first now : State) : Type 0 where

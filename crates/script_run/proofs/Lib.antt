@@ -36,3 +36,12 @@ mod AloneLemmas
 pub mod SharedRunLemmas
 pub mod SharedEndLemmas
 mod SharedDoneLemmas
+mod SeatTurnLemmas
+mod SeatLetLemmas
+mod SeatFrontLemmas
+mod SeatReadLemmas
+mod SeatRunLemmas
+mod SeatEndLemmas
+mod SeatDoneLemmas
+mod BoardSeatLemmas
+mod BoardCloseLemmas

@@ -1,17 +1,17 @@
--- What a core that was empty tells of the statements that a run gave to it: of all of a script, or of a front of its replies.
-use Rattle.script_run.proofs.Words.{◌++◌, ◌<◌, ◌∙◌, ◌∷◌, ◌≡◌, ◌≢◌, ◌⊎◌, [], accepted_by, All, ap, append-nil, append_assoc, arith, Bool, Change, changes_of, cond, effect_of, empty_core, Entry, if◌then◌else◌, false, Halt, history_after, is_refusal, is_wanted_at, IsFront, IsProperFront, length, length-append, List, list_any, map, map-append, Memory, NoMemory, None, Option, queries_among, refl, replies_after, replies_of, Reply, RunSettings, script_replies, script_text, Seat, seat_at, Some, some_refused, State, Statement, statements_of, store_of, subst, suc, sym, taken_by, Tells, text_of, text_of_all, true, WriteFault, ℕ, ⊎_elim}
-use Rattle.core_state.specs.Fronts.{IsPointWithin}
+-- What is told of the statements that a run sent to a core that was empty: of all of a script, or of a front of its replies.
+use Rattle.script_run.proofs.Words.{◌++◌, ◌<◌, ◌∙◌, ◌∷◌, ◌≡◌, ◌≢◌, ◌⊎◌, [], accepted_by, All, ap, append-nil, append_assoc, arith, Bool, Change, changes_of, cond, effect_of, empty_core, Entry, false, Halt, history_after, if◌then◌else◌, is_refusal, is_wanted_at, IsFront, IsProperFront, length, length-append, List, list_any, map, map-append, Memory, NoMemory, None, Option, queries_among, refl, replies_after, replies_of, Reply, RunSettings, script_replies, script_text, Seat, seat_at, Some, some_refused, State, Statement, statements_of, store_of, subst, suc, sym, taken_by, Tells, text_of, text_of_all, true, WriteFault, ℕ, ⊎_elim}
+use Rattle.core_state.specs.Fronts.{IsDue, IsPointWithin}
 use Rattle.core_state.specs.Points.{ComeInParts}
 use Rattle.core_state.specs.Queries.{given_in}
-use Rattle.core_state.specs.Rows.{sight_of}
+use Rattle.core_state.specs.Rows.{SeatRow, Sight, empty_row, row_of, sight_of}
 use Rattle.core_state.specs.Sent.{AreEntriesOf, AreRepliesTo, Sent, statement_in, statements_in, takens_of}
 use Rattle.core_state.proofs.PointLemmas.{entries-split, points-within, replies-less}
-use Rattle.script_run.specs.Front.{HaltsAt, PlaysIn, PlaysOn, Submits, givens_in}
+use Rattle.script_run.specs.Front.{HaltsAt, PlaysIn, PlaysOn}
 use Rattle.script_run.specs.Seat.{IsWhole, TellsSeat}
 use Rattle.script_run.specs.Shared.{nothing}
 use Rattle.script_run.specs.Told.{AreQueriesOf, history_of}
 use Rattle.script_run.proofs.FrontNewLemmas.{new-seat}
-use Rattle.script_run.proofs.OnLemmas.{idle-still, sent-all, text-append}
+use Rattle.script_run.proofs.OnLemmas.{idle-still, sent-all, still-none, text-append}
 use Rattle.script_run.proofs.SeatTellsLemmas.{tells-plays, tells-whole}
 use Rattle.script_run.proofs.ToldAloneLemmas.{all-left, seat-alone, told-sent}
 use Rattle.script_run.proofs.ToldWantedLemmas.{AreTold}
@@ -24,12 +24,26 @@ pub record IsAlone (core : State) : Type 0 where
 
 -- All was replied to.
 
--- these are the replies to all of a script
-pub record IsScript (ended : Bool) (script : List ℕ) (replies : List Reply) : Type 0 where
+-- these are the replies to all of a script, and this is the history that it makes
+pub record IsScript (ended : Bool) (script : List ℕ) (replies : List Reply) (after : List Change) : Type 0 where
   pub wanted : List ℕ
   pub are : replies ≡ script_replies wanted ended script
   pub text : text_of_all replies ≡ script_text wanted ended script
   pub refusals : list_any is_refusal replies ≡ some_refused wanted ended script
+  pub history : after ≡ history_of wanted (statements_of ended script)
+
+-- so it is where they are the replies to its statements
+abbrev pub script-by : (ended : Bool) (script : List ℕ) (statements : List Statement) (replies : List Reply) (after : List Change)
+    (wanted : List ℕ) → statements_of ended script ≡ statements → replies ≡ replies_of wanted statements
+    → after ≡ history_of wanted statements → IsScript ended script replies after
+script-by ended script statements replies after wanted all replied made =
+    let are : replies ≡ script_replies wanted ended script = replied ∙ ap (replies_of wanted) (sym all) in record {
+      wanted = wanted;
+      are = are;
+      text = ap text_of_all are;
+      refusals = ap (list_any is_refusal) are;
+      history = made ∙ ap (history_of wanted) (sym all);
+    }
 
 -- the replies are those of the statements and the core tells of them, where memory was wanted at the same places
 whole-told : (settings : RunSettings) (new : State) (statements : List Statement) (Left : Type 0) (taken taken' : Option (List ℕ))
@@ -64,41 +78,79 @@ whole-told settings new statements Left taken taken' plays is_alone idle = (
         (is_alone.queries ∙ ap queries_among given)
 
 -- where these are the statements of a script, the replies are those of the script, and the core tells of it
-pub whole-script : (settings : RunSettings) (new : State) (statements : List Statement) (Left : Type 0) (taken taken' : Option (List ℕ)) (last : Bool)
-    (script : List ℕ) → (plays : PlaysIn None (empty_core settings) [] statements Left new taken taken') → IsAlone new → (seat_at new 0).pending ≡ []
-    → statements_of last script ≡ statements → (is : IsScript last script plays.on.replies) × Tells is.wanted (statements_of last script) new
+pub whole-script : (settings : RunSettings) (new : State) (statements : List Statement) (Left : Type 0) (taken taken' : Option (List ℕ))
+    (last : Bool) (script : List ℕ) → (plays : PlaysIn None (empty_core settings) [] statements Left new taken taken') → IsAlone new
+    → (seat_at new 0).pending ≡ [] → statements_of last script ≡ statements
+    → (is : IsScript last script plays.on.replies (changes_of new.entries)) × Tells is.wanted (statements_of last script) new
 whole-script settings new statements Left taken taken' last script plays is_alone idle all =
-    let found = whole-told settings new statements Left taken taken' plays is_alone idle in
-    let are : plays.on.replies ≡ script_replies found.0 last script = found.1 ∙ ap (replies_of found.0) (sym all) in (
-      record { wanted = found.0; are = are; text = ap text_of_all are; refusals = ap (list_any is_refusal) are },
+    let found = whole-told settings new statements Left taken taken' plays is_alone idle in (
+      script-by last script statements plays.on.replies (changes_of new.entries) found.0 all found.1 found.2.history,
       subst (λ list. Tells found.0 list new) (sym all) found.2,
     )
+
+-- By what a seat sees.
+
+-- nothing is waited for where nothing is pending
+pub sight-still : (seat : ℕ) (sight : Sight) (due : List Sent) → IsDue seat sight due → sight.row.pending ≡ [] → due ≡ []
+sight-still seat sight due waits idle = still-none sight.seen due waits.given (sym waits.pending ∙ idle)
+
+-- the replies are those of the statements, and so is the history, where memory was wanted at the same places
+whole-seen : (row : SeatRow) (new : Sight) (statements : List Statement) (Left : Type 0) (taken taken' : Option (List ℕ))
+    → (on : PlaysOn None 0 (record { row = row; seen = [] }) [] statements Left new taken taken') → All (λ entry. entry.seat ≡ 0) new.seen
+    → new.row.pending ≡ []
+    → (wanted : List ℕ) × (on.replies ≡ replies_of wanted statements) × (changes_of new.seen ≡ history_of wanted statements)
+whole-seen row new statements Left taken taken' on own idle = (
+  told.0,
+  told.1 ∙ ap (replies_of told.0) (sym are),
+  told.2 ∙ ap (history_of told.0) (sym are),
+)
+  where
+    said : on.sent ≡ on.said
+    said = on.goes.queue ∙ ap (λ still. on.said ++ still) (sight-still 0 new on.still on.goes.waits idle) ∙ append-nil on.said
+
+    are : statements ≡ statements_in on.said
+    are = sent-all statements on.sent on.rest on.are on.ends.0 ∙ ap statements_in said
+
+    told : (wanted : List ℕ) × (on.replies ≡ replies_of wanted (statements_in on.said))
+        × (changes_of new.seen ≡ history_of wanted (statements_in on.said))
+    told = seat-alone 0 [] on.said on.goes.since new.seen on.replies
+        (subst (λ sent. AreEntriesOf 0 [] sent on.goes.since) said on.goes.entries)
+        (subst (All (λ (entry : Entry). entry.seat ≡ 0)) on.goes.seen own) on.goes.seen on.goes.answered
+
+-- where these are the statements of a script, the replies are those of the script, and so is the history
+pub seen-script : (row : SeatRow) (new : Sight) (statements : List Statement) (Left : Type 0) (taken taken' : Option (List ℕ)) (last : Bool)
+    (script : List ℕ) → (on : PlaysOn None 0 (record { row = row; seen = [] }) [] statements Left new taken taken')
+    → All (λ entry. entry.seat ≡ 0) new.seen → new.row.pending ≡ [] → statements_of last script ≡ statements
+    → IsScript last script on.replies (changes_of new.seen)
+seen-script row new statements Left taken taken' last script on own idle all =
+    let found = whole-seen row new statements Left taken taken' on own idle in
+    script-by last script statements on.replies (changes_of new.seen) found.0 all found.1 found.2
 
 -- The replies halted.
 
 -- what was replied to has the replies of a script
-front-told : (settings : RunSettings) (new : State) (halted : Option Halt) (statements : List Statement) (Left : Type 0) (taken taken' : Option (List ℕ))
-    → (plays : PlaysIn halted (empty_core settings) [] statements Left new taken taken') → All (λ entry. entry.seat ≡ 0) new.entries
-    → (wanted : List ℕ) × (plays.on.replies ≡ replies_of wanted (statements_in plays.on.said))
-front-told settings new halted statements Left taken taken' plays own = (told.0, told.1)
+front-told : (row : SeatRow) (new : Sight) (halted : Option Halt) (statements : List Statement) (Left : Type 0)
+    (taken taken' : Option (List ℕ)) → (on : PlaysOn halted 0 (record { row = row; seen = [] }) [] statements Left new taken taken')
+    → All (λ entry. entry.seat ≡ 0) new.seen → (wanted : List ℕ) × (on.replies ≡ replies_of wanted (statements_in on.said))
+front-told row new halted statements Left taken taken' on own = (told.0, told.1)
   where
-    on : PlaysOn halted 0 (sight_of (empty_core settings) 0) [] statements Left (sight_of new 0) taken taken'
-    on = plays.on
-
     parts : ComeInParts 0 [] on.said on.still on.goes.since
     parts = entries-split 0 [] on.said on.still on.goes.since
         (subst (λ sent. AreEntriesOf 0 [] sent on.goes.since) on.goes.queue on.goes.entries)
 
-    all : new.entries ≡ parts.first ++ parts.later
+    all : new.seen ≡ parts.first ++ parts.later
     all = on.goes.seen ∙ parts.all
 
     points : All (IsPointWithin (length parts.first)) on.said
     points = points-within 0 [] on.said parts.first parts.of_first
 
-    told : (wanted : List ℕ) × (on.replies ≡ replies_of wanted (statements_in on.said)) × (changes_of parts.first ≡ history_of wanted (statements_in on.said))
+    told : (wanted : List ℕ) × (on.replies ≡ replies_of wanted (statements_in on.said))
+        × (changes_of parts.first ≡ history_of wanted (statements_in on.said))
     told = seat-alone 0 [] on.said parts.first parts.first on.replies parts.of_first
-        (all-left (λ (entry : Entry). entry.seat ≡ 0) parts.first parts.later (subst (All (λ (entry : Entry). entry.seat ≡ 0)) all own)) refl
-        (replies-less parts.first parts.later on.said on.replies points (subst (λ entries. AreRepliesTo entries on.said on.replies) all on.goes.answered))
+        (all-left (λ (entry : Entry). entry.seat ≡ 0) parts.first parts.later (subst (All (λ (entry : Entry). entry.seat ≡ 0)) all own))
+        refl
+        (replies-less parts.first parts.later on.said on.replies points
+        (subst (λ entries. AreRepliesTo entries on.said on.replies) all on.goes.answered))
 
 -- statements have replies
 some-replies : (wanted : List ℕ) (place : ℕ) (history : List Change) (statements : List Statement) → statements ≢ []
@@ -110,7 +162,8 @@ some-replies wanted place history (statement ∷ statements) some = by_test (is_
     first-some reply replies =
         let first = text_some reply in omega (arith, first, length-append (text_of reply) (text_of_all replies))
 
-    by_test : (test : Bool) → 0 < length (text_of_all (cond {A = List Reply} test (Memory ∷ replies_after wanted (suc place) history statements)
+    by_test : (test : Bool) → 0 < length (text_of_all (cond {A = List Reply} test
+        (Memory ∷ replies_after wanted (suc place) history statements)
         ((effect_of (store_of history) statement).reply ∷ replies_after wanted (suc place) (history_after history statement) statements)))
     by_test true = first-some Memory _
     by_test false = first-some _ _
@@ -160,7 +213,8 @@ replies-behind wanted place history (statement ∷ statements) others =
         by_some false = made.some
 
 -- a front of the text of some replies is one of these and others
-front-more : (replies more : List Reply) (written : List ℕ) → IsFront written (text_of_all replies) → IsFront written (text_of_all (replies ++ more))
+front-more : (replies more : List Reply) (written : List ℕ) → IsFront written (text_of_all replies)
+    → IsFront written (text_of_all (replies ++ more))
 front-more replies more written (rest, is) = (
   rest ++ text_of_all more,
   text-append replies more ∙ ap (λ text. text ++ text_of_all more) is ∙ append_assoc written rest (text_of_all more),
@@ -207,31 +261,30 @@ cut-short halt wanted written replies said others all Left are is halts = record
     front WriteFault at = subst (λ list. IsFront written (text_of_all list)) same (front-more replies behind.more written (at.0, at.2))
     front NoMemory at = subst (λ list. IsFront written (text_of_all list)) same (front-more replies behind.more written at.0)
 
-    part : (why : Halt) → HaltsAt why written replies Left → Sure why (Left → others ≢ []) → IsProperFront written (text_of_all (replies_of wanted all))
+    part : (why : Halt) → HaltsAt why written replies Left → Sure why (Left → others ≢ [])
+        → IsProperFront written (text_of_all (replies_of wanted all))
     part WriteFault at known = subst (λ list. IsProperFront written (text_of_all list)) same (proper-on replies behind.more written at)
     part NoMemory at known = subst (λ list. IsProperFront written (text_of_all list)) same
         (⊎_elim (λ proper. proper-on replies behind.more written proper)
         (λ left. proper-more replies behind.more written at.0 (behind.some (known left))) at.1)
 
--- of what a run gave to an empty core
+-- of what a run sent to an empty core
 pub record IsHalted (halt : Halt) (written : List ℕ) (last : Bool) (script : List ℕ) (Known : Type 0) : Type 0 where
   pub wanted : List ℕ
   pub front : IsFront written (script_text wanted last script)
   pub part : Sure halt Known → IsProperFront written (script_text wanted last script)
 
-pub halted-script : (halt : Halt) (settings : RunSettings) (new : State) (statements others : List Statement) (Left : Type 0) (taken taken' : Option (List ℕ))
-    (last : Bool) (script : List ℕ) → (plays : PlaysIn (Some halt) (empty_core settings) [] statements Left new taken taken')
-    → All (λ entry. entry.seat ≡ 0) new.entries → statements_of last script ≡ statements ++ others
-    → IsHalted halt plays.on.written last script (Left → others ≢ [])
-halted-script halt settings new statements others Left taken taken' last script plays own all =
-    let told = front-told settings new (Some halt) statements Left taken taken' plays own in
+pub halted-script : (halt : Halt) (row : SeatRow) (new : Sight) (statements others : List Statement) (Left : Type 0)
+    (taken taken' : Option (List ℕ)) (last : Bool) (script : List ℕ)
+    → (on : PlaysOn (Some halt) 0 (record { row = row; seen = [] }) [] statements Left new taken taken')
+    → All (λ entry. entry.seat ≡ 0) new.seen → statements_of last script ≡ statements ++ others
+    → IsHalted halt on.written last script (Left → others ≢ [])
+halted-script halt row new statements others Left taken taken' last script on own all =
+    let told = front-told row new (Some halt) statements Left taken taken' on own in
     let short = cut-short halt told.0 on.written on.replies (statements_in on.said) (statements_in on.still ++ (on.rest ++ others))
     (statements_of last script) ((on.still ≢ []) ⊎ ((on.rest ≢ []) ⊎ Left)) told.1 parts on.ends in
     record { wanted = told.0; front = short.front; part = λ known. short.part (sure halt known) }
   where
-    on : PlaysOn (Some halt) 0 (sight_of (empty_core settings) 0) [] statements Left (sight_of new 0) taken taken'
-    on = plays.on
-
     parts : statements_of last script ≡ statements_in on.said ++ (statements_in on.still ++ (on.rest ++ others))
     parts = all ∙ ap (λ list. list ++ others) (on.are ∙ ap (λ sent. statements_in sent ++ on.rest) on.goes.queue)
         ∙ append_assoc (statements_in (on.said ++ on.still)) on.rest others
@@ -257,53 +310,52 @@ halted-script halt settings new statements others Left taken taken' last script 
         (⊎_elim (λ rest. some-rest (statements_in on.still) (on.rest ++ others) (some-first on.rest others rest))
         (λ left. some-rest (statements_in on.still) (on.rest ++ others) (some-rest on.rest others (known left))))
 
--- What the core tells of the statements that were given to it.
+-- What is told of the statements that were sent.
 
--- what seat 0 sees of an empty core
-new-sight : (settings : RunSettings) → sight_of (empty_core settings) 0 ≡ nothing
-new-sight settings =
-    ap (λ (seat : Seat). record { row = record { submitted = seat.submitted; made = []; pending = seat.pending; taken = seat.taken; hand = None }; seen = [] })
+-- the row of seat 0 of an empty core is empty
+pub new-row : (settings : RunSettings) → row_of (empty_core settings) 0 ≡ empty_row
+new-row settings =
+    ap (λ (seat : Seat). record { submitted = seat.submitted; made = []; pending = seat.pending; taken = seat.taken; hand = None })
     (new-seat settings)
 
--- the statements of a script, of which the first were given to a core that was empty, and those that it has were submitted
-pub record TellsSome (new : State) (all : List Statement) (replies : List Reply) : Type 0 where
-  pub tells : TellsSeat 0 nothing (sight_of new 0) all replies
-  pub settings : RunSettings
-  pub submits : Submits (givens_in (tells.said ++ tells.others)) (empty_core settings) new
+-- the statements of a script, of which the first were sent to a core that was empty; and of those that were sent this holds
+pub record TellsSome (Also : List Sent → Type 0) (sight : Sight) (all : List Statement) (replies : List Reply) : Type 0 where
+  pub tells : TellsSeat 0 nothing sight all replies
+  pub also : Also (tells.said ++ tells.others)
 
 -- all of them were replied to
-pub record TellsAll (new : State) (all : List Statement) (replies : List Reply) : Type 0 where
-  pub some : TellsSome new all replies
+pub record TellsAll (Also : List Sent → Type 0) (sight : Sight) (all : List Statement) (replies : List Reply) : Type 0 where
+  pub some : TellsSome Also sight all replies
   pub whole : IsWhole some.tells
 
 -- by what a run did
-pub tells-given : (settings : RunSettings) (new : State) (halted : Option Halt) (statements others all : List Statement) (Left : Type 0)
-    (taken taken' : Option (List ℕ)) → (plays : PlaysIn halted (empty_core settings) [] statements Left new taken taken') → all ≡ statements ++ others
-    → TellsSome new all plays.on.replies
-tells-given settings new halted statements others all Left taken taken' plays is =
-    let both : (tells : TellsSeat 0 nothing (sight_of new 0) all plays.on.replies)
-    × Submits (givens_in (tells.said ++ tells.others)) (empty_core settings) new =
-    subst (λ old. (tells : TellsSeat 0 old (sight_of new 0) all plays.on.replies)
-    × Submits (givens_in (tells.said ++ tells.others)) (empty_core settings) new) (new-sight settings) (
-      tells-plays halted 0 (sight_of (empty_core settings) 0) (sight_of new 0) statements all others Left taken taken' plays.on is,
-      subst (λ sent. Submits (givens_in sent) (empty_core settings) new) plays.on.goes.queue plays.run,
+pub tells-given : (Also : List Sent → Type 0) (row : SeatRow) (sight : Sight) (halted : Option Halt)
+    (statements others all : List Statement) (Left : Type 0) (taken taken' : Option (List ℕ)) → row ≡ empty_row
+    → (on : PlaysOn halted 0 (record { row = row; seen = [] }) [] statements Left sight taken taken') → Also on.sent
+    → all ≡ statements ++ others → TellsSome Also sight all on.replies
+tells-given Also row sight halted statements others all Left taken taken' empty on also is =
+    let both : (tells : TellsSeat 0 nothing sight all on.replies) × Also (tells.said ++ tells.others) =
+    subst (λ (first : SeatRow). (tells : TellsSeat 0 (record { row = first; seen = [] }) sight all on.replies) × Also
+    (tells.said ++ tells.others)) empty (
+      tells-plays halted 0 (record { row = row; seen = [] }) sight statements all others Left taken taken' on is,
+      subst Also on.goes.queue also,
     ) in
-    record { tells = both.0; settings = settings; submits = both.1 }
+    record { tells = both.0; also = both.1 }
 
-pub tells-whole-given : (settings : RunSettings) (new : State) (statements all : List Statement) (Left : Type 0) (taken taken' : Option (List ℕ))
-    → (plays : PlaysIn None (empty_core settings) [] statements Left new taken taken') → (seat_at new 0).pending ≡ [] → all ≡ statements
-    → TellsAll new all plays.on.replies
-tells-whole-given settings new statements all Left taken taken' plays idle is =
-    let both : (tells : TellsSeat 0 nothing (sight_of new 0) all plays.on.replies)
-    × Submits (givens_in (tells.said ++ tells.others)) (empty_core settings) new × IsWhole tells =
-    subst (λ old. (tells : TellsSeat 0 old (sight_of new 0) all plays.on.replies)
-    × Submits (givens_in (tells.said ++ tells.others)) (empty_core settings) new × IsWhole tells) (new-sight settings) (
-      tells-plays None 0 (sight_of (empty_core settings) 0) (sight_of new 0) statements all [] Left taken taken' plays.on whole,
-      subst (λ sent. Submits (givens_in sent) (empty_core settings) new) plays.on.goes.queue plays.run,
-      tells-whole 0 (sight_of (empty_core settings) 0) (sight_of new 0) statements all [] Left taken taken' plays.on whole
-          (idle-still new plays.on.still plays.on.goes.waits idle) refl,
+pub tells-whole-given : (Also : List Sent → Type 0) (row : SeatRow) (sight : Sight) (statements all : List Statement) (Left : Type 0)
+    (taken taken' : Option (List ℕ)) → row ≡ empty_row
+    → (on : PlaysOn None 0 (record { row = row; seen = [] }) [] statements Left sight taken taken') → Also on.sent → sight.row.pending ≡ []
+    → all ≡ statements → TellsAll Also sight all on.replies
+tells-whole-given Also row sight statements all Left taken taken' empty on also idle is =
+    let both : (tells : TellsSeat 0 nothing sight all on.replies) × Also (tells.said ++ tells.others) × IsWhole tells =
+    subst (λ (first : SeatRow). (tells : TellsSeat 0 (record { row = first; seen = [] }) sight all on.replies)
+    × Also (tells.said ++ tells.others) × IsWhole tells) empty (
+      tells-plays None 0 (record { row = row; seen = [] }) sight statements all [] Left taken taken' on whole,
+      subst Also on.goes.queue also,
+      tells-whole 0 (record { row = row; seen = [] }) sight statements all [] Left taken taken' on whole
+          (sight-still 0 sight on.still on.goes.waits idle) refl,
     ) in
-    record { some = record { tells = both.0; settings = settings; submits = both.1 }; whole = both.2 }
+    record { some = record { tells = both.0; also = both.1 }; whole = both.2 }
   where
     whole : all ≡ statements ++ []
     whole = is ∙ sym (append-nil statements)

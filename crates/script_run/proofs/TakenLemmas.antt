@@ -91,53 +91,53 @@ answered-taken state statement (Replied told) ready reply right is = inr tt
 answered-taken state statement (Asked query snapshot) (Whole given) reply right is = inl (is ∙ right.0)
 answered-taken state statement (Asked query snapshot) (Grouping at groups) reply right is = inr right.1
 
--- seat 0 took a reply, and this is the reply
-pub record TakesReply (old new : State) (ready : code.Ready) (reply : Reply) : Type 0 where
+-- a seat took a reply, and this is the reply
+pub record TakesReply (seat : ℕ) (old new : State) (ready : code.Ready) (reply : Reply) : Type 0 where
   pub sound : IsSound old
-  pub may : Some (ready_of ready) ≡ next_ready old 0
-  pub taken : new ≡ after_taking 0 old
-  pub right : IfSome (slice_get (seat_at old 0).pending 0) (λ pending. IsRight old pending.statement pending.awaited (ready_of ready))
+  pub may : Some (ready_of ready) ≡ next_ready old seat
+  pub taken : new ≡ after_taking seat old
+  pub right : IfSome (slice_get (seat_at old seat).pending 0) (λ pending. IsRight old pending.statement pending.awaited (ready_of ready))
   pub is : IsReplyOf ready reply
 
 -- it is that to the first that the seat waited for
-pub record TookFirst (old new : State) (due : List Sent) (reply : Reply) : Type 0 where
+pub record TookFirst (seat : ℕ) (old new : State) (due : List Sent) (reply : Reply) : Type 0 where
   pub first : Sent
   pub rest : List Sent
-  pub goes : Goes 0 (sight_of old 0) due (sight_of new 0) rest [] (first ∷ []) (reply ∷ [])
+  pub goes : Goes seat (sight_of old seat) due (sight_of new seat) rest [] (first ∷ []) (reply ∷ [])
   pub answered : IsAnswered new.lives (taken_of new.entries first) reply
 
-pub took-first : RowTells → (old new : State) (ready : code.Ready) (reply : Reply) → TakesReply old new ready reply → (due : List Sent)
-    → IsDue 0 (sight_of old 0) due → TookFirst old new due reply
-took-first tells old new ready reply takes due waits = by_first (slice_get (seat_at old 0).pending 0) refl takes.may takes.right
+pub took-first : RowTells → (seat : ℕ) (old new : State) (ready : code.Ready) (reply : Reply) → TakesReply seat old new ready reply
+    → (due : List Sent) → IsDue seat (sight_of old seat) due → TookFirst seat old new due reply
+took-first tells seat old new ready reply takes due waits = by_first (slice_get (seat_at old seat).pending 0) refl takes.may takes.right
   where
-    by_due : (pending : Pending) → slice_get (seat_at old 0).pending 0 ≡ Some pending → IsRight old pending.statement pending.awaited (ready_of ready)
-        → FirstDue old.entries due pending → TookFirst old new due reply
+    by_due : (pending : Pending) → slice_get (seat_at old seat).pending 0 ≡ Some pending → IsRight old pending.statement pending.awaited (ready_of ready)
+        → FirstDue old.entries due pending → TookFirst seat old new due reply
     by_due pending found right first =
         let before : List Entry = take first.point old.entries in
         let own : Pending = pending_behind first.number before first.statement in
-        let there : slice_get (seat_at old 0).pending 0 ≡ Some own = found ∙ ap Some first.is in
+        let there : slice_get (seat_at old seat).pending 0 ≡ Some own = found ∙ ap Some first.is in
         let replied : IsReplyBehind before first.statement reply =
-        tells old 0 first.number before (drop first.point old.entries) first.statement (ready_of ready) reply takes.sound
+        tells old seat first.number before (drop first.point old.entries) first.statement (ready_of ready) reply takes.sound
         (sym (take-append-drop first.point old.entries)) there (sym takes.may) (taken-as ready reply takes.is) in
-        let row : TakesRow own (sight_of old 0) (sight_of new 0) =
-        subst (λ state. TakesRow own (sight_of old 0) (sight_of state 0)) (sym takes.taken) (takes-row old 0 own there) in
+        let row : TakesRow own (sight_of old seat) (sight_of new seat) =
+        subst (λ state. TakesRow own (sight_of old seat) (sight_of state seat)) (sym takes.taken) (takes-row old seat own there) in
         let answered : IsAnswered old.lives (taken_of old.entries (Given first.number first.point first.statement)) reply =
         subst (λ (p : Pending). (reply ≡ Memory) ⊎ IfSome (asked_by p.awaited) (λ asked. life_of old.lives p.statement ≡ Some Answered)) first.is
         (answered-taken old pending.statement pending.awaited (ready_of ready) reply right (taken-as ready reply takes.is)) in
         record {
           first = Given first.number first.point first.statement;
           rest = first.rest;
-          goes = subst (λ list. Goes 0 (sight_of old 0) list (sight_of new 0) first.rest [] (Given first.number first.point first.statement ∷ []) (reply ∷ []))
-              (sym first.all) (goes-takes 0 (sight_of old 0) (sight_of new 0) first.rest first.number first.point first.statement reply
-              (subst (IsDue 0 (sight_of old 0)) first.all waits) refl row replied);
+          goes = subst (λ list. Goes seat (sight_of old seat) list (sight_of new seat) first.rest [] (Given first.number first.point first.statement ∷ []) (reply ∷ []))
+              (sym first.all) (goes-takes seat (sight_of old seat) (sight_of new seat) first.rest first.number first.point first.statement reply
+              (subst (IsDue seat (sight_of old seat)) first.all waits) refl row replied);
           answered = subst (λ (state : State). IsAnswered state.lives (taken_of state.entries (Given first.number first.point first.statement)) reply)
               (sym takes.taken) answered;
         }
 
-    by_first : (o : Option Pending) → slice_get (seat_at old 0).pending 0 ≡ o
+    by_first : (o : Option Pending) → slice_get (seat_at old seat).pending 0 ≡ o
         → Some (ready_of ready) ≡ option_and_then (λ pending. ready_to old pending.statement pending.awaited) o
-        → IfSome o (λ pending. IsRight old pending.statement pending.awaited (ready_of ready)) → TookFirst old new due reply
+        → IfSome o (λ pending. IsRight old pending.statement pending.awaited (ready_of ready)) → TookFirst seat old new due reply
     by_first None found may right = absurd (let both : Some (ready_of ready) ≡ None = may in cc)
     by_first (Some pending) found may right =
-        let behind = split-first (seat_at old 0).pending pending found in
+        let behind = split-first (seat_at old seat).pending pending found in
         by_due pending found right (first-due old.entries due pending behind.0 waits.given (sym behind.1 ∙ waits.pending))

@@ -13,3 +13,6 @@ pub mod Shared
 pub mod End
 pub mod Answer
 pub mod Pieces
+pub mod SeatTurns
+pub mod SeatFront
+pub mod BoardRun

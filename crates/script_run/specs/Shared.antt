@@ -6,10 +6,10 @@ use Rattle.star_io.specs.declared.run_end.RunEnd.TheVariants.{ReadFault, WriteFa
 use Rattle.script_reader.specs.Script.{statements_of}
 use Rattle.script_reader.specs.declared.statement.Statement.{Statement}
 use Rattle.reply_text.specs.declared.reply.Reply.{Reply}
-use Rattle.star_statement.specs.Script.{replies_of}
+use Rattle.star_statement.specs.Script.{history_of, replies_of}
 use Rattle.core_state.specs.Rows.{Sight, empty_row, sight_of}
 use Rattle.core_state.specs.State.{State}
-use Rattle.core_state.specs.Tables.{versions_in}
+use Rattle.core_state.specs.Tables.{changes_of, versions_in}
 use Rattle.event_core.specs.Parts.{Parts}
 use Rattle.event_core.specs.Seen.{state_of}
 use Rattle.core_state.specs.Sound.{empty_core}
@@ -66,30 +66,49 @@ EndsWhole other = Unit {0}
 abbrev pub nothing : Sight
 nothing = record { row = empty_row; seen = [] }
 
--- what a core tells of the statements that a run gave to it as its seat 0: what it sent, in the order of the script, and took the replies
--- to, and that these statements were submitted and no others. All of it where all replies were written, and these are then the replies
--- to the script
-pub record TellsFront (end : RunEnd) (ended : Bool) (wanted given : List ℕ) (core : State) : Type 0 where
+-- what is told of the statements of a run by what its seat 0 sees: what it sent, in the order of the script, and took the replies to, and
+-- that every entry is its own. All of it where all replies were written, and these are then the replies to the script, and the history
+-- is the one that the script makes
+pub record TellsSent (end : RunEnd) (ended : Bool) (wanted given : List ℕ) (sight : Sight) : Type 0 where
   pub replies : List Reply
-  pub tells : TellsSeat 0 nothing (sight_of core 0) (statements_by end ended given) replies
-  pub settings : RunSettings
-  pub submits : Submits (givens_in (tells.said ++ tells.others)) (empty_core settings) core
-  pub own : All (λ entry. entry.seat ≡ 0) core.entries
+  pub tells : TellsSeat 0 nothing sight (statements_by end ended given) replies
+  pub own : All (λ entry. entry.seat ≡ 0) sight.seen
   pub whole : EndsWhole end → IsWhole tells
   pub same : EndsWhole end → replies ≡ replies_of wanted (statements_by end ended given)
+  pub history : EndsWhole end → changes_of sight.seen ≡ history_of wanted (statements_by end ended given)
 
--- the same unless no memory was left for the run, which has no core then
-abbrev pub TellsGiven : RunEnd → (ended : Bool) → (wanted given : List ℕ) → State → Type 0
-TellsGiven NoMemory ended wanted given core = Unit {0}
-TellsGiven end ended wanted given core = TellsFront end ended wanted given core
+-- what a core of these settings tells of them; where nobody else had the core, that they were submitted to a core that was empty, and no
+-- others
+pub record TellsFront (Alone : Type 0) (settings : RunSettings) (end : RunEnd) (ended : Bool) (wanted given : List ℕ)
+    (core : State) : Type 0 where
+  pub sent : TellsSent end ended wanted given (sight_of core 0)
+  pub submits : Alone → Submits (givens_in (sent.tells.said ++ sent.tells.others)) (empty_core settings) core
 
--- a run answered a script, and the core of so many slots tells of the same script, and of the statements that were given to it
-abbrev pub AnswersBy : (slots : ℕ) → State → (end : RunEnd) → (from from' : ReadingSide) → (to to' : WritingSide) → Type 0
-AnswersBy slots core end from from' to to' = (answers : AnswersScript end from from' to to')
-    × TellsRun end answers.wanted answers.given slots core × TellsGiven end from'.ended answers.wanted answers.given core
+-- unless no memory was left for the run
+abbrev pub UnlessWanting : RunEnd → Type 0 → Type 0
+UnlessWanting NoMemory Holds = Unit {0}
+UnlessWanting other Holds = Holds
 
--- the same where the core is handed back, if there is one
-abbrev pub AnswersShared : (slots : ℕ) → Option Parts → (end : RunEnd) → (from from' : ReadingSide) → (to to' : WritingSide) → Type 0
-AnswersShared slots core end from from' to to' = (answers : AnswersScript end from from' to to')
-    × IfSome core (λ parts. TellsRun end answers.wanted answers.given slots (state_of parts)
-    × TellsGiven end from'.ended answers.wanted answers.given (state_of parts))
+-- what a core of these settings tells of them, unless no memory was left for the run, which has no core then
+abbrev pub TellsGiven : (Alone : Type 0) → RunSettings → RunEnd → (ended : Bool) → (wanted given : List ℕ) → State → Type 0
+TellsGiven Alone settings end ended wanted given core = UnlessWanting end (TellsFront Alone settings end ended wanted given core)
+
+-- a run that had a core of these settings by itself answered a script, and the core tells of the same script, and of the statements that
+-- were given to it
+abbrev pub AnswersBy : (settings : RunSettings) → State → (end : RunEnd) → (from from' : ReadingSide) → (to to' : WritingSide) → Type 0
+AnswersBy settings core end from from' to to' = (answers : AnswersScript end from from' to to')
+    × TellsRun end answers.wanted answers.given settings.slots core
+    × TellsGiven (Unit {0}) settings end from'.ended answers.wanted answers.given core
+
+-- a run answered a script, and the core that is handed back, if there is one, tells of the statements that were given to it; `Alone` is
+-- what is known where nobody else had the core, which then tells of the same script
+abbrev pub AnswersShared : (Alone : Type 0) → (settings : RunSettings) → Option Parts → (end : RunEnd) → (from from' : ReadingSide)
+    → (to to' : WritingSide) → Type 0
+AnswersShared Alone settings core end from from' to to' = (answers : AnswersScript end from from' to to')
+    × IfSome core (λ parts. (Alone → TellsRun end answers.wanted answers.given settings.slots (state_of parts))
+    × TellsGiven Alone settings end from'.ended answers.wanted answers.given (state_of parts))
+
+-- a run over a board answered a script, by what its seat sees, where all entries that it has seen are its own
+abbrev pub AnswersSent : (end : RunEnd) → (sight : Sight) → (from from' : ReadingSide) → (to to' : WritingSide) → Type 0
+AnswersSent end sight from from' to to' = All (λ entry. entry.seat ≡ 0) sight.seen → (answers : AnswersScript end from from' to to')
+    × UnlessWanting end (TellsSent end from'.ended answers.wanted answers.given sight)

@@ -297,7 +297,7 @@ fn write_ready<K: Sink>(alloc: Global, core: &mut Core, sink: &mut K) -> Result<
 }
 
 /// Writes a reply, and tells whether it is a refusal. Where that halts, not all of it was written.
-fn write_reply<K: Sink>(alloc: Global, reply: &Reply, sink: &mut K) -> Result<bool, Halt>
+pub(crate) fn write_reply<K: Sink>(alloc: Global, reply: &Reply, sink: &mut K) -> Result<bool, Halt>
     ensures refused { IfOk result (λ refused. refused ≡ is_refusal reply.now) }
     ensures ok { OnOk result (Appends
         (K.writing sink.old).taken (K.writing sink.new).taken (text_of reply.now)) }

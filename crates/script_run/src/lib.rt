@@ -2,6 +2,8 @@
 #![tactic(auto)]
 
 mod answer;
+mod board_run;
+mod board_seats;
 mod front;
 mod halt;
 mod home;
@@ -9,6 +11,9 @@ mod laws;
 mod piece;
 mod reply;
 mod run;
+mod seat_front;
+mod seat_script;
+mod seat_turn;
 mod shared;
 mod waiting;
 
@@ -17,4 +22,4 @@ pub use halt::Halt;
 pub use laws::a_seat_alone_is_a_run;
 pub use piece::{Piece, read_piece};
 pub use run::{PIECE_BYTES, run_alone};
-pub use shared::{RunDone, run_script};
+pub use shared::{RunDone, run_on_one_thread, run_script};

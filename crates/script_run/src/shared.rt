@@ -1,5 +1,5 @@
 //! A run of a script whose queries share the scan of one core.
-ghost use Rattle.std.specs.Prelude.{◌≡◌, ◌↔◌, ◌<◌, IfSome, IsNone, OnOk};
+ghost use Rattle.std.specs.Prelude.{◌≡◌, ◌↔◌, ◌+◌, ◌<◌, IfSome, IsNone, OnOk};
 ghost use Rattle.core_state.specs.Settings.{AreWithin};
 ghost use Rattle.core_state.specs.Sound.{empty_core};
 ghost use Rattle.event_core.specs.Seen.{state_of};
@@ -13,6 +13,7 @@ ghost use Rattle.script_run.specs.Home.{IsAtHome};
 ghost use Rattle.script_run.specs.Run.{CountsFaults};
 ghost use Rattle.script_run.specs.Shared.{AnswersBy, AnswersShared};
 
+use crate::board_run::run_with_workers;
 use crate::front::{Front, every_front_is_sound};
 use crate::halt::Halt;
 use crate::piece::{Piece, read_piece};
@@ -27,7 +28,9 @@ use star_io::{RunEnd, Sink, Source};
 use star_values::NoMemory;
 use std::alloc::Global;
 use std::hash::RandomState;
+use std::sync::Wait;
 use std::thread::Threads;
+use worker_gate::Gate;
 
 /// How a run ended, and the core that ran the script. There is none where no memory was left for the run.
 #[derive(Debug, Drop)]
@@ -36,15 +39,51 @@ pub struct RunDone {
     pub core: Option<Core>,
 }
 
-/// Reads a script to its end, and writes the reply to each of its statements, in order. The queries go through one core,
-/// those that are unfinished together in one lap: all come to their end at a `wait`, at the end of the input, a read fault or
-/// the script limit, before the reply to a statement for which the core found no memory, and as soon as as many are
-/// unfinished as there are slots. A statement for which the core found no memory replies `memory`, and so does a query that
-/// found none.
+/// Reads a script to its end, and writes the reply to each of its statements, in order. The queries
+/// go through one core, and those that are unfinished share its scan. A statement for which the core
+/// found no memory replies `memory`, and so does a query that found none.
 ///
-/// At a read that fails, and at the byte past the limit, the statements that are whole before it are answered. After a write
-/// that fails nothing more is written or read. Rows and groups are found by hashes with these keys, on which no reply depends.
-pub fn run_script<R: Threads + Sync, S: Source, K: Sink>(
+/// Without workers this thread has the core by itself, as in `run_on_one_thread`. With workers the
+/// core lies on a board, and each worker has a seat, and a thread of its own where one can be made,
+/// beside the front, which gives the statements to the core and writes the replies. Outside of their
+/// turns they let batches pass filters, behind the gate.
+///
+/// At a read that fails, and at the byte past the limit, the statements that are whole before it are
+/// answered. After a write that fails nothing more is written or read. Rows and groups are found by
+/// hashes with these keys, on which no reply depends.
+pub fn run_script<R: Threads + Wait + Sync, S: Source, K: Sink, G: Gate + Sync>(
+    rt: &R,
+    alloc: Global,
+    hash_keys: RandomState,
+    settings: RunSettings,
+    source: &mut S,
+    sink: &mut K,
+    gate: &G,
+) -> RunDone
+    requires settings { AreWithin settings }
+    requires seats { settings.seats ≡ settings.workers + 1 }
+    ensures answers { AnswersShared (settings.workers ≡ 0) settings result.core result.end
+        (S.reading source.old) (S.reading source.new)
+        (K.writing sink.old) (K.writing sink.new) }
+    ensures faults { CountsFaults result.end
+        (S.reading source.old) (S.reading source.new) (K.writing sink.old) (K.writing sink.new) }
+    ensures apart { K.reading_side sink.new ≡ K.reading_side sink.old }
+    ensures core { IsNone result.core ↔ (result.end ≡ end.NoMemory) }
+    ensures run { (settings.workers ≡ 0) →
+        IfSome result.core (λ core. IsRun (empty_core settings) (state_of core)) }
+{
+    if settings.workers == 0 {
+        run_on_one_thread(rt, alloc, hash_keys, settings, source, sink)
+    } else {
+        run_with_workers(rt, alloc, hash_keys, settings, source, sink, gate)
+    }
+}
+
+/// The same by this thread alone. The queries that are unfinished go together in one lap: all come
+/// to their end at a `wait`, at the end of the input, a read fault or the script limit, before the
+/// reply to a statement for which the core found no memory, and as soon as as many are unfinished as
+/// there are slots.
+pub fn run_on_one_thread<R: Threads + Sync, S: Source, K: Sink>(
     rt: &R,
     alloc: Global,
     hash_keys: RandomState,
@@ -53,7 +92,7 @@ pub fn run_script<R: Threads + Sync, S: Source, K: Sink>(
     sink: &mut K,
 ) -> RunDone
     requires { AreWithin settings }
-    ensures answers { AnswersShared settings.slots result.core result.end
+    ensures answers { AnswersShared (Unit {0}) settings result.core result.end
         (S.reading source.old) (S.reading source.new)
         (K.writing sink.old) (K.writing sink.new) }
     ensures faults { CountsFaults result.end
@@ -102,7 +141,7 @@ fn play_script<R: Threads + Sync, S: Source, K: Sink>(
     requires empty { state_of front.old.core ≡ empty_core (state_of front.old.core).settings }
     requires home { IsAtHome front.old }
     requires reader { reader.old ≡ no_reading }
-    ensures answers { AnswersBy (state_of front.old.core).settings.slots (state_of front.new.core) result
+    ensures answers { AnswersBy (state_of front.old.core).settings (state_of front.new.core) result
         (S.reading source.old) (S.reading source.new)
         (K.writing sink.old) (K.writing sink.new) }
     ensures faults { CountsFaults result
@@ -167,7 +206,7 @@ pub(crate) fn play_whole<R: Threads + Sync, K: Sink>(
 
 /// How a run ends whose input was read to its end and whose statements were given to the core, once the other replies were
 /// written or halted.
-fn end_of_rest(refused: bool, written: Result<bool, Halt>) -> RunEnd
+pub(crate) fn end_of_rest(refused: bool, written: Result<bool, Halt>) -> RunEnd
     ensures { result ≡ end_of_rest refused written }
 {
     match written {
@@ -177,7 +216,7 @@ fn end_of_rest(refused: bool, written: Result<bool, Halt>) -> RunEnd
 }
 
 /// How a run ends whose reading ended so, once its replies were written or halted.
-fn end_behind(written: Result<bool, Halt>, reading: RunEnd) -> RunEnd
+pub(crate) fn end_behind(written: Result<bool, Halt>, reading: RunEnd) -> RunEnd
     ensures { result ≡ end_behind written reading }
 {
     match written {

@@ -8,7 +8,7 @@ use Rattle.script_run.specs.Run.{AnswersScript, TellsRefused, Writes, script_tex
 use Rattle.star_cases.specs.Judge.{has_refusal, wanted_end}
 use Rattle.star_cases.specs.Outcome.{Answers, AnswersWanting, Runs}
 use Rattle.star_cases.specs.declared.outcome.Way.{Way}
-use Rattle.star_cases.specs.declared.outcome.Way.TheVariants.{Alone, Shared}
+use Rattle.star_cases.specs.declared.outcome.Way.TheVariants.{Alone, Shared, Worked}
 
 -- a run that ends by one of the two ends that are wanted has read all of the script and written all replies
 wanted_ends : (wanted : List ℕ) (refused : Bool) (end : RunEnd) (source : ReadingSide) (left given replies : List ℕ)
@@ -45,4 +45,6 @@ right_runs_answer Alone end from from' to to' script left bytes replies first la
     subst (λ wanted. AnswersWanting wanted script replies) run.1
     (wanting end from from' to to' script left bytes replies first last none all run.0 same is)
 right_runs_answer (Shared settings) end from from' to to' script left bytes replies first last none all run same is =
+    (run.wanted, wanting end from from' to to' script left bytes replies first last none all run same is)
+right_runs_answer (Worked settings) end from from' to to' script left bytes replies first last none all run same is =
     (run.wanted, wanting end from from' to to' script left bytes replies first last none all run same is)

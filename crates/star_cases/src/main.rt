@@ -12,6 +12,7 @@ use std::io;
 use std::process::ExitCode;
 use std::random::RandomSource;
 use std::rt::Files;
+use std::sync::Wait;
 use std::thread::Threads;
 
 fn main(rt: HostRuntime) -> ExitCode {
@@ -27,10 +28,9 @@ fn main(rt: HostRuntime) -> ExitCode {
 }
 
 /// Runs the cases of a folder, prints what came of them, and answers whether all are right.
-fn check_folder<R: Files + Print + AllocGlobal + RandomSource + Threads + Sync + Clone + Drop>(
-    rt: &R,
-    folder: &str,
-) -> io::Result<bool> {
+fn check_folder<
+    R: Files + Print + AllocGlobal + RandomSource + Threads + Wait + Sync + Clone + Drop,
+>(rt: &R, folder: &str) -> io::Result<bool> {
     let hash_keys = RandomState::new(rt)?;
     let mut outcomes = Vec::new(rt.alloc());
     for name in case_names(rt, folder)? {

@@ -8,54 +8,61 @@ ghost use Rattle.star_cases.specs.declared.outcome.Way.TheVariants.{Alone};
 use crate::case::{Case, read_case};
 use crate::judge::{Fault, fault_of};
 use core_state::RunSettings;
-use script_run::{run_alone, run_script};
+use script_run::{RunDone, run_alone, run_on_one_thread, run_script};
 use star_io::{ListSink, PieceSource, RunEnd, Sink, Source};
 use std::alloc::{AllocError, Global};
 use std::fmt;
 use std::hash::RandomState;
 use std::rt::Files;
+use std::sync::Wait;
 use std::thread::Threads;
+use worker_gate::NoGate;
 
 /// As how many bytes at once a script comes and its replies go: few, and all that is asked for.
 const FEW_BYTES: [usize; 2] = [1, 7];
 
 const ALL_BYTES: usize = 65_536;
 
-/// How a script is run: each query by itself, or in a core of these settings.
+/// How a script is run: each query by itself, in a core of these settings, or in one that workers share.
 #[derive(Clone, Copy, Debug)]
 enum Way {
     Alone,
     Shared(RunSettings),
+    Worked(RunSettings),
 }
 
-/// How many settings there are.
-const SETTINGS: u32 = 4;
+/// How many ways there are to run a script in a core.
+const CORE_WAYS: u32 = 5;
 
-/// The settings, by their numbers: those of the program, the same with rows that pass alone, a slot with rows that pass alone,
-/// and some whose batches pass on several threads.
-fn settings_of(number: u32) -> RunSettings
-    ensures { AreWithin result }
+/// The ways in a core, by their numbers: with the settings of the program, the same with rows that pass
+/// alone, a slot with rows that pass alone, some whose batches pass on several threads, and the same with
+/// two workers.
+fn core_way(number: u32) -> Way
+    ensures { IsWithin result }
 {
     match number {
-        0 => settings(0, 64, 256),
-        1 => settings(0, 64, 1),
-        2 => settings(0, 1, 1),
-        _ => settings(2, 3, 2),
+        0 => Way::Shared(settings(0, 64, 256, 1)),
+        1 => Way::Shared(settings(0, 64, 1, 1)),
+        2 => Way::Shared(settings(0, 1, 1, 1)),
+        3 => Way::Shared(settings(2, 3, 2, 1)),
+        _ => Way::Worked(settings(2, 3, 2, 3)),
     }
 }
 
-/// Settings of a core with one seat.
-fn settings(workers: u32, slots: u32, batch: u32) -> RunSettings
+fn settings(workers: u32, slots: u32, batch: u32, seats: u32) -> RunSettings
     requires workers { workers ≤ 16 }
     requires slots { (1 ≤ slots) × (slots ≤ 64) }
     requires batch { (1 ≤ batch) × (batch ≤ 1024) }
-    ensures { AreWithin result }
+    requires seats { (1 ≤ seats) × (seats ≤ 128) }
+    ensures within { AreWithin result }
+    ensures workers { result.workers ≡ workers }
+    ensures seats { result.seats ≡ seats }
 {
     RunSettings {
         workers,
         slots,
         batch,
-        seats: 1,
+        seats,
     }
 }
 
@@ -103,7 +110,7 @@ pub(crate) fn are_all_right(outcomes: &[Outcome]) -> bool
 }
 
 /// Runs a case of a folder. Files that cannot be read are wrong.
-pub(crate) fn check_case<R: Files + AllocGlobal + Threads + Sync>(
+pub(crate) fn check_case<R: Files + AllocGlobal + Threads + Wait + Sync>(
     rt: &R,
     hash_keys: RandomState,
     folder: &str,
@@ -117,7 +124,7 @@ pub(crate) fn check_case<R: Files + AllocGlobal + Threads + Sync>(
 }
 
 /// What is wrong with the first run of a case that is wrong: first each query by itself, then in a core.
-fn wrong_in<R: AllocGlobal + Threads + Sync>(
+fn wrong_in<R: AllocGlobal + Threads + Wait + Sync>(
     rt: &R,
     hash_keys: RandomState,
     case: &Case,
@@ -128,8 +135,8 @@ fn wrong_in<R: AllocGlobal + Threads + Sync>(
     if let Some(wrong) = wrong_in_way(rt, hash_keys, case, Way::Alone)? {
         return Ok(Some(wrong));
     }
-    for number in 0..SETTINGS {
-        let way = Way::Shared(settings_of(number));
+    for number in 0..CORE_WAYS {
+        let way = core_way(number);
         if let Some(wrong) = wrong_in_way(rt, hash_keys, case, way)? {
             return Ok(Some(wrong));
         }
@@ -138,7 +145,7 @@ fn wrong_in<R: AllocGlobal + Threads + Sync>(
 }
 
 /// What is wrong with the first run in a way that is wrong.
-fn wrong_in_way<R: AllocGlobal + Threads + Sync>(
+fn wrong_in_way<R: AllocGlobal + Threads + Wait + Sync>(
     rt: &R,
     hash_keys: RandomState,
     case: &Case,
@@ -157,7 +164,7 @@ fn wrong_in_way<R: AllocGlobal + Threads + Sync>(
 }
 
 /// What is wrong with a run whose bytes come and go in pieces of this size.
-fn wrong_in_pieces<R: AllocGlobal + Threads + Sync>(
+fn wrong_in_pieces<R: AllocGlobal + Threads + Wait + Sync>(
     rt: &R,
     hash_keys: RandomState,
     case: &Case,
@@ -180,7 +187,7 @@ fn wrong_in_pieces<R: AllocGlobal + Threads + Sync>(
 }
 
 /// Runs a script in a way.
-fn run<R: Threads + Sync, S: Source, K: Sink>(
+fn run<R: Threads + Wait + Sync, S: Source, K: Sink>(
     rt: &R,
     alloc: Global,
     hash_keys: RandomState,
@@ -194,8 +201,21 @@ fn run<R: Threads + Sync, S: Source, K: Sink>(
 {
     match way {
         Way::Alone => run_alone(alloc, hash_keys, source, sink),
-        Way::Shared(settings) => run_script(rt, alloc, hash_keys, settings, source, sink).end,
+        Way::Shared(settings) => {
+            end_of(run_on_one_thread(rt, alloc, hash_keys, settings, source, sink))
+        }
+        Way::Worked(settings) => {
+            let gate = NoGate;
+            end_of(run_script(rt, alloc, hash_keys, settings, source, sink, &gate))
+        }
     }
+}
+
+/// How a run ended, whose core is let go.
+fn end_of(done: RunDone) -> RunEnd
+    ensures { result ≡ done.end }
+{
+    done.end
 }
 
 /// A fault in words, with the two lines that differ and the lengths of the two texts.

@@ -1,16 +1,20 @@
 -- The headline and the causes of a status, from what a run promises by its end.
 use Rattle.std.specs.Prelude.{IfSome}
-use Rattle.std.proofs.Common.{◌≡◌, ◌≢◌, ℕ, Option, Some, None, refl, sym, subst, arith}
+use Rattle.std.proofs.Common.{◌≡◌, ◌≢◌, ℕ, Option, Some, None, sym, subst, arith}
 use Rattle.star_io.specs.Link.{ReadingSide, WritingSide}
 use Rattle.star_io.specs.declared.run_end.RunEnd.{RunEnd}
 use Rattle.star_io.specs.declared.run_end.RunEnd.TheVariants.{Clean, SomeRefused, ReadFault, WriteFault, NoMemory, ScriptLimit}
+use Rattle.core_state.specs.Sound.{empty_core}
+use Rattle.core_state.specs.declared.settings.RunSettings.{RunSettings}
 use Rattle.event_core.specs.Parts.{Parts}
+use Rattle.event_core.specs.Seen.{state_of}
 use Rattle.command_words.specs.declared.settings.Settings.{Settings}
+use Rattle.script_run.specs.Front.{IsRun}
 use Rattle.script_run.specs.Run.{AnswersAlone, CountsFaults}
 use Rattle.script_run.specs.Shared.{AnswersShared}
-use Rattle.script_run.proofs.SharedEndLemmas.{none-shared}
+use Rattle.script_run.proofs.SharedEndLemmas.{none-shared, shared-alone}
 use Rattle.star_main.specs.Headline.{Headline, HasCause, status_of}
-use Rattle.star_main.specs.Modes.{HasScript}
+use Rattle.star_main.specs.Modes.{HasScript, run_settings_of}
 
 -- no run has the status of words that name no settings
 pub never_faulty : (end : RunEnd) → status_of end ≢ 2
@@ -22,28 +26,63 @@ never_faulty NoMemory is = absurd (omega arith)
 never_faulty ScriptLimit is = absurd (omega arith)
 
 module _ (from from' : ReadingSide) (to to' : WritingSide) where
-  -- where a core of so many slots ran the script
-  pub headline_shared : (slots slots' : ℕ) (core core' : Option Parts) (end : RunEnd) (status : ℕ) → slots' ≡ slots → core' ≡ core → status ≡ status_of end
-      → AnswersShared slots core end from from' to to' → Headline slots' core' status from from' to to'
-  headline_shared slots slots' core core' end status same_slots same_core same_status run = record {
+  -- where a core of these settings ran the script, by itself or with workers
+  pub headline_shared : (Alone : Type 0) (settings settings' : RunSettings) (core core' : Option Parts) (end : RunEnd) (status : ℕ)
+      → settings' ≡ settings → core' ≡ core → status ≡ status_of end → (settings'.workers ≡ 0 → Alone)
+      → AnswersShared Alone settings core end from from' to to' → Headline settings' core' status from from' to to'
+  headline_shared Alone settings settings' core core' end status same_settings same_core same_status alone run = record {
     end = end;
     told = same_status;
-    answers = subst (λ s. AnswersShared s core' end from from' to to') (sym same_slots)
-        (subst (λ c. AnswersShared slots c end from from' to to') (sym same_core) run);
+    answers = subst (λ s. AnswersShared (settings'.workers ≡ 0) s core' end from from' to to') (sym same_settings)
+        (subst (λ c. AnswersShared (settings'.workers ≡ 0) settings c end from from' to to') (sym same_core)
+        (shared-alone Alone (settings'.workers ≡ 0) settings core end from from' to to' alone run));
   }
 
   -- where no core did
-  pub headline_alone : (slots : ℕ) (core : Option Parts) (end : RunEnd) (status : ℕ) → core ≡ None → status ≡ status_of end
-      → AnswersAlone end from from' to to' → Headline slots core status from from' to to'
-  headline_alone slots core end status no_core same_status run =
-      headline_shared slots slots None core end status refl no_core same_status (run.0, tt)
+  pub headline_alone : (settings : RunSettings) (core : Option Parts) (end : RunEnd) (status : ℕ) → core ≡ None → status ≡ status_of end
+      → AnswersAlone end from from' to to' → Headline settings core status from from' to to'
+  headline_alone settings core end status no_core same_status run = record {
+    end = end;
+    told = same_status;
+    answers = subst (λ c. AnswersShared (settings.workers ≡ 0) settings c end from from' to to') (sym no_core) (run.0, tt);
+  }
 
 -- where no memory is left to read the words nothing is read or written, whatever settings they name
-pub headline_unread : (from : ReadingSide) (to : WritingSide) (named : Option Settings) (core : Option Parts) (status : ℕ) → core ≡ None → status ≡ 5
-    → IfSome named (λ settings. HasScript settings → Headline settings.slots core status from from to to)
+pub headline_unread : (from : ReadingSide) (to : WritingSide) (named : Option Settings) (core : Option Parts) (status : ℕ) → core ≡ None
+    → status ≡ 5
+    → IfSome named (λ settings. HasScript settings → Headline (run_settings_of settings) core status from from to to)
 headline_unread from to None core status no_core same_status = tt
-headline_unread from to (Some settings) core status no_core same_status = λ _.
-    headline_shared from from to to settings.slots settings.slots None core NoMemory status refl no_core same_status (none-shared from to, tt)
+headline_unread from to (Some settings) core status no_core same_status = λ _. record {
+  end = NoMemory;
+  told = same_status;
+  answers = subst (λ c. AnswersShared (settings.workers ≡ 0) (run_settings_of settings) c NoMemory from from to to) (sym no_core)
+      (none-shared from to, tt);
+}
+
+-- where the words name these settings, and the source and the sink were as before the call when the run began
+pub headline_named : (named : Option Settings) (settings : Settings) (core : Option Parts) (status : ℕ) (from0 from from' : ReadingSide)
+    (to0 to to' : WritingSide)
+    → named ≡ Some settings → from ≡ from0 → to ≡ to0
+    → (HasScript settings → Headline (run_settings_of settings) core status from from' to to')
+    → IfSome named (λ s. HasScript s → Headline (run_settings_of s) core status from0 from' to0 to')
+headline_named named settings core status from0 from from' to0 to to' is same_from same_to run =
+    subst (λ n. IfSome n (λ s. HasScript s → Headline (run_settings_of s) core status from0 from' to0 to')) (sym is) (λ has.
+    subst (λ f. Headline (run_settings_of settings) core status f from' to0 to') same_from
+    (subst (λ t. Headline (run_settings_of settings) core status from from' t to') same_to (run has)))
+
+-- the same for the causes
+pub causes_named : (status : ℕ) (from0 from from' : ReadingSide) (to0 to to' : WritingSide) → from ≡ from0 → to ≡ to0
+    → HasCause status from from' to to' → HasCause status from0 from' to0 to'
+causes_named status from0 from from' to0 to to' same_from same_to causes =
+    subst (λ f. HasCause status f from' to0 to') same_from (subst (λ t. HasCause status from from' t to') same_to causes)
+
+-- steps that lead to a core lead to it where there are no workers, too
+pub run-weaker : (named : Option Settings) (core : Option Parts)
+    → IfSome core (λ parts. IfSome named (λ s. IsRun (empty_core (run_settings_of s)) (state_of parts)))
+    → IfSome core (λ parts. IfSome named (λ s. s.workers ≡ 0 → IsRun (empty_core (run_settings_of s)) (state_of parts)))
+run-weaker named None run = tt
+run-weaker None (Some parts) run = tt
+run-weaker (Some settings) (Some parts) run = λ none. run
 
 -- the status of a run has the causes of its end
 pub causes_of : (end : RunEnd) (from from' : ReadingSide) (to to' : WritingSide) → CountsFaults end from from' to to'

@@ -2,3 +2,4 @@
 mod HeadlineLemmas
 mod MadeLemmas
 mod ServeLemmas
+mod WorkLemmas

@@ -1,6 +1,7 @@
 -- What the program writes in the mode `make`.
 use Rattle.std.specs.Prelude.{◌≡◌, ℕ, Option}
 use Rattle.star_io.specs.Link.{WritingSide}
+use Rattle.core_state.specs.declared.settings.RunSettings.{RunSettings}
 use Rattle.event_core.specs.Parts.{Parts}
 use Rattle.made_run.specs.Made.{AnswersMade}
 use Rattle.made_run.specs.declared.made.MadeEnd.{MadeEnd}
@@ -15,8 +16,9 @@ made_status_of NoMemory = 5
 
 -- The run has an end, which the status tells, and the sink took what is due then of the line that sums up the replies to the made
 -- script, where memory was wanted for its statements at some places: the whole line; where a write failed, a proper front of it; where
--- no memory was left, nothing. The core that is handed back, if one is, tells of the same script.
-pub record MadeHeadline (slots seed rows : ℕ) (core : Option Parts) (status : ℕ) (to to' : WritingSide) : Type 0 where
+-- no memory was left, nothing. The core that is handed back, if one is, tells of the same script: of what its seat 0 was given and took,
+-- and where no workers shared it, of its queries and laps.
+pub record MadeHeadline (settings : RunSettings) (seed rows : ℕ) (core : Option Parts) (status : ℕ) (to to' : WritingSide) : Type 0 where
   pub end : MadeEnd
   pub told : status ≡ made_status_of end
-  pub answers : AnswersMade slots seed rows core end to to'
+  pub answers : AnswersMade (settings.workers ≡ 0) settings seed rows core end to to'

@@ -1,13 +1,19 @@
 -- What the modes make of settings.
-use Rattle.std.specs.Prelude.{◌≡◌}
+use Rattle.std.specs.Prelude.{◌≡◌, ◌+◌, Bool, true, false, ◌&&◌, nat_lt}
 use Rattle.core_state.specs.declared.settings.RunSettings.{RunSettings}
 use Rattle.command_words.specs.declared.settings.Settings.{Settings}
 use Rattle.command_words.specs.declared.settings.Mode.{Mode}
 use Rattle.command_words.specs.declared.settings.Mode.TheVariants.{Run, Alone, Make, Serve}
 
--- how large the core of a run is: slots and batches as the settings say, no workers, and a seat for the one who reads the script
+-- how large the core of a run is: workers, slots and batches as the settings say, and a seat for each worker and for the one who reads
+-- the script
 abbrev pub run_settings_of : Settings → RunSettings
-run_settings_of settings = record { workers = 0; slots = settings.slots; batch = settings.batch; seats = 1 }
+run_settings_of settings =
+    record { workers = settings.workers; slots = settings.slots; batch = settings.batch; seats = settings.workers + 1 }
+
+-- how large the core of a server is: slots and batches as the settings say, no workers, and a seat for the one who serves
+abbrev pub serve_settings_of : Settings → RunSettings
+serve_settings_of settings = record { workers = 0; slots = settings.slots; batch = settings.batch; seats = 1 }
 
 -- the settings say that each query is answered by itself
 abbrev pub IsAlone : Settings → Type 0
@@ -31,3 +37,18 @@ RunsSource Serve = ⊥
 -- the settings say that the script on the source is run
 abbrev pub HasScript : Settings → Type 0
 HasScript settings = RunsSource settings.mode
+
+-- whether one core runs a script in this mode
+abbrev pub shares_core : Mode → Bool
+shares_core Run = true
+shares_core Alone = false
+shares_core Make = true
+shares_core Serve = false
+
+-- whether the settings say that workers run a script
+abbrev pub has_workers : Settings → Bool
+has_workers settings = shares_core settings.mode && nat_lt 0 settings.workers
+
+-- they say so
+abbrev pub Works : Settings → Type 0
+Works settings = has_workers settings ≡ true

@@ -15,6 +15,7 @@ use std::hash::RandomState;
 use std::io::{self, ErrorKind};
 use std::process::ExitCode;
 use std::random::RandomSource;
+use worker_gate::NoGate;
 
 /// The status where the system gives no random numbers, by which keys would be hashed. Nothing was read or written.
 const NO_RANDOM_NUMBERS: u8 = 8;
@@ -35,6 +36,7 @@ fn main(rt: HostRuntime) -> ExitCode {
                 &mut source,
                 &mut sink,
                 &mut door,
+                &NoGate,
             )
             .status
         }

@@ -1,22 +1,24 @@
 //! The top call, on which the headline stands.
-ghost use Rattle.std.specs.Prelude.{◌≡◌, ◌↔◌, ◌⊎◌, ℕ, None, Some, IfSome, IsNone, IsSomeAnd, map, string_bytes};
+ghost use Rattle.std.specs.Prelude.{◌≡◌, ◌≢◌, ◌↔◌, ◌⊎◌, ◌+◌, None, Some, IfSome, IsNone, IsSomeAnd, map, string_bytes};
 ghost use Rattle.star_io.specs.Link.{ReadingSide};
 ghost use Rattle.command_words.specs.Ranges.{AreInRange};
 ghost use Rattle.command_words.specs.Table.{settings_of};
+ghost use Rattle.core_state.specs.Settings.{AreWithin};
 ghost use Rattle.core_state.specs.Sound.{empty_core};
+ghost use Rattle.core_state.specs.declared.settings.RunSettings.{RunSettings as CoreSettings};
 ghost use Rattle.event_core.specs.Seen.{state_of};
 ghost use Rattle.script_run.specs.Front.{IsRun};
 ghost use Rattle.star_main.specs.Headline.{Headline, HasCause, status_of as run_status};
 ghost use Rattle.star_main.specs.Made.{MadeHeadline, made_status_of};
-ghost use Rattle.star_main.specs.Modes.{HasScript, IsAlone, IsMade, Serves, run_settings_of};
+ghost use Rattle.star_main.specs.Modes.{HasScript, IsAlone, IsMade, Serves, Works, has_workers, run_settings_of, serve_settings_of, shares_core};
 ghost use Rattle.star_main.specs.Serving.{ServeHeadline, serve_status_of};
-ghost use Rattle.star_main.specs.Words.{IfRan, IfServe};
+ghost use Rattle.star_main.specs.Words.{IfRan, IfServe, IfWork};
 
 use command_words::{Mode, Settings, read_words};
 use core_state::RunSettings;
 use event_core::Core;
-use made_run::{MadeDone, MadeEnd, run_made};
-use script_run::{RunDone, run_alone, run_script};
+use made_run::{MadeDone, MadeEnd, run_made, run_made_on_one_thread};
+use script_run::{RunDone, run_alone, run_on_one_thread, run_script};
 use session_server::serve;
 use star_io::{Door, RunEnd, ServeEnd, Sink, Source};
 use star_values::NoMemory;
@@ -24,6 +26,7 @@ use std::alloc::Global;
 use std::hash::RandomState;
 use std::sync::Wait;
 use std::thread::Threads;
+use worker_gate::Gate;
 
 /// The status of words that name no settings.
 pub(crate) const FAULTY_WORDS: u8 = 2;
@@ -42,11 +45,14 @@ pub struct TopDone {
     pub core: Option<Core>,
 }
 
-/// What came of the words, before connections are served.
+/// What came of the words, before anything that may wait.
 #[derive(Debug, Drop)]
 pub enum Words {
     /// A script or the made workload was run, or the words name no settings, or no memory was left for them.
     Ran(TopDone),
+
+    /// Workers are to run a script or the made workload, by these settings.
+    Work(Settings),
 
     /// Connections are to be served, by these settings.
     Serve(Settings),
@@ -67,11 +73,15 @@ pub enum Words {
 /// until the door ends, or as many were taken as `accept` says, where that is not 0; neither source nor sink is touched. The
 /// status is 0, 5 or 7: what becomes of a connection has no part in it. Where no connection comes, it waits for one.
 ///
+/// In the modes `run` and `make` as many workers as the settings say share the core with the one who reads: each lets batches
+/// pass filters, behind the gate, and makes the other events of the core. What is written is told by the same clauses, whatever
+/// their number. With workers the call may wait.
+///
 /// Rows and groups are found by hashes with these keys. No reply and no status depends on them.
 ///
-/// Of the settings the mode has an effect, in the modes `run`, `make` and `serve` the slots and the batch, in `make` the seed and
-/// the rows, and in `serve` the port and `accept`. Workers are read, and have none yet.
-pub fn cjoin<R: Threads + Sync + Wait, S: Source, K: Sink, D: Door>(
+/// Of the settings the mode has an effect, in the modes `run`, `make` and `serve` the slots and the batch, in `run` and `make`
+/// the workers, in `make` the seed and the rows, and in `serve` the port and `accept`.
+pub fn cjoin<R: Threads + Sync + Wait, S: Source, K: Sink, D: Door, G: Gate + Sync>(
     rt: &R,
     alloc: Global,
     hash_keys: RandomState,
@@ -79,16 +89,17 @@ pub fn cjoin<R: Threads + Sync + Wait, S: Source, K: Sink, D: Door>(
     source: &mut S,
     sink: &mut K,
     door: &mut D,
+    gate: &G,
 ) -> TopDone
     ensures settings { result.status ≡ 2 → IsNone (settings_of (map string_bytes words.now)) }
     ensures untouched { IsNone (settings_of (map string_bytes words.now)) →
         (source.new ≡ source.old) × (sink.new ≡ sink.old) × ((result.status ≡ 2) ⊎ (result.status ≡ 5)) }
     ensures headline { IfSome (settings_of (map string_bytes words.now)) (λ settings. HasScript settings →
-        Headline settings.slots result.core result.status (S.reading source.old) (S.reading source.new)
+        Headline (run_settings_of settings) result.core result.status (S.reading source.old) (S.reading source.new)
         (K.writing sink.old) (K.writing sink.new)) }
     ensures made { IfSome (settings_of (map string_bytes words.now)) (λ settings. IsMade settings →
-        (source.new ≡ source.old) × MadeHeadline settings.slots settings.seed settings.rows result.core result.status
-        (K.writing sink.old) (K.writing sink.new)) }
+        (source.new ≡ source.old) × MadeHeadline (run_settings_of settings) settings.seed settings.rows
+        result.core result.status (K.writing sink.old) (K.writing sink.new)) }
     ensures served { IfSome (settings_of (map string_bytes words.now)) (λ settings. Serves settings →
         (source.new ≡ source.old) × (sink.new ≡ sink.old) × ServeHeadline settings.port settings.accept result.status
         (D.asked door.new) (D.ended door.new) (D.given door.old) (D.given door.new)
@@ -100,17 +111,20 @@ pub fn cjoin<R: Threads + Sync + Wait, S: Source, K: Sink, D: Door>(
         ⊎ (IsSomeAnd (settings_of (map string_bytes words.now)) IsAlone
         ⊎ (IsSomeAnd (settings_of (map string_bytes words.now)) Serves ⊎ (result.status ≡ 5)))) }
     ensures run { IfSome result.core (λ core. IfSome (settings_of (map string_bytes words.now)) (λ settings.
-        IsRun (empty_core (run_settings_of settings)) (state_of core))) }
+        settings.workers ≡ 0 → IsRun (empty_core (run_settings_of settings)) (state_of core))) }
 {
     match run_words(rt, alloc, hash_keys, words, source, sink) {
         Words::Ran(done) => done,
+        Words::Work(settings) => {
+            run_by_workers(rt, alloc, hash_keys, &settings, source, sink, gate)
+        }
         Words::Serve(settings) => serve_connections(rt, alloc, hash_keys, &settings, door),
     }
 }
 
-/// Runs a script or the made workload, as the words say. Words that ask for connections to be served are handed on, and nothing
-/// is touched. All that `cjoin` says of the modes `run`, `alone` and `make` holds here of a call that waits for no one, and so
-/// comes to its end, where source and sink do.
+/// Runs a script or the made workload without workers, as the words say. Words that ask for workers or for connections to be
+/// served are handed on, and nothing is touched. All that `cjoin` says of the modes `run`, `alone` and `make` without workers
+/// holds here of a call that waits for no one, and so comes to its end, where source and sink do, and the threads of a turn.
 pub fn run_words<R: Threads + Sync, S: Source, K: Sink>(
     rt: &R,
     alloc: Global,
@@ -119,19 +133,23 @@ pub fn run_words<R: Threads + Sync, S: Source, K: Sink>(
     source: &mut S,
     sink: &mut K,
 ) -> Words
+    ensures work { IfWork result (λ settings. (settings_of (map string_bytes words.now) ≡ Some settings)
+        × (Works settings × AreInRange settings) × (source.new ≡ source.old) × (sink.new ≡ sink.old)) }
     ensures serve { IfServe result (λ settings. (settings_of (map string_bytes words.now) ≡ Some settings)
         × (Serves settings × AreInRange settings) × (source.new ≡ source.old) × (sink.new ≡ sink.old)) }
     ensures ran { IfRan result (λ done. IsSomeAnd (settings_of (map string_bytes words.now)) Serves →
+        (done.status ≡ 5) × (source.new ≡ source.old) × (sink.new ≡ sink.old)) }
+    ensures apart { IfRan result (λ done. IsSomeAnd (settings_of (map string_bytes words.now)) Works →
         (done.status ≡ 5) × (source.new ≡ source.old) × (sink.new ≡ sink.old)) }
     ensures settings { IfRan result (λ done. done.status ≡ 2 → IsNone (settings_of (map string_bytes words.now))) }
     ensures untouched { IfRan result (λ done. IsNone (settings_of (map string_bytes words.now)) →
         (source.new ≡ source.old) × (sink.new ≡ sink.old) × ((done.status ≡ 2) ⊎ (done.status ≡ 5))) }
     ensures headline { IfRan result (λ done. IfSome (settings_of (map string_bytes words.now)) (λ settings. HasScript settings →
-        Headline settings.slots done.core done.status (S.reading source.old) (S.reading source.new)
+        Headline (run_settings_of settings) done.core done.status (S.reading source.old) (S.reading source.new)
         (K.writing sink.old) (K.writing sink.new))) }
     ensures made { IfRan result (λ done. IfSome (settings_of (map string_bytes words.now)) (λ settings. IsMade settings →
-        (source.new ≡ source.old) × MadeHeadline settings.slots settings.seed settings.rows done.core done.status
-        (K.writing sink.old) (K.writing sink.new))) }
+        (source.new ≡ source.old) × MadeHeadline (run_settings_of settings) settings.seed settings.rows
+        done.core done.status (K.writing sink.old) (K.writing sink.new))) }
     ensures causes { IfRan result (λ done. HasCause done.status
         (S.reading source.old) (S.reading source.new)
         (K.writing sink.old) (K.writing sink.new)) }
@@ -141,18 +159,44 @@ pub fn run_words<R: Threads + Sync, S: Source, K: Sink>(
         IsRun (empty_core (run_settings_of settings)) (state_of core)))) }
 {
     match read_words(alloc, words) {
-        Ok(Some(settings)) => match settings.mode {
-            Mode::Run => { Words::Ran(run_shared(rt, alloc, hash_keys, &settings, source, sink)) }
-            Mode::Alone => Words::Ran(run_each_alone(alloc, hash_keys, source, sink)),
-            Mode::Make => Words::Ran(run_workload(rt, alloc, hash_keys, &settings, sink)),
-            Mode::Serve => Words::Serve(settings),
-        },
+        Ok(Some(settings)) => {
+            if has_workers(&settings) {
+                return Words::Work(settings);
+            }
+            match settings.mode {
+                Mode::Run => {
+                    Words::Ran(run_shared(rt, alloc, hash_keys, &settings, source, sink))
+                }
+                Mode::Alone => Words::Ran(run_each_alone(alloc, hash_keys, source, sink)),
+                Mode::Make => Words::Ran(run_workload(rt, alloc, hash_keys, &settings, sink)),
+                Mode::Serve => Words::Serve(settings),
+            }
+        }
         Ok(None) => Words::Ran(without_core(FAULTY_WORDS)),
         Err(NoMemory) => Words::Ran(without_core(OUT_OF_MEMORY)),
     }
 }
 
-/// Runs a script whose queries share the scan of one core, and hands the core back.
+/// Whether the settings say that workers run a script.
+fn has_workers(settings: &Settings) -> bool
+    ensures { result ≡ has_workers settings.now }
+{
+    shares_core(settings.mode) && settings.workers > 0
+}
+
+/// Whether one core runs a script in this mode.
+fn shares_core(mode: Mode) -> bool
+    ensures { result ≡ shares_core mode }
+{
+    match mode {
+        Mode::Run => true,
+        Mode::Alone => false,
+        Mode::Make => true,
+        Mode::Serve => false,
+    }
+}
+
+/// Runs a script whose queries share the scan of one core, on one thread but for those of a turn, and hands the core back.
 fn run_shared<R: Threads + Sync, S: Source, K: Sink>(
     rt: &R,
     alloc: Global,
@@ -162,7 +206,7 @@ fn run_shared<R: Threads + Sync, S: Source, K: Sink>(
     sink: &mut K,
 ) -> TopDone
     requires { AreInRange settings.now }
-    ensures headline { Headline settings.now.slots result.core result.status
+    ensures headline { Headline (run_settings_of settings.now) result.core result.status
         (S.reading source.old) (S.reading source.new)
         (K.writing sink.old) (K.writing sink.new) }
     ensures causes { HasCause result.status (S.reading source.old) (S.reading source.new)
@@ -170,7 +214,8 @@ fn run_shared<R: Threads + Sync, S: Source, K: Sink>(
     ensures core { IsNone result.core ↔ (result.status ≡ 5) }
     ensures run { IfSome result.core (λ core. IsRun (empty_core (run_settings_of settings.now)) (state_of core)) }
 {
-    done_of(run_script(rt, alloc, hash_keys, run_settings(settings), source, sink))
+    let core = run_settings(settings);
+    done_of(run_on_one_thread(rt, alloc, hash_keys, core, source, sink))
 }
 
 /// Runs a script each of whose queries is answered by itself, without a core.
@@ -180,7 +225,7 @@ fn run_each_alone<S: Source, K: Sink>(
     source: &mut S,
     sink: &mut K,
 ) -> TopDone
-    ensures headline { (slots : ℕ) → Headline slots result.core result.status
+    ensures headline { (settings : CoreSettings) → Headline settings result.core result.status
         (S.reading source.old) (S.reading source.new)
         (K.writing sink.old) (K.writing sink.new) }
     ensures causes { HasCause result.status (S.reading source.old) (S.reading source.new)
@@ -190,8 +235,8 @@ fn run_each_alone<S: Source, K: Sink>(
     without_core(status_of(run_alone(alloc, hash_keys, source, sink)))
 }
 
-/// Runs the made workload, whose queries share the scan of one core, writes the line that sums its replies up, and hands
-/// the core back.
+/// Runs the made workload, whose queries share the scan of one core, on one thread but for those of a turn, writes the line
+/// that sums its replies up, and hands the core back.
 fn run_workload<R: Threads + Sync, K: Sink>(
     rt: &R,
     alloc: Global,
@@ -200,15 +245,15 @@ fn run_workload<R: Threads + Sync, K: Sink>(
     sink: &mut K,
 ) -> TopDone
     requires { AreInRange settings.now }
-    ensures made { MadeHeadline settings.now.slots settings.now.seed settings.now.rows result.core result.status
-        (K.writing sink.old) (K.writing sink.new) }
+    ensures made { MadeHeadline (run_settings_of settings.now) settings.now.seed settings.now.rows
+        result.core result.status (K.writing sink.old) (K.writing sink.new) }
     ensures causes { (source : ReadingSide) → HasCause result.status source source
         (K.writing sink.old) (K.writing sink.new) }
     ensures core { IsNone result.core ↔ (result.status ≡ 5) }
     ensures run { IfSome result.core (λ core. IsRun (empty_core (run_settings_of settings.now)) (state_of core)) }
 {
     let core = run_settings(settings);
-    made_of(run_made(
+    made_of(run_made_on_one_thread(
         rt,
         alloc,
         hash_keys,
@@ -217,6 +262,81 @@ fn run_workload<R: Threads + Sync, K: Sink>(
         settings.rows,
         sink,
     ))
+}
+
+/// Runs a script or the made workload with workers, as the settings say, and hands the core back.
+fn run_by_workers<R: Threads + Sync + Wait, S: Source, K: Sink, G: Gate + Sync>(
+    rt: &R,
+    alloc: Global,
+    hash_keys: RandomState,
+    settings: &Settings,
+    source: &mut S,
+    sink: &mut K,
+    gate: &G,
+) -> TopDone
+    requires works { Works settings.now }
+    requires range { AreInRange settings.now }
+    ensures known { result.status ≢ 2 }
+    ensures headline { HasScript settings.now → Headline (run_settings_of settings.now) result.core result.status
+        (S.reading source.old) (S.reading source.new)
+        (K.writing sink.old) (K.writing sink.new) }
+    ensures made { IsMade settings.now →
+        (source.new ≡ source.old) × MadeHeadline (run_settings_of settings.now) settings.now.seed settings.now.rows
+        result.core result.status (K.writing sink.old) (K.writing sink.new) }
+    ensures causes { HasCause result.status (S.reading source.old) (S.reading source.new)
+        (K.writing sink.old) (K.writing sink.new) }
+    ensures core { IsNone result.core ↔ (result.status ≡ 5) }
+{
+    match settings.mode {
+        Mode::Run => run_shared_by_workers(rt, alloc, hash_keys, settings, source, sink, gate),
+        Mode::Make => run_workload_by_workers(rt, alloc, hash_keys, settings, sink, gate),
+        Mode::Alone | Mode::Serve => unreachable!(),
+    }
+}
+
+/// Runs a script whose queries share the scan of one core with workers, and hands the core back.
+fn run_shared_by_workers<R: Threads + Sync + Wait, S: Source, K: Sink, G: Gate + Sync>(
+    rt: &R,
+    alloc: Global,
+    hash_keys: RandomState,
+    settings: &Settings,
+    source: &mut S,
+    sink: &mut K,
+    gate: &G,
+) -> TopDone
+    requires { AreInRange settings.now }
+    ensures headline { Headline (run_settings_of settings.now) result.core result.status
+        (S.reading source.old) (S.reading source.new)
+        (K.writing sink.old) (K.writing sink.new) }
+    ensures causes { HasCause result.status (S.reading source.old) (S.reading source.new)
+        (K.writing sink.old) (K.writing sink.new) }
+    ensures core { IsNone result.core ↔ (result.status ≡ 5) }
+{
+    let core = run_settings(settings);
+    done_of(run_script(rt, alloc, hash_keys, core, source, sink, gate))
+}
+
+/// Runs the made workload, whose queries share the scan of one core, with workers, writes the line that sums its replies up,
+/// and hands the core back.
+fn run_workload_by_workers<R: Threads + Sync + Wait, K: Sink, G: Gate + Sync>(
+    rt: &R,
+    alloc: Global,
+    hash_keys: RandomState,
+    settings: &Settings,
+    sink: &mut K,
+    gate: &G,
+) -> TopDone
+    requires { AreInRange settings.now }
+    ensures made { MadeHeadline (run_settings_of settings.now) settings.now.seed settings.now.rows
+        result.core result.status (K.writing sink.old) (K.writing sink.new) }
+    ensures causes { (source : ReadingSide) → HasCause result.status source source
+        (K.writing sink.old) (K.writing sink.new) }
+    ensures core { IsNone result.core ↔ (result.status ≡ 5) }
+{
+    let core = run_settings(settings);
+    let seed = settings.seed;
+    let rows = settings.rows;
+    made_of(run_made(rt, alloc, hash_keys, core, seed, rows, sink, gate))
 }
 
 /// Serves connections at the port, one after the other, over one core.
@@ -233,7 +353,7 @@ fn serve_connections<R: Threads + Sync + Wait, D: Door>(
         (D.door_faults door.old) (D.door_faults door.new) (D.door_failed door.new) }
     ensures core { IsNone result.core }
 {
-    let core = run_settings(settings);
+    let core = serve_settings(settings);
     let end = serve(
         rt,
         alloc,
@@ -246,9 +366,26 @@ fn serve_connections<R: Threads + Sync + Wait, D: Door>(
     without_core(serve_status_of(end))
 }
 
-/// How large the core of a run is: no workers, and one seat, for the one who reads the script or the connection.
+/// How large the core of a run is: a seat for each worker, and for the one who reads the script.
 fn run_settings(settings: &Settings) -> RunSettings
-    ensures { result ≡ run_settings_of settings.now }
+    requires { AreInRange settings.now }
+    ensures size { result ≡ run_settings_of settings.now }
+    ensures within { AreWithin result }
+    ensures seats { result.seats ≡ result.workers + 1 }
+{
+    RunSettings {
+        workers: settings.workers,
+        slots: settings.slots,
+        batch: settings.batch,
+        seats: settings.workers + 1,
+    }
+}
+
+/// How large the core of a server is: no workers, and one seat, for the one who serves.
+fn serve_settings(settings: &Settings) -> RunSettings
+    requires { AreInRange settings.now }
+    ensures size { result ≡ serve_settings_of settings.now }
+    ensures within { AreWithin result }
 {
     RunSettings {
         workers: 0,

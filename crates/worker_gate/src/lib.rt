@@ -12,7 +12,7 @@ mod working;
 
 pub use crossing::{boards_of_cores_may_be_shared, seats_of_cores_may_be_sent};
 pub use looking::{Look, worker_look};
-pub use looping::{WorkerEnd, worker_loop};
+pub use looping::{WorkerEnd, batch_of, bell_for, give_if_done, ring_or_rest, worker_loop};
 pub use managing::{Managed, manage_one};
 pub use passing::{Gate, NoGate, do_work};
 pub use working::{Taken, give_work, take_work};

@@ -122,7 +122,7 @@ fn give_and_look(core: &mut Core, worker: u32, done: Option<Work>) -> Look
 }
 
 /// Gives a work back, if there is one.
-fn give_if_done(core: &mut Core, worker: u32, done: Option<Work>)
+pub fn give_if_done(core: &mut Core, worker: u32, done: Option<Work>)
     requires { HasDoneIf done (held_by (state_of core.old).scan.flights worker) }
     ensures moves { MovesHand worker (state_of core.old) (state_of core.new) }
     ensures empty { held_by (state_of core.new).scan.flights worker ≡ None }
@@ -134,7 +134,7 @@ fn give_if_done(core: &mut Core, worker: u32, done: Option<Work>)
 }
 
 /// The number of the batch of a work, if there is one.
-fn batch_of(done: &Option<Work>) -> Option<u64> {
+pub fn batch_of(done: &Option<Work>) -> Option<u64> {
     match done {
         Some(work) => Some(work.batch.number()),
         None => None,
@@ -143,7 +143,7 @@ fn batch_of(done: &Option<Work>) -> Option<u64> {
 
 /// The bell's number, where the worker is to rest. It is read in the turn, so that whoever has the next one rings for
 /// the worker.
-fn bell_for<R: Wait>(rt: &R, board: &BoardLock<Core>, look: &Look) -> Option<u32> {
+pub fn bell_for<R: Wait>(rt: &R, board: &BoardLock<Core>, look: &Look) -> Option<u32> {
     match look {
         Look::Rest => Some(board.bell(rt)),
         _ => None,
@@ -152,7 +152,7 @@ fn bell_for<R: Wait>(rt: &R, board: &BoardLock<Core>, look: &Look) -> Option<u32
 
 /// Rings where others may have something to do that they had not before the turn, and rests where there was nothing
 /// to do.
-fn ring_or_rest<R: Wait>(
+pub fn ring_or_rest<R: Wait>(
     rt: &R,
     board: &BoardLock<Core>,
     look: &Look,

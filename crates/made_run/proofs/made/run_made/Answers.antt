@@ -1,11 +1,39 @@
-use Rattle.made_run.proofs.RunLemmas.{answers_of, faults_of}
+use Rattle.std.proofs.Common.{◌∙◌, ◌≡◌, refl}
+use Rattle.made_run.proofs.RunLemmas.{answers_of, core-without, core_of, faults-without, run-without, run_of, text-by, without_core}
 use Rattle.made_run.proofs.made.run_made.Goals as goal
+
+pub tell-requires-clause-text : goal.tell-requires-clause-text
+tell-requires-clause-text g c =
+    let ran = c.run_text-ran in
+    text-by (c.args.settings.workers ≡ 0) c.args.settings c.as_bytes-bytes.result.now ran.result ran.ensures.ran
 
 pub returns-clause-answers : goal.returns-clause-answers
 returns-clause-answers g c =
-    rw c.end_behind.ensures (answers_of c.args.settings.slots c.args.seed c.args.rows c.in-Ok.told.line c.as_bytes.result.now c.in-Ok.told.refused c.in-Ok.told.core _ _ c.write_all-written.result
-    c.as_bytes.ensures c.in-Ok.ensures.told c.write_all-written.ensures.ok c.write_all-written.ensures.err)
+    let ran = c.run_text-ran in
+    answers_of (c.args.settings.workers ≡ 0) c.args.settings c.args.seed c.args.rows c.as_bytes-bytes.result.now ran.result
+    c.tell.result _ _ (c.as_bytes-bytes.ensures ∙ c.in-Ok.ensures.made) ran.ensures.ran c.tell.ensures.tells
 
-pub returns-clause-faults : goal.returns-clause-faults
-returns-clause-faults g c =
-    rw c.end_behind.ensures (faults_of c.in-Ok.told.refused _ _ c.write_all-written.result c.write_all-written.ensures.faults c.write_all-written.ensures.last)
+pub returns-clause-core : goal.returns-clause-core
+returns-clause-core g c =
+    let ran = c.run_text-ran in
+    core_of c.as_bytes-bytes.result.now ran.result c.tell.result _ _ ran.ensures.core.0 c.tell.ensures.tells
+
+pub returns-clause-run : goal.returns-clause-run
+returns-clause-run g c = λ none.
+    let ran = c.run_text-ran in
+    run_of c.args.settings c.as_bytes-bytes.result.now ran.result c.tell.result _ _ c.tell.ensures.tells (ran.ensures.run none)
+
+pub returns-in_default-clause-answers : goal.returns-in_default-clause-answers
+returns-in_default-clause-answers g c =
+    without_core (c.args.settings.workers ≡ 0) c.args.settings c.args.seed c.args.rows c.without_memory.result.core
+    c.without_memory.result.end _ _ c.without_memory.ensures.core c.without_memory.ensures.end refl
+
+pub returns-in_default-clause-faults : goal.returns-in_default-clause-faults
+returns-in_default-clause-faults g c = faults-without c.without_memory.result.end _ c.without_memory.ensures.end
+
+pub returns-in_default-clause-core : goal.returns-in_default-clause-core
+returns-in_default-clause-core g c =
+    core-without c.without_memory.result.core c.without_memory.result.end c.without_memory.ensures.core c.without_memory.ensures.end
+
+pub returns-in_default-clause-run : goal.returns-in_default-clause-run
+returns-in_default-clause-run g c = λ none. run-without c.args.settings c.without_memory.result.core c.without_memory.ensures.core

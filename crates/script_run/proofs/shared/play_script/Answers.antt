@@ -2,7 +2,7 @@ use Rattle.script_run.proofs.Words.{◌∙◌, NoMemory, refl, state_of, subst, 
 use Rattle.std.specs.Prelude.{◌<◌}
 use Rattle.script_run.proofs.AloneLemmas.{run-alone}
 use Rattle.script_run.proofs.SharedDoneLemmas.{ended-shared, fault-shared, limit-shared}
-use Rattle.script_run.proofs.SharedEndLemmas.{ended-halted, halted-shared, halts-by, unfed-shared}
+use Rattle.script_run.proofs.SharedEndLemmas.{ended-halted, halted-shared, halts-alone, unfed-shared}
 use Rattle.script_run.proofs.SharedRunLemmas.{fed-shared, starts-shared, way-none, whole-shared}
 use Rattle.script_run.proofs.FrontNewLemmas.{some-slots}
 use Rattle.script_run.proofs.FrontRunLemmas.{run-itself, run-then}
@@ -27,9 +27,11 @@ returns-in-Err-clause-run g c = run-then _ _ _ c.pieces.invariant.steps c.in-Err
 
 pub returns-in-Err-clause-answers : goal.returns-in-Err-clause-answers
 returns-in-Err-clause-answers g c =
-    rw c.end_of_halt.ensures (halts-by c.in-Err.halt _ _ _ _ _ _ (c.pieces.invariant.alone _ (returns-in-Err-clause-run g c)).own
-    (halted-shared c.in-Err.halt _ _ (state_of c.play_whole.new.front.core) _ c.play_whole.new.reader _ _ _ _ _ _ c.pieces.invariant.run
-    (c.pieces.invariant.alone _ (returns-in-Err-clause-run g c)).own c.in-Err.ensures.plays
+    let settings = (state_of c.args.front.now.core).settings in
+    let new = state_of c.play_whole.new.front.core in
+    let own = (c.pieces.invariant.alone new (returns-in-Err-clause-run g c)).own in
+    rw c.end_of_halt.ensures (halts-alone settings new own _ _ _ _ c.in-Err.halt
+    (halted-shared settings new own _ _ _ _ c.in-Err.halt _ _ c.play_whole.new.reader _ _ c.pieces.invariant.run c.in-Err.ensures.plays
     c.pieces.invariant.ended c.pieces.invariant.unread))
 
 pub pieces-preserved : goal.pieces-preserved
@@ -79,10 +81,12 @@ returns-in-NoMemory-clause-run g c = run-then _ _ _ c.pieces.invariant.steps c.i
 
 pub returns-in-NoMemory-clause-answers : goal.returns-in-NoMemory-clause-answers
 returns-in-NoMemory-clause-answers g c =
+    let settings = (state_of c.args.front.now.core).settings in
+    let new = state_of c.play_whole.new.front.core in
     let run = whole-shared _ _ _ _ _ _ _ _ _ _ _ _ c.pieces.invariant.run c.in-Ok.ensures.plays c.in-Ok.ensures.stays in
     let takes = c.in-NoMemory.ensures.takes in
-    let own = (c.pieces.invariant.alone _ (returns-in-NoMemory-clause-run g c)).own in
-    halts-by NoMemory (state_of c.args.front.now.core).settings.slots _ _ _ _ _ own (unfed-shared _ _ _ _ _ _ _ _ _ takes.0 run own takes.1 takes.2.1
+    let own = (c.pieces.invariant.alone new (returns-in-NoMemory-clause-run g c)).own in
+    halts-alone settings new own _ _ _ _ NoMemory (unfed-shared settings new own _ _ _ _ _ _ _ takes.0 run takes.1 takes.2.1
     (c.in-NoMemory.ensures.end ∙ c.pieces.invariant.ended) (c.in-NoMemory.ensures.faults ∙ c.pieces.invariant.unread))
 
 pub returns-in-Ok-play_whole-clause-run : goal.returns-in-Ok-play_whole-clause-run
@@ -104,10 +108,12 @@ returns-in-Err-play_whole-clause-run g c = run-then _ _ _ (run-then _ _ _ c.piec
 
 pub returns-in-Err-play_whole-clause-answers : goal.returns-in-Err-play_whole-clause-answers
 returns-in-Err-play_whole-clause-answers g c =
+    let settings = (state_of c.args.front.now.core).settings in
+    let new = state_of c.play_whole-2.new.front.core in
     let run = whole-shared _ _ _ _ _ _ _ _ _ _ _ _ c.pieces.invariant.run c.in-Ok.ensures.plays c.in-Ok.ensures.stays in
     let takes = c.in-Ended.ensures.takes in
     let plays = rw (c.finish.ensures, takes.2.0) at c.in-Err-play_whole.ensures.plays in
-    rw c.end_of_halt-in-Err-play_whole.ensures (halts-by c.in-Err-play_whole.halt _ _ _ _ _ _ (c.pieces.invariant.alone _ (returns-in-Err-play_whole-clause-run g c)).own
-    (ended-halted c.in-Err-play_whole.halt _ _ (state_of c.play_whole-2.new.front.core) _ c.play_whole-2.new.reader _ _ _ _ _ _ _ takes.0 run
-    (c.pieces.invariant.alone _ (returns-in-Err-play_whole-clause-run g c)).own takes.1 takes.2.1
+    let own = (c.pieces.invariant.alone new (returns-in-Err-play_whole-clause-run g c)).own in
+    rw c.end_of_halt-in-Err-play_whole.ensures (halts-alone settings new own _ _ _ _ c.in-Err-play_whole.halt
+    (ended-halted settings new own _ _ _ _ c.in-Err-play_whole.halt _ _ c.play_whole-2.new.reader _ _ _ takes.0 run takes.1 takes.2.1
     c.in-Ended.ensures.end plays))

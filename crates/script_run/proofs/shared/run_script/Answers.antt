@@ -1,19 +1,21 @@
-use Rattle.script_run.proofs.Words.{◌∙◌, ap, empty_core, State, sym}
-use Rattle.script_run.proofs.SharedEndLemmas.{none-shared, run-by, shared-by}
+-- Without workers the run has the core by itself, and with workers nothing is told of that.
+use Rattle.script_run.proofs.Words.{◌≡◌}
+use Rattle.script_run.proofs.SeatDoneLemmas.{shared-board}
+use Rattle.script_run.proofs.SharedEndLemmas.{shared-alone}
 use Rattle.script_run.proofs.shared.run_script.Goals as goal
 
-pub play_script-end-requires-clause-empty : goal.play_script-end-requires-clause-empty
-play_script-end-requires-clause-empty g c κs within =
-    c.in-Ok.ensures.core ∙ ap (λ (state : State). empty_core state.settings) (sym c.in-Ok.ensures.core)
+pub returns-then-settings-eq0-clause-answers : goal.returns-then-settings-eq0-clause-answers
+returns-then-settings-eq0-clause-answers g c =
+    shared-alone (Unit {0}) (c.args.settings.workers ≡ 0) c.args.settings c.run_on_one_thread.result.core c.run_on_one_thread.result.end
+    _ _ _ _ (λ none. tt) c.run_on_one_thread.ensures.answers
 
-pub returns-in_default-clause-answers : goal.returns-in_default-clause-answers
-returns-in_default-clause-answers g c = (none-shared _ _, tt)
+pub returns-then-settings-eq0-clause-run : goal.returns-then-settings-eq0-clause-run
+returns-then-settings-eq0-clause-run g c none = c.run_on_one_thread.ensures.run
 
-pub returns-clause-answers : goal.returns-clause-answers
-returns-clause-answers g c =
-    shared-by _ _ c.core_of.result c.play_script-end.new.front.core c.play_script-end.result _ _ _ _ c.core_of.ensures.own
-    (ap (λ (state : State). state.settings.slots) c.in-Ok.ensures.core) c.play_script-end.ensures.answers
+pub returns-else-settings-eq0-clause-answers : goal.returns-else-settings-eq0-clause-answers
+returns-else-settings-eq0-clause-answers g c =
+    shared-board c.args.settings c.run_with_workers.result.core c.run_with_workers.result.end _ _ _ _ c.if-settings-eq0.false
+    c.run_with_workers.ensures.answers
 
-pub returns-clause-run : goal.returns-clause-run
-returns-clause-run g c =
-    run-by c.core_of.result c.play_script-end.new.front.core _ c.args.settings c.core_of.ensures.own c.in-Ok.ensures.core c.play_script-end.ensures.run
+pub returns-else-settings-eq0-clause-run : goal.returns-else-settings-eq0-clause-run
+returns-else-settings-eq0-clause-run g c none = absurd (c.if-settings-eq0.false none)

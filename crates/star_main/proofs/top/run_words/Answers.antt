@@ -1,11 +1,13 @@
 use Rattle.std.proofs.Common.{◌∙◌, sym}
+use Rattle.core_state.specs.declared.settings.RunSettings.{RunSettings}
 use Rattle.star_main.proofs.HeadlineLemmas.{headline_unread, never_faulty}
 use Rattle.star_main.proofs.MadeLemmas.{made_unread, never_faulty_made}
 use Rattle.star_main.proofs.top.run_words.Goals as goal
 
 pub returns-in-Alone-clause-settings : goal.returns-in-Alone-clause-settings
 returns-in-Alone-clause-settings g c is =
-    let headline = c.run_each_alone.ensures.headline 1 in absurd (never_faulty headline.end (sym headline.told ∙ is))
+    let settings : RunSettings = record { workers = 0; slots = 1; batch = 1; seats = 1 } in
+    let headline = c.run_each_alone.ensures.headline settings in absurd (never_faulty headline.end (sym headline.told ∙ is))
 
 pub returns-in-Run-clause-settings : goal.returns-in-Run-clause-settings
 returns-in-Run-clause-settings g c is =

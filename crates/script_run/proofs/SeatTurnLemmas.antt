@@ -1,0 +1,241 @@
+-- A turn of a seat that gives statements to a core: what it finds, what it does, and what it leaves.
+use Rattle.script_run.proofs.Words.{◌++◌, ◌+◌, ◌<◌, ◌∙◌, ◌∷◌, ◌≡◌, ◌≢◌, [], after_submitting, after_taking, ap, append-nil, first_open, IfSome, IsRight, IsSound, length, List, Lives, next_ready, None, Option, Pending, Ready, ready_of, refl, RunSettings, Seat, seat_at, slice_get, Some, State, state_of, Statement, Submit, subst, sym, Took, ℕ, ⊎_elim}
+use Rattle.board_lock.specs.Seats.{IsOf, IsOutside, view_of}
+use Rattle.board_lock.specs.Small.{IsSameTeam}
+use Rattle.board_lock.specs.Views.{Keeps, entered, left}
+use Rattle.board_lock.specs.declared.seat.BoardLock.{BoardLock}
+use Rattle.board_lock.specs.declared.seat.BoardSeat.{BoardSeat}
+use Rattle.board_lock.specs.declared.view.View.{View}
+use Rattle.core_state.specs.Events.{after_event}
+use Rattle.core_state.specs.Found.{held_by}
+use Rattle.core_state.specs.Fronts.{Passes, SubmitsRow}
+use Rattle.core_state.specs.Rows.{AbandonsRow, IsMindful, SeatRow, Sight, empty_row, made_by, sight_of}
+use Rattle.core_state.specs.Sent.{Given}
+use Rattle.core_state.specs.State.{Flight}
+use Rattle.core_state.proofs.FrontLemmas.{goes-passes, goes-submits, goes-then}
+use Rattle.core_state.proofs.MoverLemmas.{mindful-none}
+use Rattle.core_state.proofs.RowLemmas.{submits-mindful, submits-row, takes-mindful}
+use Rattle.event_core.specs.Board.{core_entries, core_row, core_settings}
+use Rattle.event_core.specs.Parts.{Parts}
+use Rattle.worker_gate.specs.Left.{MovesHand}
+use Rattle.worker_gate.specs.Turns.{IsOutWith, IsSeated, sight_in}
+use Rattle.worker_gate.proofs.TurnLemmas.{FindsCore, seated-found}
+use Rattle.script_run.specs.SeatTurns.{Leaves, Stays, Submitted, TakesNext, TellsAsked}
+use Rattle.script_run.specs.declared.seat_turn.Asked.{Asked}
+use Rattle.script_run.specs.declared.seat_turn.Asked.TheVariants.{Got, Nothing, NotYet, Looked}
+use Rattle.script_run.proofs.OnLemmas.{passes-itself}
+use Rattle.script_run.proofs.TakenLemmas.{RowTells, TakesReply, WaitsForOpen, idle-next, took-first}
+
+-- Seats.
+
+-- the seats that were made and joined stay where nothing happens, one part behind another, and in a turn
+pub team-none : (seat : BoardSeat Parts) → IsSameTeam (view_of seat) (view_of seat)
+team-none seat = (refl, refl)
+
+pub team-then : (old between new : BoardSeat Parts) → IsSameTeam (view_of old) (view_of between)
+    → IsSameTeam (view_of between) (view_of new) → IsSameTeam (view_of old) (view_of new)
+team-then old between new first second = (second.0 ∙ first.0, second.1 ∙ first.1)
+
+pub team-left : (old new : BoardSeat Parts) (core : Parts) → view_of new ≡ left (view_of old) core → IsSameTeam (view_of old) (view_of new)
+team-left old new core view = (ap (λ (v : View Parts). v.made) view, ap (λ (v : View Parts). v.joined) view)
+
+-- What stays.
+
+-- a seat whose row is as it was sent and took nothing
+pub stays-passes : (seat : ℕ) (old new : Sight) → new.row.made ≡ made_by seat new.seen → Passes old new → Stays seat old new
+stays-passes seat old new made passes due waits = goes-passes seat old new due waits made passes
+
+pub stays-none : (seat : ℕ) (sight : Sight) → Stays seat sight sight
+stays-none seat sight due waits = goes-passes seat sight sight due waits waits.made (passes-itself sight)
+
+pub stays-then : (seat : ℕ) (old between new : Sight) → Stays seat old between → Stays seat between new → Stays seat old new
+stays-then seat old between new first second due waits =
+    let before = first due waits in
+    goes-then seat old between new due due due [] [] [] [] [] [] before (second due before.waits)
+
+-- where nothing has changed
+pub stays-same : (seat : ℕ) (old new : State) → new ≡ old → Stays seat (sight_of old seat) (sight_of new seat)
+stays-same seat old new same =
+    subst (λ state. Stays seat (sight_of old seat) (sight_of state seat)) (sym same) (stays-none seat (sight_of old seat))
+
+-- where its hand alone has changed
+pub stays-moved : (seat : ℕ) (old new : State) → MovesHand seat old new → Stays seat (sight_of old seat) (sight_of new seat)
+stays-moved seat old new moves = stays-passes seat (sight_of old seat) (sight_of new seat) refl (record {
+  submitted = ap (λ (row : SeatRow). row.submitted) moves.own;
+  made = ap (λ (row : SeatRow). row.made) moves.own;
+  pending = ap (λ (row : SeatRow). row.pending) moves.own;
+  taken = ap (λ (row : SeatRow). row.taken) moves.own;
+  since = [];
+  seen = moves.entries ∙ sym (append-nil old.entries);
+})
+
+-- it still waits for something then
+pub waits-moved : (seat : ℕ) (old new : State) → MovesHand seat old new → (seat_at old seat).pending ≢ [] → (seat_at new seat).pending ≢ []
+waits-moved seat old new moves waits none = waits (sym (ap (λ (row : SeatRow). row.pending) moves.own) ∙ none)
+
+-- and from what it knew to the core that it finds
+pub stays-found : (view : View Parts) (found : Parts) → FindsCore view found
+    → Stays view.number (sight_in view) (sight_of (state_of found) view.number)
+stays-found view found finds = stays-passes view.number (sight_in view) (sight_of (state_of found) view.number) refl (record {
+  submitted = ap (λ (row : SeatRow). row.submitted) finds.own;
+  made = ap (λ (row : SeatRow). row.made) finds.own;
+  pending = ap (λ (row : SeatRow). row.pending) finds.own;
+  taken = ap (λ (row : SeatRow). row.taken) finds.own;
+  since = finds.goes_on.0;
+  seen = sym finds.goes_on.1;
+})
+
+-- What is told behind what stays.
+
+pub submitted-behind : (statement : Statement) (seat : ℕ) (old between new : Sight) → Stays seat old between
+    → Submitted seat statement between new → Submitted seat statement old new
+submitted-behind statement seat old between new stays submitted due waits =
+    let before = stays due waits in
+    let sent = submitted due before.waits in (
+      sent.0,
+      sent.1,
+      sent.2,
+      goes-then seat old between new due due (due ++ sent.0 ∷ []) [] (sent.0 ∷ []) [] [] [] [] before sent.3,
+    )
+
+pub takes-behind : (ready : Ready) (seat : ℕ) (old between new : Sight) → Stays seat old between → TakesNext ready seat between new
+    → TakesNext ready seat old new
+takes-behind ready seat old between new stays takes due reply waits is =
+    let before = stays due waits in
+    let took = takes due reply before.waits is in record {
+      first = took.first;
+      rest = took.rest;
+      goes = goes-then seat old between new due due took.rest [] [] [] (took.first ∷ []) [] (reply ∷ []) before took.goes;
+    }
+
+pub asked-behind : (asked : Asked) (seat : ℕ) (old between new : Sight) → Stays seat old between → TellsAsked asked seat between new
+    → TellsAsked asked seat old new
+asked-behind (Got ready) seat old between new stays tells = takes-behind ready seat old between new stays tells
+asked-behind Nothing seat old between new stays tells = (stays-then seat old between new stays tells.0, tells.1)
+asked-behind NotYet seat old between new stays tells = stays-then seat old between new stays tells
+asked-behind (Looked look) seat old between new stays tells = (stays-then seat old between new stays tells.0, tells.1)
+
+-- A turn.
+
+-- what a seat left is what it sees of it
+pub sight-left : (old new : BoardSeat Parts) (core : Parts) → view_of new ≡ left (view_of old) core
+    → sight_in (view_of new) ≡ sight_of (state_of core) (view_of old).number
+sight-left old new core view = ap sight_in view
+
+-- what it did to the core that it found it did to what it knew
+pub turn-tells : (Tells : (seat : ℕ) → (old new : Sight) → Type 0)
+    → ((seat : ℕ) (old between new : Sight) → Stays seat old between → Tells seat between new → Tells seat old new)
+    → (old new : BoardSeat Parts) (found core : Parts) (seat : ℕ) → view_of new ≡ left (view_of old) core → FindsCore (view_of old) found
+    → seat ≡ (view_of old).number → Tells seat (sight_of (state_of found) seat) (sight_of (state_of core) seat)
+    → Tells (view_of old).number (sight_in (view_of old)) (sight_in (view_of new))
+turn-tells Tells behind old new found core seat view finds is tells =
+    behind (view_of old).number (sight_in (view_of old)) (sight_of (state_of found) (view_of old).number) (sight_in (view_of new))
+    (stays-found (view_of old) found finds)
+    (subst (Tells (view_of old).number (sight_of (state_of found) (view_of old).number)) (sym (sight-left old new core view))
+    (subst (λ n. Tells n (sight_of (state_of found) n) (sight_of (state_of core) n)) is tells))
+
+-- it let go what it waited for
+pub turn-leaves : (old new : BoardSeat Parts) (found core : Parts) (seat : ℕ) → view_of new ≡ left (view_of old) core
+    → FindsCore (view_of old) found → seat ≡ (view_of old).number
+    → AbandonsRow (sight_of (state_of found) seat) (sight_of (state_of core) seat)
+    → Leaves (view_of old).number (sight_in (view_of old)) (sight_in (view_of new))
+turn-leaves old new found core seat view finds is abandons =
+    subst (Leaves (view_of old).number (sight_in (view_of old))) (sym (sight-left old new core view)) (record {
+      since = finds.goes_on.0;
+      seen = own.seen ∙ sym finds.goes_on.1;
+      made = own.made ∙ ap (λ (row : SeatRow). row.made) finds.own;
+      all_made = refl;
+      submitted = own.submitted ∙ ap (λ (row : SeatRow). row.submitted) finds.own;
+      taken = own.taken ∙ ap (λ (row : SeatRow). row.taken) finds.own;
+    })
+  where
+    own : AbandonsRow (sight_of (state_of found) (view_of old).number) (sight_of (state_of core) (view_of old).number)
+    own = subst (λ n. AbandonsRow (sight_of (state_of found) n) (sight_of (state_of core) n)) is abandons
+
+-- a core that a seat found may be put back by it where steps of that seat alone have changed it
+abbrev pub KeepsBoard : Type 0
+KeepsBoard = (view : View Parts) (found core : Parts) → view.last ≡ Some found → IsMindful view.number (state_of found) (state_of core)
+    → Keeps core_row empty_row core_entries core_settings view core
+
+pub turn-keeps : KeepsBoard → (old inside : View Parts) (found core : Parts) (seat : ℕ) → inside ≡ entered old found → seat ≡ old.number
+    → IsMindful seat (state_of found) (state_of core) → Keeps core_row empty_row core_entries core_settings inside core
+turn-keeps keeps old inside found core seat enters is mindful =
+    keeps inside found core (ap (λ (view : View Parts). view.last) enters)
+    (subst (λ n. IsMindful n (state_of found) (state_of core)) (is ∙ sym (ap (λ (view : View Parts). view.number) enters)) mindful)
+
+-- what is said of what it left is said of the seat
+pub turn-out : (board : BoardLock Parts) (IsHeld : Option Flight → Type 0) (old new : BoardSeat Parts) (found core : Parts) (seat : ℕ)
+    → view_of new ≡ left (view_of old) core → IsOf board new → IsOutside new → IsSeated (view_of old) → FindsCore (view_of old) found
+    → IsMindful seat (state_of found) (state_of core) → seat ≡ (view_of old).number
+    → IsHeld (held_by (state_of core).scan.flights seat) → IsOutWith board IsHeld new
+turn-out board IsHeld old new found core seat view own outside seated finds mindful is held = record {
+  own = own;
+  outside = outside;
+  seated = subst IsSeated (sym view)
+      (subst (λ (settings : RunSettings). (view_of old).number < settings.seats) (sym mindful.settings)
+      (seated-found (view_of old) found (view_of old).number seated finds refl));
+  hand = subst (λ (v : View Parts). IsHeld (sight_in v).row.hand) (sym view)
+      (subst (λ n. IsHeld (held_by (state_of core).scan.flights n)) is held);
+}
+
+-- What a seat does while it has the core.
+
+-- a statement that was taken was submitted
+pub after-submitted : (seat : ℕ) (statement : Statement) (old new : State) → Took (Submit seat statement) old new
+    → new ≡ after_submitting seat statement old
+unfolding after_event
+after-submitted seat statement old new took = ⊎_elim (λ done. done) (λ spoilt. absurd spoilt) took.after
+
+-- what its row is then
+pub row-submitted : (seat : ℕ) (statement : Statement) (old new : State) → Took (Submit seat statement) old new
+    → SubmitsRow seat (old.numbers.statement + 1) statement (sight_of old seat) (sight_of new seat)
+row-submitted seat statement old new took =
+    subst (λ state. SubmitsRow seat (old.numbers.statement + 1) statement (sight_of old seat) (sight_of state seat))
+    (sym (after-submitted seat statement old new took)) (submits-row old seat statement took.enabled)
+
+pub mindful-submitted : (seat : ℕ) (statement : Statement) (old new : State) → Took (Submit seat statement) old new → IsMindful seat old new
+mindful-submitted seat statement old new took =
+    subst (IsMindful seat old) (sym (after-submitted seat statement old new took)) (submits-mindful old seat statement)
+
+pub submitted-took : (seat : ℕ) (statement : Statement) (old new : State) → Took (Submit seat statement) old new
+    → Submitted seat statement (sight_of old seat) (sight_of new seat)
+submitted-took seat statement old new took due waits = (
+  Given (old.numbers.statement + 1) (length old.entries) statement,
+  refl,
+  tt,
+  goes-submits seat (sight_of old seat) (sight_of new seat) due (old.numbers.statement + 1) statement waits refl
+      (row-submitted seat statement old new took),
+)
+
+-- where nothing has changed no row has
+pub mindful-same : (seat : ℕ) (old new : State) → new ≡ old → IsMindful seat old new
+mindful-same seat old new same = subst (IsMindful seat old) (sym same) (mindful-none seat old)
+
+-- a reply was taken: it is that to the first statement that the seat waited for
+pub takes-next : RowTells → (seat : ℕ) (old new : State) (ready : Ready) → IsSound old → Some (ready_of ready) ≡ next_ready old seat
+    → new ≡ after_taking seat old
+    → IfSome (slice_get (seat_at old seat).pending 0) (λ pending. IsRight old pending.statement pending.awaited (ready_of ready))
+    → TakesNext ready seat (sight_of old seat) (sight_of new seat)
+takes-next tells seat old new ready sound may taken right due reply waits is =
+    let takes : TakesReply seat old new ready reply = record { sound = sound; may = may; taken = taken; right = right; is = is } in
+    let took = took-first tells seat old new ready reply takes due waits in
+    record { first = took.first; rest = took.rest; goes = took.goes }
+
+pub mindful-taken : (seat : ℕ) (old new : State) → new ≡ after_taking seat old → IsMindful seat old new
+mindful-taken seat old new taken = subst (IsMindful seat old) (sym taken) (takes-mindful old seat)
+
+-- its hand is as it was
+pub hand-taken : (seat : ℕ) (old new : State) → new ≡ after_taking seat old
+    → held_by new.scan.flights seat ≡ held_by old.scan.flights seat
+hand-taken seat old new taken = ap (λ (state : State). held_by state.scan.flights seat) taken
+
+-- where no reply may be taken, and no query may still be answered, a seat waits for nothing
+pub asks-nothing : WaitsForOpen → (seat : ℕ) (state : State) → IsSound state → first_open state.lives (seat_at state seat) ≡ None
+    → next_ready state seat ≡ None → TellsAsked Nothing seat (sight_of state seat) (sight_of state seat)
+asks-nothing waits seat state sound none not_ready =
+    (stays-none seat (sight_of state seat), idle-next waits state seat sound none not_ready)
+
+-- a seat that waits for a query that may still be answered waits for something
+pub open-waits : (lives : Lives) (seat : Seat) (query : ℕ) → Some query ≡ first_open lives seat → seat.pending ≢ []
+open-waits lives seat query opens none =
+    let both : Some query ≡ None = opens ∙ ap (λ (pending : List Pending). first_open lives (record seat { pending = pending })) none in cc

@@ -1,0 +1,26 @@
+-- A query that is open and waited for is the seat's own, and may be abandoned.
+use Rattle.event_core.specs.Seen.{state_of}
+use Rattle.script_run.proofs.SeatLetLemmas.{lets-less, lets-more, starts-letting}
+use Rattle.script_run.proofs.seat_turn.abandon_pending.Goals as goal
+
+pub step-requires : goal.step-requires
+step-requires c = record { home = tt }
+
+pub queries-init : goal.queries-init
+queries-init c = starts-letting c.args.seat (state_of c.args.core.now) c.every_core_is_sound.ensures
+
+pub queries-smaller : goal.queries-smaller
+queries-smaller c =
+    lets-less c.args.seat (state_of c.args.core.now) (state_of c.queries.core) (state_of c.step.new.self) c.in-Some.query c.step.result
+    c.queries.invariant c.in-Some.ensures c.step.ensures.disabled c.step.ensures.memory c.step.ensures.taken
+
+pub queries-preserved : goal.queries-preserved
+queries-preserved c =
+    lets-more c.args.seat (state_of c.args.core.now) (state_of c.queries.core) (state_of c.step.new.self) c.in-Some.query c.step.result
+    c.queries.invariant c.in-Some.ensures c.step.ensures.disabled c.step.ensures.memory c.step.ensures.taken c.step.ensures.sound
+
+pub returns-clause-mindful : goal.returns-clause-mindful
+returns-clause-mindful c = c.queries.invariant.mindful
+
+pub returns-clause-abandons : goal.returns-clause-abandons
+returns-clause-abandons c = c.queries.invariant.abandons

@@ -1,0 +1,19 @@
+use Rattle.script_run.proofs.Words.{◌∙◌, ap, empty_core, State, sym}
+use Rattle.script_run.proofs.SharedEndLemmas.{none-shared, run-by, shared-by}
+use Rattle.script_run.proofs.shared.run_on_one_thread.Goals as goal
+
+pub play_script-end-requires-clause-empty : goal.play_script-end-requires-clause-empty
+play_script-end-requires-clause-empty g c κs within =
+    c.in-Ok.ensures.core ∙ ap (λ (state : State). empty_core state.settings) (sym c.in-Ok.ensures.core)
+
+pub returns-in_default-clause-answers : goal.returns-in_default-clause-answers
+returns-in_default-clause-answers g c = (none-shared _ _, tt)
+
+pub returns-clause-answers : goal.returns-clause-answers
+returns-clause-answers g c =
+    shared-by _ _ c.core_of.result c.play_script-end.new.front.core c.play_script-end.result _ _ _ _ c.core_of.ensures.own
+    (ap (λ (state : State). state.settings) c.in-Ok.ensures.core) c.play_script-end.ensures.answers
+
+pub returns-clause-run : goal.returns-clause-run
+returns-clause-run g c =
+    run-by c.core_of.result c.play_script-end.new.front.core _ c.args.settings c.core_of.ensures.own c.in-Ok.ensures.core c.play_script-end.ensures.run

@@ -1,0 +1,64 @@
+-- What a seat of a board that gives statements to the core leaves of what it knows, in a reader and at a sink.
+use Rattle.std.specs.Prelude.{◌≡◌, ◌≢◌, ℕ, Bool, List, [], Option, None, Result, IfOk}
+use Rattle.std.specs.List.{list_any}
+use Rattle.script_reader.specs.Reading.{Reading, StaysFed}
+use Rattle.script_reader.specs.declared.statement.Statement.{Statement}
+use Rattle.core_state.specs.Fronts.{IsDue}
+use Rattle.core_state.specs.Rows.{Sight}
+use Rattle.core_state.specs.Sent.{Sent}
+use Rattle.core_state.specs.State.{Flight}
+use Rattle.worker_gate.specs.Hands.{HasDoneIf}
+use Rattle.script_run.specs.Answer.{HasNoStatement}
+use Rattle.script_run.specs.Front.{LeavesSome, PlaysOn, Reads, UnlessHalted, halt_of}
+use Rattle.script_run.specs.Run.{is_refusal}
+use Rattle.script_run.specs.SeatTurns.{Stays, TakesNext}
+use Rattle.script_run.specs.declared.halt.Halt.{Halt}
+use Rattle.script_run.specs.declared.seat_front.Turned.{Turned}
+use Rattle.script_run.specs.declared.seat_front.Turned.TheVariants as turned
+use Rattle.script_run.specs.declared.seat_front.Waited.{Waited}
+use Rattle.script_run.specs.declared.seat_front.Waited.TheVariants as waited
+
+-- what is told of a seat that asked for its next reply, turn after turn: it took the reply, waits for none, or waits still
+abbrev pub TellsWaited : Waited → (seat : ℕ) → (old new : Sight) → Type 0
+TellsWaited (waited.Got ready) seat old new = TakesNext ready seat old new
+TellsWaited waited.Nothing seat old new = Stays seat old new × (new.row.pending ≡ [])
+TellsWaited waited.NotYet seat old new = Stays seat old new
+TellsWaited waited.NoMemory seat old new = Stays seat old new × (new.row.pending ≢ [])
+
+-- what is told behind one of these turns, and the work that was taken in it
+abbrev pub TellsTurned : Turned → (seat : ℕ) → (old new : Sight) → Type 0
+TellsTurned (turned.Goes next) seat old new = Stays seat old new
+TellsTurned (turned.Ends how) seat old new = TellsWaited how seat old new
+
+-- what is in the hand of the seat then: what the work is done for that is given back in the next turn, or nothing
+abbrev pub HasTurned : Turned → Option Flight → Type 0
+HasTurned (turned.Goes done) held = HasDoneIf done held
+HasTurned (turned.Ends how) held = held ≡ None
+
+-- what a seat did with statements, whatever others did meanwhile, and whether some reply that was written is a refusal
+abbrev pub SeatPlaysBy : Result Bool Halt → (seat : ℕ) → (old : Sight) → (due : List Sent) → List Statement → (Left : Type 0) → (new : Sight)
+    → (taken taken' : Option (List ℕ)) → Type 0
+SeatPlaysBy result seat old due statements Left new taken taken' =
+    (on : PlaysOn (halt_of result) seat old due statements Left new taken taken')
+    × IfOk result (λ refused. refused ≡ list_any is_refusal on.replies)
+
+-- so it is whatever the seat waits for
+abbrev pub SeatPlays : Result Bool Halt → (seat : ℕ) → (old : Sight) → List Statement → (new : Sight) → (taken taken' : Option (List ℕ)) → Type 0
+SeatPlays result seat old statements new taken taken' = (due : List Sent) → IsDue seat old due
+    → SeatPlaysBy result seat old due statements ⊥ new taken taken'
+
+-- the statements that are whole were read and given to the core by a seat: all of them, or those before the replies halted
+pub record SeatReads (halted : Option Halt) (seat : ℕ) (old : Sight) (due : List Sent) (waits : Reading) (new : Sight) (waits' : Reading)
+    (taken taken' : Option (List ℕ)) : Type 0 where
+  pub statements : List Statement
+  pub behind : Reading
+  pub reads : Reads waits statements behind
+  pub stays : StaysFed waits behind
+  pub on : PlaysOn halted seat old due statements (LeavesSome behind) new taken taken'
+  pub all : UnlessHalted halted ((behind ≡ waits') × HasNoStatement waits')
+
+-- so it is whatever the seat waits for, and whether some reply that was written is a refusal
+abbrev pub SeatPlaysWhole : Result Bool Halt → (seat : ℕ) → (old : Sight) → Reading → (new : Sight) → Reading → (taken taken' : Option (List ℕ)) → Type 0
+SeatPlaysWhole result seat old waits new waits' taken taken' = (due : List Sent) → IsDue seat old due
+    → (reads : SeatReads (halt_of result) seat old due waits new waits' taken taken')
+    × IfOk result (λ refused. refused ≡ list_any is_refusal reads.on.replies)

@@ -1,0 +1,54 @@
+-- What a turn of a seat that gives statements to a core and takes replies leaves of what the seat knows.
+use Rattle.std.specs.Prelude.{◌≡◌, ◌≢◌, ℕ, List, [], ◌∷◌, ◌++◌, Option, None}
+use Rattle.script_reader.specs.declared.statement.Statement.{Statement}
+use Rattle.reply_text.specs.declared.reply.Reply.{Reply}
+use Rattle.core_state.specs.Fronts.{Goes, IsDue}
+use Rattle.core_state.specs.Rows.{Sight, made_by}
+use Rattle.core_state.specs.Sent.{IsGiven, Sent, statement_in}
+use Rattle.core_state.specs.State.{Entry, Flight}
+use Rattle.event_core.specs.Replies.{IsReplyOf}
+use Rattle.event_core.specs.declared.replies.Ready.{Ready}
+use Rattle.worker_gate.specs.Looks.{HasLooked}
+use Rattle.script_run.specs.declared.seat_turn.Asked.{Asked}
+use Rattle.script_run.specs.declared.seat_turn.Asked.TheVariants.{Got, Nothing, NotYet, Looked}
+
+-- a seat sent nothing and took nothing, whatever others did
+abbrev pub Stays : (seat : ℕ) → (old new : Sight) → Type 0
+Stays seat old new = (due : List Sent) → IsDue seat old due → Goes seat old due new due [] [] []
+
+-- a seat sent this statement
+abbrev pub Submitted : (seat : ℕ) → Statement → (old new : Sight) → Type 0
+Submitted seat statement old new = (due : List Sent) → IsDue seat old due
+    → (one : Sent) × (statement_in one ≡ statement) × IsGiven one × Goes seat old due new (due ++ one ∷ []) (one ∷ []) [] []
+
+-- a seat took the reply to the first statement that it waited for
+pub record TookNext (seat : ℕ) (old : Sight) (due : List Sent) (new : Sight) (reply : Reply) : Type 0 where
+  pub first : Sent
+  pub rest : List Sent
+  pub goes : Goes seat old due new rest [] (first ∷ []) (reply ∷ [])
+
+-- so it is whatever it waited for, and whatever reply the taken one is
+abbrev pub TakesNext : Ready → (seat : ℕ) → (old new : Sight) → Type 0
+TakesNext ready seat old new = (due : List Sent) → (reply : Reply) → IsDue seat old due → IsReplyOf ready reply
+    → TookNext seat old due new reply
+
+-- what a turn tells in which a seat asked for its next reply
+abbrev pub TellsAsked : Asked → (seat : ℕ) → (old new : Sight) → Type 0
+TellsAsked (Got ready) seat old new = TakesNext ready seat old new
+TellsAsked Nothing seat old new = Stays seat old new × (new.row.pending ≡ [])
+TellsAsked NotYet seat old new = Stays seat old new
+TellsAsked (Looked look) seat old new = Stays seat old new × (new.row.pending ≢ [])
+
+-- what is in the hand of a seat behind such a turn: what it found to do, or nothing
+abbrev pub HasAsked : Asked → Option Flight → Type 0
+HasAsked (Looked look) held = HasLooked look held
+HasAsked other held = held ≡ None
+
+-- a seat left what it waited for: it sent and took nothing, the entries that came are of others, and its row has those that it made
+pub record Leaves (seat : ℕ) (old new : Sight) : Type 0 where
+  pub since : List Entry
+  pub seen : new.seen ≡ old.seen ++ since
+  pub made : new.row.made ≡ old.row.made
+  pub all_made : new.row.made ≡ made_by seat new.seen
+  pub submitted : new.row.submitted ≡ old.row.submitted
+  pub taken : new.row.taken ≡ old.row.taken

@@ -1,0 +1,296 @@
+//! The front of a board: a seat that gives statements to the core and writes the replies, whatever
+//! other seats do meanwhile. Its turns with the core are in `seat_turn`.
+ghost use Rattle.std.specs.Prelude.{◌≡◌, ◌≢◌, ◌<◌, ℕ, [], ◌∷◌, IsTrue, None, false, IfOk, OnOk};
+ghost use Rattle.board_lock.specs.Seats.{IsSameSeat, view_of};
+ghost use Rattle.board_lock.specs.Small.{IsSameTeam};
+ghost use Rattle.script_reader.specs.Reading.{StaysFed};
+ghost use Rattle.script_reader.specs.declared.statement.Statement.{Statement};
+ghost use Rattle.core_state.specs.Rows.{Sight};
+ghost use Rattle.worker_gate.specs.Looks.{HasLooked};
+ghost use Rattle.worker_gate.specs.Turns.{IsOutWith, IsReady, sight_in};
+ghost use Rattle.script_run.specs.Answer.{CountsHalt};
+ghost use Rattle.script_run.specs.SeatFront.{HasTurned, SeatPlays, SeatPlaysWhole};
+ghost use Rattle.script_run.specs.SeatFront.{TellsTurned, TellsWaited};
+ghost use Rattle.script_run.specs.SeatTurns.{TellsAsked};
+ghost use Rattle.script_run.specs.Waiting.{is_wait as means_to_wait};
+ghost use Rattle.script_run.specs.declared.seat_turn.Asked.TheVariants as asked;
+
+use crate::front::write_reply;
+use crate::halt::Halt;
+use crate::seat_turn::{Asked, ask_turn, submit_turn};
+use crate::waiting::is_wait;
+use board_lock::{BoardLock, BoardSeat};
+use event_core::{Core, Ready, Work};
+use reply_text::Reply;
+use script_reader::{Next, ScriptReader, Statement};
+use star_io::Sink;
+use star_values::NoMemory;
+use std::alloc::Global;
+use std::sync::Wait;
+use worker_gate::{Gate, Look, do_work};
+
+/// A seat of a board that gives statements to the core and writes the replies to them, in order.
+#[derive(Drop)]
+pub(crate) struct SeatFront {
+    pub(crate) alloc: Global,
+
+    pub(crate) seat: BoardSeat<Core>,
+
+    /// How many replies it waits for. It decides when they are waited for, and no promise rests on
+    /// it.
+    waiting: u64,
+
+    /// With fewer than so many it goes on and gives the next statement.
+    most: u64,
+}
+
+/// What came of asking for the next reply.
+#[derive(Drop)]
+pub(crate) enum Waited {
+    /// The reply, which was taken.
+    Got(Ready),
+
+    /// The seat waits for no reply.
+    Nothing,
+
+    /// It is not there yet, and the seat was not to work for it.
+    NotYet,
+
+    /// It is not there yet, and no memory was left to clear a filter of a slot.
+    NoMemory,
+}
+
+/// What follows a turn in which the next reply was asked for.
+#[derive(Drop)]
+enum Turned {
+    /// Another turn, in which a work is given back if there is one.
+    Goes(Option<Work>),
+
+    /// The end of asking.
+    Ends(Waited),
+}
+
+impl SeatFront {
+    /// A seat that waits for no reply. It goes on giving statements while it waits for fewer than
+    /// `most` replies.
+    pub(crate) fn new(alloc: Global, seat: BoardSeat<Core>, most: u32) -> SeatFront
+        ensures seat { result.seat ≡ seat }
+    {
+        SeatFront {
+            alloc,
+            seat,
+            waiting: 0,
+            most: u64::from(most),
+        }
+    }
+
+    /// Takes the next reply. Where it is not there yet, a patient front works until it is.
+    fn next_reply<R: Wait, G: Gate>(
+        &mut self,
+        rt: &R,
+        board: &BoardLock<Core>,
+        gate: &G,
+        patient: bool,
+    ) -> Waited
+        requires { IsReady board.now None self.old.seat }
+        ensures ready { IsReady board.now None self.new.seat }
+        ensures same { IsSameSeat self.old.seat self.new.seat }
+        ensures team { IsSameTeam (view_of self.old.seat) (view_of self.new.seat) }
+        ensures tells { TellsWaited result (view_of self.old.seat).number
+            (sight_in (view_of self.old.seat)) (sight_in (view_of self.new.seat)) }
+        ensures patient { IsTrue patient → result ≢ Waited.NotYet }
+    {
+        let mut done = None;
+        'turns: for _ in rt.forever() {
+            match ask_and_work(rt, board, &mut self.seat, gate, done, patient) {
+                Turned::Goes(next) => done = next,
+                Turned::Ends(waited) => return waited,
+            }
+        }
+        unreachable!()
+    }
+
+    /// Writes the replies that are there, in their order, and tells whether one of them is a
+    /// refusal. It waits for all of them where `all` says so, and else for as many as leave fewer
+    /// than `most` that are waited for.
+    pub(crate) fn write_replies<R: Wait, G: Gate, K: Sink>(
+        &mut self,
+        rt: &R,
+        board: &BoardLock<Core>,
+        gate: &G,
+        all: bool,
+        sink: &mut K,
+    ) -> Result<bool, Halt>
+        requires { IsReady board.now None self.old.seat }
+        ensures ready { IsReady board.now None self.new.seat }
+        ensures same { IsSameSeat self.old.seat self.new.seat }
+        ensures team { IsSameTeam (view_of self.old.seat) (view_of self.new.seat) }
+        ensures plays { SeatPlays result (view_of self.old.seat).number
+            (sight_in (view_of self.old.seat)) [] (sight_in (view_of self.new.seat))
+            (K.writing sink.old).taken (K.writing sink.new).taken }
+        ensures all { IsTrue all →
+            OnOk result ((sight_in (view_of self.new.seat)).row.pending ≡ []) }
+        ensures faults { CountsHalt result (K.writing sink.old) (K.writing sink.new) }
+        ensures apart { K.reading_side sink.new ≡ K.reading_side sink.old }
+    {
+        let mut refused = false;
+        'replies: for _ in rt.forever() {
+            let patient = is_patient(all, self.waiting, self.most);
+            match self.next_reply(rt, board, gate, patient) {
+                Waited::Got(ready) => {
+                    self.waiting = self.waiting.saturating_sub(1);
+                    let reply = ready.into_reply();
+                    let written = write_reply(self.alloc, &reply, sink);
+                    drop(reply);
+                    refused |= written?;
+                }
+                Waited::Nothing => return Ok(refused),
+                Waited::NotYet => return Ok(refused),
+                Waited::NoMemory => return Err(Halt::NoMemory),
+            }
+        }
+        unreachable!()
+    }
+
+    /// Gives a statement to the core, and writes the replies that are there. At a `wait`, and
+    /// before the reply to a statement for which no memory was left, it waits for all replies.
+    /// Tells whether one of the replies is a refusal.
+    pub(crate) fn play<R: Wait, G: Gate, K: Sink>(
+        &mut self,
+        rt: &R,
+        board: &BoardLock<Core>,
+        gate: &G,
+        statement: Statement,
+        sink: &mut K,
+    ) -> Result<bool, Halt>
+        requires { IsReady board.now None self.old.seat }
+        ensures ready { IsReady board.now None self.new.seat }
+        ensures same { IsSameSeat self.old.seat self.new.seat }
+        ensures team { IsSameTeam (view_of self.old.seat) (view_of self.new.seat) }
+        ensures plays { SeatPlays result (view_of self.old.seat).number
+            (sight_in (view_of self.old.seat)) (statement ∷ []) (sight_in (view_of self.new.seat))
+            (K.writing sink.old).taken (K.writing sink.new).taken }
+        ensures faults { CountsHalt result (K.writing sink.old) (K.writing sink.new) }
+        ensures apart { K.reading_side sink.new ≡ K.reading_side sink.old }
+    {
+        let waits = self.waits_at(&statement)?;
+        if !submit_turn(rt, board, &mut self.seat, statement) {
+            return self.lose(rt, board, gate, sink);
+        }
+        self.waiting = self.waiting.saturating_add(1);
+        self.write_replies(rt, board, gate, waits, sink)
+    }
+
+    /// Whether a statement is a `wait` before which some reply is waited for.
+    fn waits_at(&self, statement: &Statement) -> Result<bool, NoMemory>
+        ensures { IfOk result (λ waits. IsTrue waits →
+            IsTrue (means_to_wait statement.now) × (0 < self.now.waiting)) }
+    {
+        Ok(self.waiting > 0 && is_wait(self.alloc, statement)?)
+    }
+
+    /// A statement for which no memory was left: the replies before its own are written, and its
+    /// own is `memory`.
+    fn lose<R: Wait, G: Gate, K: Sink>(
+        &mut self,
+        rt: &R,
+        board: &BoardLock<Core>,
+        gate: &G,
+        sink: &mut K,
+    ) -> Result<bool, Halt>
+        requires { IsReady board.now None self.old.seat }
+        ensures ready { IsReady board.now None self.new.seat }
+        ensures same { IsSameSeat self.old.seat self.new.seat }
+        ensures team { IsSameTeam (view_of self.old.seat) (view_of self.new.seat) }
+        ensures plays { (statement : Statement) → SeatPlays result (view_of self.old.seat).number
+            (sight_in (view_of self.old.seat)) (statement ∷ []) (sight_in (view_of self.new.seat))
+            (K.writing sink.old).taken (K.writing sink.new).taken }
+        ensures faults { CountsHalt result (K.writing sink.old) (K.writing sink.new) }
+        ensures apart { K.reading_side sink.new ≡ K.reading_side sink.old }
+    {
+        self.write_replies(rt, board, gate, true, sink)?;
+        write_reply(self.alloc, &Reply::Memory, sink)
+    }
+
+    /// Gives the statements that are whole to the core, one after the other, and tells whether some
+    /// reply that was written meanwhile is a refusal.
+    pub(crate) fn play_whole<R: Wait, G: Gate, K: Sink>(
+        &mut self,
+        rt: &R,
+        board: &BoardLock<Core>,
+        gate: &G,
+        reader: &mut ScriptReader,
+        sink: &mut K,
+    ) -> Result<bool, Halt>
+        requires { IsReady board.now None self.old.seat }
+        ensures ready { IsReady board.now None self.new.seat }
+        ensures same { IsSameSeat self.old.seat self.new.seat }
+        ensures team { IsSameTeam (view_of self.old.seat) (view_of self.new.seat) }
+        ensures plays { SeatPlaysWhole result (view_of self.old.seat).number
+            (sight_in (view_of self.old.seat)) reader.old
+            (sight_in (view_of self.new.seat)) reader.new
+            (K.writing sink.old).taken (K.writing sink.new).taken }
+        ensures stays { StaysFed reader.old reader.new }
+        ensures faults { CountsHalt result (K.writing sink.old) (K.writing sink.new) }
+        ensures apart { K.reading_side sink.new ≡ K.reading_side sink.old }
+    {
+        let mut refused = false;
+        'statements: loop {
+            let Next::Got(statement) = reader.next_statement()? else {
+                return Ok(refused);
+            };
+            refused |= self.play(rt, board, gate, statement, sink)?;
+        }
+    }
+}
+
+/// Whether the next reply is to be waited for: all of them are, or too many are waited for.
+fn is_patient(all: bool, waiting: u64, most: u64) -> bool
+    ensures all { IsTrue all → IsTrue result }
+    ensures few { (result ≡ false) → waiting < most }
+{
+    all || waiting >= most
+}
+
+/// One turn in which the next reply is asked for, and outside of it the work that was taken in it.
+fn ask_and_work<R: Wait, G: Gate>(
+    rt: &R,
+    board: &BoardLock<Core>,
+    seat: &mut BoardSeat<Core>,
+    gate: &G,
+    done: Option<Work>,
+    patient: bool,
+) -> Turned
+    requires { IsReady board.now done seat.old }
+    ensures out { IsOutWith board.now (HasTurned result) seat.new }
+    ensures same { IsSameSeat seat.old seat.new }
+    ensures team { IsSameTeam (view_of seat.old) (view_of seat.new) }
+    ensures tells { TellsTurned result (view_of seat.old).number
+        (sight_in (view_of seat.old)) (sight_in (view_of seat.new)) }
+    ensures patient { IsTrue patient → result ≢ Turned.Ends Waited.NotYet }
+{
+    match ask_turn(rt, board, seat, done, patient) {
+        Asked::Got(ready) => Turned::Ends(Waited::Got(ready)),
+        Asked::Nothing => Turned::Ends(Waited::Nothing),
+        Asked::NotYet => Turned::Ends(Waited::NotYet),
+        Asked::Looked(look) => work_outside(seat, look, gate),
+    }
+}
+
+/// Outside of a turn: lets a batch that was taken in it pass its filter. Another turn follows,
+/// unless no memory was left.
+fn work_outside<G: Gate>(seat: &BoardSeat<Core>, look: Look, gate: &G) -> Turned
+    requires { HasLooked look (sight_in (view_of seat.now)).row.hand }
+    ensures hand { HasTurned result (sight_in (view_of seat.now)).row.hand }
+    ensures tells { (number : ℕ) (old new : Sight) →
+        TellsAsked (asked.Looked look) number old new → TellsTurned result number old new }
+    ensures not_yet { result ≢ Turned.Ends Waited.NotYet }
+{
+    match look {
+        Look::Got(work) => Turned::Goes(Some(do_work(work, seat.number(), gate))),
+        Look::Did => Turned::Goes(None),
+        Look::Rest => Turned::Goes(None),
+        Look::Closed => Turned::Goes(None),
+        Look::Memory => Turned::Ends(Waited::NoMemory),
+    }
+}

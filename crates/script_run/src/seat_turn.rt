@@ -1,0 +1,250 @@
+//! The turns of a seat that gives statements to a core: in each it submits a statement, or asks for
+//! its next reply. In the last it lets go what it still waits for.
+ghost use Rattle.std.specs.Prelude.{◌≡◌, ◌≢◌, ◌<◌, [], IsTrue, None, false};
+ghost use Rattle.board_lock.specs.Seats.{IsSameSeat, view_of};
+ghost use Rattle.board_lock.specs.Small.{IsSameTeam};
+ghost use Rattle.core_state.specs.Found.{held_by};
+ghost use Rattle.core_state.specs.Rows.{AbandonsRow, IsMindful, sight_of};
+ghost use Rattle.core_state.specs.Submitting.{next_ready, seat_at};
+ghost use Rattle.event_core.specs.Seen.{state_of};
+ghost use Rattle.worker_gate.specs.Hands.{HasDoneIf};
+ghost use Rattle.worker_gate.specs.Left.{MovesHand};
+ghost use Rattle.worker_gate.specs.Turns.{IsOutWith, IsReady, sight_in};
+ghost use Rattle.script_run.specs.SeatTurns.{HasAsked, Leaves, Stays, Submitted, TellsAsked};
+
+use board_lock::{BoardLock, BoardSeat};
+use core_state::{Event, a_reply_that_may_be_taken_is_right, a_row_tells_the_reply};
+use event_core::{Core, Ready, Work, every_core_is_sound, own_steps_keep_a_board};
+use script_reader::Statement;
+use std::sync::Wait;
+use worker_gate::{Look, batch_of, bell_for, give_if_done, ring_or_rest, worker_look};
+
+/// What came of a turn in which a seat asked for its next reply.
+#[derive(Debug, Drop)]
+pub(crate) enum Asked {
+    /// The reply, which was taken.
+    Got(Ready),
+
+    /// The seat waits for no reply.
+    Nothing,
+
+    /// It is not there yet, and the seat was not to work for it.
+    NotYet,
+
+    /// It is not there yet, and this was found to do meanwhile.
+    Looked(Look),
+}
+
+/// Gives a statement to the core in a turn of the seat. Answers whether there was memory for it;
+/// else it changed nothing.
+pub(crate) fn submit_turn<R: Wait>(
+    rt: &R,
+    board: &BoardLock<Core>,
+    seat: &mut BoardSeat<Core>,
+    statement: Statement,
+) -> bool
+    requires { IsReady board.now None seat.old }
+    ensures ready { IsReady board.now None seat.new }
+    ensures same { IsSameSeat seat.old seat.new }
+    ensures team { IsSameTeam (view_of seat.old) (view_of seat.new) }
+    ensures submits { IsTrue result → Submitted (view_of seat.old).number statement
+        (sight_in (view_of seat.old)) (sight_in (view_of seat.new)) }
+    ensures lost { (result ≡ false) → Stays (view_of seat.old).number
+        (sight_in (view_of seat.old)) (sight_in (view_of seat.new)) }
+{
+    // It is called for what it ensures.
+    own_steps_keep_a_board();
+    let own = seat.number();
+    let mut core = board.enter(rt, seat);
+    let given = submit(&mut core, own, statement);
+    board.leave(seat, core);
+    board.ring(rt);
+    given
+}
+
+/// Gives a statement to a core as that of a seat. Answers whether there was memory for it.
+fn submit(core: &mut Core, seat: u32, statement: Statement) -> bool
+    ensures mindful { IsMindful seat (state_of core.old) (state_of core.new) }
+    ensures hand { held_by (state_of core.new).scan.flights seat
+        ≡ held_by (state_of core.old).scan.flights seat }
+    ensures submits { IsTrue result → Submitted seat statement
+        (sight_of (state_of core.old) seat) (sight_of (state_of core.new) seat) }
+    ensures lost { (result ≡ false) → core.new ≡ core.old }
+{
+    match core.step(Event::Submit { seat, statement }) {
+        Ok(()) => true,
+        Err(_) => false,
+    }
+}
+
+/// Gives back a work that is done, and asks for the seat's next reply. Where it is not there yet
+/// and the seat is patient, it looks for work.
+pub(crate) fn ask_turn<R: Wait>(
+    rt: &R,
+    board: &BoardLock<Core>,
+    seat: &mut BoardSeat<Core>,
+    done: Option<Work>,
+    patient: bool,
+) -> Asked
+    requires { IsReady board.now done seat.old }
+    ensures out { IsOutWith board.now (HasAsked result) seat.new }
+    ensures same { IsSameSeat seat.old seat.new }
+    ensures team { IsSameTeam (view_of seat.old) (view_of seat.new) }
+    ensures asks { TellsAsked result (view_of seat.old).number
+        (sight_in (view_of seat.old)) (sight_in (view_of seat.new)) }
+    ensures patient { IsTrue patient → result ≢ Asked.NotYet }
+{
+    // It is called for what it ensures.
+    own_steps_keep_a_board();
+    let own = seat.number();
+    let given = batch_of(&done);
+    let mut core = board.enter(rt, seat);
+    let asked = give_and_ask(&mut core, own, done, patient);
+    let bell = bell_behind(rt, board, &asked);
+    board.leave(seat, core);
+    ring_behind(rt, board, &asked, given, bell);
+    asked
+}
+
+/// What a seat that asks for its next reply does with the core while it has its turn.
+fn give_and_ask(core: &mut Core, seat: u32, done: Option<Work>, patient: bool) -> Asked
+    requires seat { seat < (state_of core.old).settings.seats }
+    requires hand { HasDoneIf done (held_by (state_of core.old).scan.flights seat) }
+    ensures tells { TellsAsked result seat
+        (sight_of (state_of core.old) seat) (sight_of (state_of core.new) seat) }
+    ensures mindful { IsMindful seat (state_of core.old) (state_of core.new) }
+    ensures hand { HasAsked result (held_by (state_of core.new).scan.flights seat) }
+    ensures patient { IsTrue patient → result ≢ Asked.NotYet }
+{
+    give_if_done(core, seat, done);
+    ask(core, seat, patient)
+}
+
+/// Takes the seat's next reply. Where it is not there yet and the seat is patient, it looks for
+/// work. Its hand is empty.
+fn ask(core: &mut Core, seat: u32, patient: bool) -> Asked
+    requires seat { seat < (state_of core.old).settings.seats }
+    requires empty { held_by (state_of core.old).scan.flights seat ≡ None }
+    ensures tells { TellsAsked result seat
+        (sight_of (state_of core.old) seat) (sight_of (state_of core.new) seat) }
+    ensures mindful { IsMindful seat (state_of core.old) (state_of core.new) }
+    ensures hand { HasAsked result (held_by (state_of core.new).scan.flights seat) }
+    ensures patient { IsTrue patient → result ≢ Asked.NotYet }
+{
+    // Both are called for what they ensure.
+    a_row_tells_the_reply();
+    every_core_is_sound(core);
+    match core.take_reply(seat) {
+        Some(ready) => Asked::Got(ready),
+        None => wait_or_look(core, seat, patient),
+    }
+}
+
+/// What a seat does of which no reply may be taken. Its hand is empty.
+fn wait_or_look(core: &mut Core, seat: u32, patient: bool) -> Asked
+    requires seat { seat < (state_of core.old).settings.seats }
+    requires empty { held_by (state_of core.old).scan.flights seat ≡ None }
+    requires none { next_ready (state_of core.old) seat ≡ None }
+    ensures tells { TellsAsked result seat
+        (sight_of (state_of core.old) seat) (sight_of (state_of core.new) seat) }
+    ensures moves { MovesHand seat (state_of core.old) (state_of core.new) }
+    ensures hand { HasAsked result (held_by (state_of core.new).scan.flights seat) }
+    ensures patient { IsTrue patient → result ≢ Asked.NotYet }
+{
+    // Both are called for what they ensure.
+    a_reply_that_may_be_taken_is_right();
+    every_core_is_sound(core);
+    match core.first_pending(seat) {
+        Some(_) => look_if_patient(core, seat, patient),
+        None => Asked::Nothing,
+    }
+}
+
+/// Looks for work, if the seat is patient. It waits for a reply, and its hand is empty.
+fn look_if_patient(core: &mut Core, seat: u32, patient: bool) -> Asked
+    requires seat { seat < (state_of core.old).settings.seats }
+    requires empty { held_by (state_of core.old).scan.flights seat ≡ None }
+    requires waits { (seat_at (state_of core.old) seat).pending ≢ [] }
+    ensures tells { TellsAsked result seat
+        (sight_of (state_of core.old) seat) (sight_of (state_of core.new) seat) }
+    ensures moves { MovesHand seat (state_of core.old) (state_of core.new) }
+    ensures hand { HasAsked result (held_by (state_of core.new).scan.flights seat) }
+    ensures patient { IsTrue patient → result ≢ Asked.NotYet }
+{
+    if !patient {
+        return Asked::NotYet;
+    }
+    Asked::Looked(worker_look(core, seat))
+}
+
+/// The bell's number, where the seat looked for work and is to rest. It is read in the turn.
+fn bell_behind<R: Wait>(rt: &R, board: &BoardLock<Core>, asked: &Asked) -> Option<u32> {
+    match asked {
+        Asked::Looked(look) => bell_for(rt, board, look),
+        Asked::Got(_) | Asked::Nothing | Asked::NotYet => None,
+    }
+}
+
+/// Rings where others may have something to do that they had not before the turn, and rests where
+/// the seat is to.
+fn ring_behind<R: Wait>(
+    rt: &R,
+    board: &BoardLock<Core>,
+    asked: &Asked,
+    given: Option<u64>,
+    bell: Option<u32>,
+) {
+    match asked {
+        Asked::Looked(look) => ring_or_rest(rt, board, look, given, bell),
+        Asked::Got(_) | Asked::Nothing | Asked::NotYet => ring_if_given(rt, board, given),
+    }
+}
+
+/// Rings where a batch was given back.
+fn ring_if_given<R: Wait>(rt: &R, board: &BoardLock<Core>, given: Option<u64>) {
+    if given.is_some() {
+        board.ring(rt);
+    }
+}
+
+/// Lets go what the seat still waits for, marks the core closing, and rings for the workers.
+pub(crate) fn end_turn<R: Wait>(rt: &R, board: &BoardLock<Core>, seat: &mut BoardSeat<Core>)
+    requires { IsReady board.now None seat.old }
+    ensures ready { IsReady board.now None seat.new }
+    ensures same { IsSameSeat seat.old seat.new }
+    ensures team { IsSameTeam (view_of seat.old) (view_of seat.new) }
+    ensures leaves { Leaves (view_of seat.old).number
+        (sight_in (view_of seat.old)) (sight_in (view_of seat.new)) }
+{
+    // It is called for what it ensures.
+    own_steps_keep_a_board();
+    let own = seat.number();
+    let mut core = board.enter(rt, seat);
+    let_go(&mut core, own);
+    board.leave(seat, core);
+    board.ring(rt);
+}
+
+/// Abandons what a seat waits for and may still be answered, and marks the core closing.
+fn let_go(core: &mut Core, seat: u32)
+    ensures mindful { IsMindful seat (state_of core.old) (state_of core.new) }
+    ensures abandons { AbandonsRow
+        (sight_of (state_of core.old) seat) (sight_of (state_of core.new) seat) }
+{
+    abandon_pending(core, seat);
+    core.mark_closing();
+}
+
+/// Abandons each query that a seat waits for and that may still be answered.
+fn abandon_pending(core: &mut Core, seat: u32)
+    ensures mindful { IsMindful seat (state_of core.old) (state_of core.new) }
+    ensures abandons { AbandonsRow
+        (sight_of (state_of core.old) seat) (sight_of (state_of core.new) seat) }
+{
+    // It is called for what it ensures.
+    every_core_is_sound(core);
+    'queries: while let Some(query) = core.first_pending(seat) {
+        // It may come, and wants no memory.
+        let _ = core.step(Event::Abandon { query });
+    }
+}

@@ -1,0 +1,5 @@
+use Rattle.star_main.proofs.WorkLemmas.{within-limits}
+use Rattle.star_main.proofs.top.run_settings.Goals as goal
+
+pub returns-clause-within : goal.returns-clause-within
+returns-clause-within c = within-limits c.args.settings.now c.requires
