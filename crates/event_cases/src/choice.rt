@@ -1,12 +1,22 @@
 //! Which event comes next, and how it is told.
-use crate::words::NOTHING;
-use core_state::Event;
+use crate::event::words_of_event;
+use crate::told::{NOT_UNDERSTOOD, NOTHING, tell_number, tell_words};
 use event_core::{Core, EventKind};
 use std::alloc::AllocError;
-use std::fmt::Write;
+
+/// Tells an event of the kind that a word says, or the batch that may be taken.
+pub(crate) fn tell_next(core: &Core, word: &str, told: &mut String) -> Result<(), AllocError> {
+    if word == "take" {
+        return tell_number(core.next_take(), told);
+    }
+    match kind_of(word) {
+        None => told.push_str(NOT_UNDERSTOOD),
+        Some(kind) => tell_next_of(core, kind, told),
+    }
+}
 
 /// The kind of events that a word says, if it says one.
-pub(crate) fn kind_of(word: &str) -> Option<EventKind> {
+fn kind_of(word: &str) -> Option<EventKind> {
     match word {
         "reserve" => Some(EventKind::Reserve),
         "build" => Some(EventKind::Build),
@@ -21,24 +31,13 @@ pub(crate) fn kind_of(word: &str) -> Option<EventKind> {
 }
 
 /// Tells an event of a kind that may come.
-pub(crate) fn tell_next(core: &Core, kind: EventKind, told: &mut String) -> Result<(), AllocError> {
+fn tell_next_of(core: &Core, kind: EventKind, told: &mut String) -> Result<(), AllocError> {
     match core.next_event(kind) {
         None => told.push_str(NOTHING),
-        Some(event) => tell_event(&event, told),
-    }
-}
-
-/// Tells an event of those that have a kind.
-fn tell_event(event: &Event, told: &mut String) -> Result<(), AllocError> {
-    match event {
-        Event::Reserve { query, slot } => write!(told, "reserve {query} {slot}"),
-        Event::Build { query, dimension } => write!(told, "build {query} {dimension}"),
-        Event::Start { query } => write!(told, "start {query}"),
-        Event::Cut => told.push_str("cut"),
-        Event::Distribute { batch } => write!(told, "distribute {batch}"),
-        Event::Finish { slot } => write!(told, "finish {slot}"),
-        Event::Clear { slot, dimension } => write!(told, "clear {slot} {dimension}"),
-        Event::Release { slot } => write!(told, "release {slot}"),
-        _ => told.push_str("another"),
+        Some(event) => {
+            let words = words_of_event(&event);
+            drop(event);
+            tell_words(words, told)
+        }
     }
 }

@@ -1,7 +1,7 @@
 //! How an event is written: its word, and its numbers behind it.
 use crate::words::{Words, byte_of, short_of, words_of};
 use core_state::Event;
-use std::alloc::{AllocError, Global};
+use std::alloc::AllocError;
 
 /// The event that a line says, if it says one.
 pub(crate) fn event_of(line: &str) -> Option<Event> {
@@ -12,16 +12,15 @@ pub(crate) fn event_of(line: &str) -> Option<Event> {
     }
 }
 
-/// The events that a line says, parted by commas, if each part says one.
-pub(crate) fn events_of(alloc: Global, line: &str) -> Result<Option<Vec<Event>>, AllocError> {
-    let mut events = Vec::new(alloc);
+/// Adds the events that a line says, parted by commas, up to the first part that says none. Answers whether each part says one.
+pub(crate) fn read_events(line: &str, events: &mut Vec<Event>) -> Result<bool, AllocError> {
     for part in line.split(',') {
         match event_of(part) {
-            None => return Ok(None),
+            None => return Ok(false),
             Some(event) => events.push(event)?,
         }
     }
-    Ok(Some(events))
+    Ok(true)
 }
 
 /// The event of a word alone.
@@ -72,5 +71,24 @@ fn with_two(word: &str, first: u64, second: u64) -> Option<Event> {
             dimension: byte_of(second)?,
         }),
         _ => None,
+    }
+}
+
+/// How an event of those that have a kind is written.
+pub(crate) fn words_of_event(event: &Event) -> Words<'static> {
+    match event {
+        Event::Reserve { query, slot } => Words::WithTwo("reserve", *query, u64::from(*slot)),
+        Event::Build { query, dimension } => {
+            Words::WithTwo("build", *query, u64::from(*dimension))
+        }
+        Event::Start { query } => Words::WithOne("start", *query),
+        Event::Cut => Words::Alone("cut"),
+        Event::Distribute { batch } => Words::WithOne("distribute", *batch),
+        Event::Finish { slot } => Words::WithOne("finish", u64::from(*slot)),
+        Event::Clear { slot, dimension } => {
+            Words::WithTwo("clear", u64::from(*slot), u64::from(*dimension))
+        }
+        Event::Release { slot } => Words::WithOne("release", u64::from(*slot)),
+        _ => Words::Alone("another"),
     }
 }

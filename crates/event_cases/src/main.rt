@@ -2,14 +2,23 @@
 //! reading or printing failed.
 #![tactic(auto)]
 
+mod answers;
 mod choice;
+mod drive;
 mod event;
 mod question;
+mod settings;
 mod story;
+mod told;
 mod unlent;
 mod words;
 
-use crate::story::{NO_MEMORY, NOT_UNDERSTOOD, Story};
+ghost use Rattle.core_state.specs.Settings.{AreWithin};
+
+use crate::settings::settings_of;
+use crate::story::Story;
+use crate::told::{NO_MEMORY, NOT_UNDERSTOOD};
+use core_state::RunSettings;
 use star_values::NoMemory;
 use std::alloc::{AllocError, Global};
 use std::hash::RandomState;
@@ -31,11 +40,14 @@ fn main(rt: HostRuntime) -> ExitCode {
 
 /// Plays the stories on the standard input.
 fn play<R: Input + Print + AllocGlobal + RandomSource + Threads + Sync>(rt: &R) -> io::Result<()> {
+    let hash_keys = RandomState::new(rt)?;
     let mut stage = Stage {
-        hash_keys: RandomState::new(rt)?,
+        hash_keys,
         story: None,
     };
-    stage.play_lines(rt)
+    let played = stage.play_lines(rt);
+    drop(stage);
+    played
 }
 
 /// Where the stories are played, one after the other.
@@ -64,8 +76,51 @@ impl Stage {
         line: &str,
     ) -> io::Result<()> {
         println!(rt; "{line}")?;
-        let told = told_of(rt, self.hash_keys, &mut self.story, line)?;
+        let mut told = String::new(rt.alloc());
+        self.tell(rt, line, &mut told)?;
         print_told(rt, told.as_str())
+    }
+
+    /// Tells what comes of a line of the story that goes on, or that begins with it.
+    fn tell<R: AllocGlobal + Threads + Sync>(
+        &mut self,
+        rt: &R,
+        line: &str,
+        told: &mut String,
+    ) -> Result<(), AllocError> {
+        if line.is_empty() || line.starts_with("# ") {
+            return Ok(());
+        }
+        match settings_of(line) {
+            Some(settings) => told.push_str(self.begin(rt.alloc(), settings)),
+            None => self.go_on(rt, line, told),
+        }
+    }
+
+    /// A story of a core of these settings begins, and the one before is over.
+    fn begin(&mut self, alloc: Global, settings: RunSettings) -> &'static str
+        requires { AreWithin settings }
+    {
+        match Story::new(alloc, self.hash_keys, settings) {
+            Ok(begun) => {
+                drop(self.story.replace(begun));
+                ""
+            }
+            Err(NoMemory) => NO_MEMORY,
+        }
+    }
+
+    /// Tells what comes of a line that begins no story.
+    fn go_on<R: Threads + Sync>(
+        &mut self,
+        rt: &R,
+        line: &str,
+        told: &mut String,
+    ) -> Result<(), AllocError> {
+        match &mut self.story {
+            None => told.push_str(NOT_UNDERSTOOD),
+            Some(story) => story.tell(rt, line, told),
+        }
     }
 }
 
@@ -75,37 +130,4 @@ fn print_told(rt: &impl Print, told: &str) -> io::Result<()> {
         println!(rt; "  {part}")?;
     }
     Ok(())
-}
-
-/// What is told of a line of the story that goes on, or that begins with it.
-fn told_of<R: AllocGlobal + Threads + Sync>(
-    rt: &R,
-    hash_keys: RandomState,
-    story: &mut Option<Story>,
-    line: &str,
-) -> Result<String, AllocError> {
-    let alloc = rt.alloc();
-    if line.is_empty() || line.starts_with("# ") {
-        return Ok(String::new(alloc));
-    }
-    match Story::of_line(alloc, hash_keys, line) {
-        Err(NoMemory) => String::from_str(alloc, NO_MEMORY),
-        Ok(Some(begun)) => {
-            *story = Some(begun);
-            Ok(String::new(alloc))
-        }
-        Ok(None) => told_in(rt, story, line),
-    }
-}
-
-/// What is told of a line that begins no story.
-fn told_in<R: AllocGlobal + Threads + Sync>(
-    rt: &R,
-    story: &mut Option<Story>,
-    line: &str,
-) -> Result<String, AllocError> {
-    match story {
-        None => String::from_str(rt.alloc(), NOT_UNDERSTOOD),
-        Some(story) => story.told(rt, line),
-    }
 }

@@ -2,7 +2,7 @@
 use crate::words::{Words, byte_of, short_of, words_of};
 
 /// What is asked of a core.
-#[derive(Clone, Copy, Debug)]
+#[derive(Clone, Copy)]
 pub(crate) enum Question {
     /// The next reply of a seat, which is taken.
     Reply(u32),

@@ -14,7 +14,7 @@ use std::hash::RandomState;
 use std::thread::Threads;
 
 /// A core, of which no batch is lent.
-#[derive(Debug, Drop)]
+#[derive(Drop)]
 pub(crate) struct UnlentCore {
     core: Core,
     ghost home: { (beside_of core).lent ≡ [] },

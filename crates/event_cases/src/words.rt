@@ -1,10 +1,7 @@
 //! How a line says something: a word, and numbers behind it.
 
-/// What is told where there is nothing to tell of.
-pub(crate) const NOTHING: &str = "none";
-
 /// A word, and its numbers.
-#[derive(Clone, Copy, Debug)]
+#[derive(Clone, Copy)]
 pub(crate) enum Words<'a> {
     Alone(&'a str),
     WithOne(&'a str, u64),
