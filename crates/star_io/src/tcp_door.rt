@@ -81,6 +81,9 @@ impl<N: Net<Listener = TcpListener, Stream = TcpStream>> Door for TcpDoor<N> {
         };
         match listener.accept() {
             Ok((stream, _)) => {
+                // Else a reply that is written behind another waits until the client says that it
+                // got that. Where this fails replies are as late as that, and all the same.
+                let _ = stream.set_nodelay(true);
                 self.given = self.given.saturating_add(1);
                 self.failed = false;
                 Ok(Some(TcpLink::new(stream)))
