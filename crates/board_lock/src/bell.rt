@@ -1,4 +1,10 @@
 //! What idle threads sleep on. No promise rests on it.
+//!
+//! No wake is lost. Who rests found nothing in the turn in which it read the number, so what there
+//! is to do came in a later one. Whoever had that turn looks again itself, or rings behind it and
+//! finds the reader counted: then nobody who read the old number falls asleep, and one of those
+//! asleep wakes, looks in a turn, and goes by the same rule. What some alone would find, as a reply
+//! to them, is rung for to all.
 use crossbeam_utils::CachePadded;
 use std::sync::atomic::AtomicU64;
 use std::sync::atomic::Ordering::SeqCst;
@@ -6,8 +12,8 @@ use std::sync::{Condvar, Mutex, Wait};
 
 /// A number that changes when somebody may have something to do.
 ///
-/// Each `read` is followed by one `rest`. A ring takes a lock and calls the kernel, so it does nothing while nobody
-/// rests or is about to.
+/// Each `read` is followed by one `rest`. To ring takes a lock and calls the kernel, so nothing is
+/// done while nobody rests or is about to.
 #[derive(Drop)]
 pub struct Bell {
     number: CachePadded<Mutex<u32>>,
@@ -33,15 +39,34 @@ impl Bell {
         *number.lock(rt)
     }
 
+    /// Wakes one of those who rest.
     pub fn ring<R: Wait>(&self, rt: &R) {
-        if self.resting.load(SeqCst) == 0 {
-            return;
+        if self.change(rt) {
+            self.changed.notify_one();
+        }
+    }
+
+    /// Wakes all who rest.
+    pub fn ring_all<R: Wait>(&self, rt: &R) {
+        if self.change(rt) {
+            self.changed.notify_all();
+        }
+    }
+
+    /// Whether somebody rests or is about to.
+    pub fn has_resting(&self) -> bool {
+        self.resting.load(SeqCst) != 0
+    }
+
+    // Changes the number if somebody rests or is about to, and tells whether it did.
+    fn change<R: Wait>(&self, rt: &R) -> bool {
+        if !self.has_resting() {
+            return false;
         }
         let number: &Mutex<u32> = &self.number;
         let mut now = number.lock(rt);
         *now = now.wrapping_add(1);
-        drop(now);
-        self.changed.notify_all();
+        true
     }
 
     pub fn rest<R: Wait>(&self, rt: &R, seen: u32) {

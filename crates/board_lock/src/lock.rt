@@ -3,7 +3,7 @@ ghost use Rattle.std.specs.Prelude.{◌≡◌, ℕ, true, ◌+◌, ◌<◌, ◌�
 ghost use mathlib.Core.List.{IsPrefix};
 ghost use Rattle.board_lock.specs.Views.{row_in, list_in, first_view, entered, left, split_view, new_view};
 ghost use Rattle.board_lock.specs.Views.{joined_view, Finds, Keeps, AreUnmadeEmpty};
-ghost use Rattle.board_lock.specs.Rule.{Looks, Compares};
+ghost use Rattle.board_lock.specs.Rule.{Takes, Looks, Compares};
 ghost use Rattle.board_lock.specs.declared.seat.TheConstants.{MAX_SEATS};
 ghost use Rattle.board_lock.specs.Seats.{view_of, IsOutside, IsInside, IsSameSeat, IsOf};
 
@@ -14,12 +14,17 @@ use crate::view::{Compare, Cut, Give, Glue, Look, Take, View};
 use atomic_table::{Refused, Seat, Table};
 use star_values::NoMemory;
 use std::alloc::{AllocFailed, Global};
+use std::hint::spin_loop;
 use std::snapshot::Snapshot;
 use std::sync::Wait;
 use std::sync::atomic::AtomicU64;
 use std::sync::atomic::Ordering::SeqCst;
 
 type SeatToken<S> = Seat<Option<S>, View<S>>;
+
+// How many times a thread tries for the turn and spins, before it tries once more and sleeps. Most
+// turns end sooner than a thread falls asleep and wakes.
+const SPINS: u32 = 64;
 
 // Room for one state, with the state in it.
 fn room_for<S>(alloc: Global, state: S) -> Result<Vec<Option<S>>, S>
@@ -135,7 +140,41 @@ impl<S: Board> BoardLock<S> {
         }
     }
 
-    // Takes the turn, and the slot with the state.
+    // Takes the turn, and the slot with the state, if it is free. Answers what the turn was: 0
+    // where it was free. Else the seat is as it was.
+    fn try_turn(&self, seat: &mut BoardSeat<S>) -> u64
+        requires own { IsOf self.now seat.old }
+        requires outside { IsOutside seat.old }
+        ensures same { IsSameSeat seat.old seat.new }
+        ensures takes { Takes S.Board.row S.Board.empty S.Board.commits S.Board.fixed
+            seat.old.seat.me result seat.new.seat.me }
+    {
+        let turn = seat.number as u64 + 1;
+        self.table
+            .shared
+            .compare_exchange::<Take>(&mut seat.seat, 0, 0, turn)
+    }
+
+    // The same, with some tries. Answers what the turn was at the last of them.
+    fn spin(&self, seat: &mut BoardSeat<S>) -> u64
+        requires own { IsOf self.now seat.old }
+        requires outside { IsOutside seat.old }
+        ensures same { IsSameSeat seat.old seat.new }
+        ensures takes { Takes S.Board.row S.Board.empty S.Board.commits S.Board.fixed
+            seat.old.seat.me result seat.new.seat.me }
+    {
+        'tries: for _ in 0..SPINS {
+            let found = self.try_turn(seat);
+            if found == 0 {
+                return found;
+            }
+            spin_loop();
+        }
+        self.try_turn(seat)
+    }
+
+    // Takes the turn, and the slot with the state. A thread counts itself before it sleeps, so that
+    // who leaves knows whether there is somebody to wake.
     fn take_turn<R: Wait>(&self, rt: &R, seat: &mut BoardSeat<S>)
         requires own { IsOf self.now seat.old }
         requires outside { IsOutside seat.old }
@@ -144,12 +183,8 @@ impl<S: Board> BoardLock<S> {
             × (seat.new.seat.me ≡ (entered (view_of seat.old) state, (0, Some state) ∷ []))
             × Finds S.Board.row S.Board.empty S.Board.commits S.Board.fixed (view_of seat.old) state }
     {
-        let turn = seat.number as u64 + 1;
         for _ in rt.forever() {
-            let found = self
-                .table
-                .shared
-                .compare_exchange::<Take>(&mut seat.seat, 0, 0, turn);
+            let found = self.spin(seat);
             if found == 0 {
                 return;
             }
@@ -256,9 +291,26 @@ impl<S: Board> BoardLock<S> {
         self.bell.read(rt)
     }
 
-    /// Changes the bell's number and wakes all that rest, where anybody rests or is about to. Ring after a `leave`.
+    /// Whether somebody rests or is about to. Where nobody does between an `enter` and its `leave`, no
+    /// ring is needed for what is left to do then: who rests later has looked later.
+    pub fn has_resting(&self) -> bool {
+        self.bell.has_resting()
+    }
+
+    /// Changes the bell's number and wakes one of those who rest, if anybody does or is about to.
+    ///
+    /// Ring so after a `leave` where something is left to do, which any one who looks finds. The
+    /// one that wakes has to look, and to ring for the next where it goes on to something else.
     pub fn ring<R: Wait>(&self, rt: &R) {
         self.bell.ring(rt);
+    }
+
+    /// Changes the bell's number and wakes all who rest, if anybody does or is about to.
+    ///
+    /// Ring so after a `leave` where what some of them wait for may have come, and the others would
+    /// not find it.
+    pub fn ring_all<R: Wait>(&self, rt: &R) {
+        self.bell.ring_all(rt);
     }
 
     /// Waits while the bell's number is `seen`, once for each time that it was read.

@@ -10,7 +10,7 @@ pub enum Mode {
     Alone,
     /// Make a workload and answer it: `--mode make`.
     Make,
-    /// Serve connections, one after the other: `--mode serve`.
+    /// Serve connections, many at once: `--mode serve`.
     Serve,
 }
 

@@ -71,3 +71,46 @@ fn a_ring_ends_a_rest(rt: HostRuntime) {
     join_mut(&rt, &mut || lock.rest(&rt, seen), &mut || lock.ring(&rt));
     assert!(rt; lock.bell(&rt) != seen);
 }
+
+#[test]
+fn two_rings_end_two_rests(rt: HostRuntime) {
+    let Ok((lock, _first)) = BoardLock::new(rt.alloc(), SmallBoard::new(rt.alloc(), 7), 1) else {
+        panic!(rt; "there is memory for a board")
+    };
+    let (one, other) = (lock.bell(&rt), lock.bell(&rt));
+    join_mut(
+        &rt,
+        &mut || lock.rest(&rt, one),
+        &mut || {
+            join_mut(
+                &rt,
+                &mut || lock.rest(&rt, other),
+                &mut || {
+                    lock.ring(&rt);
+                    lock.ring(&rt);
+                },
+            )
+        },
+    );
+    assert!(rt; lock.bell(&rt) != one);
+}
+
+#[test]
+fn a_ring_for_all_ends_two_rests(rt: HostRuntime) {
+    let Ok((lock, _first)) = BoardLock::new(rt.alloc(), SmallBoard::new(rt.alloc(), 7), 1) else {
+        panic!(rt; "there is memory for a board")
+    };
+    let (one, other) = (lock.bell(&rt), lock.bell(&rt));
+    join_mut(
+        &rt,
+        &mut || lock.rest(&rt, one),
+        &mut || {
+            join_mut(
+                &rt,
+                &mut || lock.rest(&rt, other),
+                &mut || lock.ring_all(&rt),
+            )
+        },
+    );
+    assert!(rt; lock.bell(&rt) != one);
+}

@@ -1,18 +1,22 @@
 //! Runs and sessions of which a read or a write fails in mid-stream.
-ghost use Rattle.script_run.specs.Home.{IsAtHome};
+ghost use Rattle.script_run.specs.Home.{IsAtRest};
 
 use crate::served::{NEVER, SETTINGS, link_of};
-use script_run::{Front, run_on_one_thread};
-use session_server::{SessionEnd, serve_session};
-use star_io::{ListSink, PieceSource, RunEnd};
+use board_lock::BoardLock;
+use event_core::Core;
+use script_run::{SeatFront, run_on_one_thread};
+use session_server::{SessionEnd, open_server, serve_session};
+use star_io::{ListSink, PairLink, PieceSource, RunEnd};
 use star_values::NoMemory;
 use std::alloc::{AllocError, Global};
 use std::hash::RandomState;
+use std::sync::Wait;
 use std::test::Fail;
 use std::thread::Threads;
+use worker_gate::NoGate;
 
-/// Byte 150 stands in the second block.
-const SCRIPT: &str = "dimension store (id int key, city text)
+/// Two stores and four sales. Byte 150 stands in the second block.
+pub(crate) const BASE: &str = "dimension store (id int key, city text)
 fact sales (store_id int references store, units int)
 load store
 1,Oslo
@@ -50,7 +54,7 @@ fn ends<R: Threads + Sync>(
     end: RunEnd,
     replies: &str,
 ) -> Result<bool, AllocError> {
-    let script = SCRIPT.as_bytes().to_vec(alloc)?;
+    let script = BASE.as_bytes().to_vec(alloc)?;
     let reads = [read_fault].to_vec(alloc)?;
     let writes = [write_fault].to_vec(alloc)?;
     let source = PieceSource::new(script, 150, reads);
@@ -87,48 +91,46 @@ fn a_run_ends_at_a_fault_in_mid_stream(rt: HostRuntime) -> Result<(), Fail> {
     Ok(())
 }
 
-/// Whether a session ends so, with these replies.
-fn is_served<R: Threads + Sync>(
+/// Whether the session of a link ends so, with these replies.
+pub(crate) fn is_served<R: Wait>(
     rt: &R,
-    alloc: Global,
-    front: &mut Front,
-    write_fault: u64,
+    board: &BoardLock<Core>,
+    front: &mut SeatFront,
+    link: &mut PairLink,
     end: SessionEnd,
     replies: &str,
-) -> Result<bool, AllocError>
-    requires { IsAtHome front.old }
-    ensures { IsAtHome front.new }
+) -> bool
+    requires { IsAtRest board.now front.old.seat }
+    ensures { IsAtRest board.now front.new.seat }
 {
-    let script = "fact f (v int)\nload f\n1\n2\n.\nselect sum(v) from f\n";
-    let mut link = link_of(alloc, script, write_fault)?;
-    let ended = serve_session(rt, alloc, front, &mut link);
-    Ok(ended == end && link.bytes() == replies.as_bytes())
+    let ended = serve_session(rt, board, front, link, &NoGate);
+    ended == end && link.bytes() == replies.as_bytes()
 }
 
-/// Whether both sessions over a core are served so: the fourth write of the first fails, in its answer.
-fn both_are_served<R: Threads + Sync>(
+/// Whether both sessions by one seat are served so: the fourth write of the first fails, in its
+/// answer.
+fn both_are_served<R: Wait>(
     rt: &R,
     alloc: Global,
-    front: &mut Front,
-) -> Result<bool, NoMemory>
-    requires { IsAtHome front.old }
+    board: &BoardLock<Core>,
+    front: &mut SeatFront,
+) -> Result<bool, AllocError>
+    requires { IsAtRest board.now front.old.seat }
 {
-    let first = "table f\ncommit 1 rows 2\nanswer 1";
-    let second = "refused 13 out of order\ncommit 2 rows 2\nanswer 2 rows 1\n6\n";
-    Ok(
-        is_served(rt, alloc, front, 4, SessionEnd::WriteFault, first)?
-            && is_served(rt, alloc, front, NEVER, SessionEnd::Done, second)?,
-    )
+    let script = "fact f (v int)\nload f\n1\n2\n.\nselect sum(v) from f\n";
+    let mut link = link_of(alloc, script, NEVER, 4)?;
+    let replies = "table f\ncommit 1 rows 2\nanswer 1";
+    let first = is_served(rt, board, front, &mut link, SessionEnd::WriteFault, replies);
+    let mut link = link_of(alloc, script, NEVER, NEVER)?;
+    let replies = "refused 13 out of order\ncommit 2 rows 2\nanswer 2 rows 1\n6\n";
+    let second = is_served(rt, board, front, &mut link, SessionEnd::Done, replies);
+    Ok(first && second)
 }
 
 /// Whether they are so over a new core.
-fn are_served<R: Threads + Sync>(
-    rt: &R,
-    alloc: Global,
-    hash_keys: RandomState,
-) -> Result<bool, NoMemory> {
-    let mut front = Front::new(alloc, hash_keys, SETTINGS)?;
-    both_are_served(rt, alloc, &mut front)
+fn are_served<R: Wait>(rt: &R, alloc: Global, hash_keys: RandomState) -> Result<bool, NoMemory> {
+    let mut server = open_server(alloc, hash_keys, SETTINGS)?;
+    Ok(both_are_served(rt, alloc, &server.board, &mut server.own)?)
 }
 
 #[test]

@@ -2,6 +2,8 @@
 #![tactic(auto)]
 
 #[cfg(test)]
+mod at_once;
+#[cfg(test)]
 mod board;
 #[cfg(test)]
 mod calls;
@@ -9,6 +11,8 @@ mod calls;
 mod faults;
 #[cfg(test)]
 mod frames;
+#[cfg(test)]
+mod in_turn;
 #[cfg(test)]
 mod lent;
 #[cfg(test)]

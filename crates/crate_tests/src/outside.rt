@@ -1,7 +1,16 @@
-//! What std's readers, writers and sockets do: a reader and a writer that fail once and would then go on, and a connection.
-use star_io::{Door, Failed, Sink, Source, StdSink, StdSource, TcpDoor};
+//! What std's readers, writers and sockets do: a reader and a writer that fail once and would then
+//! go on, a connection, and a client that is served.
+use crate::workers::{MOST_LOOKS, REPLIES, SCRIPT};
+use core_state::RunSettings;
+use session_server::serve;
+use star_io::{Door, Failed, ServeEnd, Sink, Source, StdSink, StdSource, TcpDoor};
+use std::alloc::Global;
+use std::hash::RandomState;
 use std::io::{self, ErrorKind, Read, Write};
-use std::net::{Ipv4Addr, Shutdown, TcpListener, TcpStream};
+use std::net::{Ipv4Addr, Net, Shutdown, TcpListener, TcpStream};
+use std::sync::Wait;
+use std::thread::{Threads, join_mut, yield_now};
+use worker_gate::NoGate;
 
 /// Fails at its second call, with an error at which std's own loops try again, and gives or takes two bytes at each other.
 #[derive(Drop)]
@@ -73,12 +82,17 @@ fn gives<S: Source>(source: &mut S, bytes: &[u8]) -> bool {
     }
 }
 
-#[test]
-fn a_connection_goes_both_ways(rt: HostRuntime) -> io::Result<()> {
-    // A port that was free a moment ago.
-    let port = TcpListener::bind(&rt, (Ipv4Addr::LOCALHOST, 0))?
+/// A port of this machine that was free a moment ago.
+fn free_port<N: Net<Listener = TcpListener, Stream = TcpStream>>(net: &N) -> io::Result<u16> {
+    let port = TcpListener::bind(net, (Ipv4Addr::LOCALHOST, 0))?
         .local_addr()?
         .port();
+    Ok(port)
+}
+
+#[test]
+fn a_connection_goes_both_ways(rt: HostRuntime) -> io::Result<()> {
+    let port = free_port(&rt)?;
     let mut door = TcpDoor::new(&rt);
     assert_eq!(rt; door.listen(port), Ok(()));
     let mut there = TcpStream::connect(&rt, (Ipv4Addr::LOCALHOST, port))?;
@@ -93,5 +107,73 @@ fn a_connection_goes_both_ways(rt: HostRuntime) -> io::Result<()> {
     let mut back = [0; 4];
     there.read_exact(&mut back)?;
     assert_eq!(rt; back, *b"join");
+    Ok(())
+}
+
+/// A connection to a port of this machine, as soon as somebody listens there.
+fn connect<N: Net<Listener = TcpListener, Stream = TcpStream>>(
+    net: &N,
+    port: u16,
+) -> io::Result<TcpStream> {
+    for _ in 0..MOST_LOOKS {
+        if let Ok(there) = TcpStream::connect(net, (Ipv4Addr::LOCALHOST, port)) {
+            return Ok(there);
+        }
+        yield_now();
+    }
+    TcpStream::connect(net, (Ipv4Addr::LOCALHOST, port))
+}
+
+/// Sends the script to a port, and says whether its 95 bytes of replies come back, and nothing
+/// behind them.
+fn get_replies<N: Net<Listener = TcpListener, Stream = TcpStream>>(
+    net: &N,
+    port: u16,
+) -> io::Result<bool> {
+    let mut there = connect(net, port)?;
+    there.write_all(SCRIPT.as_bytes())?;
+    there.shutdown(Shutdown::Write)?;
+    let mut replies = [0; 95];
+    there.read_exact(&mut replies)?;
+    let mut more = [0];
+    let rest = there.read(&mut more)?;
+    Ok(replies.as_slice() == REPLIES.as_bytes() && rest == 0)
+}
+
+/// Whether a client of a port gets its replies.
+fn gets_replies<N: Net<Listener = TcpListener, Stream = TcpStream>>(net: &N, port: u16) -> bool {
+    get_replies(net, port).unwrap_or(false)
+}
+
+/// The settings of the program's server, where no word says more.
+const SERVER: RunSettings = RunSettings {
+    workers: 0,
+    slots: 64,
+    batch: 256,
+    seats: 65,
+};
+
+/// Serves the next connection that comes to a port.
+fn serve_one<R: Threads + Wait + Net<Listener = TcpListener, Stream = TcpStream> + Sync>(
+    rt: &R,
+    alloc: Global,
+    hash_keys: RandomState,
+    port: u16,
+) -> ServeEnd {
+    let mut door = TcpDoor::new(rt);
+    serve(rt, alloc, hash_keys, SERVER, port, 1, &mut door, &NoGate)
+}
+
+#[test]
+fn a_client_gets_its_replies(rt: HostRuntime) -> io::Result<()> {
+    let port = free_port(&rt)?;
+    let hash_keys = RandomState::new(&rt)?;
+    let (got, end) = join_mut(
+        &rt,
+        &mut || gets_replies(&rt, port),
+        &mut || serve_one(&rt, rt.alloc(), hash_keys, port),
+    );
+    assert_eq!(rt; end, ServeEnd::Ended);
+    assert!(rt; got);
     Ok(())
 }

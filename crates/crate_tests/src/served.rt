@@ -8,6 +8,7 @@ use star_io::{
 use std::alloc::{AllocError, Global};
 use std::hash::RandomState;
 use std::test::Fail;
+use worker_gate::NoGate;
 
 /// The settings of the program, where no word says more.
 pub(crate) const SETTINGS: RunSettings = RunSettings {
@@ -20,22 +21,25 @@ pub(crate) const SETTINGS: RunSettings = RunSettings {
 /// The number of a call that is never made.
 pub(crate) const NEVER: u64 = u64::MAX;
 
-/// A link in memory that gives a script, and takes 8 bytes at once. The write of this number fails.
+/// A link in memory that gives a script, 16 bytes at once, and takes 8. The read and the write of
+/// these numbers fail.
 pub(crate) fn link_of(
     alloc: Global,
     script: &str,
+    read_fault: u64,
     write_fault: u64,
 ) -> Result<PairLink, AllocError> {
     let script = script.as_bytes().to_vec(alloc)?;
+    let reads = [read_fault].to_vec(alloc)?;
     let writes = [write_fault].to_vec(alloc)?;
-    let source = PieceSource::new(script, 4096, Vec::new(alloc));
+    let source = PieceSource::new(script, 16, reads);
     let sink = ListSink::new(alloc, 8, writes);
     Ok(PairLink::new(source, sink))
 }
 
 #[test]
 fn a_link_keeps_its_sides_apart(rt: HostRuntime) -> Result<(), Fail> {
-    let mut link = link_of(rt.alloc(), "wait", NEVER)?;
+    let mut link = link_of(rt.alloc(), "wait", NEVER, NEVER)?;
     let mut into = [0; 4];
     assert_eq!(rt; a_write_leaves_the_reads(&mut link, b"join"), Ok(4));
     assert_eq!(rt; a_read_leaves_the_writes(&mut link, &mut into), Ok(4));
@@ -48,10 +52,10 @@ fn connections_are_served_until_the_door_ends(rt: HostRuntime) -> Result<(), Fai
     let alloc = rt.alloc();
     let hash_keys = RandomState::new(&rt)?;
     let mut links = Vec::new(alloc);
-    links.push(link_of(alloc, "wait\n", NEVER)?)?;
+    links.push(link_of(alloc, "wait\n", NEVER, NEVER)?)?;
     let mut door = ListDoor::new(links, Vec::new(alloc));
     assert_eq!(rt;
-        serve(&rt, alloc, hash_keys, SETTINGS, 5432, 0, &mut door),
+        serve(&rt, alloc, hash_keys, SETTINGS, 5432, 0, &mut door, &NoGate),
         ServeEnd::Ended
     );
     Ok(())

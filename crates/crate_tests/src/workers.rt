@@ -18,8 +18,8 @@ use std::thread::{Threads, yield_now};
 use worker_gate::{Gate, NoGate};
 
 /// What is written of the made workload without sales, as another program reckoned it.
-const LINE_OF_NONE: &str =
-    "summary statements 85 commits 18 answers 60 rows 12 overflows 0 refused 0 memory 0 bytes 1531 sum 125847\n";
+const LINE_OF_NONE: &str = "summary statements 85 commits 18 answers 60 rows 12 overflows 0 \
+    refused 0 memory 0 bytes 1531 sum 125847\n";
 
 /// How the line of the made workload begins.
 const BEGIN: &[u8] = b"summary statements 85 commits 18 answers 60 rows ";
@@ -116,7 +116,7 @@ fn the_large_made_workload_is_told_as_by_queries_alone(rt: HostRuntime) -> Resul
 }
 
 /// Four rows that one filter is asked of, and a query that wants all.
-const SCRIPT: &str = "dimension store (id int key, city text)
+pub(crate) const SCRIPT: &str = "dimension store (id int key, city text)
 fact sales (store_id int references store, units int)
 load store
 1,Oslo
@@ -132,7 +132,7 @@ select city, count(*), sum(units) from sales, store where sales.store_id = store
 ";
 
 /// The replies to it.
-const REPLIES: &str = "table store
+pub(crate) const REPLIES: &str = "table store
 table sales
 commit 1 rows 2
 commit 2 rows 4
@@ -141,8 +141,8 @@ answer 2 rows 2
 'Rome',2,4
 ";
 
-/// How often a batch that is held back looks for the others, before it goes on without them.
-const MOST_LOOKS: u32 = 1_000_000;
+/// How often one that is held back looks for the others, before it goes on without them.
+pub(crate) const MOST_LOOKS: u32 = 1_000_000;
 
 /// A gate that holds each batch back until three seats have had one each, none the same.
 #[derive(Drop)]

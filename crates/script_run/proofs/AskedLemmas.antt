@@ -1,17 +1,12 @@
--- What a statement leaves of the tables and of the queries, and what stays asked whatever is kept of queries.
-use Rattle.script_run.proofs.Words.{◌+◌, ◌<◌, ◌∙◌, ◌≡◌, Accepted, accepted_by, after_change, after_outcome, after_submitting, All-weaker, ap, arith, Change, DimensionDeclared, entries-by, IsSound, IsSoundQuery, List, map, None, of-numbers, Option, option_map_or, outcome_of, refl, Some, State, Statement, store_after, tables_by, tables_of, Told, with_change, ℕ}
+-- What a statement leaves of the tables and of the queries.
+use Rattle.script_run.proofs.Words.{◌+◌, ◌<◌, ◌∙◌, ◌≡◌, after_change, after_outcome, after_submitting, All-weaker, ap, arith, Change, DimensionDeclared, entries-by, IsSound, IsSoundQuery, None, of-numbers, Option, option_map_or, outcome_of, refl, Some, State, Statement, store_after, tables_by, tables_of, Told, with_change, ℕ}
 use Rattle.star_statement.specs.Outcome as outcome
 use Rattle.pipeline_manager.specs.Conditions.{IsNew}
 use Rattle.core_state.proofs.GrownLemmas.{tables-with}
-use Rattle.core_state.proofs.WholeFrameLemmas.{bare, read-bare}
 
 -- what a statement changes leaves the queries and their lives
 abbrev pub changed_by : (seat statement : ℕ) → Option Change → State → State
 changed_by seat statement change state = option_map_or (λ change. with_change seat statement change state) change state
-
-pub accepted-changed : (seat statement : ℕ) (change : Option Change) (state : State) → (changed_by seat statement change state).accepted ≡ state.accepted
-accepted-changed seat statement (Some (DimensionDeclared table)) state = refl
-accepted-changed seat statement other state = refl
 
 pub lives-changed : (seat statement : ℕ) (change : Option Change) (state : State)
     → (changed_by seat statement change state).lives.queries ≡ state.lives.queries
@@ -25,10 +20,6 @@ is-new state sound =
     sound.queries.same
     (All-weaker (IsSoundQuery state) (λ accepted. accepted.number < state.numbers.statement + 1)
     (λ accepted is. let low = is.number in omega arith) state.accepted sound.queries.each)
-
--- what is asked stays where queries are as they were but for what is kept of them
-pub asked-by : (old new : List Accepted) → map bare new ≡ map bare old → map accepted_by new ≡ map accepted_by old
-asked-by = read-bare accepted_by (λ accepted. refl)
 
 -- the tables after a statement
 outcome-tables : (seat : ℕ) (change : Option Change) (told : Told) (state : State)

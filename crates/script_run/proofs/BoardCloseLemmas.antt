@@ -7,6 +7,7 @@ use Rattle.std.proofs.lemmas.Bool.{eqb-false}
 use Rattle.star_io.specs.Link.{ReadingSide, WritingSide}
 use Rattle.star_io.specs.declared.run_end.RunEnd.{RunEnd}
 use Rattle.core_state.specs.Rows.{SeatRow, Sight, empty_row, made_by, sight_of}
+use Rattle.core_state.specs.Sent.{AreOfOthers}
 use Rattle.board_lock.specs.Seats.{view_of}
 use Rattle.board_lock.specs.Views.{AreUnmadeEmpty, Finds, list_in, row_in}
 use Rattle.board_lock.specs.declared.seat.BoardLock.{BoardLock}
@@ -48,6 +49,14 @@ made-same seat entry entries since same = by_test (eqb entry.seat seat) same
     by_test true e =
         let both : entry.statement ∷ made_by seat (entries ++ since) ≡ entry.statement ∷ made_by seat entries = e in cc
     by_test false e = e
+
+-- where a seat made no more, what came is of others
+pub others-came : (seat : ℕ) (entries since : List Entry) → made_by seat (entries ++ since) ≡ made_by seat entries → AreOfOthers seat since
+others-came seat [] [] same = All-nil (λ (e : Entry). e.seat ≢ seat)
+others-came seat [] (entry ∷ since) same =
+    let none = made-none seat entry since same in
+    All-cons (λ (e : Entry). e.seat ≢ seat) entry since none.0 (others-came seat [] since none.1)
+others-came seat (entry ∷ entries) since same = others-came seat entries since (made-same seat entry entries since same)
 
 -- where a seat made no more, and all entries are of it, none came
 pub none-came : (seat : ℕ) (entries since : List Entry) → made_by seat (entries ++ since) ≡ made_by seat entries

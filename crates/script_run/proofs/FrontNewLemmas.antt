@@ -1,9 +1,8 @@
 -- A front whose core was given nothing.
-use Rattle.script_run.proofs.Words.{◌<◌, ◌∙◌, ◌≡◌, ◌≤◌, All-nil, ap, arith, count_by, empty_core, empty_seat, get_or, is_query, KnowsCore, Owns, Pending, refl, RunSettings, Seat, seat_at, State, state_of, subst, suc, sym, zero, ℕ}
+use Rattle.script_run.proofs.Words.{◌<◌, ◌≡◌, All-nil, ap, arith, count_by, empty_core, empty_seat, get_or, is_query, IsCounted, KnowsCore, Pending, refl, RunSettings, Seat, seat_at, State, state_of, subst, suc, sym, zero, ℕ}
 use Rattle.core_state.specs.Settings.{AreWithin}
 use Rattle.event_core.specs.Parts.{Parts}
 use Rattle.script_run.specs.Counted.{IsCalm}
-use Rattle.script_run.specs.Home.{IsAtHome}
 use Rattle.std.proofs.Common.{replicate}
 
 -- the front of a new core waits for nothing, and took nothing
@@ -36,15 +35,10 @@ new-knows settings core within is = subst (KnowsCore settings 0) (sym is) (recor
   hands = All-nil _;
 })
 
--- and it is at home
-pub new-home : (settings : RunSettings) (core : Parts) → state_of core ≡ empty_core settings
-    → IsAtHome (record { core = core; unfinished = 0 })
-new-home settings core is = record {
-  own = subst Owns (sym is) (All-nil _);
-  counted = record {
-    calm = subst (IsCalm 0) (sym is) (new-calm settings);
-    few = omega arith;
-  };
-  none = refl;
-  idle = ap (λ (s : State). (seat_at s 0).pending) is ∙ ap (λ (s : Seat). s.pending) (new-seat settings);
+-- and it counted none
+pub new-counted : (settings : RunSettings) (core : Parts) → state_of core ≡ empty_core settings
+    → IsCounted (record { core = core; unfinished = 0 })
+new-counted settings core is = record {
+  calm = subst (IsCalm 0) (sym is) (new-calm settings);
+  few = omega arith;
 }

@@ -1,5 +1,6 @@
--- Whether the front waits for a query that may still be answered, and how much it waits for.
-use Rattle.script_run.proofs.Words.{◌∙◌, ◌∷◌, ◌≡◌, [], after_taking, All, All-head, All-tail, ap, Bool, cond, drop, eqb, false, find, first_open, is_open, IsSome, life_in, life_of, List, Lives, next_ready, None, Option, option_and_then, option_map, option_map_or, Pending, QueryLife, ready_to, refl, Seat, seat_at, slice_get, Some, State, sym, true, ℕ}
+-- Whether a seat waits for a query that may still be answered, and how much it waits for.
+use Rattle.script_run.proofs.Words.{◌<◌, ◌∙◌, ◌∷◌, ◌≡◌, [], after_taking, All, All-head, All-tail, ap, arith, Bool, cond, drop, eqb, false, find, first_open, is_open, IsSome, length, life_in, life_of, List, Lives, next_ready, None, Option, option_and_then, option_map, option_map_or, Pending, QueryLife, ready_to, refl, Seat, seat_at, slice_get, Some, State, subst, sym, true, ℕ}
+use Rattle.core_state.specs.Submitting.{Ready}
 use Rattle.script_run.proofs.TakenLemmas.{seat-waits, split-first, taken-seat}
 
 -- no query that is found by its number may still be answered, where none may
@@ -39,45 +40,59 @@ find-behind test first pending = by_test (test first)
     by_test false none = none
 
 -- the first that is waited for, and what is waited for behind it
-pub record IsBehind (old new : State) (first : Pending) (rest : List Pending) : Type 0 where
-  pub before : (seat_at old 0).pending ≡ first ∷ rest
-  pub now : (seat_at new 0).pending ≡ rest
+pub record IsBehind (seat : ℕ) (old new : State) (first : Pending) (rest : List Pending) : Type 0 where
+  pub before : (seat_at old seat).pending ≡ first ∷ rest
+  pub now : (seat_at new seat).pending ≡ rest
+
+-- what is found is there
+pub some-is : {A : Type 0} (x : A) (o : Option A) → Some x ≡ o → IsSome o
+some-is x o is = subst IsSome is refl
 
 -- where a reply may be taken something is waited for
-pub first-waits : (state : State) → IsSome (next_ready state 0) → (first : Pending) × (slice_get (seat_at state 0).pending 0 ≡ Some first)
-first-waits state = by_first (slice_get (seat_at state 0).pending 0) refl
+pub first-waits : (seat : ℕ) (state : State) → IsSome (next_ready state seat)
+    → (first : Pending) × (slice_get (seat_at state seat).pending 0 ≡ Some first)
+first-waits seat state = by_first (slice_get (seat_at state seat).pending 0) refl
   where
-    by_first : (o : Option Pending) → slice_get (seat_at state 0).pending 0 ≡ o
+    by_first : (o : Option Pending) → slice_get (seat_at state seat).pending 0 ≡ o
         → IsSome (option_and_then (λ pending. ready_to state pending.statement pending.awaited) o)
-        → (first : Pending) × (slice_get (seat_at state 0).pending 0 ≡ Some first)
+        → (first : Pending) × (slice_get (seat_at state seat).pending 0 ≡ Some first)
     by_first None is some = absurd (let both : false ≡ true = some in cc)
     by_first (Some first) is some = (first, is)
 
 -- a reply is taken
-pub taken-behind : (old new : State) → IsSome (next_ready old 0) → new ≡ after_taking 0 old
-    → (first : Pending) × (rest : List Pending) × IsBehind old new first rest
-taken-behind old new ready same =
-    let waits = first-waits old ready in
-    let split = split-first (seat_at old 0).pending waits.0 waits.1 in (
+pub taken-behind : (seat : ℕ) (old new : State) → IsSome (next_ready old seat) → new ≡ after_taking seat old
+    → (first : Pending) × (rest : List Pending) × IsBehind seat old new first rest
+taken-behind seat old new ready same =
+    let waits = first-waits seat old ready in
+    let split = split-first (seat_at old seat).pending waits.0 waits.1 in (
       waits.0,
       split.0,
       record {
         before = split.1;
-        now = ap (λ state. (seat_at state 0).pending) same
-            ∙ ap (λ (seat : Seat). seat.pending) (taken-seat 0 old (seat-waits old 0 waits.0 waits.1)) ∙ ap (drop 1) split.1;
+        now = ap (λ state. (seat_at state seat).pending) same
+            ∙ ap (λ (s : Seat). s.pending) (taken-seat seat old (seat-waits old seat waits.0 waits.1)) ∙ ap (drop 1) split.1;
       },
     )
+
+-- and less is waited for
+pub taken-less : (seat : ℕ) (old new : State) (x : Ready) → Some x ≡ next_ready old seat → new ≡ after_taking seat old
+    → length (seat_at new seat).pending < length (seat_at old seat).pending
+taken-less seat old new x may same =
+    let behind = taken-behind seat old new (some-is x (next_ready old seat) may) same in
+    let before = ap length behind.2.before in
+    let now = ap length behind.2.now in
+    omega (arith, before, now)
 
 -- the first query that may still be answered, of those that are waited for
 abbrev first_in : Lives → List Pending → Option ℕ
 first_in lives pending = option_map (λ p. p.statement) (find (λ p. option_map_or is_open (life_of lives p.statement) false) pending)
 
--- where the front waited for no query that may still be answered, it waits for none
-pub taken-closed : (old new : State) → IsSome (next_ready old 0) → new ≡ after_taking 0 old
-    → first_open old.lives (seat_at old 0) ≡ None → first_open new.lives (seat_at new 0) ≡ None
-taken-closed old new ready same none =
-    let behind = taken-behind old new ready same in
+-- where a seat waited for no query that may still be answered, it waits for none
+pub taken-closed : (seat : ℕ) (old new : State) → IsSome (next_ready old seat) → new ≡ after_taking seat old
+    → first_open old.lives (seat_at old seat) ≡ None → first_open new.lives (seat_at new seat) ≡ None
+taken-closed seat old new ready same none =
+    let behind = taken-behind seat old new ready same in
     let lives : new.lives ≡ old.lives = ap (λ state. state.lives) same in
-    ap (λ l. first_in l (seat_at new 0).pending) lives ∙ ap (first_in old.lives) behind.2.now
+    ap (λ l. first_in l (seat_at new seat).pending) lives ∙ ap (first_in old.lives) behind.2.now
     ∙ find-behind (λ p. option_map_or is_open (life_of old.lives p.statement) false) behind.0 behind.1
     (ap (first_in old.lives) (sym behind.2.before) ∙ none)

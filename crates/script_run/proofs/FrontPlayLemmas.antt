@@ -9,11 +9,11 @@ use Rattle.core_state.specs.Sent.{Given, Lost, Sent, pendings_of, statements_in}
 use Rattle.core_state.proofs.FrontLemmas.{goes-lost, goes-passes, goes-submits}
 use Rattle.core_state.proofs.RowLemmas.{submits-row}
 use Rattle.script_run.specs.Answered.{StayAnswered}
-use Rattle.script_run.specs.Front.{EndsSo, Plays, PlaysBy, PlaysCounted, PlaysIn, PlaysOn, Submits}
+use Rattle.script_run.specs.Front.{EndsSo, Plays, PlaysBy, PlaysCounted, PlaysIn, PlaysOn}
 use Rattle.script_run.proofs.FrontRunLemmas.{idle-submitted, submits-none, submits-one}
 use Rattle.script_run.proofs.LapLemmas.{laps-lost, laps-quiet, laps-round, laps-then, settles-plays, waits-fill}
 use Rattle.script_run.proofs.LapSubmitLemmas.{counts-submitted}
-use Rattle.script_run.proofs.OnLemmas.{by-err, by-ok, by-passes, halts-left, halts-proper, halts-weaker, idle-still, in-err, in-ok, passes-itself, text-one, within-reply}
+use Rattle.script_run.proofs.OnLemmas.{by-err, by-ok, by-passes, halts-left, halts-proper, halts-weaker, idle-still, in-err, in-ok, text-one, within-reply}
 
 -- No memory was left.
 
@@ -89,32 +89,6 @@ plays-before halt statement old new taken taken' plays due waits = (
   where
     on : PlaysOn (Some halt) 0 (sight_of old 0) due [] ⊥ (sight_of new 0) taken taken'
     on = (plays due waits).0.on
-
--- for the statement itself, before anything was done
-pub plays-none : (statement : Statement) (state : State) (taken : Option (List ℕ)) → PlaysCounted (Err NoMemory) state (statement ∷ []) state taken taken
-plays-none statement state taken due waits = (
-  (
-    record {
-      on = record {
-        sent = [];
-        said = [];
-        still = due;
-        replies = [];
-        rest = statement ∷ [];
-        are = refl;
-        goes = goes-passes 0 (sight_of state 0) (sight_of state 0) due waits refl (passes-itself (sight_of state 0));
-        written = [];
-        took = Appends-nil taken;
-        ends = halts-left ((due ≢ []) ⊎ (((statement ∷ []) ≢ []) ⊎ ⊥)) (inr (inl (rest-some [] statement)));
-      };
-      run = submits-none state;
-      stay = λ query was. was;
-      answered = tt;
-    },
-    tt,
-  ),
-  tt,
-)
 
 or_true : (a : Bool) → true ≡ (a || true)
 or_true true = refl

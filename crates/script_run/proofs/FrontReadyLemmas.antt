@@ -97,7 +97,7 @@ writes-more tells old now new refused told before taken taken' ready reply writi
           (took-first tells 0 now new ready reply takes first.0.on.still first.0.on.goes.waits) may takes.taken wrote is_told);
       run = run-then old now new writing.run (run-taken now new may takes.taken);
       beside = beside-taken old now new takes.taken writing.beside;
-      closed = λ none. taken-closed now new may takes.taken (writing.closed none);
+      closed = λ none. taken-closed 0 now new may takes.taken (writing.closed none);
       sound = sound;
     }
 

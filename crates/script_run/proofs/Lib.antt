@@ -1,7 +1,7 @@
 pub mod Words
 -- Lemmas on runs of scripts.
 mod NextLemmas
-mod WholeLemmas
+pub mod WholeLemmas
 pub mod BetweenLemmas
 pub mod RunLemmas
 mod AskedLemmas
@@ -23,25 +23,23 @@ mod FrontWaitingLemmas
 mod FrontOpenLemmas
 mod FrontReadyLemmas
 mod FrontPlayLemmas
-pub mod HomeStepLemmas
-pub mod HomeStepsLemmas
-mod HomeClosedLemmas
-mod HomeLetLemmas
-mod HomeReplyLemmas
 pub mod SeatTellsLemmas
 pub mod SharedReadLemmas
 mod SharedWholeLemmas
 mod SharedScriptLemmas
 mod AloneLemmas
+mod RunAloneLemmas
 pub mod SharedRunLemmas
 pub mod SharedEndLemmas
 mod SharedDoneLemmas
 mod SeatTurnLemmas
 mod SeatLetLemmas
-mod SeatFrontLemmas
+pub mod SeatFrontLemmas
 mod SeatReadLemmas
+mod SeatRestLemmas
 mod SeatRunLemmas
 mod SeatEndLemmas
 mod SeatDoneLemmas
-mod BoardSeatLemmas
+pub mod BoardSeatLemmas
 mod BoardCloseLemmas
+pub mod CrossingLemmas

@@ -260,8 +260,8 @@ wants-left refused old new due statements Left Left' taken taken' left plays = (
 -- What is waited for.
 
 -- nothing is waited for where nothing is pending
-pub due-none : (state : State) → (seat_at state 0).pending ≡ [] → IsDue 0 (sight_of state 0) []
-due-none state idle = record {
+pub due-none : (seat : ℕ) (state : State) → (seat_at state seat).pending ≡ [] → IsDue seat (sight_of state seat) []
+due-none seat state idle = record {
   pending = idle;
   points = All-nil _;
   given = All-nil IsGiven;

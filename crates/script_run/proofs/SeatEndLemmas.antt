@@ -1,19 +1,19 @@
 -- How a run by a seat of a board ends whose replies halt, and what stays told once the seat left what it waited for.
-use Rattle.script_run.proofs.Words.{◌++◌, ◌+◌, ◌||◌, ◌∙◌, ◌≡◌, ◌≤◌, [], All, ap, append-nil, arith, Bool, changes_of, Consumes, Consumes-trans, end_of_halt, Entry, Err, fed_with, Halt, HasEnded, length, List, MayCome, NoMemory, Ok, Option, Reading, refl, Reply, SCRIPT_LIMIT, Some, Statement, subst, sym, within_limit, ℕ}
+use Rattle.script_run.proofs.Words.{◌++◌, ◌+◌, ◌||◌, ◌∙◌, ◌≡◌, ◌≤◌, [], All, ap, append-nil, arith, Bool, changes_of, Consumes, Consumes-trans, end_of_halt, Entry, Err, fed_with, Halt, HasEnded, length, List, MayCome, NoMemory, Ok, Option, Reading, refl, SCRIPT_LIMIT, Some, subst, sym, within_limit, ℕ}
 use Rattle.star_io.specs.Link.{ReadingSide, WritingSide}
 use Rattle.star_io.specs.declared.run_end.RunEnd.{RunEnd}
 use Rattle.core_state.specs.Rows.{Sight, empty_row, made_by}
-use Rattle.core_state.specs.Sent.{AreRepliesTo, Sent, takens_of}
+use Rattle.core_state.specs.Sent.{Sent}
 use Rattle.script_run.specs.Front.{PlaysOn}
-use Rattle.script_run.specs.Seat.{TellsSeat}
+use Rattle.script_run.specs.Home.{Leaves}
 use Rattle.script_run.specs.SeatFront.{SeatPlays, SeatPlaysWhole}
-use Rattle.script_run.specs.SeatTurns.{Leaves}
 use Rattle.script_run.specs.Shared.{AnswersSent, CutScript, TellsSent, nothing, statements_by}
 use Rattle.script_run.proofs.BoardCloseLemmas.{none-came}
 use Rattle.script_run.proofs.RunLemmas.{came, finished, within_all}
 use Rattle.script_run.proofs.SeatFrontLemmas.{seat-err, seat-left}
 use Rattle.script_run.proofs.SeatReadLemmas.{SeatPlaying}
 use Rattle.script_run.proofs.SeatRunLemmas.{IsRunBy, WaitsFor, ended-by, fed-by, few-by, finished-by, halted-by-way}
+use Rattle.script_run.proofs.SeatTellsLemmas.{lets-made, tells-lets}
 use Rattle.script_run.proofs.SharedEndLemmas.{HasAnswered, IsCut, IsOwn, IsSent, ended-cut, front-cut, halted-cut, halts-by, out-cut, unless-weaker}
 
 -- of what was sent, and of the script, no more is told
@@ -109,51 +109,32 @@ module _ (new : Sight) (from from' : ReadingSide) (to to' : WritingSide) where
 
 -- The seat left what it waited for.
 
--- the same is told where no entry came, and nothing was sent or taken
-abbrev pub tells-same : (old mid new : Sight) (statements : List Statement) (replies : List Reply) → new.seen ≡ mid.seen
-    → new.row.submitted ≡ mid.row.submitted → new.row.taken ≡ mid.row.taken → TellsSeat 0 old mid statements replies
-    → TellsSeat 0 old new statements replies
-tells-same old mid new statements replies seen submitted taken tells = record {
-  said = tells.said;
-  others = tells.others;
-  rest = tells.rest;
-  all = tells.all;
-  since = tells.since;
-  seen = seen ∙ tells.seen;
-  entries = tells.entries;
-  submitted = submitted ∙ tells.submitted;
-  later = tells.later;
-  taken = taken ∙ tells.taken ∙ ap (λ entries. old.row.taken ++ (takens_of entries tells.said ++ tells.later)) (sym seen);
-  answered = subst (λ entries. AreRepliesTo entries tells.said replies) (sym seen) tells.answered;
-}
-
-sent-same : (end : RunEnd) (ended : Bool) (wanted given : List ℕ) (mid new : Sight) → new.seen ≡ mid.seen
-    → new.row.submitted ≡ mid.row.submitted → new.row.taken ≡ mid.row.taken → TellsSent end ended wanted given mid
-    → TellsSent end ended wanted given new
-sent-same end ended wanted given mid new seen submitted taken sent = record {
+-- so what it told it tells still, where no entry came
+sent-left : (end : RunEnd) (ended : Bool) (wanted given : List ℕ) (mid new : Sight) → mid.row.made ≡ made_by 0 mid.seen → Leaves 0 mid new
+    → new.seen ≡ mid.seen → TellsSent end ended wanted given mid → TellsSent end ended wanted given new
+sent-left end ended wanted given mid new made leaves seen sent = record {
   replies = sent.replies;
-  tells = tells-same nothing mid new (statements_by end ended given) sent.replies seen submitted taken sent.tells;
+  tells = tells-lets 0 nothing mid new (statements_by end ended given) sent.replies made sent.tells leaves.0;
   own = subst (All (λ (entry : Entry). entry.seat ≡ 0)) (sym seen) sent.own;
-  whole = λ ends. record { others = (sent.whole ends).others; rest = (sent.whole ends).rest; later = (sent.whole ends).later };
+  whole = λ ends. record {
+    others = (sent.whole ends).others;
+    rest = (sent.whole ends).rest;
+    later = ap (λ list. list ++ leaves.0.more) (sent.whole ends).later ∙ leaves.1;
+  };
   same = sent.same;
   history = λ ends. ap changes_of seen ∙ sent.history ends;
 }
 
--- where all entries are the seat's none came meanwhile
-none-left : (mid new : Sight) → WaitsFor mid → (leaves : Leaves 0 mid new) → IsOwn new → leaves.since ≡ []
-none-left mid new due leaves own = none-came 0 mid.seen leaves.since
-    (ap (made_by 0) (sym leaves.seen) ∙ sym leaves.all_made ∙ leaves.made ∙ due.1.made)
-    (subst (All (λ (entry : Entry). entry.seat ≡ 0)) leaves.seen own)
-
--- so what the seat told it tells still
+-- none did where all entries are the seat's
 pub leaves-sent : (end : RunEnd) (mid new : Sight) (from from' : ReadingSide) (to to' : WritingSide) → WaitsFor mid → Leaves 0 mid new
     → AnswersSent end mid from from' to to' → AnswersSent end new from from' to to'
 leaves-sent end mid new from from' to to' due leaves answers own =
-    let seen : new.seen ≡ mid.seen =
-    leaves.seen ∙ ap (λ list. mid.seen ++ list) (none-left mid new due leaves own) ∙ append-nil mid.seen in
+    let none = none-came 0 mid.seen leaves.0.since (lets-made 0 mid new due.1.made leaves.0)
+    (subst (All (λ (entry : Entry). entry.seat ≡ 0)) leaves.0.seen own) in
+    let seen : new.seen ≡ mid.seen = leaves.0.seen ∙ ap (λ list. mid.seen ++ list) none ∙ append-nil mid.seen in
     let found = answers (subst (All (λ (entry : Entry). entry.seat ≡ 0)) seen own) in (
       found.0,
       unless-weaker end (TellsSent end from'.ended found.0.wanted found.0.given mid)
           (TellsSent end from'.ended found.0.wanted found.0.given new)
-          (sent-same end from'.ended found.0.wanted found.0.given mid new seen leaves.submitted leaves.taken) found.1,
+          (sent-left end from'.ended found.0.wanted found.0.given mid new due.1.made leaves seen) found.1,
     )

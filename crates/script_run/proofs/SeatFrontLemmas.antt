@@ -262,13 +262,6 @@ replies-want refused seat old between new taken0 taken plays tells due waits =
 
 -- A statement for which no memory was left.
 
--- nothing was done yet
-pub seat-lost-first : (seat : ℕ) (statement : Statement) (sight : Sight) (taken : Option (List ℕ))
-    → SeatPlays (Err NoMemory) seat sight (statement ∷ []) sight taken taken
-seat-lost-first seat statement sight taken due waits =
-    seat-unsent NoMemory seat statement sight sight due (Unit {0}) taken taken
-    (seat-left false seat sight sight due [] ⊥ (Unit {0}) taken taken tt (seat-none seat sight due taken waits))
-
 -- nothing is waited for, and its reply `memory` was written, or not all of it
 abbrev pub seat-lost : (halted : Option Halt) (seat : ℕ) (statement : Statement) (sight : Sight) (due : List Sent) (written : List ℕ)
     (taken taken' : Option (List ℕ)) → IsDue seat sight due → due ≡ [] → Appends taken taken' written

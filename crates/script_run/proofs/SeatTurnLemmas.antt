@@ -1,5 +1,5 @@
 -- A turn of a seat that gives statements to a core: what it finds, what it does, and what it leaves.
-use Rattle.script_run.proofs.Words.{◌++◌, ◌+◌, ◌<◌, ◌∙◌, ◌∷◌, ◌≡◌, ◌≢◌, [], after_submitting, after_taking, ap, append-nil, first_open, IfSome, IsRight, IsSound, length, List, Lives, next_ready, None, Option, Pending, Ready, ready_of, refl, RunSettings, Seat, seat_at, slice_get, Some, State, state_of, Statement, Submit, subst, sym, Took, ℕ, ⊎_elim}
+use Rattle.script_run.proofs.Words.{◌++◌, ◌+◌, ◌<◌, ◌∙◌, ◌∷◌, ◌≡◌, ◌≢◌, [], after_submitting, after_taking, ap, append-nil, append_assoc, first_open, IfSome, IsRight, IsSound, length, List, Lives, next_ready, None, Option, Pending, Ready, ready_of, refl, RunSettings, Seat, seat_at, slice_get, Some, State, state_of, Statement, Submit, subst, sym, Took, ℕ, ⊎_elim}
 use Rattle.board_lock.specs.Seats.{IsOf, IsOutside, view_of}
 use Rattle.board_lock.specs.Small.{IsSameTeam}
 use Rattle.board_lock.specs.Views.{Keeps, entered, left}
@@ -8,7 +8,7 @@ use Rattle.board_lock.specs.declared.seat.BoardSeat.{BoardSeat}
 use Rattle.board_lock.specs.declared.view.View.{View}
 use Rattle.core_state.specs.Events.{after_event}
 use Rattle.core_state.specs.Found.{held_by}
-use Rattle.core_state.specs.Fronts.{Passes, SubmitsRow}
+use Rattle.core_state.specs.Fronts.{IsDue, Passes, SubmitsRow}
 use Rattle.core_state.specs.Rows.{AbandonsRow, IsMindful, SeatRow, Sight, empty_row, made_by, sight_of}
 use Rattle.core_state.specs.Sent.{Given}
 use Rattle.core_state.specs.State.{Flight}
@@ -20,10 +20,11 @@ use Rattle.event_core.specs.Parts.{Parts}
 use Rattle.worker_gate.specs.Left.{MovesHand}
 use Rattle.worker_gate.specs.Turns.{IsOutWith, IsSeated, sight_in}
 use Rattle.worker_gate.proofs.TurnLemmas.{FindsCore, seated-found}
-use Rattle.script_run.specs.SeatTurns.{Leaves, Stays, Submitted, TakesNext, TellsAsked}
+use Rattle.script_run.specs.Home.{Leaves, LetsGo}
+use Rattle.script_run.specs.SeatTurns.{Stays, Submitted, TakesNext, TellsAsked}
 use Rattle.script_run.specs.declared.seat_turn.Asked.{Asked}
 use Rattle.script_run.specs.declared.seat_turn.Asked.TheVariants.{Got, Nothing, NotYet, Looked}
-use Rattle.script_run.proofs.OnLemmas.{passes-itself}
+use Rattle.script_run.proofs.OnLemmas.{due-none, passes-itself}
 use Rattle.script_run.proofs.TakenLemmas.{RowTells, TakesReply, WaitsForOpen, idle-next, took-first}
 
 -- Seats.
@@ -115,6 +116,46 @@ asked-behind Nothing seat old between new stays tells = (stays-then seat old bet
 asked-behind NotYet seat old between new stays tells = stays-then seat old between new stays tells
 asked-behind (Looked look) seat old between new stays tells = (stays-then seat old between new stays tells.0, tells.1)
 
+-- What is let go.
+
+-- one part behind another
+abbrev pub lets-then : (seat : ℕ) (old between new : Sight) → LetsGo seat old between → LetsGo seat between new → LetsGo seat old new
+lets-then seat old between new first second = record {
+  since = first.since ++ second.since;
+  seen = second.seen ∙ ap (λ list. list ++ second.since) first.seen ∙ append_assoc old.seen first.since second.since;
+  made = second.made ∙ first.made;
+  all_made = second.all_made;
+  submitted = second.submitted ∙ first.submitted;
+  more = first.more ++ second.more;
+  taken = second.taken ∙ ap (λ list. list ++ second.more) first.taken ∙ append_assoc old.row.taken first.more second.more;
+}
+
+-- where queries were abandoned
+abbrev pub lets-abandoned : (seat : ℕ) (old new : State) → AbandonsRow (sight_of old seat) (sight_of new seat)
+    → LetsGo seat (sight_of old seat) (sight_of new seat)
+lets-abandoned seat old new abandons = record {
+  since = [];
+  seen = abandons.seen ∙ sym (append-nil old.entries);
+  made = abandons.made;
+  all_made = refl;
+  submitted = abandons.submitted;
+  more = [];
+  taken = abandons.taken ∙ sym (append-nil (seat_at old seat).taken);
+}
+
+-- and from what the seat knew to the core that it finds
+abbrev lets-found : (view : View Parts) (found : Parts) → FindsCore view found
+    → LetsGo view.number (sight_in view) (sight_of (state_of found) view.number)
+lets-found view found finds = record {
+  since = finds.goes_on.0;
+  seen = sym finds.goes_on.1;
+  made = ap (λ (row : SeatRow). row.made) finds.own;
+  all_made = refl;
+  submitted = ap (λ (row : SeatRow). row.submitted) finds.own;
+  more = [];
+  taken = ap (λ (row : SeatRow). row.taken) finds.own ∙ sym (append-nil (sight_in view).row.taken);
+}
+
 -- A turn.
 
 -- what a seat left is what it sees of it
@@ -135,22 +176,36 @@ turn-tells Tells behind old new found core seat view finds is tells =
     (subst (λ n. Tells n (sight_of (state_of found) n) (sight_of (state_of core) n)) is tells))
 
 -- it let go what it waited for
+pub turn-lets : (old new : BoardSeat Parts) (found core : Parts) (seat : ℕ) → view_of new ≡ left (view_of old) core
+    → FindsCore (view_of old) found → seat ≡ (view_of old).number
+    → LetsGo seat (sight_of (state_of found) seat) (sight_of (state_of core) seat)
+    → LetsGo (view_of old).number (sight_in (view_of old)) (sight_in (view_of new))
+turn-lets old new found core seat view finds is lets =
+    subst (LetsGo (view_of old).number (sight_in (view_of old))) (sym (sight-left old new core view))
+    (lets-then (view_of old).number (sight_in (view_of old)) (sight_of (state_of found) (view_of old).number)
+    (sight_of (state_of core) (view_of old).number) (lets-found (view_of old) found finds)
+    (subst (λ n. LetsGo n (sight_of (state_of found) n) (sight_of (state_of core) n)) is lets))
+
+-- and took none of the replies
 pub turn-leaves : (old new : BoardSeat Parts) (found core : Parts) (seat : ℕ) → view_of new ≡ left (view_of old) core
     → FindsCore (view_of old) found → seat ≡ (view_of old).number
     → AbandonsRow (sight_of (state_of found) seat) (sight_of (state_of core) seat)
     → Leaves (view_of old).number (sight_in (view_of old)) (sight_in (view_of new))
 turn-leaves old new found core seat view finds is abandons =
-    subst (Leaves (view_of old).number (sight_in (view_of old))) (sym (sight-left old new core view)) (record {
-      since = finds.goes_on.0;
-      seen = own.seen ∙ sym finds.goes_on.1;
-      made = own.made ∙ ap (λ (row : SeatRow). row.made) finds.own;
-      all_made = refl;
-      submitted = own.submitted ∙ ap (λ (row : SeatRow). row.submitted) finds.own;
-      taken = own.taken ∙ ap (λ (row : SeatRow). row.taken) finds.own;
-    })
-  where
-    own : AbandonsRow (sight_of (state_of found) (view_of old).number) (sight_of (state_of core) (view_of old).number)
-    own = subst (λ n. AbandonsRow (sight_of (state_of found) n) (sight_of (state_of core) n)) is abandons
+    subst (Leaves (view_of old).number (sight_in (view_of old))) (sym (sight-left old new core view)) (
+      lets-then (view_of old).number (sight_in (view_of old)) (sight_of (state_of found) (view_of old).number)
+          (sight_of (state_of core) (view_of old).number) (lets-found (view_of old) found finds)
+          (lets-abandoned (view_of old).number (state_of found) (state_of core)
+          (subst (λ n. AbandonsRow (sight_of (state_of found) n) (sight_of (state_of core) n)) is abandons)),
+      refl,
+    )
+
+-- it waits for nothing where nothing is pending in the core that it left
+pub turn-due : (old new : BoardSeat Parts) (core : Parts) (seat : ℕ) → view_of new ≡ left (view_of old) core → seat ≡ (view_of old).number
+    → (seat_at (state_of core) seat).pending ≡ [] → IsDue (view_of new).number (sight_in (view_of new)) []
+turn-due old new core seat view is idle =
+    subst (λ (v : View Parts). IsDue v.number (sight_in v) []) (sym view)
+    (due-none (view_of old).number (state_of core) (subst (λ n. (seat_at (state_of core) n).pending ≡ []) is idle))
 
 -- a core that a seat found may be put back by it where steps of that seat alone have changed it
 abbrev pub KeepsBoard : Type 0

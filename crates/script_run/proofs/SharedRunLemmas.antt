@@ -17,7 +17,7 @@ pub record IsShared (settings : RunSettings) (now : State) (waits : Reading) (re
 
 -- an empty core waits for nothing
 pub new-due : (settings : RunSettings) → IsDue 0 (sight_of (empty_core settings) 0) []
-new-due settings = due-none (empty_core settings) (ap (λ (seat : Seat). seat.pending) (new-seat settings))
+new-due settings = due-none 0 (empty_core settings) (ap (λ (seat : Seat). seat.pending) (new-seat settings))
 
 pub starts-shared : (settings : RunSettings) (now : State) (waits : Reading) (left taken : Option (List ℕ)) → now ≡ empty_core settings
     → waits ≡ record { waiting = []; fed = 0; ended = false } → IsShared settings now waits false left left taken taken

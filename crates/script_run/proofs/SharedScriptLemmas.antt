@@ -242,11 +242,11 @@ Sure WriteFault Known = Unit {0}
 Sure NoMemory Known = Known
 
 -- what was written is a front of the replies to some statements and others, and a proper one where a write failed or something is left
-record IsCutShort (halt : Halt) (wanted : List ℕ) (written : List ℕ) (all : List Statement) (Known : Type 0) : Type 0 where
-  front : IsFront written (text_of_all (replies_of wanted all))
-  part : Sure halt Known → IsProperFront written (text_of_all (replies_of wanted all))
+pub record IsCutShort (halt : Halt) (wanted : List ℕ) (written : List ℕ) (all : List Statement) (Known : Type 0) : Type 0 where
+  pub front : IsFront written (text_of_all (replies_of wanted all))
+  pub part : Sure halt Known → IsProperFront written (text_of_all (replies_of wanted all))
 
-cut-short : (halt : Halt) (wanted written : List ℕ) (replies : List Reply) (said others all : List Statement) (Left : Type 0)
+pub cut-short : (halt : Halt) (wanted written : List ℕ) (replies : List Reply) (said others all : List Statement) (Left : Type 0)
     → replies ≡ replies_of wanted said → all ≡ said ++ others → HaltsAt halt written replies Left
     → IsCutShort halt wanted written all (Left → others ≢ [])
 cut-short halt wanted written replies said others all Left are is halts = record { front = front halt halts; part = part halt halts }

@@ -3,7 +3,7 @@ pub use Rattle.std.proofs.Common.{◌*◌, ◌++◌, ◌+◌, ◌-◌, ◌/◌, 
 pub use Rattle.std.proofs.KnownBytes.{Appends-nil, Appends-trans, Consumes-nil, Consumes-trans}
 pub use Rattle.std.proofs.lemmas.Bool.{cases_lt, ne_eqb}
 pub use Rattle.std.proofs.lemmas.List.{get_or-set_same, get_or_past, length-drop, map-append}
-pub use Rattle.std.proofs.lemmas.List.Elements.{All-append, All-cons, All-contains, All-head, All-map, All-nil, All-tail, All-weaker}
+pub use Rattle.std.proofs.lemmas.List.Elements.{All-append, All-cons, All-head, All-nil, All-tail, All-weaker}
 pub use Rattle.std.proofs.lemmas.List.Sums.{fold-append}
 pub use Rattle.std.proofs.lemmas.Result.{err_from_is_err_and, on_ok_weaker}
 pub use Rattle.std.specs.Io.KnownBytes.{Appends, Consumes}
@@ -33,14 +33,11 @@ pub use Rattle.reply_text.specs.declared.reply.Reply.TheVariants.{Answer, Commit
 pub use Rattle.star_statement.specs.Effect.{answer_reply, effect_of, reply_to, store_after}
 pub use Rattle.star_statement.specs.Laws.{AgreesWith}
 pub use Rattle.star_statement.specs.Outcome.{Outcome, outcome_by, outcome_of, Told}
-pub use Rattle.star_statement.specs.Script.{history_after, is_wanted_at, replies_after, replies_at, replies_of}
+pub use Rattle.star_statement.specs.Script.{history_after, is_wanted_at, replies_after, replies_of}
 pub use Rattle.star_statement.specs.Text.{meaning_of}
 pub use Rattle.core_state.proofs.AcceptedLemmas.{find-holds}
-pub use Rattle.core_state.proofs.AnewLemmas.{forgets}
 pub use Rattle.core_state.proofs.AskLemmas.{of-numbers}
 pub use Rattle.core_state.proofs.LaterLemmas.{entries-by}
-pub use Rattle.core_state.proofs.SeatLemmas.{part-stays}
-pub use Rattle.core_state.proofs.WholeFrameLemmas.{by-option}
 pub use Rattle.core_state.proofs.WholeToldLemmas.{aside-outcome}
 pub use Rattle.core_state.specs.Answers.{IsRight, IsTakenAs}
 pub use Rattle.core_state.specs.Events.{IsEnabled, LeavesSeats}
@@ -49,7 +46,7 @@ pub use Rattle.core_state.specs.Queries.{accepted_by, given_in, queries_among}
 pub use Rattle.core_state.specs.Sound.{empty_core, IsAwaited, IsSound, IsSoundQuery, IsSoundSeat}
 pub use Rattle.core_state.specs.State.{Accepted, Asked, Awaited, Entry, Pending, Replied, Scan, Seat, State, Taken}
 pub use Rattle.core_state.specs.Steps.{after_step, after_steps, Done, MayStep, MayStepAll, Replying, Step, Wanting}
-pub use Rattle.core_state.specs.Submitting.{after_abandoning, after_outcome, after_submitting, after_taking, awaited_by, empty_seat, forgotten, next_ready, ready_to, seat_at, taken_by, with_change, with_query, with_seat, with_statement, with_taken, without_pending}
+pub use Rattle.core_state.specs.Submitting.{after_abandoning, after_outcome, after_submitting, after_taking, awaited_by, empty_seat, forgotten, next_ready, ready_to, seat_at, taken_by, with_change, with_query, with_seat, with_taken, without_pending}
 pub use Rattle.core_state.specs.Tables.{changes_of, tables_by, tables_of, versions_in}
 pub use Rattle.core_state.specs.declared.event.Event.{Event}
 pub use Rattle.core_state.specs.declared.event.Event.TheVariants.{Abandon, Submit}
@@ -61,13 +58,13 @@ pub use Rattle.event_core.specs.Took.{IsLed, Took, TookAll}
 pub use Rattle.event_core.specs.declared.replies.Ready.{Ready}
 pub use Rattle.core_driver.proofs.LapCountLemmas.{count-cons}
 pub use Rattle.core_driver.specs.Driven.{IsDriven}
-pub use Rattle.script_run.specs.Answer.{HaltsBehind, HasNoStatement, refused_left, Replies, replies_left, RepliesInPart, text_left}
+pub use Rattle.script_run.specs.Answer.{HasNoStatement}
 pub use Rattle.script_run.specs.Counted.{Beside, CountsOne, FrontParts, GoesRound, is_query, IsCounted, IsOverOrWaits, KnowsCore, LapsOn, one_if, queries_awaited, told_of}
 pub use Rattle.script_run.specs.End.{end_of_all, end_of_halt}
 pub use Rattle.script_run.specs.Front.{Finishes, Gives, IsOfRun, IsRun}
-pub use Rattle.script_run.specs.Home.{IsOfSession, Owns}
 pub use Rattle.script_run.specs.Laps.{laps_of, placed, rows_of}
 pub use Rattle.script_run.specs.Pieces.{fed_with}
+pub use Rattle.script_run.specs.Replied.{AreReplied, HaltsBehind, IsReplied, Replies, RepliesFirst}
 pub use Rattle.script_run.specs.Run.{HasEnded, is_refusal, IsFront, IsProperFront, script_replies, script_text, some_refused, within_limit}
 pub use Rattle.script_run.specs.Shared.{AnswersBy}
 pub use Rattle.script_run.specs.Told.{BeginAnswered, MayBegin, Tells}

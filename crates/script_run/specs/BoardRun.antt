@@ -72,8 +72,9 @@ pub record IsNewBoard (settings : RunSettings) (board : BoardLock Parts) (first 
   pub knows : KnowsNew settings (view_of first)
   pub most : board.seats ≡ settings.seats
 
--- such a board with its seats, one for the front and one for each worker
+-- such a board with its first seat and one for each worker
 pub record IsNewCrew (settings : RunSettings) (crew : Crew) : Type 0 where
+  pub most : crew.board.seats ≡ settings.seats
   pub leader : IsLeader crew.board settings.workers crew.first
   pub knows : KnowsNew settings (view_of crew.first)
   pub are_workers : AreWorkers crew.board crew.workers.items

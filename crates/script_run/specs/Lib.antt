@@ -7,11 +7,11 @@ pub mod Counted
 pub mod Told
 pub mod Front
 pub mod Home
-pub mod Leaving
 pub mod Waiting
 pub mod Shared
 pub mod End
 pub mod Answer
+pub mod Replied
 pub mod Pieces
 pub mod SeatTurns
 pub mod SeatFront

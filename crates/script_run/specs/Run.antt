@@ -1,5 +1,5 @@
 -- What a run of a script writes, and why it ends.
-use Rattle.std.specs.Prelude.{◌≡◌, ℕ, ◌+◌, ◌<◌, ◌≤◌, ◌⊎◌, Bool, true, false, List, [], ◌++◌, length, take}
+use Rattle.std.specs.Prelude.{◌≡◌, ℕ, ◌+◌, ◌<◌, ◌≤◌, ◌⊎◌, Bool, true, false, List, ◌++◌, length, take}
 use Rattle.std.specs.List.{list_any}
 use Rattle.std.specs.Io.KnownBytes.{Appends, Consumes, IsAtEnd}
 use Rattle.star_io.specs.Faults.{FailedOnce, FailedOnceAtMost}
@@ -96,10 +96,6 @@ pub record AnswersScript (end : RunEnd) (from from' : ReadingSide) (to to' : Wri
   pub wanted : List ℕ
   pub replies : RepliesBetween (script_text wanted) end from from' to to' given written
   pub refused : TellsRefused end (some_refused wanted true given)
-
--- the same of a run that replies to no statement that memory was wanted for it: where it was, such a run ends
-abbrev pub AnswersAlone : (end : RunEnd) → (from from' : ReadingSide) → (to to' : WritingSide) → Type 0
-AnswersAlone end from from' to to' = (answers : AnswersScript end from from' to to') × (answers.wanted ≡ [])
 
 -- which faults came. Nothing was read after a read that failed, and nothing was written after a write that failed
 abbrev pub CountsFaults : RunEnd → (from from' : ReadingSide) → (to to' : WritingSide) → Type 0

@@ -3,9 +3,9 @@ use Rattle.std.specs.Prelude.{◌≡◌, ◌≢◌, ℕ, List, [], ◌∷◌, �
 use Rattle.script_reader.specs.declared.statement.Statement.{Statement}
 use Rattle.reply_text.specs.declared.reply.Reply.{Reply}
 use Rattle.core_state.specs.Fronts.{Goes, IsDue}
-use Rattle.core_state.specs.Rows.{Sight, made_by}
+use Rattle.core_state.specs.Rows.{Sight}
 use Rattle.core_state.specs.Sent.{IsGiven, Sent, statement_in}
-use Rattle.core_state.specs.State.{Entry, Flight}
+use Rattle.core_state.specs.State.{Flight}
 use Rattle.event_core.specs.Replies.{IsReplyOf}
 use Rattle.event_core.specs.declared.replies.Ready.{Ready}
 use Rattle.worker_gate.specs.Looks.{HasLooked}
@@ -43,12 +43,3 @@ TellsAsked (Looked look) seat old new = Stays seat old new × (new.row.pending �
 abbrev pub HasAsked : Asked → Option Flight → Type 0
 HasAsked (Looked look) held = HasLooked look held
 HasAsked other held = held ≡ None
-
--- a seat left what it waited for: it sent and took nothing, the entries that came are of others, and its row has those that it made
-pub record Leaves (seat : ℕ) (old new : Sight) : Type 0 where
-  pub since : List Entry
-  pub seen : new.seen ≡ old.seen ++ since
-  pub made : new.row.made ≡ old.row.made
-  pub all_made : new.row.made ≡ made_by seat new.seen
-  pub submitted : new.row.submitted ≡ old.row.submitted
-  pub taken : new.row.taken ≡ old.row.taken

@@ -1,10 +1,11 @@
 //! The replies to the statements that are whole, written one after the other.
 ghost use Rattle.script_reader.specs.Reading.{StaysFed};
 ghost use Rattle.star_history.specs.Keyed.{plain};
-ghost use Rattle.script_run.specs.Answer.{AnswersWhole, CountsHalt, GivesNext};
+ghost use Rattle.script_run.specs.Answer.{CountsHalt};
+ghost use Rattle.script_run.specs.Replied.{AnswersWhole, GivesNext};
 
 use crate::halt::Halt;
-use crate::reply::{is_refusal, reply_to, text_of};
+use crate::reply::{is_refusal, reply_or_memory, text_of};
 use script_reader::{Next, ScriptReader};
 use star_io::{Sink, write_all};
 use star_store::Store;
@@ -42,7 +43,8 @@ struct Answered {
     refused: bool,
 }
 
-/// Does what the first statement that is whole says, and gives its reply, where there is one.
+/// Does what the first statement that is whole says, and gives its reply, where there is one. It
+/// fails where no memory is left for the statement to be read, or for the text of its reply.
 fn answer_next(
     alloc: Global,
     hash_keys: RandomState,
@@ -55,7 +57,7 @@ fn answer_next(
     let Next::Got(statement) = reader.next_statement()? else {
         return Ok(None);
     };
-    let reply = reply_to(alloc, hash_keys, store, statement)?;
+    let reply = reply_or_memory(alloc, hash_keys, store, statement);
     let refused = is_refusal(&reply);
     let text = text_of(alloc, &reply);
     drop(reply);

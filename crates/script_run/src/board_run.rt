@@ -1,7 +1,7 @@
 //! A run of a script by several threads over one board: the front reads the script and writes the
 //! replies, and workers take batches and make events beside it. How the seats of workers are made,
 //! used and joined is in `board_seats`.
-ghost use Rattle.std.specs.Prelude.{◌≡◌, ◌+◌, ◌↔◌, IfOk, IfSome, IsNone, length};
+ghost use Rattle.std.specs.Prelude.{◌≡◌, ◌+◌, ◌<◌, ◌↔◌, IfOk, IfSome, IsNone, length};
 ghost use Rattle.board_lock.specs.Seats.{view_of};
 ghost use Rattle.core_state.specs.Settings.{AreWithin};
 ghost use Rattle.script_run.specs.BoardRun.{AnswersBoard, AreWorkers, HasRun, IsAtStart};
@@ -25,10 +25,10 @@ use worker_gate::Gate;
 
 /// A board over a core, its first seat, and one for each worker.
 #[derive(Drop)]
-struct Crew {
-    board: BoardLock<Core>,
-    first: BoardSeat<Core>,
-    workers: Vec<BoardSeat<Core>>,
+pub struct Crew {
+    pub board: BoardLock<Core>,
+    pub first: BoardSeat<Core>,
+    pub workers: Vec<BoardSeat<Core>>,
 }
 
 /// Reads a script to its end and writes the reply to each of its statements, in order, while the
@@ -82,11 +82,15 @@ pub(crate) fn run_with_workers<R: Threads + Wait + Sync, S: Source, K: Sink, G: 
     }
 }
 
-/// A board over a core of these settings to which nothing was given, and a seat for the front and
-/// for each worker.
-fn open_crew(alloc: Global, hash_keys: RandomState, settings: RunSettings) -> Result<Crew, NoMemory>
+/// A board over a core of these settings to which nothing was given, its first seat, and one for
+/// each worker. The board has room for as many seats as the settings say.
+pub fn open_crew(
+    alloc: Global,
+    hash_keys: RandomState,
+    settings: RunSettings,
+) -> Result<Crew, NoMemory>
     requires settings { AreWithin settings }
-    requires seats { settings.seats ≡ settings.workers + 1 }
+    requires seats { settings.workers < settings.seats }
     ensures { IfOk result (λ crew. IsNewCrew settings crew) }
 {
     let (board, mut first) = open_board(alloc, hash_keys, settings)?;

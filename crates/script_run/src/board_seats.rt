@@ -43,7 +43,7 @@ pub(crate) fn make_seats(
 
 /// Lets the workers work by their seats, each in a thread of its own where one can be made, and
 /// calls `front` beside them. It ends when `front` and all workers have ended.
-pub(crate) fn work_beside<R: Threads + Wait + Sync, G: Gate + Sync, F: FnMut() -> A, A>(
+pub fn work_beside<R: Threads + Wait + Sync, G: Gate + Sync, F: FnMut() -> A, A>(
     rt: &R,
     board: &BoardLock<Core>,
     gate: &G,
@@ -64,7 +64,7 @@ pub(crate) fn work_beside<R: Threads + Wait + Sync, G: Gate + Sync, F: FnMut() -
 
 /// Calls `each` at all members of a list, each in a thread of its own where one can be made, and
 /// `front` beside them.
-fn each_beside<R: Threads + Sync, E: Fn(usize, &mut T) + Sync, T: Send, F: FnMut() -> A, A>(
+pub fn each_beside<R: Threads + Sync, E: Fn(usize, &mut T) + Sync, T: Send, F: FnMut() -> A, A>(
     rt: &R,
     each: &E,
     members: &mut [T],

@@ -15,7 +15,6 @@ ghost use Rattle.pipeline_manager.specs.Conditions.{is_open};
 ghost use Rattle.pipeline_manager.specs.declared.life.Life.TheVariants.{Waiting};
 ghost use Rattle.script_run.specs.Front.{Finishes, Gives, IsRun, Plays, PlaysCounted};
 ghost use Rattle.script_run.specs.Counted.{Beside, GoesRound, IsCalm, IsCounted, open_in};
-ghost use Rattle.script_run.specs.Home.{IsAtHome};
 ghost use Rattle.script_run.specs.Run.{is_refusal};
 ghost use Rattle.script_run.specs.Waiting.{is_wait as means_to_wait};
 
@@ -37,7 +36,7 @@ use std::thread::Threads;
 
 /// A core, and how many of its queries are unfinished.
 #[derive(Debug, Drop)]
-pub struct Front {
+pub(crate) struct Front {
     alloc: Global,
 
     /// The core, to which the front gives statements as its seat 0.
@@ -71,14 +70,15 @@ impl Model for Front {
 
 impl Front {
     /// A core of these settings, which hashes by these keys, and to which nothing was given.
-    pub fn new(
+    pub(crate) fn new(
         alloc: Global,
         hash_keys: RandomState,
         settings: RunSettings,
     ) -> Result<Front, NoMemory>
         requires { AreWithin settings }
         ensures core { IfOk result (λ front. state_of front.core ≡ empty_core settings) }
-        ensures home { IfOk result IsAtHome }
+        ensures counted { IfOk result IsCounted }
+        ensures none { IfOk result (λ front. front.unfinished ≡ 0) }
     {
         let core = Core::new(alloc, hash_keys, settings)?;
         Ok(Front {
@@ -109,7 +109,7 @@ impl Front {
         ensures faults { CountsHalt result (K.writing sink.old) (K.writing sink.new) }
         ensures apart { K.reading_side sink.new ≡ K.reading_side sink.old }
     {
-        let waits = self.waits_at(&statement)?;
+        let waits = self.waits_at(&statement);
         if !self.give(statement) {
             return self.lose(rt, sink);
         }
@@ -120,11 +120,13 @@ impl Front {
         }
     }
 
-    /// Whether a statement is a `wait` before which some query is open.
-    fn waits_at(&self, statement: &Statement) -> Result<bool, NoMemory>
-        ensures { IfOk result (λ waits. IsTrue waits → IsTrue (means_to_wait statement.now) × (0 < self.now.unfinished)) }
+    /// Whether a statement is a `wait` before which some query is open. It is taken for none where no
+    /// memory is left to tell, and then the replies come later.
+    fn waits_at(&self, statement: &Statement) -> bool
+        ensures { IsTrue result →
+            IsTrue (means_to_wait statement.now) × (0 < self.now.unfinished) }
     {
-        Ok(self.unfinished > 0 && is_wait(self.alloc, statement)?)
+        self.unfinished > 0 && matches!(is_wait(self.alloc, statement), Ok(true))
     }
 
     /// Whether the queries are to come to their end, behind a statement that waits for them or not.

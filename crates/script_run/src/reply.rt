@@ -1,11 +1,12 @@
 //! The reply to one statement. A query is answered by itself, at its place.
-ghost use Rattle.std.specs.Prelude.{◌≡◌, ◌++◌, IfOk, OnOk};
+ghost use Rattle.std.specs.Prelude.{◌≡◌, ◌++◌, IfOk, OnErr, OnOk};
 ghost use Rattle.star_plan.specs.Over.{IsOver};
 ghost use Rattle.star_plan.specs.Test.{query_of};
 ghost use Rattle.star_history.specs.Alone.{alone};
 ghost use Rattle.star_history.specs.Keyed.{plain};
 ghost use Rattle.reply_text.specs.Text.{text_of};
 ghost use Rattle.star_statement.specs.Effect.{answer_reply, effect_of, store_after};
+ghost use Rattle.script_run.specs.Replied.{IsReplied};
 ghost use Rattle.script_run.specs.Run.{is_refusal};
 
 use query_meaning::answer_alone;
@@ -18,6 +19,22 @@ use star_values::{ByteText, NoMemory};
 use std::alloc::Global;
 use std::hash::RandomState;
 
+/// Does what a statement says, and gives its reply. Where no memory is left for that nothing has
+/// changed, and its reply is `memory`.
+pub(crate) fn reply_or_memory(
+    alloc: Global,
+    hash_keys: RandomState,
+    store: &mut Store,
+    statement: Statement,
+) -> Reply
+    ensures { IsReplied (plain store.old) statement result (plain store.new) }
+{
+    match reply_to(alloc, hash_keys, store, statement) {
+        Ok(reply) => reply,
+        Err(_) => Reply::Memory,
+    }
+}
+
 /// Does what a statement says, and gives its reply. A query is answered over the commits before it.
 pub(crate) fn reply_to(
     alloc: Global,
@@ -27,6 +44,7 @@ pub(crate) fn reply_to(
 ) -> Result<Reply, NoMemory>
     ensures reply { IfOk result (λ reply. reply ≡ (effect_of (plain store.old) statement).reply) }
     ensures tables { OnOk result (plain store.new ≡ store_after (plain store.old) statement) }
+    ensures wanted { OnErr result (plain store.new ≡ plain store.old) }
 {
     let applied = apply(alloc, store, &statement);
     drop(statement);

@@ -4,7 +4,7 @@ ghost use Rattle.std.specs.Prelude.{◌≡◌};
 ghost use Rattle.script_reader.specs.Reading.{no_reading};
 ghost use Rattle.star_history.specs.Keyed.{plain};
 ghost use Rattle.star_history.specs.Store.{empty_store};
-ghost use Rattle.script_run.specs.Run.{AnswersAlone, CountsFaults};
+ghost use Rattle.script_run.specs.Run.{AnswersScript, CountsFaults};
 ghost use Rattle.script_run.specs.End.{end_of_all, end_of_halt};
 
 use crate::answer::answer_whole;
@@ -12,7 +12,6 @@ use crate::halt::Halt;
 use crate::piece::{Piece, read_piece};
 use script_reader::ScriptReader;
 use star_io::{RunEnd, Sink, Source};
-use star_statement::replies_follow_from_the_tables;
 use star_store::Store;
 use std::alloc::Global;
 use std::hash::RandomState;
@@ -20,19 +19,21 @@ use std::hash::RandomState;
 /// The most bytes that one read asks for.
 pub const PIECE_BYTES: usize = 64 * 1024;
 
-/// Reads a script to its end, and writes the reply to each of its statements, in order, before it reads on.
-/// Each query is answered by itself, at its place. Where memory is wanted the run ends, and no reply tells it. Rows and groups are
-/// found by hashes with these keys, on which no reply depends.
+/// Reads a script to its end, and writes the reply to each of its statements, in order, before it
+/// reads on. Each query is answered by itself, at its place. A statement for which no memory is left
+/// changes nothing and replies `memory`, and so does a query for whose answer none is left. Rows and
+/// groups are found by hashes with these keys, on which no reply depends.
 ///
 /// At a read that fails, and at the byte past the limit, the statements that are whole before it
-/// are answered. After a write that fails nothing more is written or read.
+/// are answered. After a write that fails nothing more is written or read. Where no memory is left
+/// for a statement to be read, or for the text of a reply, the run ends.
 pub fn run_alone<S: Source, K: Sink>(
     alloc: Global,
     hash_keys: RandomState,
     source: &mut S,
     sink: &mut K,
 ) -> RunEnd
-    ensures answers { AnswersAlone result (S.reading source.old) (S.reading source.new)
+    ensures answers { AnswersScript result (S.reading source.old) (S.reading source.new)
         (K.writing sink.old) (K.writing sink.new) }
     ensures faults { CountsFaults result
         (S.reading source.old) (S.reading source.new) (K.writing sink.old) (K.writing sink.new) }
@@ -53,12 +54,11 @@ fn answer_script<S: Source, K: Sink>(
 ) -> RunEnd
     requires store { plain store.old ≡ empty_store }
     requires reader { reader.old ≡ no_reading }
-    ensures answers { AnswersAlone result (S.reading source.old) (S.reading source.new)
+    ensures answers { AnswersScript result (S.reading source.old) (S.reading source.new)
         (K.writing sink.old) (K.writing sink.new) }
     ensures faults { CountsFaults result
         (S.reading source.old) (S.reading source.new) (K.writing sink.old) (K.writing sink.new) }
 {
-    replies_follow_from_the_tables();
     let mut piece = [0u8; PIECE_BYTES];
     let mut refused = false;
     'pieces: loop {

@@ -1,6 +1,6 @@
 //! The front of a board: a seat that gives statements to the core and writes the replies, whatever
 //! other seats do meanwhile. Its turns with the core are in `seat_turn`.
-ghost use Rattle.std.specs.Prelude.{◌≡◌, ◌≢◌, ◌<◌, ℕ, [], ◌∷◌, IsTrue, None, false, IfOk, OnOk};
+ghost use Rattle.std.specs.Prelude.{◌≡◌, ◌≢◌, ◌<◌, ℕ, [], ◌∷◌, IsTrue, None, false, OnOk};
 ghost use Rattle.board_lock.specs.Seats.{IsSameSeat, view_of};
 ghost use Rattle.board_lock.specs.Small.{IsSameTeam};
 ghost use Rattle.script_reader.specs.Reading.{StaysFed};
@@ -24,21 +24,21 @@ use event_core::{Core, Ready, Work};
 use reply_text::Reply;
 use script_reader::{Next, ScriptReader, Statement};
 use star_io::Sink;
-use star_values::NoMemory;
 use std::alloc::Global;
 use std::sync::Wait;
 use worker_gate::{Gate, Look, do_work};
 
 /// A seat of a board that gives statements to the core and writes the replies to them, in order.
 #[derive(Drop)]
-pub(crate) struct SeatFront {
+pub struct SeatFront {
     pub(crate) alloc: Global,
 
-    pub(crate) seat: BoardSeat<Core>,
+    /// The seat, of which contracts say what it knows.
+    pub seat: BoardSeat<Core>,
 
     /// How many replies it waits for. It decides when they are waited for, and no promise rests on
     /// it.
-    waiting: u64,
+    pub(crate) waiting: u64,
 
     /// With fewer than so many it goes on and gives the next statement.
     most: u64,
@@ -73,7 +73,7 @@ enum Turned {
 impl SeatFront {
     /// A seat that waits for no reply. It goes on giving statements while it waits for fewer than
     /// `most` replies.
-    pub(crate) fn new(alloc: Global, seat: BoardSeat<Core>, most: u32) -> SeatFront
+    pub fn new(alloc: Global, seat: BoardSeat<Core>, most: u32) -> SeatFront
         ensures seat { result.seat ≡ seat }
     {
         SeatFront {
@@ -82,6 +82,11 @@ impl SeatFront {
             waiting: 0,
             most: u64::from(most),
         }
+    }
+
+    /// Where it takes memory from.
+    pub fn alloc(&self) -> Global {
+        self.alloc
     }
 
     /// Takes the next reply. Where it is not there yet, a patient front works until it is.
@@ -173,7 +178,7 @@ impl SeatFront {
         ensures faults { CountsHalt result (K.writing sink.old) (K.writing sink.new) }
         ensures apart { K.reading_side sink.new ≡ K.reading_side sink.old }
     {
-        let waits = self.waits_at(&statement)?;
+        let waits = self.waits_at(&statement);
         if !submit_turn(rt, board, &mut self.seat, statement) {
             return self.lose(rt, board, gate, sink);
         }
@@ -181,12 +186,13 @@ impl SeatFront {
         self.write_replies(rt, board, gate, waits, sink)
     }
 
-    /// Whether a statement is a `wait` before which some reply is waited for.
-    fn waits_at(&self, statement: &Statement) -> Result<bool, NoMemory>
-        ensures { IfOk result (λ waits. IsTrue waits →
-            IsTrue (means_to_wait statement.now) × (0 < self.now.waiting)) }
+    /// Whether a statement is a `wait` before which some reply is waited for. It is taken for none
+    /// where no memory is left to tell, and then the replies come later.
+    fn waits_at(&self, statement: &Statement) -> bool
+        ensures { IsTrue result →
+            IsTrue (means_to_wait statement.now) × (0 < self.now.waiting) }
     {
-        Ok(self.waiting > 0 && is_wait(self.alloc, statement)?)
+        self.waiting > 0 && matches!(is_wait(self.alloc, statement), Ok(true))
     }
 
     /// A statement for which no memory was left: the replies before its own are written, and its
@@ -288,7 +294,7 @@ fn work_outside<G: Gate>(seat: &BoardSeat<Core>, look: Look, gate: &G) -> Turned
 {
     match look {
         Look::Got(work) => Turned::Goes(Some(do_work(work, seat.number(), gate))),
-        Look::Did => Turned::Goes(None),
+        Look::Did(_) => Turned::Goes(None),
         Look::Rest => Turned::Goes(None),
         Look::Closed => Turned::Goes(None),
         Look::Memory => Turned::Ends(Waited::NoMemory),

@@ -1,23 +1,25 @@
 //! The turns of a seat that gives statements to a core: in each it submits a statement, or asks for
-//! its next reply. In the last it lets go what it still waits for.
-ghost use Rattle.std.specs.Prelude.{◌≡◌, ◌≢◌, ◌<◌, [], IsTrue, None, false};
+//! its next reply, or lets go what it still waits for.
+ghost use Rattle.std.specs.Prelude.{◌≡◌, ◌≢◌, ◌<◌, [], IsTrue, None, false, true};
 ghost use Rattle.board_lock.specs.Seats.{IsSameSeat, view_of};
 ghost use Rattle.board_lock.specs.Small.{IsSameTeam};
 ghost use Rattle.core_state.specs.Found.{held_by};
 ghost use Rattle.core_state.specs.Rows.{AbandonsRow, IsMindful, sight_of};
 ghost use Rattle.core_state.specs.Submitting.{next_ready, seat_at};
+ghost use Rattle.event_core.specs.Replies.{first_open};
 ghost use Rattle.event_core.specs.Seen.{state_of};
 ghost use Rattle.worker_gate.specs.Hands.{HasDoneIf};
 ghost use Rattle.worker_gate.specs.Left.{MovesHand};
 ghost use Rattle.worker_gate.specs.Turns.{IsOutWith, IsReady, sight_in};
-ghost use Rattle.script_run.specs.SeatTurns.{HasAsked, Leaves, Stays, Submitted, TellsAsked};
+ghost use Rattle.script_run.specs.Home.{IsAtRest, Leaves, LeftClosing, LetsGo};
+ghost use Rattle.script_run.specs.SeatTurns.{HasAsked, Stays, Submitted, TellsAsked};
 
 use board_lock::{BoardLock, BoardSeat};
 use core_state::{Event, a_reply_that_may_be_taken_is_right, a_row_tells_the_reply};
 use event_core::{Core, Ready, Work, every_core_is_sound, own_steps_keep_a_board};
 use script_reader::Statement;
 use std::sync::Wait;
-use worker_gate::{Look, batch_of, bell_for, give_if_done, ring_or_rest, worker_look};
+use worker_gate::{Look, Signal, give_if_done, signal_behind, signal_if_more, worker_look};
 
 /// What came of a turn in which a seat asked for its next reply.
 #[derive(Debug, Drop)]
@@ -35,8 +37,8 @@ pub(crate) enum Asked {
     Looked(Look),
 }
 
-/// Gives a statement to the core in a turn of the seat. Answers whether there was memory for it;
-/// else it changed nothing.
+/// Gives a statement to the core in a turn of the seat, and wakes one of those who rest. Answers
+/// whether there was memory for it; else it changed nothing.
 pub(crate) fn submit_turn<R: Wait>(
     rt: &R,
     board: &BoardLock<Core>,
@@ -97,12 +99,11 @@ pub(crate) fn ask_turn<R: Wait>(
     // It is called for what it ensures.
     own_steps_keep_a_board();
     let own = seat.number();
-    let given = batch_of(&done);
     let mut core = board.enter(rt, seat);
     let asked = give_and_ask(&mut core, own, done, patient);
-    let bell = bell_behind(rt, board, &asked);
+    let signal = signal_of(rt, board, &core, &asked);
     board.leave(seat, core);
-    ring_behind(rt, board, &asked, given, bell);
+    signal.give(rt, board);
     asked
 }
 
@@ -177,37 +178,65 @@ fn look_if_patient(core: &mut Core, seat: u32, patient: bool) -> Asked
     Asked::Looked(worker_look(core, seat))
 }
 
-/// The bell's number, where the seat looked for work and is to rest. It is read in the turn.
-fn bell_behind<R: Wait>(rt: &R, board: &BoardLock<Core>, asked: &Asked) -> Option<u32> {
+/// Whom the turn wakes: as behind any look, where the seat looked for work. Else it goes on to
+/// something else, and leaves to others what there is to do.
+fn signal_of<R: Wait>(rt: &R, board: &BoardLock<Core>, core: &Core, asked: &Asked) -> Signal {
     match asked {
-        Asked::Looked(look) => bell_for(rt, board, look),
-        Asked::Got(_) | Asked::Nothing | Asked::NotYet => None,
+        Asked::Looked(look) => signal_behind(rt, board, core, look),
+        Asked::Got(_) | Asked::Nothing | Asked::NotYet => signal_if_more(board, core),
     }
 }
 
-/// Rings where others may have something to do that they had not before the turn, and rests where
-/// the seat is to.
-fn ring_behind<R: Wait>(
-    rt: &R,
-    board: &BoardLock<Core>,
-    asked: &Asked,
-    given: Option<u64>,
-    bell: Option<u32>,
-) {
-    match asked {
-        Asked::Looked(look) => ring_or_rest(rt, board, look, given, bell),
-        Asked::Got(_) | Asked::Nothing | Asked::NotYet => ring_if_given(rt, board, given),
+/// Lets go what the seat still waits for, so that another session may be served by it, and rings,
+/// since then others may have something to do.
+pub(crate) fn let_go_turn<R: Wait>(rt: &R, board: &BoardLock<Core>, seat: &mut BoardSeat<Core>)
+    requires { IsReady board.now None seat.old }
+    ensures rest { IsAtRest board.now seat.new }
+    ensures same { IsSameSeat seat.old seat.new }
+    ensures lets_go { LetsGo (view_of seat.old).number
+        (sight_in (view_of seat.old)) (sight_in (view_of seat.new)) }
+{
+    // It is called for what it ensures.
+    own_steps_keep_a_board();
+    let own = seat.number();
+    let mut core = board.enter(rt, seat);
+    drop_pending(&mut core, own);
+    board.leave(seat, core);
+    board.ring(rt);
+}
+
+/// Abandons what a seat waits for and may still be answered, and drops the replies that are there.
+fn drop_pending(core: &mut Core, seat: u32)
+    ensures mindful { IsMindful seat (state_of core.old) (state_of core.new) }
+    ensures lets_go { LetsGo seat
+        (sight_of (state_of core.old) seat) (sight_of (state_of core.new) seat) }
+    ensures hand { held_by (state_of core.new).scan.flights seat
+        ≡ held_by (state_of core.old).scan.flights seat }
+    ensures idle { (seat_at (state_of core.new) seat).pending ≡ [] }
+{
+    abandon_pending(core, seat);
+    drop_ready(core, seat);
+}
+
+/// Takes the replies that a seat may take, and drops them.
+fn drop_ready(core: &mut Core, seat: u32)
+    ensures mindful { IsMindful seat (state_of core.old) (state_of core.new) }
+    ensures lets_go { LetsGo seat
+        (sight_of (state_of core.old) seat) (sight_of (state_of core.new) seat) }
+    ensures hand { held_by (state_of core.new).scan.flights seat
+        ≡ held_by (state_of core.old).scan.flights seat }
+    ensures all { first_open (state_of core.old).lives (seat_at (state_of core.old) seat) ≡ None →
+        (seat_at (state_of core.new) seat).pending ≡ [] }
+{
+    // Both are called for what they ensure.
+    a_reply_that_may_be_taken_is_right();
+    every_core_is_sound(core);
+    'replies: while let Some(reply) = core.take_reply(seat) {
+        drop(reply);
     }
 }
 
-/// Rings where a batch was given back.
-fn ring_if_given<R: Wait>(rt: &R, board: &BoardLock<Core>, given: Option<u64>) {
-    if given.is_some() {
-        board.ring(rt);
-    }
-}
-
-/// Lets go what the seat still waits for, marks the core closing, and rings for the workers.
+/// Lets go what the seat still waits for, marks the core closing, and wakes all who rest.
 pub(crate) fn end_turn<R: Wait>(rt: &R, board: &BoardLock<Core>, seat: &mut BoardSeat<Core>)
     requires { IsReady board.now None seat.old }
     ensures ready { IsReady board.now None seat.new }
@@ -215,6 +244,7 @@ pub(crate) fn end_turn<R: Wait>(rt: &R, board: &BoardLock<Core>, seat: &mut Boar
     ensures team { IsSameTeam (view_of seat.old) (view_of seat.new) }
     ensures leaves { Leaves (view_of seat.old).number
         (sight_in (view_of seat.old)) (sight_in (view_of seat.new)) }
+    ensures closing { LeftClosing (view_of seat.new) }
 {
     // It is called for what it ensures.
     own_steps_keep_a_board();
@@ -222,7 +252,7 @@ pub(crate) fn end_turn<R: Wait>(rt: &R, board: &BoardLock<Core>, seat: &mut Boar
     let mut core = board.enter(rt, seat);
     let_go(&mut core, own);
     board.leave(seat, core);
-    board.ring(rt);
+    board.ring_all(rt);
 }
 
 /// Abandons what a seat waits for and may still be answered, and marks the core closing.
@@ -230,6 +260,7 @@ fn let_go(core: &mut Core, seat: u32)
     ensures mindful { IsMindful seat (state_of core.old) (state_of core.new) }
     ensures abandons { AbandonsRow
         (sight_of (state_of core.old) seat) (sight_of (state_of core.new) seat) }
+    ensures closing { core.new.marks.closing ≡ true }
 {
     abandon_pending(core, seat);
     core.mark_closing();
@@ -240,6 +271,8 @@ fn abandon_pending(core: &mut Core, seat: u32)
     ensures mindful { IsMindful seat (state_of core.old) (state_of core.new) }
     ensures abandons { AbandonsRow
         (sight_of (state_of core.old) seat) (sight_of (state_of core.new) seat) }
+    ensures closed { first_open (state_of core.new).lives (seat_at (state_of core.new) seat)
+        ≡ None }
 {
     // It is called for what it ensures.
     every_core_is_sound(core);

@@ -9,7 +9,6 @@ ghost use Rattle.script_run.specs.Answer.{CountsHalt};
 ghost use Rattle.script_run.specs.End.{end_behind, end_of_rest};
 ghost use Rattle.script_run.specs.Front.{IsRun, PlaysWhole};
 ghost use Rattle.script_run.specs.Counted.{IsCounted};
-ghost use Rattle.script_run.specs.Home.{IsAtHome};
 ghost use Rattle.script_run.specs.Run.{CountsFaults};
 ghost use Rattle.script_run.specs.Shared.{AnswersBy, AnswersShared};
 
@@ -139,7 +138,8 @@ fn play_script<R: Threads + Sync, S: Source, K: Sink>(
     sink: &mut K,
 ) -> RunEnd
     requires empty { state_of front.old.core ≡ empty_core (state_of front.old.core).settings }
-    requires home { IsAtHome front.old }
+    requires counted { IsCounted front.old }
+    requires none { front.old.unfinished ≡ 0 }
     requires reader { reader.old ≡ no_reading }
     ensures answers { AnswersBy (state_of front.old.core).settings (state_of front.new.core) result
         (S.reading source.old) (S.reading source.new)

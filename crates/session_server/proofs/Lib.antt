@@ -2,3 +2,4 @@
 mod SessionLemmas
 mod EndLemmas
 mod DoorLemmas
+mod ServerLemmas

@@ -1,5 +1,5 @@
 -- What a session reads and writes, why it ends, and what its seat knows of the core then.
-use Rattle.std.specs.Prelude.{◌≡◌, ℕ, ◌⊎◌, Bool, true, false, List, ◌++◌, length}
+use Rattle.std.specs.Prelude.{◌≡◌, ℕ, ◌⊎◌, Bool, true, false, List, length}
 use Rattle.std.specs.Io.KnownBytes.{Appends, Consumes}
 use Rattle.star_io.specs.Faults.{FailedOnce}
 use Rattle.star_io.specs.Link.{ReadingSide, WritingSide}
@@ -9,11 +9,7 @@ use Rattle.script_reader.specs.Script.{statements_of}
 use Rattle.script_reader.specs.declared.statement.Statement.{Statement}
 use Rattle.reply_text.specs.Text.{text_of_all}
 use Rattle.reply_text.specs.declared.reply.Reply.{Reply}
-use Rattle.core_state.specs.Rows.{Sight, sight_of}
-use Rattle.core_state.specs.State.{State}
-use Rattle.script_run.specs.Answered.{AreAnswered}
-use Rattle.script_run.specs.Front.{givens_in}
-use Rattle.script_run.specs.Home.{Serves}
+use Rattle.core_state.specs.Rows.{Sight}
 use Rattle.script_run.specs.Run.{IsProperFront, MetNoEnd, ReadsBytes, Writes, within_limit}
 use Rattle.script_run.specs.Seat.{HasLeft, IsWhole, TellsSeat}
 use Rattle.script_run.specs.declared.halt.Halt.{Halt}
@@ -72,10 +68,3 @@ pub record AnswersSession (end : SessionEnd) (seat : ℕ) (old new : Sight) (fro
   pub whole : EndsWhole end → IsWhole tells
   pub writes : Writes (λ ended bytes. text_of_all replies) (run_end_of end) from' given written
   pub memory : end ≡ Memory → IsProperFront written (text_of_all replies) ⊎ (HasLeft tells ⊎ MetNoEnd from from' given)
-
--- the same of seat 0 where nobody else has the core meanwhile: each query that was replied to is answered, unless the reply is `memory`,
--- and the statements that were submitted are those that were sent
-pub record AnswersOwned (end : SessionEnd) (old new : State) (from from' : ReadingSide) (to to' : WritingSide) : Type 0 where
-  pub answers : AnswersSession end 0 (sight_of old 0) (sight_of new 0) from from' to to'
-  pub answered : AreAnswered new.lives new.entries answers.tells.said answers.replies
-  pub serves : Serves (givens_in (answers.tells.said ++ answers.tells.others)) old new

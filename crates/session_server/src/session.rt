@@ -1,47 +1,55 @@
-//! One session: the statements of a connection go to the core, and their replies come back.
-ghost use Rattle.std.specs.Prelude.{◌≡◌, ◌<◌, ◌≤◌, [], false, length, OnOk};
+//! One session: the statements of a connection go to a core, and their replies come back.
+ghost use Rattle.std.specs.Prelude.{◌≡◌, ◌<◌, ◌≤◌, None, false, length, OnOk};
+ghost use Rattle.board_lock.specs.Seats.{IsSameSeat, view_of};
+ghost use Rattle.core_state.specs.Rows.{made_by};
 ghost use Rattle.script_reader.specs.Reading.{StaysFed, no_reading};
 ghost use Rattle.script_reader.specs.declared.reader.TheConstants.{SCRIPT_LIMIT};
-ghost use Rattle.event_core.specs.Seen.{state_of};
+ghost use Rattle.worker_gate.specs.Turns.{IsReady, sight_in};
 ghost use Rattle.script_run.specs.Answer.{CountsHalt};
-ghost use Rattle.script_run.specs.Home.{IsAtHome, IsServed, LetsGo, Owns, RepliesWhole, Serves};
+ghost use Rattle.script_run.specs.Home.{IsAtRest, LetsGo, RepliesWhole};
 ghost use Rattle.script_run.specs.Pieces.{CountsFault, FindsEnd, TakesPiece};
-ghost use Rattle.session_server.specs.Session.{AnswersOwned, CountsFaults, EndsWhole};
+ghost use Rattle.session_server.specs.Session.{AnswersSession, CountsFaults, EndsWhole};
 
 use crate::session_end::{SessionEnd, end_of_halt};
+use board_lock::BoardLock;
+use event_core::Core;
 use script_reader::ScriptReader;
-use script_run::{Front, Halt, PIECE_BYTES, Piece, read_piece};
+use script_run::{Halt, PIECE_BYTES, Piece, SeatFront, read_piece};
 use star_io::Link;
-use std::alloc::Global;
-use std::thread::Threads;
+use std::sync::Wait;
+use worker_gate::Gate;
 
-/// Serves one connection: gives its statements to the core, and writes the replies of all whole statements before it reads
-/// again. What the sessions before it committed it sees.
+/// Serves one connection by a seat of a board: gives its statements to the core, and writes the
+/// replies of all whole statements before it reads again. While it waits for a reply it works at
+/// the core, as a worker does.
 ///
-/// At a read that fails, and at the byte past the limit, all statements that were whole are replied to. After a write that
-/// fails nothing more is read or written. What is open then is abandoned, and the core is ready for the next session.
-pub fn serve_session<R: Threads + Sync, K: Link>(
+/// At a read that fails, and at the byte past the limit, all statements that were whole are replied
+/// to. After a write that fails nothing more is read or written. What is open then is abandoned,
+/// and the seat is ready for the next session.
+pub fn serve_session<R: Wait, K: Link, G: Gate>(
     rt: &R,
-    alloc: Global,
-    front: &mut Front,
+    board: &BoardLock<Core>,
+    front: &mut SeatFront,
     link: &mut K,
+    gate: &G,
 ) -> SessionEnd
-    requires { IsAtHome front.old }
-    ensures answers { AnswersOwned result (state_of front.old.core) (state_of front.new.core)
+    requires { IsAtRest board.now front.old.seat }
+    ensures rest { IsAtRest board.now front.new.seat }
+    ensures same { IsSameSeat front.old.seat front.new.seat }
+    ensures answers { AnswersSession result (view_of front.old.seat).number
+        (sight_in (view_of front.old.seat)) (sight_in (view_of front.new.seat))
         (K.reading link.old) (K.reading link.new) (K.writing link.old) (K.writing link.new) }
-    ensures served { IsServed (state_of front.old.core) (state_of front.new.core) }
-    ensures home { IsAtHome front.new }
     ensures faults { CountsFaults result
         (K.reading link.old) (K.reading link.new) (K.writing link.old) (K.writing link.new) }
 {
-    let mut reader = ScriptReader::new(alloc);
-    match play_session(rt, front, &mut reader, link) {
+    let mut reader = ScriptReader::new(front.alloc());
+    match play_session(rt, board, front, &mut reader, link, gate) {
         SessionEnd::WriteFault => {
-            let_go(front);
+            let_go(rt, board, front);
             SessionEnd::WriteFault
         }
         SessionEnd::Memory => {
-            let_go(front);
+            let_go(rt, board, front);
             SessionEnd::Memory
         }
         end => end,
@@ -49,36 +57,43 @@ pub fn serve_session<R: Threads + Sync, K: Link>(
 }
 
 /// Abandons what a session that was cut short left open.
-fn let_go(front: &mut Front)
-    requires { Owns (state_of front.old.core) }
-    ensures home { IsAtHome front.new }
-    ensures lets_go { LetsGo (state_of front.old.core) (state_of front.new.core) }
-    ensures served { Serves [] (state_of front.old.core) (state_of front.new.core) }
+fn let_go<R: Wait>(rt: &R, board: &BoardLock<Core>, front: &mut SeatFront)
+    requires { IsReady board.now None front.old.seat }
+    ensures rest { IsAtRest board.now front.new.seat }
+    ensures same { IsSameSeat front.old.seat front.new.seat }
+    ensures lets_go { LetsGo (view_of front.old.seat).number
+        (sight_in (view_of front.old.seat)) (sight_in (view_of front.new.seat)) }
 {
-    front.let_go();
+    front.let_go(rt, board);
 }
 
-/// The session up to its end, by a reader to which nothing was fed yet. Where it was cut short, queries may still be open.
-fn play_session<R: Threads + Sync, K: Link>(
+/// The session up to its end, by a reader to which nothing was fed yet. Where it was cut short, the
+/// seat may still wait for replies.
+fn play_session<R: Wait, K: Link, G: Gate>(
     rt: &R,
-    front: &mut Front,
+    board: &BoardLock<Core>,
+    front: &mut SeatFront,
     reader: &mut ScriptReader,
     link: &mut K,
+    gate: &G,
 ) -> SessionEnd
-    requires home { IsAtHome front.old }
+    requires rest { IsAtRest board.now front.old.seat }
     requires unfed { reader.old ≡ no_reading }
-    ensures answers { AnswersOwned result (state_of front.old.core) (state_of front.new.core)
+    ensures ready { IsReady board.now None front.new.seat }
+    ensures same { IsSameSeat front.old.seat front.new.seat }
+    ensures answers { AnswersSession result (view_of front.old.seat).number
+        (sight_in (view_of front.old.seat)) (sight_in (view_of front.new.seat))
         (K.reading link.old) (K.reading link.new) (K.writing link.old) (K.writing link.new) }
-    ensures served { IsServed (state_of front.old.core) (state_of front.new.core) }
-    ensures home { EndsWhole result → IsAtHome front.new }
-    ensures own { Owns (state_of front.new.core) }
+    ensures rest { EndsWhole result → IsAtRest board.now front.new.seat }
+    ensures made { (sight_in (view_of front.new.seat)).row.made
+        ≡ made_by (view_of front.old.seat).number (sight_in (view_of front.new.seat)).seen }
     ensures faults { CountsFaults result
         (K.reading link.old) (K.reading link.new) (K.writing link.old) (K.writing link.new) }
 {
     let mut piece = [0u8; PIECE_BYTES];
     'pieces: loop {
         match read_link(link, &mut piece, reader) {
-            Piece::Fed => match reply_link(rt, front, reader, link) {
+            Piece::Fed => match reply_link(rt, board, front, reader, link, gate) {
                 Ok(()) => {}
                 Err(halt) => return end_of_halt(halt),
             },
@@ -89,7 +104,7 @@ fn play_session<R: Threads + Sync, K: Link>(
         }
     }
     reader.finish();
-    match reply_link(rt, front, reader, link) {
+    match reply_link(rt, board, front, reader, link, gate) {
         Ok(()) => SessionEnd::Done,
         Err(halt) => end_of_halt(halt),
     }
@@ -109,22 +124,27 @@ fn read_link<K: Link>(link: &mut K, piece: &mut [u8], reader: &mut ScriptReader)
     read_piece(link, piece, reader)
 }
 
-/// Gives the statements that are whole to the core, and writes the replies to a link. What is still to be read stays.
-fn reply_link<R: Threads + Sync, K: Link>(
+/// Gives the statements that are whole to the core, and writes the replies to a link. What is still
+/// to be read stays.
+fn reply_link<R: Wait, K: Link, G: Gate>(
     rt: &R,
-    front: &mut Front,
+    board: &BoardLock<Core>,
+    front: &mut SeatFront,
     reader: &mut ScriptReader,
     link: &mut K,
+    gate: &G,
 ) -> Result<(), Halt>
-    requires home { IsAtHome front.old }
-    ensures replies { RepliesWhole result (state_of front.old.core) reader.old (state_of front.new.core) reader.new
+    requires { IsAtRest board.now front.old.seat }
+    ensures ready { IsReady board.now None front.new.seat }
+    ensures same { IsSameSeat front.old.seat front.new.seat }
+    ensures replies { RepliesWhole result (view_of front.old.seat).number
+        (sight_in (view_of front.old.seat)) reader.old
+        (sight_in (view_of front.new.seat)) reader.new
         (K.writing link.old).taken (K.writing link.new).taken }
     ensures stays { StaysFed reader.old reader.new }
-    ensures served { IsServed (state_of front.old.core) (state_of front.new.core) }
-    ensures home { OnOk result (IsAtHome front.new) }
-    ensures own { Owns (state_of front.new.core) }
+    ensures rest { OnOk result (IsAtRest board.now front.new.seat) }
     ensures faults { CountsHalt result (K.writing link.old) (K.writing link.new) }
     ensures read { K.reading link.new ≡ K.reading link.old }
 {
-    front.reply_whole(rt, reader, link)
+    front.reply_whole(rt, board, gate, reader, link)
 }

@@ -6,9 +6,7 @@ use Rattle.star_io.specs.declared.run_end.RunEnd.{RunEnd}
 use Rattle.star_io.specs.declared.run_end.RunEnd.TheVariants.{Clean, SomeRefused}
 use Rattle.script_run.specs.Run.{AnswersScript, TellsRefused, Writes, script_text, some_refused}
 use Rattle.star_cases.specs.Judge.{has_refusal, wanted_end}
-use Rattle.star_cases.specs.Outcome.{Answers, AnswersWanting, Runs}
-use Rattle.star_cases.specs.declared.outcome.Way.{Way}
-use Rattle.star_cases.specs.declared.outcome.Way.TheVariants.{Alone, Shared, Worked}
+use Rattle.star_cases.specs.Outcome.{Answers}
 
 -- a run that ends by one of the two ends that are wanted has read all of the script and written all replies
 wanted_ends : (wanted : List ℕ) (refused : Bool) (end : RunEnd) (source : ReadingSide) (left given replies : List ℕ)
@@ -25,26 +23,14 @@ wanted_ends wanted false end source left given replies is some wrote tells =
     (subst IsAtEnd some all.0.1, all.1, sym (subst (λ e. TellsRefused e (some_refused wanted true given)) is tells))
 
 -- a run that is right answers the script, where memory was wanted at the places of the run
-wanting : (end : RunEnd) (from from' : ReadingSide) (to to' : WritingSide) (script left bytes replies : List ℕ)
-    → from.left ≡ Some script → from'.left ≡ Some left → to.taken ≡ Some [] → to'.taken ≡ Some bytes → (run : AnswersScript end from from' to to')
-    → bytes ≡ replies → end ≡ wanted_end replies → AnswersWanting run.wanted script replies
-wanting end from from' to to' script left bytes replies first last none all run same is =
+pub right_runs_answer : (end : RunEnd) (from from' : ReadingSide) (to to' : WritingSide) (script left bytes replies : List ℕ)
+    → from.left ≡ Some script → from'.left ≡ Some left → to.taken ≡ Some [] → to'.taken ≡ Some bytes → AnswersScript end from from' to to'
+    → bytes ≡ replies → end ≡ wanted_end replies → Answers script replies
+right_runs_answer end from from' to to' script left bytes replies first last none all run same is =
     let took : bytes ≡ run.written = rw (none, all) at run.replies.took in
     let gave : script ≡ run.given ++ left = rw (first, last) at run.replies.gave in
     let wrote : Writes (script_text run.wanted) end from' run.given replies =
     subst (λ b. Writes (script_text run.wanted) end from' run.given b) (sym took ∙ same) run.replies.writes in
     let ends = wanted_ends run.wanted (has_refusal replies) end from' left run.given replies is last wrote run.refused in
     let whole : run.given ≡ script = sym (gave ∙ ap (λ l. run.given ++ l) ends.0 ∙ append-nil run.given) in
-    subst (λ s. AnswersWanting run.wanted s replies) whole (ends.1, ends.2)
-
--- the same by the way of the run
-pub right_runs_answer : (way : Way) (end : RunEnd) (from from' : ReadingSide) (to to' : WritingSide) (script left bytes replies : List ℕ)
-    → from.left ≡ Some script → from'.left ≡ Some left → to.taken ≡ Some [] → to'.taken ≡ Some bytes → Runs way end from from' to to'
-    → bytes ≡ replies → end ≡ wanted_end replies → Answers way script replies
-right_runs_answer Alone end from from' to to' script left bytes replies first last none all run same is =
-    subst (λ wanted. AnswersWanting wanted script replies) run.1
-    (wanting end from from' to to' script left bytes replies first last none all run.0 same is)
-right_runs_answer (Shared settings) end from from' to to' script left bytes replies first last none all run same is =
-    (run.wanted, wanting end from from' to to' script left bytes replies first last none all run same is)
-right_runs_answer (Worked settings) end from from' to to' script left bytes replies first last none all run same is =
-    (run.wanted, wanting end from from' to to' script left bytes replies first last none all run same is)
+    subst (λ s. Answers s replies) whole (run.wanted, ends.1, ends.2)

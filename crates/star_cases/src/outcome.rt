@@ -2,8 +2,8 @@
 ghost use Rattle.std.specs.Prelude.{◌≡◌, ◌&&◌, ◌==◌, ◌<◌, ◌≤◌, not, length, IfOk, IsNone, count_by};
 ghost use Rattle.std.specs.List.{list_all};
 ghost use Rattle.core_state.specs.Settings.{AreWithin};
-ghost use Rattle.star_cases.specs.Outcome.{Answers, IsWithin, Runs, is_right};
-ghost use Rattle.star_cases.specs.declared.outcome.Way.TheVariants.{Alone};
+ghost use Rattle.script_run.specs.Run.{AnswersScript};
+ghost use Rattle.star_cases.specs.Outcome.{Answers, IsWithin, is_right};
 
 use crate::case::{Case, read_case};
 use crate::judge::{Fault, fault_of};
@@ -130,7 +130,7 @@ fn wrong_in<R: AllocGlobal + Threads + Wait + Sync>(
     case: &Case,
 ) -> Result<Option<String>, AllocError>
     ensures { IfOk result
-        (λ wrong. IsNone wrong → Answers Alone case.now.script.items case.now.replies.items) }
+        (λ wrong. IsNone wrong → Answers case.now.script.items case.now.replies.items) }
 {
     if let Some(wrong) = wrong_in_way(rt, hash_keys, case, Way::Alone)? {
         return Ok(Some(wrong));
@@ -153,7 +153,7 @@ fn wrong_in_way<R: AllocGlobal + Threads + Wait + Sync>(
 ) -> Result<Option<String>, AllocError>
     requires { IsWithin way }
     ensures { IfOk result
-        (λ wrong. IsNone wrong → Answers way case.now.script.items case.now.replies.items) }
+        (λ wrong. IsNone wrong → Answers case.now.script.items case.now.replies.items) }
 {
     for piece in FEW_BYTES {
         if let Some(wrong) = wrong_in_pieces(rt, hash_keys, case, way, piece)? {
@@ -174,7 +174,7 @@ fn wrong_in_pieces<R: AllocGlobal + Threads + Wait + Sync>(
     requires piece { 0 < piece }
     requires within { IsWithin way }
     ensures { IfOk result
-        (λ wrong. IsNone wrong → Answers way case.now.script.items case.now.replies.items) }
+        (λ wrong. IsNone wrong → Answers case.now.script.items case.now.replies.items) }
 {
     let alloc = rt.alloc();
     let mut source = PieceSource::new(case.script.clone()?, piece, Vec::new(alloc));
@@ -196,7 +196,7 @@ fn run<R: Threads + Wait + Sync, S: Source, K: Sink>(
     sink: &mut K,
 ) -> RunEnd
     requires { IsWithin way }
-    ensures { Runs way result
+    ensures { AnswersScript result
         (S.reading source.old) (S.reading source.new) (K.writing sink.old) (K.writing sink.new) }
 {
     match way {

@@ -10,7 +10,7 @@ use Rattle.event_core.specs.Parts.{Parts}
 use Rattle.event_core.specs.Seen.{state_of}
 use Rattle.command_words.specs.declared.settings.Settings.{Settings}
 use Rattle.script_run.specs.Front.{IsRun}
-use Rattle.script_run.specs.Run.{AnswersAlone, CountsFaults}
+use Rattle.script_run.specs.Run.{AnswersScript, CountsFaults}
 use Rattle.script_run.specs.Shared.{AnswersShared}
 use Rattle.script_run.proofs.SharedEndLemmas.{none-shared, shared-alone}
 use Rattle.star_main.specs.Headline.{Headline, HasCause, status_of}
@@ -40,11 +40,11 @@ module _ (from from' : ReadingSide) (to to' : WritingSide) where
 
   -- where no core did
   pub headline_alone : (settings : RunSettings) (core : Option Parts) (end : RunEnd) (status : ℕ) → core ≡ None → status ≡ status_of end
-      → AnswersAlone end from from' to to' → Headline settings core status from from' to to'
+      → AnswersScript end from from' to to' → Headline settings core status from from' to to'
   headline_alone settings core end status no_core same_status run = record {
     end = end;
     told = same_status;
-    answers = subst (λ c. AnswersShared (settings.workers ≡ 0) settings c end from from' to to') (sym no_core) (run.0, tt);
+    answers = subst (λ c. AnswersShared (settings.workers ≡ 0) settings c end from from' to to') (sym no_core) (run, tt);
   }
 
 -- where no memory is left to read the words nothing is read or written, whatever settings they name

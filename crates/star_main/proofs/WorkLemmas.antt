@@ -1,6 +1,6 @@
--- How large the core of a run is, and what the program tells where workers run a script.
+-- How large a core is, and what the program tells where workers run a script.
 use Rattle.std.specs.Prelude.{IfSome, IsNone, IsSomeAnd}
-use Rattle.std.proofs.Common.{◌≡◌, ◌<◌, ◌↔◌, ◌⊎◌, inl, inr, ◌∙◌, ℕ, true, false, nat_lt, Option, Some, None, refl, sym, ap, subst, arith}
+use Rattle.std.proofs.Common.{◌≡◌, ◌+◌, ◌<◌, ◌≤◌, ◌↔◌, ◌⊎◌, inl, inr, ◌∙◌, ℕ, true, false, nat_lt, Option, Some, None, refl, sym, ap, subst, arith}
 use Rattle.std.proofs.lemmas.Bool.{and_parts, ltb-true}
 use Rattle.core_state.specs.Settings.{AreWithin}
 use Rattle.core_state.specs.Sound.{empty_core}
@@ -11,9 +11,10 @@ use Rattle.command_words.specs.declared.settings.Settings.{Settings}
 use Rattle.script_run.specs.Front.{IsRun}
 use Rattle.star_main.specs.Modes.{IsAlone, Serves, Works, run_settings_of, shares_core}
 
--- the settings that words name are within the limits of a core
-pub within-limits : (settings : Settings) → AreInRange settings → AreWithin (run_settings_of settings)
-within-limits settings range =
+-- the settings that words name are within the limits of a core, with a seat for each worker and for some others
+pub within-limits : (settings : Settings) (others : ℕ) → 1 ≤ others → others ≤ 112 → AreInRange settings
+    → AreWithin (record { workers = settings.workers; slots = settings.slots; batch = settings.batch; seats = settings.workers + others })
+within-limits settings others some most range =
     let few = range.workers.1 in
     record {
       workers = range.workers.1;
@@ -21,8 +22,8 @@ within-limits settings range =
       most_slots = range.slots.1;
       batch = range.batch.0;
       most_rows = range.batch.1;
-      seats = omega arith;
-      most_seats = omega (arith, few);
+      seats = omega (arith, some);
+      most_seats = omega (arith, few, most);
     }
 
 -- workers run a script where there are some, in a mode in which a core runs it

@@ -11,9 +11,11 @@ abbrev pub run_settings_of : Settings → RunSettings
 run_settings_of settings =
     record { workers = settings.workers; slots = settings.slots; batch = settings.batch; seats = settings.workers + 1 }
 
--- how large the core of a server is: slots and batches as the settings say, no workers, and a seat for the one who serves
+-- how large the core of a server is: workers, slots and batches as the settings say, a seat for each worker, one for whoever takes the
+-- connections, and 64 for sessions
 abbrev pub serve_settings_of : Settings → RunSettings
-serve_settings_of settings = record { workers = 0; slots = settings.slots; batch = settings.batch; seats = 1 }
+serve_settings_of settings =
+    record { workers = settings.workers; slots = settings.slots; batch = settings.batch; seats = settings.workers + 65 }
 
 -- the settings say that each query is answered by itself
 abbrev pub IsAlone : Settings → Type 0

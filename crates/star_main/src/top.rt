@@ -1,5 +1,6 @@
 //! The top call, on which the headline stands.
-ghost use Rattle.std.specs.Prelude.{◌≡◌, ◌≢◌, ◌↔◌, ◌⊎◌, ◌+◌, None, Some, IfSome, IsNone, IsSomeAnd, map, string_bytes};
+ghost use Rattle.std.specs.Prelude.{◌≡◌, ◌≢◌, ◌<◌, ◌↔◌, ◌⊎◌, ◌+◌, None, Some, IfSome, IsNone};
+ghost use Rattle.std.specs.Prelude.{IsSomeAnd, map, string_bytes};
 ghost use Rattle.star_io.specs.Link.{ReadingSide};
 ghost use Rattle.command_words.specs.Ranges.{AreInRange};
 ghost use Rattle.command_words.specs.Table.{settings_of};
@@ -33,6 +34,10 @@ pub(crate) const FAULTY_WORDS: u8 = 2;
 
 /// The status where no memory is left for the words or for the run itself.
 pub(crate) const OUT_OF_MEMORY: u8 = 5;
+
+/// How many seats of a server are no worker's: 64 are of sessions, and one is of whoever takes the
+/// connections.
+const OTHER_SEATS: u32 = 65;
 
 /// What came of the top call.
 #[derive(Debug, Drop)]
@@ -69,18 +74,21 @@ pub enum Words {
 /// In the mode `make` the script is the one that seed and rows make, and the line that sums its replies up is written in
 /// their place; the source is not read. Then there is no status 3 or 6.
 ///
-/// In the mode `serve` the door is asked for the connections that come to the port, and they are served one after the other,
-/// until the door ends, or as many were taken as `accept` says, where that is not 0; neither source nor sink is touched. The
-/// status is 0, 5 or 7: what becomes of a connection has no part in it. Where no connection comes, it waits for one.
+/// In the mode `serve` the door is asked for the connections that come to the port, until it ends,
+/// or as many were taken as `accept` says, where that is not 0; neither source nor sink is touched.
+/// Connections are served many at once, over one core: up to 64, and the rest wait. The status is
+/// 0, 5 or 7: what becomes of a connection has no part in it. Where no connection comes, it waits
+/// for one.
 ///
-/// In the modes `run` and `make` as many workers as the settings say share the core with the one who reads: each lets batches
-/// pass filters, behind the gate, and makes the other events of the core. What is written is told by the same clauses, whatever
-/// their number. With workers the call may wait.
+/// In the modes `run`, `make` and `serve` as many workers as the settings say share the core with
+/// the one who reads, or with the sessions: each lets batches pass filters, behind the gate, and
+/// makes the other events of the core. The clauses are the same, whatever their number. With
+/// workers the call may wait.
 ///
 /// Rows and groups are found by hashes with these keys. No reply and no status depends on them.
 ///
-/// Of the settings the mode has an effect, in the modes `run`, `make` and `serve` the slots and the batch, in `run` and `make`
-/// the workers, in `make` the seed and the rows, and in `serve` the port and `accept`.
+/// Of the settings the mode has an effect, in the modes `run`, `make` and `serve` the workers, the
+/// slots and the batch, in `make` the seed and the rows, and in `serve` the port and `accept`.
 pub fn cjoin<R: Threads + Sync + Wait, S: Source, K: Sink, D: Door, G: Gate + Sync>(
     rt: &R,
     alloc: Global,
@@ -118,7 +126,7 @@ pub fn cjoin<R: Threads + Sync + Wait, S: Source, K: Sink, D: Door, G: Gate + Sy
         Words::Work(settings) => {
             run_by_workers(rt, alloc, hash_keys, &settings, source, sink, gate)
         }
-        Words::Serve(settings) => serve_connections(rt, alloc, hash_keys, &settings, door),
+        Words::Serve(settings) => serve_connections(rt, alloc, hash_keys, &settings, door, gate),
     }
 }
 
@@ -339,13 +347,14 @@ fn run_workload_by_workers<R: Threads + Sync + Wait, K: Sink, G: Gate + Sync>(
     made_of(run_made(rt, alloc, hash_keys, core, seed, rows, sink, gate))
 }
 
-/// Serves connections at the port, one after the other, over one core.
-fn serve_connections<R: Threads + Sync + Wait, D: Door>(
+/// Serves connections at the port over one core, many at once, beside the workers.
+fn serve_connections<R: Threads + Sync + Wait, D: Door, G: Gate + Sync>(
     rt: &R,
     alloc: Global,
     hash_keys: RandomState,
     settings: &Settings,
     door: &mut D,
+    gate: &G,
 ) -> TopDone
     requires { AreInRange settings.now }
     ensures served { ServeHeadline settings.now.port settings.now.accept result.status
@@ -354,15 +363,9 @@ fn serve_connections<R: Threads + Sync + Wait, D: Door>(
     ensures core { IsNone result.core }
 {
     let core = serve_settings(settings);
-    let end = serve(
-        rt,
-        alloc,
-        hash_keys,
-        core,
-        settings.port,
-        settings.accept,
-        door,
-    );
+    let port = settings.port;
+    let accept = settings.accept;
+    let end = serve(rt, alloc, hash_keys, core, port, accept, door, gate);
     without_core(serve_status_of(end))
 }
 
@@ -381,17 +384,20 @@ fn run_settings(settings: &Settings) -> RunSettings
     }
 }
 
-/// How large the core of a server is: no workers, and one seat, for the one who serves.
+/// How large the core of a server is: a seat for each worker, one for whoever takes the
+/// connections, and those of sessions.
 fn serve_settings(settings: &Settings) -> RunSettings
     requires { AreInRange settings.now }
     ensures size { result ≡ serve_settings_of settings.now }
     ensures within { AreWithin result }
+    ensures seats { result.workers < result.seats }
 {
+    let workers = settings.workers;
     RunSettings {
-        workers: 0,
+        workers,
         slots: settings.slots,
         batch: settings.batch,
-        seats: 1,
+        seats: workers + OTHER_SEATS,
     }
 }
 

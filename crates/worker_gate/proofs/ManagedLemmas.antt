@@ -142,11 +142,10 @@ marks-stay old new beside = ap (λ (b : Beside). b.marks) beside
 -- the event was made and counted, and the filters were ordered if it was time
 pub manages-by : (of_kind : EventKind) (event : Event) (old between new : Parts) → IsFirstOf managed_kinds (state_of old) of_kind event
     → Took event (state_of old) (state_of between) → beside_of between ≡ beside_of old → new.marks ≡ counted_by of_kind between.marks
-    → OrdersIf (is_sixteenth of_kind between.marks) (state_of between) (state_of new) → Manages old new
+    → OrdersIf (is_sixteenth of_kind between.marks) (state_of between) (state_of new) → Manages of_kind old new
 manages-by of_kind event old between new first took beside counted orders =
     let marks : between.marks ≡ old.marks = marks-stay old between beside in
     record {
-      of_kind = of_kind;
       event = event;
       between = state_of between;
       first = first;

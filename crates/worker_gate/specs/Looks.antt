@@ -7,6 +7,7 @@ use Rattle.core_state.specs.declared.event.Event.TheVariants.{Take}
 use Rattle.event_core.specs.Parts.{Parts}
 use Rattle.event_core.specs.Seen.{state_of}
 use Rattle.event_core.specs.Took.{Took}
+use Rattle.event_core.specs.declared.choosing.EventKind.{EventKind}
 use Rattle.event_core.specs.declared.work.Work.{Work}
 use Rattle.worker_gate.specs.Hands.{HasWork}
 use Rattle.worker_gate.specs.Managed.{IsToClear, Manages, NoneIsLeft}
@@ -41,16 +42,16 @@ pub record IsStuck (state : State) : Type 0 where
   pub wants : NoneWants state
   pub clear : IsToClear state
 
--- no batch wants a filter, and an event was made
-pub record MakesEvent (old new : Parts) : Type 0 where
+-- no batch wants a filter, and an event of this kind was made
+pub record MakesEvent (of_kind : EventKind) (old new : Parts) : Type 0 where
   pub wants : NoneWants (state_of old)
-  pub manages : Manages old new
+  pub manages : Manages of_kind old new
 
--- what `worker_look` tells: a work; that an event was made; that there is nothing to do, where the core is not marked
--- closing and where it is; and that there was no memory to clear a filter
+-- what `worker_look` tells: a work; that an event of a kind was made; that there is nothing to do, where the core is not
+-- marked closing and where it is; and that there was no memory to clear a filter
 abbrev pub TellsLook : Look → (worker : ℕ) → (old new : Parts) → Type 0
 TellsLook (look.Got work) worker old new = Takes work worker old new
-TellsLook look.Did worker old new = MakesEvent old new
+TellsLook (look.Did of_kind) worker old new = MakesEvent of_kind old new
 TellsLook look.Rest worker old new = (new ≡ old) × (IsIdle (state_of old) × (old.marks.closing ≡ false))
 TellsLook look.Closed worker old new = (new ≡ old) × (IsIdle (state_of old) × (old.marks.closing ≡ true))
 TellsLook look.Memory worker old new = (new ≡ old) × IsStuck (state_of old)

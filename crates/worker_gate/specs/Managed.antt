@@ -46,10 +46,9 @@ abbrev pub OrdersIf : Bool → (old new : State) → Type 0
 OrdersIf true old new = Took Reorder old new
 OrdersIf false old new = new ≡ old
 
--- the first of these events that may come was taken, and where it was the sixteenth Distribute the filters were
--- ordered behind it
-pub record Manages (old new : Parts) : Type 0 where
-  pub of_kind : EventKind
+-- the first of these events that may come was taken, which is one of this kind, and where it was the sixteenth
+-- Distribute the filters were ordered behind it
+pub record Manages (of_kind : EventKind) (old new : Parts) : Type 0 where
   pub event : Event
   pub between : State
   pub first : IsFirstOf managed_kinds (state_of old) of_kind event
@@ -62,8 +61,8 @@ pub record IsToClear (state : State) : Type 0 where
   pub event : Event
   pub first : IsFirstOf managed_kinds state kind.Clear event
 
--- what `manage_one` tells: an event was made, none may come, or there was no memory to clear a filter
+-- what `manage_one` tells: an event of a kind was made, none may come, or there was no memory to clear a filter
 abbrev pub TellsManaged : Managed → (old new : Parts) → Type 0
-TellsManaged managed.Did old new = Manages old new
+TellsManaged (managed.Did of_kind) old new = Manages of_kind old new
 TellsManaged managed.Idle old new = (new ≡ old) × NoneIsLeft (state_of old)
 TellsManaged managed.Memory old new = (new ≡ old) × IsToClear (state_of old)

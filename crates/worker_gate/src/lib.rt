@@ -8,11 +8,13 @@ mod looping;
 mod making;
 mod managing;
 mod passing;
+mod signal;
 mod working;
 
 pub use crossing::{boards_of_cores_may_be_shared, seats_of_cores_may_be_sent};
-pub use looking::{Look, worker_look};
-pub use looping::{WorkerEnd, batch_of, bell_for, give_if_done, ring_or_rest, worker_loop};
+pub use looking::{Look, is_more_to_do, worker_look};
+pub use looping::{WorkerEnd, give_if_done, worker_loop};
 pub use managing::{Managed, manage_one};
 pub use passing::{Gate, NoGate, do_work};
+pub use signal::{Signal, signal_behind, signal_if_more};
 pub use working::{Taken, give_work, take_work};

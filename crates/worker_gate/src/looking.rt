@@ -5,9 +5,9 @@ ghost use Rattle.event_core.specs.Seen.{state_of};
 ghost use Rattle.worker_gate.specs.Left.{LeavesRows, MovesHand};
 ghost use Rattle.worker_gate.specs.Looks.{HasLooked, NoneWants, TellsLook};
 
-use crate::managing::{Managed, manage_one};
+use crate::managing::{Managed, manage_one, next_managed};
 use crate::working::{Taken, take_work};
-use event_core::{Core, Work};
+use event_core::{Core, EventKind, Work};
 
 /// What a worker found to do.
 #[derive(Debug, Drop)]
@@ -15,8 +15,8 @@ pub enum Look {
     /// A batch to let pass a filter, outside of the lock.
     Got(Work),
 
-    /// An event was made, and there may be more to do.
-    Did,
+    /// An event of this kind was made, and there may be more to do.
+    Did(EventKind),
 
     /// There is nothing to do for now.
     Rest,
@@ -51,10 +51,16 @@ fn look_on(core: &mut Core, worker: u32) -> Look
     ensures hand { HasLooked result (held_by (state_of core.new).scan.flights worker) }
 {
     match manage_one(core) {
-        Managed::Did => Look::Did,
+        Managed::Did(kind) => Look::Did(kind),
         Managed::Idle => rest_or_end(core.is_closing()),
         Managed::Memory => Look::Memory,
     }
+}
+
+/// Whether a look would find something to do: a batch that wants a filter, or an event that may
+/// come.
+pub fn is_more_to_do(core: &Core) -> bool {
+    core.next_take().is_some() || next_managed(core).is_some()
 }
 
 /// What a worker does without anything to do: it ends where the core is marked closing.

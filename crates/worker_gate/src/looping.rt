@@ -11,6 +11,7 @@ ghost use Rattle.worker_gate.specs.Turns.{EndsSo, GoesOn, IsOutWith, IsReady, Lo
 
 use crate::looking::{Look, worker_look};
 use crate::passing::{Gate, do_work};
+use crate::signal::signal_behind;
 use crate::working::give_work;
 use board_lock::{BoardLock, BoardSeat};
 use event_core::{Core, Work, own_steps_keep_a_board};
@@ -77,14 +78,15 @@ fn turn_and_work<G: Gate, R: Wait>(
 {
     match take_turn(rt, board, seat, done) {
         Look::Got(work) => Turned::Goes(Some(do_work(work, seat.number(), gate))),
-        Look::Did => Turned::Goes(None),
+        Look::Did(_) => Turned::Goes(None),
         Look::Rest => Turned::Goes(None),
         Look::Closed => Turned::Ends(WorkerEnd::Closed),
         Look::Memory => Turned::Ends(WorkerEnd::Memory),
     }
 }
 
-/// One turn: gives back a work that is done, and looks for more. Then rings for others, or rests until somebody rings.
+/// One turn: gives back a work that is done, and looks for more. Then wakes others if there is
+/// something for them, or rests until it is woken.
 fn take_turn<R: Wait>(
     rt: &R,
     board: &BoardLock<Core>,
@@ -100,12 +102,11 @@ fn take_turn<R: Wait>(
     // It is called for what it ensures.
     own_steps_keep_a_board();
     let worker = seat.number();
-    let given = batch_of(&done);
     let mut core = board.enter(rt, seat);
     let look = give_and_look(&mut core, worker, done);
-    let bell = bell_for(rt, board, &look);
+    let signal = signal_behind(rt, board, &core, &look);
     board.leave(seat, core);
-    ring_or_rest(rt, board, &look, given, bell);
+    signal.give(rt, board);
     look
 }
 
@@ -130,57 +131,5 @@ pub fn give_if_done(core: &mut Core, worker: u32, done: Option<Work>)
     match done {
         Some(work) => give_work(core, worker, work),
         None => {}
-    }
-}
-
-/// The number of the batch of a work, if there is one.
-pub fn batch_of(done: &Option<Work>) -> Option<u64> {
-    match done {
-        Some(work) => Some(work.batch.number()),
-        None => None,
-    }
-}
-
-/// The bell's number, where the worker is to rest. It is read in the turn, so that whoever has the next one rings for
-/// the worker.
-pub fn bell_for<R: Wait>(rt: &R, board: &BoardLock<Core>, look: &Look) -> Option<u32> {
-    match look {
-        Look::Rest => Some(board.bell(rt)),
-        _ => None,
-    }
-}
-
-/// Rings where others may have something to do that they had not before the turn, and rests where there was nothing
-/// to do.
-pub fn ring_or_rest<R: Wait>(
-    rt: &R,
-    board: &BoardLock<Core>,
-    look: &Look,
-    given: Option<u64>,
-    bell: Option<u32>,
-) {
-    if is_for_others(look, given) {
-        board.ring(rt);
-    }
-    if let Some(seen) = bell {
-        board.rest(rt, seen);
-    }
-}
-
-/// Whether a turn left something for others: an event was made, or a batch was given back that the worker did not
-/// take again. They are to find, too, that no memory is left.
-fn is_for_others(look: &Look, given: Option<u64>) -> bool {
-    match look {
-        Look::Did | Look::Memory => true,
-        Look::Got(work) => is_another(given, work.batch.number()),
-        Look::Rest | Look::Closed => false,
-    }
-}
-
-/// Whether a batch was given back, and this is another.
-fn is_another(given: Option<u64>, number: u64) -> bool {
-    match given {
-        Some(other) => other != number,
-        None => false,
     }
 }

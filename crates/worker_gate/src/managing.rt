@@ -26,8 +26,8 @@ const MANAGED: [EventKind; 8] = [
 /// What came of making an event.
 #[derive(Clone, Copy, Debug, PartialEq, Eq)]
 pub enum Managed {
-    /// One was made.
-    Did,
+    /// One of this kind was made.
+    Did(EventKind),
 
     /// None may come.
     Idle,
@@ -38,7 +38,7 @@ pub enum Managed {
 
 /// An event that may come, and its kind.
 #[derive(Drop)]
-struct Next {
+pub(crate) struct Next {
     kind: EventKind,
     event: Event,
 }
@@ -57,7 +57,7 @@ pub fn manage_one(core: &mut Core) -> Managed
 }
 
 /// The event to make, or `None` where none may come.
-fn next_managed(core: &Core) -> Option<Next>
+pub(crate) fn next_managed(core: &Core) -> Option<Next>
     ensures first { IfSome result (λ next. IsFirstOf managed_kinds (state_of core.now) next.kind next.event) }
     ensures none { result ≡ None → NoneIsLeft (state_of core.now) }
 {
@@ -90,7 +90,7 @@ fn make_next(core: &mut Core, next: Next) -> Managed
     match core.step(event) {
         Ok(()) => {
             count(core, kind);
-            Managed::Did
+            Managed::Did(kind)
         }
         Err(_) => Managed::Memory,
     }

@@ -1,6 +1,9 @@
-use Rattle.script_run.proofs.Words.{◌∙◌, err_from_is_err_and}
-use Rattle.script_run.proofs.WholeLemmas.{ends_whole, goes_on, halts_wanting, halts_writing}
+use Rattle.script_run.proofs.Words.{◌∙◌, err_from_is_err_and, refl}
+use Rattle.script_run.proofs.WholeLemmas.{ends_whole, goes_on, halts_wanting, halts_writing, starts}
 use Rattle.script_run.proofs.answer.answer_whole.Goals as goal
+
+pub statements-init : goal.statements-init
+statements-init g c = record { way = starts _ _ _; unfailed = refl }
 
 pub returns-in_err-answered-clause-answers : goal.returns-in_err-answered-clause-answers
 returns-in_err-answered-clause-answers g c =
@@ -10,15 +13,14 @@ returns-in_err-answered-clause-answers g c =
 pub returns-in_default-clause-answers : goal.returns-in_default-clause-answers
 returns-in_default-clause-answers g c =
     let gives = rw c.in_default.is at c.in_ok-answered.ensures.gives in
-    let all = ends_whole _ _ _ _ _ _ _ _ _ c.statements.invariant.way c.in_ok-answered.ensures.stays gives.0 gives.2 in
-    (all.0, all.1, all.2, gives.1)
+    (ends_whole _ _ _ _ _ _ _ _ _ c.statements.invariant.way c.in_ok-answered.ensures.stays gives.0 gives.2, gives.1)
 
 pub returns-in_err-write_all-clause-answers : goal.returns-in_err-write_all-clause-answers
 returns-in_err-write_all-clause-answers g c =
     let first = rw c.in-Some.is at c.in_ok-answered.ensures.gives in
     let took = rw c.as_bytes.ensures at c.in_err-write_all.ensures.err in
     let failed = err_from_is_err_and c.from_residual-in_err-write_all.result c.from_residual-in_err-write_all.ensures.1 in
-    rw (failed.1, failed.2) (halts_writing _ _ _ _ _ _ _ _ _ _ _ c.statements.invariant.way first took)
+    rw (failed.1, failed.2) (halts_writing _ _ _ _ _ _ _ _ _ _ _ c.statements.invariant.way first c.in_ok-answered.ensures.stays took)
 
 pub statements-preserved : goal.statements-preserved
 statements-preserved g c =

@@ -1,4 +1,4 @@
--- There is a seat for each worker beside the front's.
+-- There is a seat for each worker beside the first one.
 use Rattle.std.proofs.Common.{arith}
 use Rattle.board_lock.specs.Seats.{view_of}
 use Rattle.script_run.proofs.BoardSeatLemmas.{knows-new, seated-new}
@@ -14,6 +14,7 @@ make_seats-requires c = record {
 
 pub returns-in-Ok : goal.returns-in-Ok
 returns-in-Ok c = record {
+  most = c.in_ok-board.ensures.most;
   leader = c.in-Ok.ensures.leader;
   knows = knows-new c.args.settings (view_of c.in_ok-board.first) (view_of c.make_seats.new.first) c.make_seats.ensures.knows
       c.in_ok-board.ensures.knows;

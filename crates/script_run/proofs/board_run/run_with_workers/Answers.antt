@@ -1,10 +1,13 @@
 -- The front and the workers side by side, and the end of the board.
-use Rattle.std.proofs.Common.{ap, length, rules, subst, sym, ◌∙◌}
+use Rattle.std.proofs.Common.{ap, arith, length, rules, subst, sym, ◌∙◌}
 use Rattle.script_run.specs.BoardRun.{AreWorkers, IsLeader}
 use Rattle.script_run.proofs.BoardCloseLemmas.{board-done}
 use Rattle.script_run.proofs.BoardSeatLemmas.{leader-as, lent-whole}
 use Rattle.script_run.proofs.SharedEndLemmas.{none-shared}
 use Rattle.script_run.proofs.board_run.run_with_workers.Goals as goal
+
+pub open_crew-requires-clause-seats : goal.open_crew-requires-clause-seats
+open_crew-requires-clause-seats g c = let seats = c.requires.seats in omega arith
 
 pub returns-in_default-clause-answers : goal.returns-in_default-clause-answers
 returns-in_default-clause-answers g c = (none-shared _ _, tt)

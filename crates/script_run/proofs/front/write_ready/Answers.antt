@@ -1,7 +1,7 @@
 use Rattle.script_run.proofs.Words.{◌∙◌, ap, err_from_is_err_and, refl, state_of}
+use Rattle.script_run.proofs.FrontOpenLemmas.{taken-less}
 use Rattle.script_run.proofs.FrontReadyLemmas.{halts-writing, ready-some, starts-writing, takes-reply, writes-more, wrote-idle}
 use Rattle.script_run.proofs.FrontRunLemmas.{run-taken, run-then}
-use Rattle.script_run.proofs.HomeLetLemmas.{drops-less}
 use Rattle.script_run.proofs.front.write_ready.Goals as goal
 
 pub replies-init : goal.replies-init
@@ -43,4 +43,4 @@ returns-clause-all g c =
 
 pub replies-smaller : goal.replies-smaller
 replies-smaller g c =
-    drops-less (state_of c.replies.core) (state_of c.take_reply.new.self) _ c.in-Some.ensures.ready (c.in-Some.ensures.taken refl)
+    taken-less 0 (state_of c.replies.core) (state_of c.take_reply.new.self) _ c.in-Some.ensures.ready (c.in-Some.ensures.taken refl)

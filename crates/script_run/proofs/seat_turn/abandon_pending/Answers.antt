@@ -1,5 +1,5 @@
 -- A query that is open and waited for is the seat's own, and may be abandoned.
-use Rattle.event_core.specs.Seen.{state_of}
+use Rattle.script_run.proofs.Words.{state_of, sym}
 use Rattle.script_run.proofs.SeatLetLemmas.{lets-less, lets-more, starts-letting}
 use Rattle.script_run.proofs.seat_turn.abandon_pending.Goals as goal
 
@@ -24,3 +24,6 @@ returns-clause-mindful c = c.queries.invariant.mindful
 
 pub returns-clause-abandons : goal.returns-clause-abandons
 returns-clause-abandons c = c.queries.invariant.abandons
+
+pub returns-clause-closed : goal.returns-clause-closed
+returns-clause-closed c = sym c.in_default.ensures

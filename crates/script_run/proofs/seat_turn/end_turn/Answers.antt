@@ -1,8 +1,9 @@
 -- What the seat finds is what it knew, and what it leaves is that but for what it waited for.
-use Rattle.script_run.proofs.Words.{◌∙◌, None}
+use Rattle.script_run.proofs.Words.{◌∙◌, None, subst, sym}
 use Rattle.board_lock.specs.Seats.{view_of}
 use Rattle.worker_gate.specs.Hands.{HasDoneIf}
 use Rattle.worker_gate.proofs.TurnLemmas.{hand-found, same-then, view-left}
+use Rattle.script_run.specs.Home.{LeftClosing}
 use Rattle.script_run.proofs.SeatTurnLemmas.{team-left, turn-keeps, turn-leaves, turn-out}
 use Rattle.script_run.proofs.seat_turn.end_turn.Goals as goal
 
@@ -38,3 +39,9 @@ returns-clause-leaves g c =
     (view-left (view_of c.args.seat.now) (view_of c.enter-core.new.seat) (view_of c.leave.new.seat) c.enter-core.result
     c.let_go.new.core c.enter-core.ensures.inside.1 c.leave.ensures.outside.1)
     c.enter-core.ensures.finds c.number-own.ensures c.let_go.ensures.abandons
+
+pub returns-clause-closing : goal.returns-clause-closing
+returns-clause-closing g c =
+    subst LeftClosing
+    (sym (view-left (view_of c.args.seat.now) (view_of c.enter-core.new.seat) (view_of c.leave.new.seat) c.enter-core.result
+    c.let_go.new.core c.enter-core.ensures.inside.1 c.leave.ensures.outside.1)) c.let_go.ensures.closing

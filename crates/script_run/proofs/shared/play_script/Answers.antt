@@ -14,8 +14,8 @@ pieces-init g c = record {
   steps = run-itself _;
   alone = λ new run. run-alone c.a_seat_alone_has_the_queries_of_the_core.ensures c.only_abandon_abandons.ensures c.every_core_is_sound.ensures.on
       (state_of c.args.front.now.core).settings (state_of c.args.front.now.core) new c.every_front_is_sound.ensures c.requires.empty run;
-  counted = c.requires.home.counted;
-  free = subst (λ n. n < (state_of c.args.front.now.core).settings.slots) (sym c.requires.home.none) (some-slots _ c.every_front_is_sound.ensures.settings);
+  counted = c.requires.counted;
+  free = subst (λ n. n < (state_of c.args.front.now.core).settings.slots) (sym c.requires.none) (some-slots _ c.every_front_is_sound.ensures.settings);
   ended = refl;
   unread = refl;
   unwritten = refl;

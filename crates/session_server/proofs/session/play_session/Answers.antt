@@ -1,19 +1,20 @@
 use Rattle.std.proofs.Common.{ap, refl, ◌∙◌}
+use Rattle.board_lock.specs.Seats.{view_of}
 use Rattle.star_io.specs.Link.{ReadingSide, WritingSide}
-use Rattle.event_core.specs.Seen.{state_of}
+use Rattle.worker_gate.specs.Turns.{sight_in}
+use Rattle.worker_gate.proofs.TurnLemmas.{same-seat, same-then}
 use Rattle.session_server.proofs.EndLemmas.{answers-apart, done-ends, ended-ends, fault-ends, halted-ends, limit-ends, unfed-ends}
-use Rattle.script_run.proofs.HomeStepsLemmas.{served-itself, served-then}
-use Rattle.session_server.proofs.SessionLemmas.{fed-serving, replied-serving, serving-apart, starts-serving, starts-without}
+use Rattle.session_server.proofs.SessionLemmas.{fed-serving, reads-by, replied-serving, serving-apart, starts-serving, starts-without}
 use Rattle.session_server.specs.Session.{end_of_halt}
 use Rattle.session_server.specs.declared.session_end.SessionEnd.TheVariants as end
 use Rattle.session_server.proofs.session.play_session.Goals as goal
 
 pub pieces-init : goal.pieces-init
 pieces-init g c = record {
-  serving = starts-serving _ _ _ _ c.requires.unfed c.requires.home.idle c.requires.home.own;
+  serving = starts-serving _ _ _ _ _ c.requires.unfed c.requires.rest.due;
   none = starts-without _ c.requires.unfed;
-  home = c.requires.home;
-  served = served-itself _;
+  rest = c.requires.rest;
+  same = same-seat c.args.front.now.seat;
   ended = refl;
   unread = refl;
   unwritten = refl;
@@ -22,76 +23,124 @@ pieces-init g c = record {
 pub pieces-preserved : goal.pieces-preserved
 pieces-preserved g c =
     let takes = c.in-Fed.ensures.takes in
-    let fed = fed-serving _ _ _ _ _ _ _ _ _ takes.0 c.pieces.invariant.serving takes.1 takes.2.0 takes.2.2 in
-    let read = serving-apart _ _ _ _ _ _ _ _ _ refl (ap (λ (side : WritingSide). side.taken) c.in-Fed.ensures.written) fed in
-    let done = replied-serving _ _ _ _ _ _ _ _ _ _ read c.in-Ok.ensures.replies.0 c.in-Ok.ensures.home.idle in
+    let fed = fed-serving _ _ _ _ _ _ _ _ _ _ takes.0 c.pieces.invariant.serving takes.1 takes.2.0 takes.2.2 in
+    let read = serving-apart _ _ _ _ _ _ _ _ _ _ refl (ap (λ (side : WritingSide). side.taken) c.in-Fed.ensures.written) fed in
+    let reads = reads-by c.args.front.now.seat c.pieces.front.seat _ _ _ _ _ _ _ c.pieces.invariant.same c.in-Ok.ensures.replies.0 in
+    let done = replied-serving _ _ _ _ _ _ _ _ _ _ _ read reads c.in-Ok.ensures.rest.due.pending in
     record {
-      serving = serving-apart _ _ _ _ _ _ _ _ _ (ap (λ (side : ReadingSide). side.left) c.in-Ok.ensures.read) refl done;
+      serving = serving-apart _ _ _ _ _ _ _ _ _ _ (ap (λ (side : ReadingSide). side.left) c.in-Ok.ensures.read) refl done;
       none = c.in-Ok.ensures.replies.0.all.1;
-      home = c.in-Ok.ensures.home;
-      served = served-then _ _ _ c.pieces.invariant.served c.in-Ok.ensures.served;
+      rest = c.in-Ok.ensures.rest;
+      same = same-then c.args.front.now.seat c.pieces.front.seat c.reply_link.new.front.seat c.pieces.invariant.same c.in-Ok.ensures.same;
       ended = ap (λ (side : ReadingSide). side.ended) c.in-Ok.ensures.read ∙ c.in-Fed.ensures.end ∙ c.pieces.invariant.ended;
       unread = ap (λ (side : ReadingSide). side.faults) c.in-Ok.ensures.read ∙ c.in-Fed.ensures.faults ∙ c.pieces.invariant.unread;
       unwritten = c.in-Ok.ensures.faults ∙ ap (λ (side : WritingSide). side.faults) c.in-Fed.ensures.written ∙ c.pieces.invariant.unwritten;
     }
 
+-- The replies halt before the input has ended.
+
+pub returns-in-Err-clause-same : goal.returns-in-Err-clause-same
+returns-in-Err-clause-same g c =
+    same-then c.args.front.now.seat c.pieces.front.seat c.reply_link.new.front.seat c.pieces.invariant.same c.in-Err.ensures.same
+
 pub returns-in-Err-clause-answers : goal.returns-in-Err-clause-answers
 returns-in-Err-clause-answers g c =
+    let old = view_of c.args.front.now.seat in
+    let now = view_of c.pieces.front.seat in
+    let new = view_of c.reply_link.new.front.seat in
     let takes = c.in-Fed.ensures.takes in
-    let fed = fed-serving _ _ _ _ _ _ _ _ _ takes.0 c.pieces.invariant.serving takes.1 takes.2.0 takes.2.2 in
-    let read = serving-apart _ _ _ _ _ _ _ _ _ (ap (λ (side : ReadingSide). side.left) c.in-Err.ensures.read)
+    let fed = fed-serving _ _ _ _ _ _ _ _ _ _ takes.0 c.pieces.invariant.serving takes.1 takes.2.0 takes.2.2 in
+    let read = serving-apart _ _ _ _ _ _ _ _ _ _ (ap (λ (side : ReadingSide). side.left) c.in-Err.ensures.read)
     (ap (λ (side : WritingSide). side.taken) c.in-Fed.ensures.written) fed in
-    rw c.end_of_halt.ensures (halted-ends c.in-Err.halt (state_of c.args.front.now.core) (state_of c.pieces.front.core) (state_of c.reply_link.new.front.core)
-    _ _ _ _ _ _ _ read c.in-Err.ensures.replies.0
+    let reads = reads-by c.args.front.now.seat c.pieces.front.seat _ _ _ _ _ _ _ c.pieces.invariant.same c.in-Err.ensures.replies.0 in
+    rw c.end_of_halt.ensures (halted-ends c.in-Err.halt old.number (sight_in old) (sight_in now) (sight_in new) _ _ _ _ _ _ _ read reads
     (ap (λ (side : ReadingSide). side.ended) c.in-Err.ensures.read ∙ c.in-Fed.ensures.end ∙ c.pieces.invariant.ended)
     (ap (λ (side : ReadingSide). side.faults) c.in-Err.ensures.read ∙ c.in-Fed.ensures.faults ∙ c.pieces.invariant.unread))
 
-pub returns-in-Err-clause-served : goal.returns-in-Err-clause-served
-returns-in-Err-clause-served g c = served-then _ _ _ c.pieces.invariant.served c.in-Err.ensures.served
+pub returns-in-Err-clause-made : goal.returns-in-Err-clause-made
+returns-in-Err-clause-made g c =
+    let reads = reads-by c.args.front.now.seat c.pieces.front.seat _ _ _ _ _ _ _ c.pieces.invariant.same c.in-Err.ensures.replies.0 in
+    reads.on.goes.waits.made
+
+-- The reading ends.
 
 pub returns-in-Fault-clause-answers : goal.returns-in-Fault-clause-answers
 returns-in-Fault-clause-answers g c =
+    let old = view_of c.args.front.now.seat in
+    let now = view_of c.pieces.front.seat in
     let takes = c.in-Fault.ensures.takes in
-    answers-apart end.ReadFault (state_of c.args.front.now.core) (state_of c.pieces.front.core) _ _ _ _ _ _ refl c.in-Fault.ensures.written
-    (fault-ends (state_of c.args.front.now.core) (state_of c.pieces.front.core) _ _ _ _ _ _ takes.0 c.pieces.invariant.serving
-    c.pieces.invariant.none takes.1 takes.2.1)
+    answers-apart end.ReadFault old.number (sight_in old) (sight_in now) _ _ _ _ _ _ refl c.in-Fault.ensures.written
+    (fault-ends old.number (sight_in old) (sight_in now) _ _ _ _ _ _ takes.0 c.pieces.invariant.serving c.pieces.invariant.none takes.1
+    takes.2.1)
 
 pub returns-in-Limit-clause-answers : goal.returns-in-Limit-clause-answers
 returns-in-Limit-clause-answers g c =
+    let old = view_of c.args.front.now.seat in
+    let now = view_of c.pieces.front.seat in
     let takes = c.in-Limit.ensures.takes in
-    answers-apart end.Limit (state_of c.args.front.now.core) (state_of c.pieces.front.core) _ _ _ _ _ _ refl c.in-Limit.ensures.written
-    (limit-ends (state_of c.args.front.now.core) (state_of c.pieces.front.core) _ _ _ _ _ _ takes.0 c.pieces.invariant.serving
-    c.pieces.invariant.none takes.1 takes.2.1 takes.2.2)
+    answers-apart end.Limit old.number (sight_in old) (sight_in now) _ _ _ _ _ _ refl c.in-Limit.ensures.written
+    (limit-ends old.number (sight_in old) (sight_in now) _ _ _ _ _ _ takes.0 c.pieces.invariant.serving c.pieces.invariant.none takes.1
+    takes.2.1 takes.2.2)
 
 pub returns-in-NoMemory-clause-answers : goal.returns-in-NoMemory-clause-answers
 returns-in-NoMemory-clause-answers g c =
+    let old = view_of c.args.front.now.seat in
+    let now = view_of c.pieces.front.seat in
     let takes = c.in-NoMemory.ensures.takes in
-    answers-apart end.Memory (state_of c.args.front.now.core) (state_of c.pieces.front.core) _ _ _ _ _ _ refl c.in-NoMemory.ensures.written
-    (unfed-ends (state_of c.args.front.now.core) (state_of c.pieces.front.core) _ _ _ _ _ _ takes.0 c.pieces.invariant.serving takes.1 takes.2.1
+    answers-apart end.Memory old.number (sight_in old) (sight_in now) _ _ _ _ _ _ refl c.in-NoMemory.ensures.written
+    (unfed-ends old.number (sight_in old) (sight_in now) _ _ _ _ _ _ takes.0 c.pieces.invariant.serving takes.1 takes.2.1
     (c.in-NoMemory.ensures.end ∙ c.pieces.invariant.ended) (c.in-NoMemory.ensures.faults ∙ c.pieces.invariant.unread))
+
+-- The input has ended.
+
+pub returns-in-Ok-reply_link-clause-same : goal.returns-in-Ok-reply_link-clause-same
+returns-in-Ok-reply_link-clause-same g c =
+    same-then c.args.front.now.seat c.pieces.front.seat c.reply_link-2.new.front.seat c.pieces.invariant.same
+    c.in-Ok-reply_link.ensures.same
 
 pub returns-in-Ok-reply_link-clause-answers : goal.returns-in-Ok-reply_link-clause-answers
 returns-in-Ok-reply_link-clause-answers g c =
+    let old = view_of c.args.front.now.seat in
+    let now = view_of c.pieces.front.seat in
+    let new = view_of c.reply_link-2.new.front.seat in
     let takes = c.in-Ended.ensures.takes in
-    let read = serving-apart _ _ _ _ _ _ _ _ _ refl (ap (λ (side : WritingSide). side.taken) c.in-Ended.ensures.written) c.pieces.invariant.serving in
-    let reads = rw (c.finish.ensures, takes.2.0) at c.in-Ok-reply_link.ensures.replies.0 in
-    answers-apart end.Done (state_of c.args.front.now.core) (state_of c.reply_link-2.new.front.core) _ _ _ _ _ _ c.in-Ok-reply_link.ensures.read refl
-    (done-ends (state_of c.args.front.now.core) (state_of c.pieces.front.core) (state_of c.reply_link-2.new.front.core) _ c.reply_link-2.new.reader
-    _ _ _ _ _ _ takes.0 read takes.1 takes.2.1 c.in-Ended.ensures.end reads c.in-Ok-reply_link.ensures.home.idle)
+    let read = serving-apart _ _ _ _ _ _ _ _ _ _ refl (ap (λ (side : WritingSide). side.taken) c.in-Ended.ensures.written)
+    c.pieces.invariant.serving in
+    let last = rw (c.finish.ensures, takes.2.0) at c.in-Ok-reply_link.ensures.replies.0 in
+    let reads = reads-by c.args.front.now.seat c.pieces.front.seat _ _ _ _ _ _ _ c.pieces.invariant.same last in
+    answers-apart end.Done old.number (sight_in old) (sight_in new) _ _ _ _ _ _ c.in-Ok-reply_link.ensures.read refl
+    (done-ends old.number (sight_in old) (sight_in now) (sight_in new) _ c.reply_link-2.new.reader _ _ _ _ _ _ takes.0 read takes.1
+    takes.2.1 c.in-Ended.ensures.end reads c.in-Ok-reply_link.ensures.rest.due.pending)
 
-pub returns-in-Ok-reply_link-clause-served : goal.returns-in-Ok-reply_link-clause-served
-returns-in-Ok-reply_link-clause-served g c = served-then _ _ _ c.pieces.invariant.served c.in-Ok-reply_link.ensures.served
+pub returns-in-Ok-reply_link-clause-made : goal.returns-in-Ok-reply_link-clause-made
+returns-in-Ok-reply_link-clause-made g c =
+    let reads = reads-by c.args.front.now.seat c.pieces.front.seat _ _ _ _ _ _ _ c.pieces.invariant.same
+    c.in-Ok-reply_link.ensures.replies.0 in
+    reads.on.goes.waits.made
+
+pub returns-in-Err-reply_link-clause-same : goal.returns-in-Err-reply_link-clause-same
+returns-in-Err-reply_link-clause-same g c =
+    same-then c.args.front.now.seat c.pieces.front.seat c.reply_link-2.new.front.seat c.pieces.invariant.same
+    c.in-Err-reply_link.ensures.same
 
 pub returns-in-Err-reply_link-clause-answers : goal.returns-in-Err-reply_link-clause-answers
 returns-in-Err-reply_link-clause-answers g c =
+    let old = view_of c.args.front.now.seat in
+    let now = view_of c.pieces.front.seat in
+    let new = view_of c.reply_link-2.new.front.seat in
     let takes = c.in-Ended.ensures.takes in
-    let read = serving-apart _ _ _ _ _ _ _ _ _ refl (ap (λ (side : WritingSide). side.taken) c.in-Ended.ensures.written) c.pieces.invariant.serving in
-    let reads = rw (c.finish.ensures, takes.2.0) at c.in-Err-reply_link.ensures.replies.0 in
+    let read = serving-apart _ _ _ _ _ _ _ _ _ _ refl (ap (λ (side : WritingSide). side.taken) c.in-Ended.ensures.written)
+    c.pieces.invariant.serving in
+    let last = rw (c.finish.ensures, takes.2.0) at c.in-Err-reply_link.ensures.replies.0 in
+    let reads = reads-by c.args.front.now.seat c.pieces.front.seat _ _ _ _ _ _ _ c.pieces.invariant.same last in
     rw c.end_of_halt-in-Err-reply_link.ensures
-    (answers-apart (end_of_halt c.in-Err-reply_link.halt) (state_of c.args.front.now.core) (state_of c.reply_link-2.new.front.core) _ _ _ _ _ _
+    (answers-apart (end_of_halt c.in-Err-reply_link.halt) old.number (sight_in old) (sight_in new) _ _ _ _ _ _
     c.in-Err-reply_link.ensures.read refl
-    (ended-ends c.in-Err-reply_link.halt (state_of c.args.front.now.core) (state_of c.pieces.front.core) (state_of c.reply_link-2.new.front.core)
-    _ _ _ _ _ _ _ _ takes.0 read takes.1 takes.2.1 c.in-Ended.ensures.end.0 reads))
+    (ended-ends c.in-Err-reply_link.halt old.number (sight_in old) (sight_in now) (sight_in new) _ _ _ _ _ _ _ _ takes.0 read takes.1
+    takes.2.1 c.in-Ended.ensures.end.0 reads))
 
-pub returns-in-Err-reply_link-clause-served : goal.returns-in-Err-reply_link-clause-served
-returns-in-Err-reply_link-clause-served g c = served-then _ _ _ c.pieces.invariant.served c.in-Err-reply_link.ensures.served
+pub returns-in-Err-reply_link-clause-made : goal.returns-in-Err-reply_link-clause-made
+returns-in-Err-reply_link-clause-made g c =
+    let reads = reads-by c.args.front.now.seat c.pieces.front.seat _ _ _ _ _ _ _ c.pieces.invariant.same
+    c.in-Err-reply_link.ensures.replies.0 in
+    reads.on.goes.waits.made

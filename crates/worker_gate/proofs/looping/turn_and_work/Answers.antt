@@ -19,7 +19,7 @@ returns-in-Got-clause-on g c =
 
 pub returns-in-Did-clause-on : goal.returns-in-Did-clause-on
 returns-in-Did-clause-on g c =
-    out-as (HasLooked look.Did) (HasDoneIf None) (λ held none. none) c.args.board.now c.take_turn.new.seat c.in-Did.ensures.out
+    out-as _ (HasDoneIf None) (λ held none. none) c.args.board.now c.take_turn.new.seat c.in-Did.ensures.out
 
 pub returns-in-Rest-clause-on : goal.returns-in-Rest-clause-on
 returns-in-Rest-clause-on g c =

@@ -1,14 +1,9 @@
-use Rattle.script_run.proofs.Words.{◌∷◌, [], err_from_is_err_and, FrontParts, refl, state_of, subst}
+use Rattle.script_run.proofs.Words.{◌∷◌, [], FrontParts, refl, state_of, subst}
 use Rattle.script_run.specs.Front.{PlaysCounted}
 use Rattle.script_run.proofs.FrontCountLemmas.{due-by, slot-free}
-use Rattle.script_run.proofs.FrontPlayLemmas.{on-ok-both, plays-given, plays-none, plays-quiet}
+use Rattle.script_run.proofs.FrontPlayLemmas.{on-ok-both, plays-given, plays-quiet}
 use Rattle.script_run.proofs.FrontRunLemmas.{run-then}
 use Rattle.script_run.proofs.front.Front.play.Goals as goal
-
-pub returns-in_err-waits-clause-plays : goal.returns-in_err-waits-clause-plays
-returns-in_err-waits-clause-plays g c =
-    let failed = err_from_is_err_and c.from_residual.result c.from_residual.ensures.1 in
-    rw (failed.1, failed.2) (plays-none c.args.statement (state_of c.args.self.now.core) _)
 
 pub returns-then-not-give-clause-plays : goal.returns-then-not-give-clause-plays
 returns-then-not-give-clause-plays g c =
@@ -21,7 +16,7 @@ returns-then-is_due-clause-plays g c =
     let given = c.if-not-give.ensures in
     plays-given c.play_out.result c.args.statement (state_of c.args.self.now.core) (state_of c.give.new.self.core) (state_of c.play_out.new.self.core) _ _
     c.play_out.ensures.some (given.gives refl)
-    (due-by c.args.statement c.args.self.now c.give.new.self c.in_ok-waits.waits c.requires.counted (given.counted refl) c.in_ok-waits.ensures (c.if-is_due.ensures.due refl))
+    (due-by c.args.statement c.args.self.now c.give.new.self c.waits_at-waits.result c.requires.counted (given.counted refl) c.waits_at-waits.ensures (c.if-is_due.ensures.due refl))
     c.play_out.ensures.plays c.play_out.ensures.round c.play_out.ensures.all
 
 pub returns-then-is_due-clause-run : goal.returns-then-is_due-clause-run

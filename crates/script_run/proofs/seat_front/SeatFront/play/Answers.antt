@@ -1,16 +1,10 @@
 -- A statement that was sent and the replies behind it, or one for which no memory was left.
-use Rattle.script_run.proofs.Words.{◌∷◌, [], err_from_is_err_and, refl, ℕ}
+use Rattle.script_run.proofs.Words.{◌∷◌, [], refl, ℕ}
 use Rattle.board_lock.specs.Seats.{view_of}
 use Rattle.worker_gate.specs.Turns.{sight_in}
 use Rattle.script_run.specs.SeatFront.{SeatPlays}
-use Rattle.script_run.proofs.SeatFrontLemmas.{by-number, seat-behind, seat-lost-first, seat-sent, seat-stays}
+use Rattle.script_run.proofs.SeatFrontLemmas.{by-number, seat-behind, seat-sent, seat-stays}
 use Rattle.script_run.proofs.seat_front.SeatFront.play.Goals as goal
-
-pub returns-in_err-waits-clause-plays : goal.returns-in_err-waits-clause-plays
-returns-in_err-waits-clause-plays g c =
-    let old = view_of c.args.self.now.seat in
-    let failed = err_from_is_err_and c.from_residual.result c.from_residual.ensures.1 in
-    rw (failed.1, failed.2) (seat-lost-first old.number c.args.statement (sight_in old) _)
 
 pub returns-then-not-submit_turn-clause-plays : goal.returns-then-not-submit_turn-clause-plays
 returns-then-not-submit_turn-clause-plays g c =

@@ -4,7 +4,7 @@ use Rattle.board_lock.specs.Seats.{view_of}
 use Rattle.core_state.specs.Rows.{made_by}
 use Rattle.worker_gate.specs.Turns.{sight_in}
 use Rattle.worker_gate.proofs.TurnLemmas.{same-then}
-use Rattle.script_run.specs.SeatTurns.{Leaves}
+use Rattle.script_run.specs.Home.{Leaves}
 use Rattle.script_run.proofs.SeatEndLemmas.{leaves-sent}
 use Rattle.script_run.proofs.SeatFrontLemmas.{same-number}
 use Rattle.script_run.proofs.SeatTurnLemmas.{team-then}
@@ -35,4 +35,4 @@ returns-clause-made g c =
     let new = view_of c.end_turn.new.seat in
     let zero : mid.number ≡ 0 =
     same-number c.args.self.now.seat c.play_script-end.new.self.seat c.play_script-end.ensures.same ∙ c.requires.first in
-    subst (λ (seat : ℕ). (sight_in new).row.made ≡ made_by seat (sight_in new).seen) zero c.end_turn.ensures.leaves.all_made
+    subst (λ (seat : ℕ). (sight_in new).row.made ≡ made_by seat (sight_in new).seen) zero c.end_turn.ensures.leaves.0.all_made

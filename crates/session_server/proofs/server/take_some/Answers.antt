@@ -1,0 +1,21 @@
+use Rattle.std.proofs.Common.{refl, ◌∙◌}
+use Rattle.session_server.proofs.DoorLemmas.{given-next, given-none}
+use Rattle.session_server.proofs.server.take_some.Goals as goal
+
+pub links-init : goal.links-init
+links-init g c = record {
+  own = c.requires.own;
+  listening = c.requires.listening;
+  asked = refl;
+  unfailed = refl;
+  given = given-none _;
+}
+
+pub links-preserved : goal.links-preserved
+links-preserved g c = record {
+  own = c.take_next.ensures.own;
+  listening = c.take_next.ensures.listening;
+  asked = c.take_next.ensures.asked ∙ c.links.invariant.asked;
+  unfailed = c.in_default.ensures.faults ∙ c.links.invariant.unfailed;
+  given = given-next _ _ _ _ c.links.invariant.given (c.in_default.ensures.given refl);
+}
