@@ -10,20 +10,20 @@
     python3 bench/always_on.py --program FILE ..   the same of another program
 
 For the first two it tells the greatest resident memory and the processor time of a tenth of the lines and of all of them,
-for connections the resident memory after each tenth of them, and for crafted keys the processor time of both loads. What the tables
-take is part of each figure: of a script with two small tables, under a megabyte. Python's standard library, `cc` for the crafted
-keys, and a Linux with /proc are all this needs.
+for connections the resident memory after each tenth of them, and for crafted keys the processor time of both loads. The first 64
+connections come at once, and the others one after the other. What the tables take is part of each figure: of a script with two
+small tables, under a megabyte. Python's standard library, `cc` for the crafted keys, and a Linux with /proc are all this needs.
 """
 
 import argparse
 import os
 import resource
-import socket
 import subprocess
 import sys
 import tempfile
-import time
 from pathlib import Path
+
+from serving import Fault, Link, insist, serving, status_of, told_rows
 
 TOP = Path(__file__).resolve().parent.parent
 TABLES = b"""dimension store (id int key, city text)
@@ -39,6 +39,7 @@ COUNT = b"select count(*) from sales\n"
 STATEMENTS = 2_400_000
 REFUSED = 33_554_432
 CONNECTIONS = 5_000
+AT_ONCE = 64
 QUERIES = 10
 CHUNK = 1 << 20
 
@@ -80,14 +81,6 @@ def fed(program, words, front, line, count):
     return max(greatest, usage.ru_maxrss / 1024), usage.ru_utime + usage.ru_stime
 
 
-def status_of(pid, word):
-    """A figure of /proc in MB."""
-    for line in Path(f"/proc/{pid}/status").read_text().splitlines():
-        if line.startswith(word + ":"):
-            return int(line.split()[1]) / 1024
-    return 0.0
-
-
 def high_water(pid):
     """The greatest resident memory of a process in MB."""
     return status_of(pid, "VmHWM")
@@ -100,44 +93,31 @@ def tell(name, program, front, line, count):
         print(f"{name}: {part:,} lines: {memory:.1f} MB, {seconds:.2f} s, {seconds / part * 1e9:.0f} ns a line", flush=True)
 
 
-def free_port():
-    """A port of this machine that nobody listens at."""
-    with socket.socket() as probe:
-        probe.bind(("127.0.0.1", 0))
-        return probe.getsockname()[1]
+def asking(server):
+    """A connection over which the queries were sent."""
+    link = Link(server, quick=True)
+    link.send((COUNT * QUERIES).decode())
+    return link
 
 
-def ask(port, script):
-    """One connection: a script, and its replies."""
-    with socket.create_connection(("127.0.0.1", port)) as link:
-        link.sendall(script)
-        link.shutdown(socket.SHUT_WR)
-        replies = b""
-        while part := link.recv(CHUNK):
-            replies += part
-        return replies
+def end(link):
+    """Ends a connection. Its replies are those of the queries."""
+    numbers = [told_rows(reply, [b"1"]) for reply in link.rest()]
+    insist(numbers == [2] * QUERIES, "the answers of a connection are at", numbers)
+    link.close()
 
 
 def connections(program, count):
     """Tells the resident memory of a server after each tenth of the connections."""
-    port = free_port()
-    server = subprocess.Popen(
-        [program, "--mode", "serve", "--port", str(port)], stdout=subprocess.DEVNULL, stderr=subprocess.DEVNULL
-    )
-    try:
-        for _ in range(100):
-            try:
-                ask(port, TABLES)
-                break
-            except ConnectionRefusedError:
-                time.sleep(0.1)
-        for number in range(1, count + 1):
-            ask(port, COUNT * QUERIES)
+    with serving(program) as server:
+        server.begin(TABLES.decode(), 4)
+        # As many as are served at once come together, so that each thread has served one before memory is told.
+        for link in [asking(server) for _ in range(min(count, AT_ONCE))]:
+            end(link)
+        for number in range(AT_ONCE + 1, count + 1):
+            end(asking(server))
             if number == 100 or number % max(1, count // 10) == 0:
-                print(f"connections: after {number:,}: {status_of(server.pid, 'VmRSS'):.1f} MB", flush=True)
-    finally:
-        server.kill()
-        server.wait()
+                print(f"connections: after {number:,}: {server.memory():.1f} MB", flush=True)
 
 
 def load_of(keys):
@@ -178,7 +158,10 @@ def main():
     if words.what in ("all", "refused"):
         tell("refused", words.program, b"", b"\xff\n", REFUSED)
     if words.what in ("all", "connections"):
-        connections(words.program, words.count)
+        try:
+            connections(words.program, words.count)
+        except Fault as fault:
+            sys.exit(f"connections: {fault}")
     if words.what in ("all", "crafted"):
         crafted(words.program)
 
