@@ -35,7 +35,7 @@ use std::marker::Model;
 
 /// The core of the shared scan: the tables, the queries that were asked of them, and the scan that gives rows to those
 /// that run.
-#[derive(Debug, Drop)]
+#[derive(Debug)]
 pub struct Core {
     pub(crate) alloc: Global,
 
@@ -99,6 +99,45 @@ impl Model for Core {
         core.distributor core.flights core.pool core.cut core.last_statement core.last_batch core.last_version core.marks)
         × HasRoom core.settings core.flights × AreFinished core.manager core.asked
         × AreSpare core.settings.seats core.filters.versions core.flights.items core.spares };
+}
+
+/// By hand, so that a core goes by one call, wherever it falls, and the crates above prove nothing of its parts: a derived drop
+/// is proved anew in each of them, with those of all parts.
+impl Drop for Core {
+    fn drop(self) {
+        let Self {
+            alloc: _,
+            hash_keys: _,
+            settings: _,
+            store,
+            log,
+            seats,
+            asked,
+            manager,
+            filters,
+            spares,
+            scan,
+            distributor,
+            flights,
+            pool,
+            cut: _,
+            last_statement: _,
+            last_batch: _,
+            last_version: _,
+            marks: _,
+        } = self;
+        drop(store);
+        drop(log);
+        drop(seats);
+        drop(asked);
+        drop(manager);
+        drop(filters);
+        drop(spares);
+        drop(scan);
+        drop(distributor);
+        drop(flights);
+        drop(pool);
+    }
 }
 
 impl Core {
