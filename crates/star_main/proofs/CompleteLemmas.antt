@@ -19,8 +19,9 @@ use Rattle.session_server.specs.Server.{CountsDoor}
 use Rattle.star_main.specs.Complete.{EndsMade, EndsScript, IsComplete, ReadFailed, WriteFailed}
 use Rattle.star_main.specs.Headline.{Headline, HasCause, status_of}
 use Rattle.star_main.specs.Made.{MadeHeadline, made_status_of}
-use Rattle.star_main.specs.Modes.{HasScript, IsMade, RunsSource, Serves}
+use Rattle.star_main.specs.Modes.{HasScript, IsMade, RunsSource, Serves, Works, run_settings_of}
 use Rattle.star_main.specs.Serving.{ServeHeadline, serve_status_of}
+use Rattle.star_main.proofs.WorkLemmas.{works-apart}
 
 script-ends : (end : RunEnd) (status : ℕ) (from from' : ReadingSide) (to to' : WritingSide) → status ≡ status_of end
     → AnswersScript end from from' to to' → HasCause status from from' to to' → ¬ ReadFailed from from' → ¬ WriteFailed to to'
@@ -69,6 +70,21 @@ complete-made settings size core status from from' to to' DoorFailed is headline
   made = λ _. made-ends (size.workers ≡ 0) size settings.seed settings.rows core headline.end status from from' to to' headline.told
       headline.answers causes;
   served = λ serves. let wrong : Make ≡ Serve = sym is ∙ serves in cc;
+}
+
+-- workers ran a script or made the workload
+pub complete-works : {A : Type 0} (settings : Settings) (core : Option Parts) (status : ℕ) (from from' : ReadingSide)
+    (to to' : WritingSide) (DoorFailed : Type 0) → Works settings
+    → (HasScript settings → Headline (run_settings_of settings) core status from from' to to')
+    → (IsMade settings → A × MadeHeadline (run_settings_of settings) settings.seed settings.rows core status to to')
+    → HasCause status from from' to to' → IsComplete settings status from from' to to' DoorFailed
+complete-works settings core status from from' to to' DoorFailed works scripted workload causes = record {
+  script = λ has. let headline = scripted has in
+      script-ends headline.end status from from' to to' headline.told headline.answers.0 causes;
+  made = λ is. let headline = (workload is).1 in
+      made-ends (settings.workers ≡ 0) (run_settings_of settings) settings.seed settings.rows core headline.end status from from' to to'
+      headline.told headline.answers causes;
+  served = λ serves. absurd (works-apart settings works serves);
 }
 
 -- connections were served
