@@ -1,10 +1,12 @@
 //! Runs and sessions of which a read or a write fails in mid-stream.
+ghost use Rattle.std.specs.Prelude.{◌≤◌};
 ghost use Rattle.script_run.specs.Home.{IsAtRest};
 
 use crate::served::{NEVER, SETTINGS, link_of};
 use board_lock::BoardLock;
+use core_state::RunSettings;
 use event_core::Core;
-use script_run::{SeatFront, run_on_one_thread};
+use script_run::{SeatFront, run_script};
 use session_server::{SessionEnd, open_server, serve_session};
 use star_io::{ListSink, PairLink, PieceSource, RunEnd};
 use star_values::NoMemory;
@@ -15,7 +17,7 @@ use std::test::Fail;
 use std::thread::Threads;
 use worker_gate::NoGate;
 
-/// Two stores and four sales. Byte 150 stands in the second block.
+/// Two stores and four sales.
 pub(crate) const BASE: &str = "dimension store (id int key, city text)
 fact sales (store_id int references store, units int)
 load store
@@ -30,64 +32,171 @@ load sales
 .
 ";
 
-/// Whether a run from a source to a sink ends so, with these replies.
-fn ends_over<R: Threads + Sync>(
-    rt: &R,
-    alloc: Global,
-    hash_keys: RandomState,
-    mut source: PieceSource,
-    mut sink: ListSink,
-    end: RunEnd,
-    replies: &str,
-) -> bool {
-    let ended = run_on_one_thread(rt, alloc, hash_keys, SETTINGS, &mut source, &mut sink).end;
-    ended == end && sink.bytes() == replies.as_bytes()
+/// A statement of each form with its reply, those of the first example in front. A comment has none.
+const STEPS: [(&str, &str); 10] = [
+    ("dimension store (id int key, city text)\n", "table store\n"),
+    (
+        "fact sales (store_id int references store, units int)\n",
+        "table sales\n",
+    ),
+    ("load store\n1,Oslo\n2,Rome\n.\n", "commit 1 rows 2\n"),
+    (
+        "load sales\n1,5\n2,1\n1,10\n2,3\n.\n",
+        "commit 2 rows 4\n",
+    ),
+    (
+        "select city, sum(units) from sales, store where store_id = id group by city\n",
+        "answer 2 rows 2\n'Oslo',15\n'Rome',4\n",
+    ),
+    ("-- a comment\n", ""),
+    ("wait\n", "waited\n"),
+    ("delete from sales where units = 1\n", "commit 3 rows 1\n"),
+    (
+        "select count(*) form sales\n",
+        "refused 1 syntax at 16\n",
+    ),
+    ("select count(*) from sales\n", "answer 3 rows 1\n3\n"),
+];
+
+/// How many bytes a read gives.
+const PIECE: u64 = 7;
+
+/// More calls than a run makes.
+const MOST_CALLS: u64 = 1000;
+
+/// The script that these steps are.
+fn script_of(alloc: Global, steps: &[(&str, &str)]) -> Result<Vec<u8>, AllocError> {
+    let mut script = Vec::new(alloc);
+    for step in steps {
+        script.extend_from_slice(step.0.as_bytes())?;
+    }
+    Ok(script)
 }
 
-/// Whether a run ends so, with these replies: its source gives 150 bytes at once, and its sink takes 8.
-fn ends<R: Threads + Sync>(
+/// The replies to those of the steps that are whole within so many bytes.
+fn replies_within(
+    alloc: Global,
+    steps: &[(&str, &str)],
+    bytes: u64,
+) -> Result<Vec<u8>, AllocError> {
+    let mut replies = Vec::new(alloc);
+    let mut end = 0u64;
+    for step in steps {
+        end = end.saturating_add(step.0.len() as u64);
+        if end <= bytes {
+            replies.extend_from_slice(step.1.as_bytes())?;
+        }
+    }
+    Ok(replies)
+}
+
+/// Which calls of a run fail.
+#[derive(Clone, Copy)]
+enum Side {
+    Reads,
+    Writes,
+}
+
+/// What came of a run of the steps of which one call may fail.
+#[derive(Clone, Copy, PartialEq, Eq)]
+enum Came {
+    /// It ended there, with the replies that are due then.
+    Cut,
+
+    /// There is no such call, and all replies were written.
+    Whole,
+
+    /// Something else.
+    Wrong,
+}
+
+/// Runs a script with so many workers.
+fn end_of<R: Threads + Wait + Sync>(
     rt: &R,
     alloc: Global,
     hash_keys: RandomState,
-    read_fault: u64,
-    write_fault: u64,
-    end: RunEnd,
-    replies: &str,
-) -> Result<bool, AllocError> {
-    let script = BASE.as_bytes().to_vec(alloc)?;
-    let reads = [read_fault].to_vec(alloc)?;
-    let writes = [write_fault].to_vec(alloc)?;
-    let source = PieceSource::new(script, 150, reads);
-    let sink = ListSink::new(alloc, 8, writes);
-    Ok(ends_over(rt, alloc, hash_keys, source, sink, end, replies))
+    workers: u32,
+    source: &mut PieceSource,
+    sink: &mut ListSink,
+) -> RunEnd
+    requires { workers ≤ 16 }
+{
+    let settings = RunSettings {
+        workers,
+        slots: 64,
+        batch: 1,
+        seats: workers + 1,
+    };
+    run_script(rt, alloc, hash_keys, settings, source, sink, &NoGate).end
+}
+
+/// What a run is that ended so, and wrote this of all replies, where a read after which these are
+/// due might have failed, or a write.
+fn came_of(end: RunEnd, written: &[u8], all: &[u8], due: &[u8]) -> Came {
+    let is_due = match end {
+        RunEnd::SomeRefused => written == all,
+        RunEnd::ReadFault => written == due,
+        RunEnd::WriteFault => written.len() < all.len() && all.starts_with(written),
+        RunEnd::Clean | RunEnd::NoMemory | RunEnd::ScriptLimit => false,
+    };
+    match end {
+        _ if !is_due => Came::Wrong,
+        RunEnd::SomeRefused => Came::Whole,
+        _ => Came::Cut,
+    }
+}
+
+/// What comes of a run of the steps whose call of this number fails: its source gives 7 bytes at
+/// once, and its sink takes 8.
+fn cut_at<R: Threads + Wait + Sync>(
+    rt: &R,
+    alloc: Global,
+    hash_keys: RandomState,
+    workers: u32,
+    side: Side,
+    call: u64,
+) -> Result<Came, AllocError>
+    requires { workers ≤ 16 }
+{
+    let (read, write) = match side {
+        Side::Reads => (call, NEVER),
+        Side::Writes => (NEVER, call),
+    };
+    let all = replies_within(alloc, &STEPS, NEVER)?;
+    let due = replies_within(alloc, &STEPS, call.saturating_mul(PIECE))?;
+    let mut source = PieceSource::new(script_of(alloc, &STEPS)?, 7, [read].to_vec(alloc)?);
+    let mut sink = ListSink::new(alloc, 8, [write].to_vec(alloc)?);
+    let end = end_of(rt, alloc, hash_keys, workers, &mut source, &mut sink);
+    Ok(came_of(end, sink.bytes(), all.as_slice(), due.as_slice()))
+}
+
+/// Whether a run of the steps is cut at each of its calls in turn.
+fn are_cut<R: Threads + Wait + Sync>(
+    rt: &R,
+    alloc: Global,
+    hash_keys: RandomState,
+    workers: u32,
+    side: Side,
+) -> Result<bool, AllocError>
+    requires { workers ≤ 16 }
+{
+    for call in 0..MOST_CALLS {
+        match cut_at(rt, alloc, hash_keys, workers, side, call)? {
+            Came::Cut => {}
+            Came::Whole => return Ok(call > 20),
+            Came::Wrong => return Ok(false),
+        }
+    }
+    Ok(false)
 }
 
 #[test]
-fn a_run_ends_at_a_fault_in_mid_stream(rt: HostRuntime) -> Result<(), Fail> {
-    let replies = "table store\ntable sales\ncommit 1 rows 2\n";
+fn a_run_ends_at_each_read_and_at_each_write_that_fails(rt: HostRuntime) -> Result<(), Fail> {
     let hash_keys = RandomState::new(&rt)?;
-    assert!(rt;
-        ends(
-            &rt,
-            rt.alloc(),
-            hash_keys,
-            1,
-            NEVER,
-            RunEnd::ReadFault,
-            replies
-        )?
-    );
-    assert!(rt;
-        ends(
-            &rt,
-            rt.alloc(),
-            hash_keys,
-            NEVER,
-            1,
-            RunEnd::WriteFault,
-            "table st"
-        )?
-    );
+    assert!(rt; are_cut(&rt, rt.alloc(), hash_keys, 0, Side::Reads)?);
+    assert!(rt; are_cut(&rt, rt.alloc(), hash_keys, 0, Side::Writes)?);
+    assert!(rt; are_cut(&rt, rt.alloc(), hash_keys, 2, Side::Reads)?);
+    assert!(rt; are_cut(&rt, rt.alloc(), hash_keys, 2, Side::Writes)?);
     Ok(())
 }
 

@@ -17,7 +17,7 @@ use std::alloc::Global;
 use std::hash::RandomState;
 
 /// The most bytes that one read asks for.
-pub const PIECE_BYTES: usize = 64 * 1024;
+pub const PIECE_BYTES: usize = 16 * 1024;
 
 /// Reads a script to its end, and writes the reply to each of its statements, in order, before it
 /// reads on. Each query is answered by itself, at its place. A statement for which no memory is left

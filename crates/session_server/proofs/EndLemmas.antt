@@ -22,7 +22,7 @@ use Rattle.script_run.proofs.RunLemmas.{at_end, came, finished, within_all, with
 use Rattle.script_run.proofs.SeatFrontLemmas.{seat-left}
 use Rattle.script_run.proofs.SeatTellsLemmas.{tells-lets, tells-plays, tells-whole}
 use Rattle.script_run.proofs.SharedReadLemmas.{reads-all, reads-then}
-use Rattle.session_server.specs.Session.{AnswersSession, EndsWhole, end_of_halt, run_end_of, statements_by}
+use Rattle.session_server.specs.Session.{AnswersSession, CountsFaults, EndsWhole, IsComplete, end_of_halt, run_end_of, statements_by}
 use Rattle.session_server.specs.declared.session_end.SessionEnd.{SessionEnd}
 use Rattle.session_server.specs.declared.session_end.SessionEnd.TheVariants as end
 use Rattle.session_server.proofs.SessionLemmas.{IsServing, few-given, none-left, serving-err, serving-ok}
@@ -232,3 +232,12 @@ lets-end ends seat old mid new from from' to to' cut made answers goes = record 
   writes = answers.writes;
   memory = answers.memory;
 }
+
+-- where no call failed it is none of the ends that tell of one
+pub unfailed-ends : (ends : SessionEnd) (from from' : ReadingSide) (to to' : WritingSide) → CountsFaults ends from from' to to'
+    → IsComplete ends from from' to to'
+unfailed-ends end.Done from from' to to' counts read wrote = tt
+unfailed-ends end.ReadFault from from' to to' counts read wrote = absurd (read counts.0)
+unfailed-ends end.WriteFault from from' to to' counts read wrote = absurd (wrote counts.1)
+unfailed-ends end.Limit from from' to to' counts read wrote = tt
+unfailed-ends end.Memory from from' to to' counts read wrote = tt

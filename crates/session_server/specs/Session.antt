@@ -37,6 +37,20 @@ CountsFaults ReadFault from from' to to' = FailedOnce from.faults from'.faults f
 CountsFaults WriteFault from from' to to' = (from'.faults ≡ from.faults) × FailedOnce to.faults to'.faults to'.failed
 CountsFaults other from from' to to' = (from'.faults ≡ from.faults) × (to'.faults ≡ to.faults)
 
+-- the session was answered to an end at which nothing has failed: all replies were written, or no memory was left, or the byte past the
+-- limit came
+abbrev pub EndsUnfailed : SessionEnd → Type 0
+EndsUnfailed Done = Unit {0}
+EndsUnfailed ReadFault = ⊥
+EndsUnfailed WriteFault = ⊥
+EndsUnfailed Limit = Unit {0}
+EndsUnfailed Memory = Unit {0}
+
+-- where no read and no write of the link failed, a session within its limit ends `Done` or `Memory`
+abbrev pub IsComplete : SessionEnd → (from from' : ReadingSide) → (to to' : WritingSide) → Type 0
+IsComplete end from from' to to' = ¬ FailedOnce from.faults from'.faults from'.failed → ¬ FailedOnce to.faults to'.faults to'.failed
+    → EndsUnfailed end
+
 -- the statements of a session by its end: all that its link gave, those that were whole before a read failed or within the limit, and
 -- where the replies halted, those that came until then
 abbrev pub statements_by : SessionEnd → (ended : Bool) → (given : List ℕ) → List Statement

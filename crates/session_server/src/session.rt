@@ -8,7 +8,7 @@ ghost use Rattle.worker_gate.specs.Turns.{IsReady, sight_in};
 ghost use Rattle.script_run.specs.Answer.{CountsHalt};
 ghost use Rattle.script_run.specs.Home.{IsAtRest, LetsGo, RepliesWhole};
 ghost use Rattle.script_run.specs.Pieces.{CountsFault, FindsEnd, TakesPiece};
-ghost use Rattle.session_server.specs.Session.{AnswersSession, CountsFaults, EndsWhole};
+ghost use Rattle.session_server.specs.Session.{AnswersSession, CountsFaults, EndsWhole, IsComplete};
 
 use crate::session_end::{SessionEnd, end_of_halt};
 use board_lock::BoardLock;
@@ -40,6 +40,8 @@ pub fn serve_session<R: Wait, K: Link, G: Gate>(
         (sight_in (view_of front.old.seat)) (sight_in (view_of front.new.seat))
         (K.reading link.old) (K.reading link.new) (K.writing link.old) (K.writing link.new) }
     ensures faults { CountsFaults result
+        (K.reading link.old) (K.reading link.new) (K.writing link.old) (K.writing link.new) }
+    ensures complete { IsComplete result
         (K.reading link.old) (K.reading link.new) (K.writing link.old) (K.writing link.new) }
 {
     let mut reader = ScriptReader::new(front.alloc());

@@ -1,5 +1,6 @@
 -- The headline from what a run promises.
 mod HeadlineLemmas
+mod CompleteLemmas
 mod MadeLemmas
 mod ServeLemmas
 mod WorkLemmas

@@ -1,6 +1,7 @@
 //! The top call, on which the headline stands.
 ghost use Rattle.std.specs.Prelude.{◌≡◌, ◌≢◌, ◌<◌, ◌↔◌, ◌⊎◌, ◌+◌, None, Some, IfSome, IsNone};
 ghost use Rattle.std.specs.Prelude.{IsSomeAnd, map, string_bytes};
+ghost use Rattle.star_io.specs.Faults.{FailedOnce};
 ghost use Rattle.star_io.specs.Link.{ReadingSide};
 ghost use Rattle.command_words.specs.Ranges.{AreInRange};
 ghost use Rattle.command_words.specs.Table.{settings_of};
@@ -9,6 +10,7 @@ ghost use Rattle.core_state.specs.Sound.{empty_core};
 ghost use Rattle.core_state.specs.declared.settings.RunSettings.{RunSettings as CoreSettings};
 ghost use Rattle.event_core.specs.Seen.{state_of};
 ghost use Rattle.script_run.specs.Front.{IsRun};
+ghost use Rattle.star_main.specs.Complete.{IsComplete};
 ghost use Rattle.star_main.specs.Headline.{Headline, HasCause, status_of as run_status};
 ghost use Rattle.star_main.specs.Made.{MadeHeadline, made_status_of};
 ghost use Rattle.star_main.specs.Modes.{HasScript, IsAlone, IsMade, Serves, Works, has_workers, run_settings_of, serve_settings_of, shares_core};
@@ -114,6 +116,9 @@ pub fn cjoin<R: Threads + Sync + Wait, S: Source, K: Sink, D: Door, G: Gate + Sy
         (D.door_faults door.old) (D.door_faults door.new) (D.door_failed door.new)) }
     ensures causes { HasCause result.status (S.reading source.old) (S.reading source.new)
         (K.writing sink.old) (K.writing sink.new) }
+    ensures complete { IfSome (settings_of (map string_bytes words.now)) (λ settings. IsComplete settings result.status
+        (S.reading source.old) (S.reading source.new) (K.writing sink.old) (K.writing sink.new)
+        (FailedOnce (D.door_faults door.old) (D.door_faults door.new) (D.door_failed door.new))) }
     ensures door { ¬ IsSomeAnd (settings_of (map string_bytes words.now)) Serves → door.new ≡ door.old }
     ensures core { IsNone result.core ↔ (IsNone (settings_of (map string_bytes words.now))
         ⊎ (IsSomeAnd (settings_of (map string_bytes words.now)) IsAlone
@@ -161,6 +166,9 @@ pub fn run_words<R: Threads + Sync, S: Source, K: Sink>(
     ensures causes { IfRan result (λ done. HasCause done.status
         (S.reading source.old) (S.reading source.new)
         (K.writing sink.old) (K.writing sink.new)) }
+    ensures complete { IfRan result (λ done. IfSome (settings_of (map string_bytes words.now)) (λ settings.
+        IsComplete settings done.status (S.reading source.old) (S.reading source.new)
+        (K.writing sink.old) (K.writing sink.new) ⊥)) }
     ensures core { IfRan result (λ done. IsNone done.core ↔ (IsNone (settings_of (map string_bytes words.now))
         ⊎ (IsSomeAnd (settings_of (map string_bytes words.now)) IsAlone ⊎ (done.status ≡ 5)))) }
     ensures run { IfRan result (λ done. IfSome done.core (λ core. IfSome (settings_of (map string_bytes words.now)) (λ settings.

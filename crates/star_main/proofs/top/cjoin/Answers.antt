@@ -1,4 +1,5 @@
 use Rattle.std.proofs.Common.{ap}
+use Rattle.star_main.proofs.CompleteLemmas.{complete-named, complete-works}
 use Rattle.star_main.proofs.HeadlineLemmas.{causes_named, headline_named, run-weaker}
 use Rattle.star_main.proofs.MadeLemmas.{made_named}
 use Rattle.star_main.proofs.ServeLemmas.{serve_unread}
@@ -35,6 +36,13 @@ pub returns-in-Work-clause-causes : goal.returns-in-Work-clause-causes
 returns-in-Work-clause-causes g c =
     causes_named c.run_by_workers.result.status _ _ _ _ _ _ (ap (λ s. g.S.Source.reading s) c.in-Work.ensures.work.2)
     (ap (λ s. g.K.Sink.writing s) c.in-Work.ensures.work.3) c.run_by_workers.ensures.causes
+
+pub returns-in-Work-clause-complete : goal.returns-in-Work-clause-complete
+returns-in-Work-clause-complete g c =
+    complete-named _ c.in-Work.settings c.run_by_workers.result.status _ _ _ _ _ _ _ c.in-Work.ensures.work.0
+    (ap (λ s. g.S.Source.reading s) c.in-Work.ensures.work.2) (ap (λ s. g.K.Sink.writing s) c.in-Work.ensures.work.3)
+    (complete-works c.in-Work.settings c.run_by_workers.result.core c.run_by_workers.result.status _ _ _ _ _ c.in-Work.ensures.work.1.0
+    c.run_by_workers.ensures.headline c.run_by_workers.ensures.made c.run_by_workers.ensures.causes)
 
 pub returns-in-Work-clause-core : goal.returns-in-Work-clause-core
 returns-in-Work-clause-core g c =
