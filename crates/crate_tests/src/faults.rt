@@ -40,10 +40,7 @@ const STEPS: [(&str, &str); 10] = [
         "table sales\n",
     ),
     ("load store\n1,Oslo\n2,Rome\n.\n", "commit 1 rows 2\n"),
-    (
-        "load sales\n1,5\n2,1\n1,10\n2,3\n.\n",
-        "commit 2 rows 4\n",
-    ),
+    ("load sales\n1,5\n2,1\n1,10\n2,3\n.\n", "commit 2 rows 4\n"),
     (
         "select city, sum(units) from sales, store where store_id = id group by city\n",
         "answer 2 rows 2\n'Oslo',15\n'Rome',4\n",
@@ -51,10 +48,7 @@ const STEPS: [(&str, &str); 10] = [
     ("-- a comment\n", ""),
     ("wait\n", "waited\n"),
     ("delete from sales where units = 1\n", "commit 3 rows 1\n"),
-    (
-        "select count(*) form sales\n",
-        "refused 1 syntax at 16\n",
-    ),
+    ("select count(*) form sales\n", "refused 1 syntax at 16\n"),
     ("select count(*) from sales\n", "answer 3 rows 1\n3\n"),
 ];
 

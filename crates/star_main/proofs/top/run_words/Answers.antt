@@ -30,14 +30,16 @@ returns-in-Err-clause-made g c =
 pub returns-in-Run-clause-complete : goal.returns-in-Run-clause-complete
 returns-in-Run-clause-complete g c =
     let settings = c.in-Ok-Some.settings in
-    complete-named _ settings c.run_shared.result.status _ _ _ _ _ _ _ (sym c.in-Ok-Some.ensures.settings) refl refl
+    let named = sym (rw c.in-Ok-Some.field-0-is at c.in-Ok-Some.ensures.settings) in
+    complete-named _ settings c.run_shared.result.status _ _ _ _ _ _ _ named refl refl
     (complete-script settings (run_settings_of settings) c.run_shared.result.core c.run_shared.result.status _ _ _ _ _
     (subst RunsSource (sym c.in-Run.is) tt) c.run_shared.ensures.headline c.run_shared.ensures.causes)
 
 pub returns-in-Alone-clause-complete : goal.returns-in-Alone-clause-complete
 returns-in-Alone-clause-complete g c =
     let settings = c.in-Ok-Some.settings in
-    complete-named _ settings c.run_each_alone.result.status _ _ _ _ _ _ _ (sym c.in-Ok-Some.ensures.settings) refl refl
+    let named = sym (rw c.in-Ok-Some.field-0-is at c.in-Ok-Some.ensures.settings) in
+    complete-named _ settings c.run_each_alone.result.status _ _ _ _ _ _ _ named refl refl
     (complete-script settings (run_settings_of settings) c.run_each_alone.result.core c.run_each_alone.result.status _ _ _ _ _
     (subst RunsSource (sym c.in-Alone.is) tt) (c.run_each_alone.ensures.headline (run_settings_of settings))
     c.run_each_alone.ensures.causes)
@@ -45,6 +47,7 @@ returns-in-Alone-clause-complete g c =
 pub returns-in-Make-clause-complete : goal.returns-in-Make-clause-complete
 returns-in-Make-clause-complete g c =
     let settings = c.in-Ok-Some.settings in
-    complete-named _ settings c.run_workload.result.status _ _ _ _ _ _ _ (sym c.in-Ok-Some.ensures.settings) refl refl
+    let named = sym (rw c.in-Ok-Some.field-0-is at c.in-Ok-Some.ensures.settings) in
+    complete-named _ settings c.run_workload.result.status _ _ _ _ _ _ _ named refl refl
     (complete-made settings (run_settings_of settings) c.run_workload.result.core c.run_workload.result.status _ _ _ _ _
     c.in-Make.is c.run_workload.ensures.made (c.run_workload.ensures.causes _))
