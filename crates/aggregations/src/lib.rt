@@ -3,7 +3,6 @@
 
 mod adding;
 mod code_entry;
-mod counting;
 mod crossing;
 mod ending;
 mod finding;
