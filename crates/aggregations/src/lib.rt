@@ -8,7 +8,6 @@ mod ending;
 mod finding;
 mod flat_cell;
 mod groups;
-mod guesses;
 mod keeping;
 mod kept_groups;
 mod keys;
