@@ -17,7 +17,5 @@ mod EntryLemmas
 mod RowsLemmas
 mod OrderedRowsLemmas
 mod FoundLemmas
-mod CountLemmas
 mod SumLemmas
-mod GroupSumLemmas
 mod KeepLemmas

@@ -8,4 +8,4 @@ pub mod Finish
 pub mod Entries
 pub mod Numbered
 pub mod Ways
-pub mod Counting
+pub mod Columns

@@ -3,13 +3,11 @@
 
 mod adding;
 mod code_entry;
-mod counting;
 mod crossing;
 mod ending;
 mod finding;
 mod flat_cell;
 mod groups;
-mod guesses;
 mod keeping;
 mod kept_groups;
 mod keys;
