@@ -6,5 +6,6 @@ pub mod Effect
 pub mod Outcome
 pub mod Kinds
 pub mod Text
+pub mod Form
 pub mod Applied
 pub mod Laws

@@ -16,9 +16,9 @@ ghost use Rattle.star_statement.specs.Text.{is_dimension};
 ghost use Rattle.star_statement.specs.declared.applied.Applied.TheVariants.{Replied};
 
 use crate::applied::{Applied, ChangeKind};
+use crate::read_ahead::{ReadStatement, block_bytes};
 use crate::text::read_text;
 use reply_text::Reply;
-use script_reader::{Block, Statement};
 use star_binder::{bind, bind_delete, bind_table};
 use star_parser::Ast;
 use star_schema::find_table;
@@ -32,38 +32,37 @@ use std::alloc::Global;
 /// `wait` change nothing. Where memory is wanted, or there is no number for one commit more, nothing has
 /// changed.
 #[tactic(auto, unfolding(crate::specs::Outcome::outcome_of))]
-pub fn apply(alloc: Global, store: &mut Store, statement: &Statement) -> Result<Applied, NoMemory>
-    ensures { Follows store.old store.new result (outcome_of (plain store.old) statement.now) }
+pub fn apply(
+    alloc: Global,
+    store: &mut Store,
+    statement: &mut ReadStatement<'_>,
+) -> Result<Applied, NoMemory>
+    ensures { Follows store.old store.new result (outcome_of (plain store.old) statement.old) }
 {
-    match read_text(alloc, statement)? {
-        Ok(ast) => follow(alloc, store, &ast, &statement.block),
+    match read_text(alloc, statement.statement())? {
+        Ok(ast) => follow(alloc, store, &ast, statement),
         Err(reason) => Ok(refused(reason)),
     }
 }
 
 /// Does what a statement of this meaning says.
-fn follow(alloc: Global, store: &mut Store, ast: &Ast, block: &Block) -> Result<Applied, NoMemory>
+fn follow(
+    alloc: Global,
+    store: &mut Store,
+    ast: &Ast,
+    statement: &mut ReadStatement<'_>,
+) -> Result<Applied, NoMemory>
     requires shaped { IsShaped (statement_of ast.now) }
     ensures { Follows store.old store.new result
-        (meaning_outcome (plain store.old) block.now (statement_of ast.now)) }
+        (meaning_outcome (plain store.old) statement.old.block (statement_of ast.now)) }
 {
     match ast {
         Ast::Dimension { name, .. } => declare_dimension(alloc, store, ast, name),
         Ast::Fact { name, .. } => declare_fact(alloc, store, ast, name),
-        Ast::Load { name, header } => load(store, name, *header, block_bytes(block)),
+        Ast::Load { name, header } => load(store, name, *header, statement),
         Ast::Delete { .. } => delete(alloc, store, ast),
         Ast::Select { .. } => select(alloc, store, ast),
         Ast::Wait => Ok(Applied::Replied(Reply::Waited)),
-    }
-}
-
-/// The bytes behind a line.
-fn block_bytes(block: &Block) -> &[u8]
-    ensures { result.now ≡ block_bytes block.now }
-{
-    match block {
-        Block::Absent => &[],
-        Block::Closed(bytes) | Block::Unclosed(bytes) => bytes.as_bytes(),
     }
 }
 
@@ -115,15 +114,15 @@ fn declare_fact(
     }
 }
 
-/// Loads a block into the table of this name.
+/// Loads the block of a statement into the table of this name.
 fn load(
     store: &mut Store,
     name: &SmallText,
     header: bool,
-    block: &[u8],
+    statement: &mut ReadStatement<'_>,
 ) -> Result<Applied, NoMemory>
-    ensures { Follows store.old store.new result
-        (committed (plain store.old) (load_change (plain store.old) name.now header block.now)) }
+    ensures { Follows store.old store.new result (committed (plain store.old)
+        (load_change (plain store.old) name.now header (block_bytes statement.old.block))) }
 {
     if store.schema().fact.is_none() {
         return Ok(refused(Refusal::OutOfOrder));
@@ -131,7 +130,8 @@ fn load(
     let Some(table) = find_table(store.schema(), name) else {
         return Ok(refused(Refusal::UnknownName));
     };
-    let done = store.apply_load(name, block, header);
+    let block = block_bytes(&statement.statement().block);
+    let done = store.apply_load(name, block, header, statement.take_read());
     committed(ChangeKind::Loads(table), done)
 }
 

@@ -7,10 +7,12 @@ mod applying;
 mod laws;
 mod laws_of_queries;
 mod laws_of_scripts;
+mod read_ahead;
 mod text;
 
 pub use applied::{Applied, ChangeKind};
 pub use applying::apply;
+pub use csv_load::BlockForm;
 pub use laws::{
     outcomes_fit_the_tables, replies_agree_with_the_tables, replies_follow_from_the_tables,
     selects_are_refused_by_the_schema, texts_are_refused_for_the_first_reason,
@@ -20,3 +22,4 @@ pub use laws_of_scripts::{
     histories_of_scripts_are_accepted, replies_are_well_formed,
     replies_tell_where_memory_was_wanted, tables_of_scripts_are_settled, texts_tell_their_replies,
 };
+pub use read_ahead::{ReadStatement, block_form};

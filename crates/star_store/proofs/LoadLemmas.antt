@@ -7,6 +7,7 @@ use Rattle.std.proofs.lemmas.Bool.Decides.{nat_tests}
 use Rattle.std.proofs.lemmas.List.{length-set}
 use Rattle.std.proofs.lemmas.List.Elements.{All-cons, All-head, All-nil, All-tail, All-weaker}
 use Rattle.star_values.specs.declared.refusal.Refusal.TheVariants.{DanglingReference}
+use Rattle.star_values.specs.declared.value.Kind.{Kind}
 use Rattle.star_values.specs.declared.value.Value as cell
 use Rattle.star_plan.specs.declared.schema.Schema.{Schema}
 use Rattle.star_plan.specs.declared.table.Table.TheVariants.{Fact, Dimension}
@@ -63,10 +64,10 @@ rows_have_keys schema number rows declared low kinds =
     (λ row same. key_by (length columns) row (ap length same ∙ length_map (λ column. column.kind) columns) (some_column schema number declared low))
     rows kinds
 
--- a list of rows that was found in a choice of lists
-pub found_rows : (P : List cell.Value → Type 0) (found : Option (List (List cell.Value))) (rows : List (List cell.Value)) → found ≡ Some rows
-    → IfSome found (All P) → All P rows
-found_rows P found rows is all = subst (λ (f : Option (List (List cell.Value))). IfSome f (All P)) is all
+-- rows that were read by kinds are rows by the kinds that those are
+pub typed_by : (kinds wanted : List Kind) (records : List (List (List ℕ))) (rows : List (List cell.Value)) → kinds ≡ wanted
+    → typed_rows kinds records ≡ Some rows → typed_rows wanted records ≡ Some rows
+typed_by kinds wanted records rows same = subst (λ (k : List Kind). typed_rows k records ≡ Some rows) same
 
 -- Rows of a dimension that grow in place.
 

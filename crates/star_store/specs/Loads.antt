@@ -1,5 +1,5 @@
 -- The rows that a load adds to a table, or the first reason that refuses it.
-use Rattle.std.specs.Prelude.{ℕ, ◌+◌, Bool, false, ◌||◌, nat_lt, List, length, Result, Ok, Err, is_none, is_some, if◌then◌else◌}
+use Rattle.std.specs.Prelude.{ℕ, ◌+◌, Bool, false, ◌||◌, nat_lt, List, length, Option, option_map, Result, Ok, Err, is_none, is_some, if◌then◌else◌}
 use Rattle.std.specs.List.{list_any, range_with_len}
 use Rattle.std.specs.Option.{option_map_or}
 use Rattle.star_values.specs.declared.refusal.Refusal.{Refusal}
@@ -15,6 +15,7 @@ use Rattle.fact_versions.specs.declared.version.TheConstants.{MAX_VERSIONS}
 use Rattle.dimension_rows.specs.declared.dimension_row.DimensionRow.{DimensionRow}
 use Rattle.dimension_rows.specs.declared.dimension_row.TheConstants.{MAX_DIMENSION_ROWS}
 use Rattle.dimension_rows.specs.Keys.{index_of, is_key, key_of}
+use Rattle.csv_load.specs.declared.read_once.BlockForm.{BlockForm}
 use Rattle.csv_load.specs.Records.{records_in}
 use Rattle.csv_load.specs.Rows.{typed_rows}
 use Rattle.star_history.specs.Alone.{foreign_key}
@@ -75,3 +76,9 @@ load_change store name header block =
     if is_none store.schema.fact then Err OutOfOrder else
     option_map_or (λ table. loaded_records store table (records_in header block)) (table_named store.schema name)
     (Err UnknownName)
+
+-- the form by which a block is read that is loaded into the table of a name, with a header or without one, where the
+-- table is there
+abbrev pub load_form : Schema → (name : List ℕ) → (header : Bool) → Option BlockForm
+load_form schema name header =
+    option_map (λ table. record { header = header; kinds = kinds_of (columns_of schema table) }) (table_named schema name)

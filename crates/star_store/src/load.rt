@@ -1,11 +1,13 @@
 //! Loads: the checks of a block, in their order, and the rows that it adds.
 ghost use Rattle.std.specs.Prelude.{◌≡◌, ℕ, ◌+◌, ◌^◌, ◌<◌, List, ◌≤◌, ◌++◌, false, not, nat_lt, All, IsSome, Some, None, Ok, IfOk, IfErr, IfSome, IsErrOf, OnOk, OnErr, length, map};
+ghost use Rattle.std.specs.Option.{ForSome};
 ghost use Rattle.star_values.specs.declared.refusal.Refusal.TheVariants.{BadRecord};
 ghost use Rattle.star_lists.specs.Roomy.{Roomy};
-ghost use Rattle.star_plan.specs.Columns.{kinds_of};
+ghost use Rattle.star_plan.specs.Columns.{columns_of, kinds_of};
 ghost use Rattle.star_values.specs.Value.{kinds_in};
 ghost use Rattle.star_plan.specs.declared.table.Table.TheVariants.{Fact, Dimension};
 ghost use Rattle.star_schema.specs.Named.{table_named};
+ghost use Rattle.star_schema.specs.Limits.{IsWithinLimits};
 ghost use Rattle.star_schema.specs.Schemas.{IsDeclared};
 ghost use Rattle.fact_versions.specs.declared.version.Version.{Version};
 ghost use Rattle.dimension_rows.specs.declared.dimension_row.DimensionRow.{DimensionRow};
@@ -18,53 +20,88 @@ ghost use Rattle.star_history.specs.Store.{rows_in};
 ghost use Rattle.star_store.specs.Done.{Commits};
 ghost use Rattle.star_history.specs.Kept.{AreSound, rows_of_all, tables_of};
 ghost use Rattle.star_store.specs.Fault.{Tells};
-ghost use Rattle.star_store.specs.Loads.{load_change, loaded_records, repeats_a_key};
+ghost use Rattle.star_store.specs.Loads.{load_change, load_form, loaded_records, repeats_a_key};
 ghost use Rattle.star_store.specs.declared.done.Done.{Done};
 ghost use Rattle.star_values.specs.declared.statement_fault.StatementFault.TheVariants.{Refused, Memory};
 
 use crate::done::Done;
 use crate::rows::{append_rows, kinds_of, repeats_a_key};
 use crate::versions::{append_versions, versions_of};
-use csv_load::{BlockFault, LoadRows, count_records, each_record_is_a_row, read_block};
+use csv_load::{BlockForm, LoadRows, ReadBlock, each_record_is_a_row, rows_have_the_kinds};
 use dimension_rows::{DimensionRows, Dims, MAX_DIMENSION_ROWS};
 use fact_versions::{FactVersions, MAX_VERSIONS, Version};
 use star_history::later_rows_move_no_key_number;
+use star_lists::ListOf;
 use star_plan::{ColumnDef, Schema, Table, rows_fit_by_their_kinds};
 use star_schema::{columns_of, find_table};
 use star_values::{NoMemory, Refusal, SmallText, StatementFault};
 use std::alloc::Global;
 
-/// The rows of a block for a table with these columns, where each of its records is one.
-fn read_rows(
+/// A block to be loaded, with a header or without one. It may have been read before.
+#[derive(Drop)]
+pub(crate) struct BlockToLoad<'a> {
+    pub(crate) header: bool,
+    pub(crate) block: &'a [u8],
+    pub(crate) read: Option<ReadBlock<'a>>,
+    pub(crate) ghost same: { ForSome read (λ read. read.block.now ≡ block.now) },
+}
+
+/// By what form a block is to be read that is loaded into the table of a name, where such a table is there.
+pub(crate) fn block_form(
     alloc: Global,
-    columns: &[ColumnDef],
+    schema: &Schema,
+    name: &SmallText,
     header: bool,
-    block: &[u8],
-) -> Result<Option<LoadRows>, NoMemory>
-    ensures rows { IfOk result (λ rows. rows ≡ typed_rows (kinds_of columns.now) (records_in header block.now)) }
-    ensures kinds { IfOk result (λ rows. IfSome rows (All (λ row. kinds_in row ≡ kinds_of columns.now))) }
+) -> Result<Option<BlockForm>, NoMemory>
+    requires { IsWithinLimits schema.now }
+    ensures { IfOk result (λ form. form ≡ load_form schema.now name.now header) }
 {
-    let kinds = kinds_of(alloc, columns)?;
-    match read_block(alloc, block, header, kinds.as_slice()) {
-        Ok(rows) => Ok(Some(rows)),
-        Err(BlockFault::BadRecord) => Ok(None),
-        Err(BlockFault::Memory) => Err(NoMemory),
+    match find_table(schema, name) {
+        Some(table) => Ok(Some(form_for(alloc, columns_of(schema, table), header)?)),
+        None => Ok(None),
     }
 }
 
-/// Whether a table with so many rows has room for the records of a block.
-fn has_room(
-    alloc: Global,
-    count: u32,
-    most: usize,
-    header: bool,
-    block: &[u8],
-) -> Result<bool, NoMemory>
-    requires { count ≤ most }
-    ensures { IfOk result (λ has. has ≡ not (nat_lt most (count + length (records_in header block.now)))) }
+/// The form of a block for a table with these columns.
+fn form_for(alloc: Global, columns: &[ColumnDef], header: bool) -> Result<BlockForm, NoMemory>
+    ensures { IfOk result (λ form. form ≡ record { header = header; kinds = kinds_of columns.now }) }
 {
-    let more = count_records(alloc, block, header)?;
-    Ok(more <= (most - count as usize) as u64)
+    let kinds = kinds_of(alloc, columns)?;
+    Ok(BlockForm {
+        header,
+        kinds: ListOf::from(kinds),
+    })
+}
+
+/// The block as it is read for a table with these columns. It is read now, unless it was read so before.
+fn read_for<'a>(
+    alloc: Global,
+    columns: &[ColumnDef],
+    load: BlockToLoad<'a>,
+) -> Result<ReadBlock<'a>, NoMemory>
+    ensures kinds { IfOk result (λ read. read.form.kinds ≡ kinds_of columns.now) }
+    ensures records { IfOk result (λ read. records_in read.form.header read.block.now ≡ records_in load.entry.header load.entry.block.now) }
+{
+    let form = form_for(alloc, columns, load.header)?;
+    let BlockToLoad {
+        header,
+        block,
+        read,
+    } = load;
+    if let Some(read) = read {
+        if read.form.is_of(header, form.kinds.as_slice()) {
+            return Ok(read);
+        }
+    }
+    ReadBlock::read(alloc, form, block)
+}
+
+/// Whether a table with so many rows has room for the records of a block.
+fn has_room(count: u32, most: usize, read: &ReadBlock<'_>) -> bool
+    requires { count ≤ most }
+    ensures { result ≡ not (nat_lt most (count + length (records_in read.now.form.header read.now.block.now))) }
+{
+    read.count() <= (most - count as usize) as u64
 }
 
 /// The rows that a block adds to a dimension, by the checks in their order.
@@ -73,28 +110,28 @@ fn checked_rows(
     schema: &Schema,
     dims: &Dims,
     number: u8,
-    header: bool,
-    block: &[u8],
+    read: ReadBlock<'_>,
 ) -> Result<LoadRows, StatementFault>
     requires declared { IsDeclared schema.now }
     requires there { number < length schema.now.dimensions }
     requires count { length dims.now ≡ length schema.now.dimensions }
+    requires kinds { read.form.kinds ≡ kinds_of (columns_of schema.now (Dimension number)) }
     ensures rows { (facts : Roomy Version) (commits : ℕ) → IfOk result (λ rows.
-        loaded_records (plain (tables_of schema.now dims.now facts commits)) (Dimension number) (records_in header block.now)
+        loaded_records (plain (tables_of schema.now dims.now facts commits)) (Dimension number) (records_in read.entry.form.header read.entry.block.now)
         ≡ Ok (Loaded (Dimension number) rows)) }
     ensures keys { IfOk result (All (λ row. IsSome (key_of row))) }
     ensures fresh { IfOk result (λ rows. repeats_a_key (rows_in (rows_of_all dims.now) number) rows ≡ false) }
     ensures few { IfOk result (λ rows. length (rows_in (rows_of_all dims.now) number) + length rows ≤ MAX_DIMENSION_ROWS) }
     ensures tells { (facts : Roomy Version) (commits : ℕ) → IfErr result (Tells
-        (loaded_records (plain (tables_of schema.now dims.now facts commits)) (Dimension number) (records_in header block.now))) }
+        (loaded_records (plain (tables_of schema.now dims.now facts commits)) (Dimension number) (records_in read.entry.form.header read.entry.block.now))) }
 {
     each_record_is_a_row();
+    rows_have_the_kinds();
     let dimension = &dims.as_slice()[number as usize];
-    if !has_room(alloc, dimension.len(), MAX_DIMENSION_ROWS, header, block)? {
+    if !has_room(dimension.len(), MAX_DIMENSION_ROWS, &read) {
         return Err(StatementFault::Refused(Refusal::Limit));
     }
-    let columns = columns_of(schema, Table::Dimension(number));
-    let Some(rows) = read_rows(alloc, columns, header, block)? else {
+    let Some(rows) = read.into_rows() else {
         return Err(StatementFault::Refused(Refusal::BadRecord));
     };
     if repeats_a_key(alloc, dimension, rows.as_slice())? {
@@ -138,18 +175,18 @@ fn load_dimension(
     dims: &mut Dims,
     commits: &mut u64,
     number: u8,
-    header: bool,
-    block: &[u8],
+    read: ReadBlock<'_>,
 ) -> Result<Done, StatementFault>
     requires declared { IsDeclared schema.now }
     requires there { number < length schema.now.dimensions }
     requires count { length dims.old ≡ length schema.now.dimensions }
+    requires kinds { read.form.kinds ≡ kinds_of (columns_of schema.now (Dimension number)) }
     ensures commits { (facts : Roomy Version) → Commits
-        (loaded_records (plain (tables_of schema.now dims.old facts commits.old)) (Dimension number) (records_in header block.now))
+        (loaded_records (plain (tables_of schema.now dims.old facts commits.old)) (Dimension number) (records_in read.entry.form.header read.entry.block.now))
         (tables_of schema.now dims.old facts commits.old) (tables_of schema.now dims.new facts commits.new) result }
     ensures grown { OnOk result ((more : List DimensionRow) × (rows_of_all dims.new ≡ grown_at number more (rows_of_all dims.old))) }
 {
-    let rows = checked_rows(alloc, schema, dims, number, header, block)?;
+    let rows = checked_rows(alloc, schema, dims, number, read)?;
     Ok(commit_rows(dims, number, rows, commits)?)
 }
 
@@ -173,29 +210,29 @@ fn checked_versions(
     dims: &Dims,
     facts: &FactVersions,
     commit: u64,
-    header: bool,
-    block: &[u8],
+    read: ReadBlock<'_>,
 ) -> Result<Vec<Version>, StatementFault>
     requires declared { IsDeclared schema.now }
     requires count { length dims.now ≡ length schema.now.dimensions }
+    requires kinds { read.form.kinds ≡ kinds_of (columns_of schema.now Fact) }
     requires loaded { (dimension : ℕ) → All (λ entry. entry.commit ≤ commit) (rows_in (rows_of_all dims.now) dimension) }
     ensures rows { (commits : ℕ) → IfOk result (λ versions.
-        loaded_records (plain (tables_of schema.now dims.now facts.now commits)) Fact (records_in header block.now)
+        loaded_records (plain (tables_of schema.now dims.now facts.now commits)) Fact (records_in read.entry.form.header read.entry.block.now)
         ≡ Ok (Loaded Fact (map (λ version. version.row) versions.items))) }
     ensures versions { IfOk result (λ versions.
         map plain_version versions.items ≡ versions_by commit (map (λ version. version.row) versions.items)) }
     ensures keyed { IfOk result (λ versions. All (HasKeyNumbers schema.now (rows_of_all dims.now)) versions.items) }
     ensures few { IfOk result (λ versions. length facts.now.items + length versions.items ≤ MAX_VERSIONS) }
     ensures tells { (commits : ℕ) → IfErr result (Tells
-        (loaded_records (plain (tables_of schema.now dims.now facts.now commits)) Fact (records_in header block.now))) }
+        (loaded_records (plain (tables_of schema.now dims.now facts.now commits)) Fact (records_in read.entry.form.header read.entry.block.now))) }
 {
     rows_fit_by_their_kinds();
     each_record_is_a_row();
-    if !has_room(alloc, facts.len(), MAX_VERSIONS, header, block)? {
+    rows_have_the_kinds();
+    if !has_room(facts.len(), MAX_VERSIONS, &read) {
         return Err(StatementFault::Refused(Refusal::Limit));
     }
-    let columns = columns_of(schema, Table::Fact);
-    let Some(rows) = read_rows(alloc, columns, header, block)? else {
+    let Some(rows) = read.into_rows() else {
         return Err(StatementFault::Refused(Refusal::BadRecord));
     };
     versions_of(alloc, schema, dims, rows, commit)
@@ -235,19 +272,19 @@ fn load_facts(
     dims: &Dims,
     facts: &mut FactVersions,
     commits: &mut u64,
-    header: bool,
-    block: &[u8],
+    read: ReadBlock<'_>,
 ) -> Result<Done, StatementFault>
     requires declared { IsDeclared schema.now }
     requires count { length dims.now ≡ length schema.now.dimensions }
+    requires kinds { read.form.kinds ≡ kinds_of (columns_of schema.now Fact) }
     requires loaded { (dimension : ℕ) → All (λ entry. entry.commit ≤ commits.old) (rows_in (rows_of_all dims.now) dimension) }
     ensures commits { Commits
-        (loaded_records (plain (tables_of schema.now dims.now facts.old commits.old)) Fact (records_in header block.now))
+        (loaded_records (plain (tables_of schema.now dims.now facts.old commits.old)) Fact (records_in read.entry.form.header read.entry.block.now))
         (tables_of schema.now dims.now facts.old commits.old) (tables_of schema.now dims.now facts.new commits.new) result }
     ensures keyed { All (HasKeyNumbers schema.now (rows_of_all dims.now)) facts.old.items → All (HasKeyNumbers schema.now (rows_of_all dims.now)) facts.new.items }
 {
     let commit = commits.saturating_add(1);
-    let versions = checked_versions(alloc, schema, dims, facts, commit, header, block)?;
+    let versions = checked_versions(alloc, schema, dims, facts, commit, read)?;
     Ok(commit_versions(facts, versions, commits)?)
 }
 
@@ -259,12 +296,11 @@ pub(crate) fn load(
     facts: &mut FactVersions,
     commits: &mut u64,
     name: &SmallText,
-    header: bool,
-    block: &[u8],
+    load: BlockToLoad<'_>,
 ) -> Result<Done, StatementFault>
     requires sound { AreSound (tables_of schema.now dims.old facts.old commits.old) }
     ensures commits { Commits
-        (load_change (plain (tables_of schema.now dims.old facts.old commits.old)) name.now header block.now)
+        (load_change (plain (tables_of schema.now dims.old facts.old commits.old)) name.now load.entry.header load.entry.block.now)
         (tables_of schema.now dims.old facts.old commits.old) (tables_of schema.now dims.new facts.new commits.new) result }
     ensures keyed { IsKeyed (tables_of schema.now dims.new facts.new commits.new) }
     ensures known { IsErrOf result StatementFault.Memory → IsSome schema.now.fact × IsSome (table_named schema.now name.now) }
@@ -276,10 +312,9 @@ pub(crate) fn load(
     let Some(table) = find_table(schema, name) else {
         return Err(StatementFault::Refused(Refusal::UnknownName));
     };
+    let read = read_for(alloc, columns_of(schema, table), load)?;
     match table {
-        Table::Fact => load_facts(alloc, schema, dims, facts, commits, header, block),
-        Table::Dimension(number) => {
-            load_dimension(alloc, schema, dims, commits, number, header, block)
-        }
+        Table::Fact => load_facts(alloc, schema, dims, facts, commits, read),
+        Table::Dimension(number) => load_dimension(alloc, schema, dims, commits, number, read),
     }
 }

@@ -1,5 +1,5 @@
 //! The tables as they are kept. The work of each call stands in `declare`, `load` and `delete`.
-ghost use Rattle.std.specs.Prelude.{◌≡◌, ◌-◌, ◌^◌, ◌<◌, true, IfSome, IsErrOf, IsSome, length, option_map};
+ghost use Rattle.std.specs.Prelude.{◌≡◌, ◌-◌, ◌^◌, ◌<◌, true, IfOk, IfSome, IsErrOf, IsSome, length, option_map};
 ghost use Rattle.star_plan.specs.Columns.{kinds_of};
 ghost use Rattle.star_plan.specs.Fits.{some_test_fits};
 ghost use Rattle.star_plan.specs.Test.{test_of};
@@ -13,20 +13,21 @@ ghost use Rattle.star_history.specs.Store.{empty_store};
 ghost use Rattle.star_store.specs.Deletes.{delete_change};
 ghost use Rattle.star_store.specs.Done.{Commits, Declares};
 ghost use Rattle.star_history.specs.Kept.{rows_of_all};
-ghost use Rattle.star_store.specs.Loads.{load_change};
+ghost use Rattle.star_store.specs.Loads.{load_change, load_form};
 
 use crate::declare::add_dimension;
 use crate::delete::delete;
 use crate::done::Done;
 use crate::laws::changes_of_statements_are_taken;
-use crate::load::load;
+use crate::load::{BlockToLoad, block_form, load};
+use csv_load::{BlockForm, ReadBlock};
 use dimension_rows::Dims;
 use fact_versions::FactVersions;
 use star_history::accepted_histories_are_settled;
 use star_lists::ListOf;
 use star_plan::{Predicate, Schema, TableDef};
 use star_schema::{declare_fact, empty_schemas_are_declared};
-use star_values::{SmallText, StatementFault};
+use star_values::{NoMemory, SmallText, StatementFault};
 use std::alloc::Global;
 use std::hash::RandomState;
 use std::marker::Model;
@@ -127,6 +128,18 @@ impl Store {
         Ok(declare_fact(&mut self.schema, table)?)
     }
 
+    /// By what form a block is to be read that is loaded into the table of a name, with a header or without one. There
+    /// is none where there is no such table.
+    pub fn block_form(
+        &self,
+        table: &SmallText,
+        header: bool,
+    ) -> Result<Option<BlockForm>, NoMemory>
+        ensures { IfOk result (λ form. form ≡ load_form self.now.schema table.now header) }
+    {
+        block_form(self.alloc, &self.schema, table, header)
+    }
+
     /// Loads the records of a block into a table, as the next commit.
     ///
     /// It is refused, for the first of these reasons: before the fact table was declared; where no table
@@ -134,12 +147,15 @@ impl Store {
     /// table; in a dimension for a key that stands twice in the block or in the table; and in the fact
     /// table for a foreign key that is the key of no row. With `header` the first record is none.
     /// Where memory is wanted, or there is no number for one commit more, nothing has changed.
-    pub fn apply_load(
+    /// A block that was read before by the form of the table, which is `read`, is not read again.
+    pub fn apply_load<'a>(
         &mut self,
         table: &SmallText,
-        block: &[u8],
+        block: &'a [u8],
         header: bool,
+        read: Option<ReadBlock<'a>>,
     ) -> Result<Done, StatementFault>
+        requires { IfSome read (λ read. read.block.now ≡ block.now) }
         ensures commits { Commits (load_change (plain self.old) table.now header block.now) self.old self.new result }
         ensures known { IsErrOf result StatementFault.Memory → IsSome self.old.schema.fact × IsSome (table_named self.old.schema table.now) }
     {
@@ -152,8 +168,11 @@ impl Store {
             &mut self.facts,
             &mut self.commits,
             table,
-            header,
-            block,
+            BlockToLoad {
+                header,
+                block,
+                read,
+            },
         )
     }
 

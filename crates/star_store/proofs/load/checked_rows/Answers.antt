@@ -1,22 +1,25 @@
-use Rattle.std.proofs.Common.{◌≡◌, subst, sym}
-use Rattle.std.specs.Prelude.{All, IfSome, IsSome}
+use Rattle.std.proofs.Common.{◌≡◌, ◌∙◌, subst, sym, Some}
+use Rattle.std.specs.Prelude.{All, IsSome}
 use Rattle.star_plan.specs.declared.table.Table.TheVariants.{Dimension}
 use Rattle.star_plan.specs.Columns.{columns_of, kinds_of}
-use Rattle.star_values.specs.Value.{kinds_in}
+use Rattle.csv_load.specs.Records.{records_in}
 use Rattle.dimension_rows.specs.Keys.{key_of}
-use Rattle.star_store.proofs.LoadLemmas.{found_rows, rows_have_keys}
+use Rattle.star_store.proofs.LoadLemmas.{rows_have_keys, typed_by}
 use Rattle.star_store.proofs.load.checked_rows.Goals as goal
 
 pub returns-clause-keys : goal.returns-clause-keys
 returns-clause-keys c =
+    let records = records_in c.args.read.form.header c.args.read.block.now in
     rows_have_keys c.args.schema.now c.args.number c.in-Some.rows c.requires.declared c.requires.there
-    (found_rows (λ row. kinds_in row ≡ kinds_of (columns_of c.args.schema.now (Dimension c.args.number))) c.in_ok-rows.field-0 c.in-Some.rows c.in-Some.is
-    (subst (λ columns. IfSome c.in_ok-rows.field-0 (All (λ row. kinds_in row ≡ kinds_of columns))) c.columns_of-columns.ensures c.in_ok-rows.ensures.kinds))
+    (c.rows_have_the_kinds.ensures.rows (kinds_of (columns_of c.args.schema.now (Dimension c.args.number))) records c.in-Some.rows
+    (typed_by _ _ records c.in-Some.rows c.requires.kinds (sym c.into_rows.ensures ∙ c.in-Some.is)))
 
 pub repeats_a_key-requires : goal.repeats_a_key-requires
-repeats_a_key-requires c = record {
-  keys = subst (All (λ row. IsSome (key_of row))) (sym c.as_slice-2.ensures)
-      (rows_have_keys c.args.schema.now c.args.number c.in-Some.rows c.requires.declared c.requires.there
-      (found_rows (λ row. kinds_in row ≡ kinds_of (columns_of c.args.schema.now (Dimension c.args.number))) c.in_ok-rows.field-0 c.in-Some.rows c.in-Some.is
-      (subst (λ columns. IfSome c.in_ok-rows.field-0 (All (λ row. kinds_in row ≡ kinds_of columns))) c.columns_of-columns.ensures c.in_ok-rows.ensures.kinds)));
-}
+repeats_a_key-requires c =
+    let records = records_in c.args.read.form.header c.args.read.block.now in
+    record {
+      keys = subst (All (λ row. IsSome (key_of row))) (sym c.as_slice-2.ensures)
+          (rows_have_keys c.args.schema.now c.args.number c.in-Some.rows c.requires.declared c.requires.there
+          (c.rows_have_the_kinds.ensures.rows (kinds_of (columns_of c.args.schema.now (Dimension c.args.number))) records c.in-Some.rows
+          (typed_by _ _ records c.in-Some.rows c.requires.kinds (sym c.into_rows.ensures ∙ c.in-Some.is))));
+    }

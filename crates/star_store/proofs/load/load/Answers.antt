@@ -2,20 +2,21 @@ use Rattle.std.proofs.Common.{◌∙◌, ap, not, refl, subst, sym, Some}
 use Rattle.star_plan.specs.declared.table.Table.TheVariants.{Fact, Dimension}
 use Rattle.star_history.specs.Keyed.{plain}
 use Rattle.star_store.specs.Done.{Commits}
+use Rattle.star_store.specs.Loads.{loaded_records}
 use Rattle.star_history.specs.Kept.{tables_of}
 use Rattle.star_store.proofs.ChangeLemmas.{keyed_after, load_change-early, load_change-found, load_change-unknown, loaded_in}
 use Rattle.star_store.proofs.load.load.Goals as goal
 
 pub returns-then-is_none-clause-commits : goal.returns-then-is_none-clause-commits
 returns-then-is_none-clause-commits c = (
-  load_change-early (plain (tables_of c.args.schema.now c.args.dims.now c.args.facts.now c.args.commits.now)) c.args.name.now c.args.header c.args.block.now
+  load_change-early (plain (tables_of c.args.schema.now c.args.dims.now c.args.facts.now c.args.commits.now)) c.args.name.now c.args.load.header c.args.load.block.now
       (ap not c.if-is_none.ensures),
   refl,
 )
 
 pub returns-in_default-clause-commits : goal.returns-in_default-clause-commits
 returns-in_default-clause-commits c = (
-  load_change-unknown (plain (tables_of c.args.schema.now c.args.dims.now c.args.facts.now c.args.commits.now)) c.args.name.now c.args.header c.args.block.now
+  load_change-unknown (plain (tables_of c.args.schema.now c.args.dims.now c.args.facts.now c.args.commits.now)) c.args.name.now c.args.load.header c.args.load.block.now
       (ap not c.if-is_none.ensures) (sym c.find_table.ensures ∙ c.in_default.is),
   refl,
 )
@@ -27,18 +28,24 @@ load_facts-requires-clause-loaded c =
 pub returns-in-Fact-clause-commits : goal.returns-in-Fact-clause-commits
 returns-in-Fact-clause-commits c =
     let old = tables_of c.args.schema.now c.args.dims.now c.args.facts.now c.args.commits.now in
-    let found = load_change-found (plain old) c.args.name.now c.args.header c.args.block.now Fact
+    let found = load_change-found (plain old) c.args.name.now c.args.load.header c.args.load.block.now Fact
     (ap not c.if-is_none.ensures) (sym c.find_table.ensures ∙ c.in-Some.is ∙ ap Some c.in-Fact.is) in
     subst (λ change. Commits change old (tables_of c.args.schema.now c.args.dims.now c.load_facts.new.facts c.load_facts.new.commits) c.load_facts.result)
-    (sym found) c.load_facts.ensures.commits
+    (sym found)
+    (subst (λ records. Commits (loaded_records (plain old) Fact records) old
+    (tables_of c.args.schema.now c.args.dims.now c.load_facts.new.facts c.load_facts.new.commits) c.load_facts.result)
+    c.in_ok-read.ensures.records c.load_facts.ensures.commits)
 
 pub returns-in-Dimension-clause-commits : goal.returns-in-Dimension-clause-commits
 returns-in-Dimension-clause-commits c =
     let old = tables_of c.args.schema.now c.args.dims.now c.args.facts.now c.args.commits.now in
-    let found = load_change-found (plain old) c.args.name.now c.args.header c.args.block.now (Dimension c.in-Dimension.number)
+    let found = load_change-found (plain old) c.args.name.now c.args.load.header c.args.load.block.now (Dimension c.in-Dimension.number)
     (ap not c.if-is_none.ensures) (sym c.find_table.ensures ∙ c.in-Some.is ∙ ap Some c.in-Dimension.is) in
     subst (λ change. Commits change old (tables_of c.args.schema.now c.load_dimension.new.dims c.args.facts.now c.load_dimension.new.commits) c.load_dimension.result)
-    (sym found) (c.load_dimension.ensures.commits c.args.facts.now)
+    (sym found)
+    (subst (λ records. Commits (loaded_records (plain old) (Dimension c.in-Dimension.number) records) old
+    (tables_of c.args.schema.now c.load_dimension.new.dims c.args.facts.now c.load_dimension.new.commits) c.load_dimension.result)
+    c.in_ok-read.ensures.records (c.load_dimension.ensures.commits c.args.facts.now))
 
 pub returns-in-Dimension-clause-keyed : goal.returns-in-Dimension-clause-keyed
 returns-in-Dimension-clause-keyed c =
