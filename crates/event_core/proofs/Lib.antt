@@ -56,6 +56,7 @@ pub mod StartEventLemmas
 pub mod StartedLemmas
 pub mod SubmittedCoreLemmas
 pub mod SubmittedSeatLemmas
+pub mod StepsLemmas
 pub mod TakenReplyLemmas
 pub mod TakenStepLemmas
 pub mod TookLemmas

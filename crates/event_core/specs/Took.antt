@@ -1,10 +1,13 @@
 -- What a core has become where it took an event.
-use Rattle.std.specs.Prelude.{◌≡◌, ◌⊎◌, List, [], ◌∷◌, ℕ, All}
+use Rattle.std.specs.Prelude.{◌≡◌, ◌↔◌, ◌⊎◌, List, [], ◌∷◌, ℕ, All, IsErrOf, OnErr, OnOk, Result}
 use Rattle.core_state.specs.Events.{AreFed, IsEnabled, after_event, after_want}
+use Rattle.core_state.specs.Sound.{IsSound}
 use Rattle.core_state.specs.State.{State}
 use Rattle.core_state.specs.Steps.{Step, Done, Wanting, Replying, MayStepAll, after_steps}
 use Rattle.core_state.specs.declared.event.Event.{Event}
 use Rattle.core_state.specs.declared.event.Event.TheVariants.{Submit, Build, Distribute, Clear}
+use Rattle.event_core.specs.Parts.{Parts, beside_of}
+use Rattle.event_core.specs.Seen.{state_of}
 use Rattle.event_core.specs.declared.stepping.StepFault.{StepFault}
 use Rattle.event_core.specs.declared.stepping.StepFault.TheVariants.{NotEnabled, Memory}
 
@@ -62,3 +65,13 @@ MayWantMemory other = ⊥
 abbrev pub IsRefused : StepFault → State → Event → Type 0
 IsRefused NotEnabled state event = IsEnabled state event → ⊥
 IsRefused Memory state event = IsEnabled state event × MayWantMemory event
+
+-- what a call leaves that takes an event if it may come, and what it tells: it may not come, it was taken, or there was no
+-- memory for it, and then nothing has changed
+pub record Steps (event : Event) (old new : Parts) (result : Result (Unit {0}) StepFault) : Type 0 where
+  pub disabled : IsErrOf result NotEnabled ↔ (IsEnabled (state_of old) event → ⊥)
+  pub taken : OnOk result (Took event (state_of old) (state_of new))
+  pub err : OnErr result (new ≡ old)
+  pub memory : IsErrOf result Memory → IsEnabled (state_of old) event × MayWantMemory event
+  pub beside : beside_of new ≡ beside_of old
+  pub sound : IsSound (state_of new)

@@ -7,8 +7,10 @@ ghost use Rattle.star_history.specs.Keyed.{IsKeyed, plain};
 ghost use Rattle.star_history.specs.Settled.{IsSettled};
 ghost use Rattle.star_lists.specs.Roomy.{Roomy};
 ghost use Rattle.star_statement.specs.Applied.{Follows};
+ghost use Rattle.star_statement.specs.Form.{form_of_text};
 ghost use Rattle.star_statement.specs.Kinds.{kind_of_change};
 ghost use Rattle.star_statement.specs.Outcome.{outcome_of};
+ghost use Rattle.star_statement.specs.Text.{meaning_of};
 ghost use Rattle.star_statement.specs.declared.applied.ChangeKind.TheVariants.{DeclaresFact};
 ghost use Rattle.pipeline_manager.specs.Changes.{after_submit};
 ghost use Rattle.pipeline_manager.specs.Conditions.{IsNew};
@@ -33,16 +35,30 @@ use script_reader::Statement;
 use star_history::accepted_histories_are_settled;
 use star_lists::ListOf;
 use star_plan::Schema;
-use star_statement::{Applied, ChangeKind, apply, outcomes_fit_the_tables};
+use star_statement::{
+    Applied, BlockForm, ChangeKind, ReadStatement, apply, block_form, outcomes_fit_the_tables,
+};
 use star_store::Store;
 use star_values::NoMemory;
 use std::alloc::Global;
 
 impl Core {
+    /// By what form the block of a statement is to be read, where it is a load into a table that is there.
+    pub fn block_form(&self, statement: &Statement) -> Result<Option<BlockForm>, NoMemory>
+        ensures { IfOk result (λ form.
+            form ≡ form_of_text (tables_of (state_of self.now)).schema (meaning_of statement.now)) }
+    {
+        block_form(self.alloc, &self.store, statement)
+    }
+
     /// A seat submits a statement. Where no memory is left, or no number for one statement more, nothing has changed.
-    pub(crate) fn submit(&mut self, seat: u32, statement: &Statement) -> Result<(), NoMemory>
+    pub(crate) fn submit(
+        &mut self,
+        seat: u32,
+        statement: &mut ReadStatement<'_>,
+    ) -> Result<(), NoMemory>
         requires { seat < length (state_of self.old).seats }
-        ensures ok { OnOk result (state_of self.new ≡ after_submitting seat statement.now (state_of self.old)) }
+        ensures ok { OnOk result (state_of self.new ≡ after_submitting seat statement.old (state_of self.old)) }
         ensures err { OnErr result (self.new ≡ self.old) }
         ensures beside { beside_of self.new ≡ beside_of self.old }
     {
@@ -164,8 +180,12 @@ fn stand(seats: &mut ListOf<Seat>, seat: u32, number: u64, standing: Standing)
 }
 
 /// Does what a statement says to the tables, whose key numbers stay right.
-fn apply_to(alloc: Global, store: &mut Store, statement: &Statement) -> Result<Applied, NoMemory>
-    ensures follows { Follows store.old store.new result (outcome_of (plain store.old) statement.now) }
+fn apply_to(
+    alloc: Global,
+    store: &mut Store,
+    statement: &mut ReadStatement<'_>,
+) -> Result<Applied, NoMemory>
+    ensures follows { Follows store.old store.new result (outcome_of (plain store.old) statement.old) }
     ensures keyed { IsKeyed store.new }
     ensures settled { IsSettled (plain store.new) }
 {

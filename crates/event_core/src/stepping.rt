@@ -6,10 +6,13 @@ ghost use Rattle.core_parts.specs.Lent.{lent_to};
 ghost use Rattle.event_core.specs.Lent.{IsAtHome};
 ghost use Rattle.event_core.specs.Parts.{beside_of};
 ghost use Rattle.event_core.specs.Seen.{state_of};
-ghost use Rattle.event_core.specs.Took.{IsRefused, MayWantMemory, Took, TookAll};
+ghost use Rattle.core_state.specs.declared.event.Event.TheVariants.{Submit};
+ghost use Rattle.event_core.specs.Took.{IsRefused, MayWantMemory, Steps, Took, TookAll};
 
+use crate::laws_of_steps::every_core_is_sound;
 use crate::machine::Core;
 use core_state::Event;
+use star_statement::ReadStatement;
 use star_values::NoMemory;
 
 /// Why an event was not taken.
@@ -84,7 +87,9 @@ impl Core {
         ensures beside { beside_of self.new ≡ beside_of self.old }
     {
         match event {
-            Event::Submit { seat, statement } => self.submit(seat, &statement)?,
+            Event::Submit { seat, statement } => {
+                self.submit(seat, &mut ReadStatement::unread(&statement))?
+            }
             Event::Reserve { query, slot } => self.reserve(query, slot),
             Event::Build { query, dimension } => self.build(query, dimension),
             Event::Start { query } => self.start(query),
@@ -99,6 +104,28 @@ impl Core {
             Event::Abandon { query } => self.abandon(query),
         }
         Ok(())
+    }
+
+    /// Takes the submission of a statement, as `step` does, whose block may have been read before.
+    pub fn submit_read(
+        &mut self,
+        seat: u32,
+        statement: &mut ReadStatement<'_>,
+    ) -> Result<(), StepFault>
+        ensures { Steps (Submit seat statement.old) self.old self.new result }
+    {
+        // It is called for what it ensures, here and behind the change.
+        every_core_is_sound(self);
+        if !self.has_seat(seat) {
+            return Err(StepFault::NotEnabled);
+        }
+        match self.submit(seat, statement) {
+            Ok(()) => {
+                every_core_is_sound(self);
+                Ok(())
+            }
+            Err(NoMemory) => Err(StepFault::Memory),
+        }
     }
 
     /// Takes events, one after the other, up to the first that is not taken, and tells why that was not.
