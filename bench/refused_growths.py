@@ -153,7 +153,8 @@ def made_fault(status, text):
     """What is wrong with the line of the made workload, or nothing."""
     if status == 5:
         return None if text == "" else "a line at 5"
-    told = re.fullmatch(r"summary statements 85 commits \d+ answers \d+ rows \d+ overflows 0 refused (\d+) memory (\d+) bytes \d+ sum \d+\n", text)
+    numbers = r"commits \d+ answers \d+ rows \d+ overflows 0 refused (\d+) memory (\d+) bytes \d+ sum \d+"
+    told = re.fullmatch(rf"summary statements 85 {numbers}\n", text)
     if not told:
         return "no line"
     return None if status == (int(told[1]) + int(told[2]) > 0) else f"status {status}"
@@ -178,7 +179,8 @@ def refuse_each(run, name, words, script, check):
         memory += text.count("memory\n")
         at += 1
     told = ", ".join(f"{count} with {status}" for status, count in sorted(statuses.items()))
-    print(f"{name} {' '.join(words)}: {at - 1} growths refused, {told}, {memory} replies are memory, {time.monotonic() - began:.0f} s", flush=True)
+    seconds = time.monotonic() - began
+    print(f"{name} {' '.join(words)}: {at - 1} growths refused, {told}, {memory} replies are memory, {seconds:.0f} s", flush=True)
     for at, fault in faults[:20]:
         print(f"  WRONG where the growth {at} is refused: {fault}", flush=True)
     return len(faults)
