@@ -10,6 +10,7 @@ mod laws;
 mod piece;
 mod reply;
 mod run;
+mod seat_ahead;
 mod seat_front;
 mod seat_rest;
 mod seat_script;

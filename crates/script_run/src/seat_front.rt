@@ -179,7 +179,7 @@ impl SeatFront {
         ensures apart { K.reading_side sink.new ≡ K.reading_side sink.old }
     {
         let waits = self.waits_at(&statement);
-        if !submit_turn(rt, board, &mut self.seat, statement) {
+        if !submit_turn(rt, board, &mut self.seat, self.alloc, statement) {
             return self.lose(rt, board, gate, sink);
         }
         self.waiting = self.waiting.saturating_add(1);

@@ -14,10 +14,13 @@ ghost use Rattle.worker_gate.specs.Turns.{IsOutWith, IsReady, sight_in};
 ghost use Rattle.script_run.specs.Home.{IsAtRest, Leaves, LeftClosing, LetsGo};
 ghost use Rattle.script_run.specs.SeatTurns.{HasAsked, Stays, Submitted, TellsAsked};
 
+use crate::seat_ahead::read_ahead;
 use board_lock::{BoardLock, BoardSeat};
 use core_state::{Event, a_reply_that_may_be_taken_is_right, a_row_tells_the_reply};
 use event_core::{Core, Ready, Work, every_core_is_sound, own_steps_keep_a_board};
 use script_reader::Statement;
+use star_statement::ReadStatement;
+use std::alloc::Global;
 use std::sync::Wait;
 use worker_gate::{Look, Signal, give_if_done, signal_behind, signal_if_more, worker_look};
 
@@ -37,12 +40,13 @@ pub(crate) enum Asked {
     Looked(Look),
 }
 
-/// Gives a statement to the core in a turn of the seat, and wakes one of those who rest. Answers
-/// whether there was memory for it; else it changed nothing.
+/// Gives a statement to the core, and wakes one of those who rest. Answers whether there was memory
+/// for it; else it changed nothing. A large block is read before the seat has its turn.
 pub(crate) fn submit_turn<R: Wait>(
     rt: &R,
     board: &BoardLock<Core>,
     seat: &mut BoardSeat<Core>,
+    alloc: Global,
     statement: Statement,
 ) -> bool
     requires { IsReady board.now None seat.old }
@@ -50,6 +54,26 @@ pub(crate) fn submit_turn<R: Wait>(
     ensures same { IsSameSeat seat.old seat.new }
     ensures team { IsSameTeam (view_of seat.old) (view_of seat.new) }
     ensures submits { IsTrue result → Submitted (view_of seat.old).number statement
+        (sight_in (view_of seat.old)) (sight_in (view_of seat.new)) }
+    ensures lost { (result ≡ false) → Stays (view_of seat.old).number
+        (sight_in (view_of seat.old)) (sight_in (view_of seat.new)) }
+{
+    let mut ahead = read_ahead(rt, board, seat, alloc, &statement);
+    give_turn(rt, board, seat, &mut ahead)
+}
+
+/// Gives a statement to the core in a turn of the seat, and wakes one of those who rest.
+fn give_turn<R: Wait>(
+    rt: &R,
+    board: &BoardLock<Core>,
+    seat: &mut BoardSeat<Core>,
+    statement: &mut ReadStatement<'_>,
+) -> bool
+    requires { IsReady board.now None seat.old }
+    ensures ready { IsReady board.now None seat.new }
+    ensures same { IsSameSeat seat.old seat.new }
+    ensures team { IsSameTeam (view_of seat.old) (view_of seat.new) }
+    ensures submits { IsTrue result → Submitted (view_of seat.old).number statement.old
         (sight_in (view_of seat.old)) (sight_in (view_of seat.new)) }
     ensures lost { (result ≡ false) → Stays (view_of seat.old).number
         (sight_in (view_of seat.old)) (sight_in (view_of seat.new)) }
@@ -65,15 +89,15 @@ pub(crate) fn submit_turn<R: Wait>(
 }
 
 /// Gives a statement to a core as that of a seat. Answers whether there was memory for it.
-fn submit(core: &mut Core, seat: u32, statement: Statement) -> bool
+fn submit(core: &mut Core, seat: u32, statement: &mut ReadStatement<'_>) -> bool
     ensures mindful { IsMindful seat (state_of core.old) (state_of core.new) }
     ensures hand { held_by (state_of core.new).scan.flights seat
         ≡ held_by (state_of core.old).scan.flights seat }
-    ensures submits { IsTrue result → Submitted seat statement
+    ensures submits { IsTrue result → Submitted seat statement.old
         (sight_of (state_of core.old) seat) (sight_of (state_of core.new) seat) }
     ensures lost { (result ≡ false) → core.new ≡ core.old }
 {
-    match core.step(Event::Submit { seat, statement }) {
+    match core.submit_read(seat, statement) {
         Ok(()) => true,
         Err(_) => false,
     }
