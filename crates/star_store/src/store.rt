@@ -130,11 +130,7 @@ impl Store {
 
     /// By what form a block is to be read that is loaded into the table of a name, with a header or without one. There
     /// is none where there is no such table.
-    pub fn block_form(
-        &self,
-        table: &SmallText,
-        header: bool,
-    ) -> Result<Option<BlockForm>, NoMemory>
+    pub fn block_form(&self, table: &SmallText, header: bool) -> Result<Option<BlockForm>, NoMemory>
         ensures { IfOk result (λ form. form ≡ load_form self.now.schema table.now header) }
     {
         block_form(self.alloc, &self.schema, table, header)
