@@ -9,7 +9,7 @@ use crate::text::read_text;
 use csv_load::{BlockForm, ReadBlock};
 use script_reader::{Block, Statement};
 use star_parser::Ast;
-use star_store::Store;
+use star_store::{Store, is_over_every_table};
 use star_values::NoMemory;
 use std::alloc::Global;
 use std::marker::Model;
@@ -45,7 +45,8 @@ impl<'a> ReadStatement<'a> {
         }
     }
 
-    /// A statement whose block is read now, by this form.
+    /// A statement whose block is read now, by this form. A block of more records than any table takes is left to be
+    /// refused as it is applied.
     pub fn read(
         alloc: Global,
         statement: &'a Statement,
@@ -53,7 +54,11 @@ impl<'a> ReadStatement<'a> {
     ) -> Result<ReadStatement<'a>, NoMemory>
         ensures { IfOk result (λ read. read ≡ statement.now) }
     {
-        let read = ReadBlock::read(alloc, form, block_bytes(&statement.block))?;
+        let block = block_bytes(&statement.block);
+        if is_over_every_table(alloc, block, form.header)? {
+            return Ok(ReadStatement::unread(statement));
+        }
+        let read = ReadBlock::read(alloc, form, block)?;
         Ok(ReadStatement {
             statement,
             read: Some(read),

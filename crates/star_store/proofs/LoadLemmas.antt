@@ -6,10 +6,11 @@ use Rattle.std.specs.Option.{option_map_or}
 use Rattle.std.proofs.lemmas.Bool.Decides.{nat_tests}
 use Rattle.std.proofs.lemmas.List.{length-set}
 use Rattle.std.proofs.lemmas.List.Elements.{All-cons, All-head, All-nil, All-tail, All-weaker}
-use Rattle.star_values.specs.declared.refusal.Refusal.TheVariants.{DanglingReference}
+use Rattle.star_values.specs.declared.refusal.Refusal.TheVariants.{DanglingReference, Limit}
 use Rattle.star_values.specs.declared.value.Kind.{Kind}
 use Rattle.star_values.specs.declared.value.Value as cell
 use Rattle.star_plan.specs.declared.schema.Schema.{Schema}
+use Rattle.star_plan.specs.declared.table.Table.{Table}
 use Rattle.star_plan.specs.declared.table.Table.TheVariants.{Fact, Dimension}
 use Rattle.star_plan.specs.declared.table_def.TableDef.{TableDef}
 use Rattle.star_plan.specs.Columns.{columns_of, kinds_of}
@@ -17,7 +18,9 @@ use Rattle.star_plan.specs.Fits.{fits_table}
 use Rattle.star_values.specs.Value.{kinds_in}
 use Rattle.star_schema.specs.Schemas.{HasColumns, IsDeclared}
 use Rattle.star_lists.specs.Roomy.{Roomy}
+use Rattle.fact_versions.specs.declared.version.TheConstants.{MAX_VERSIONS}
 use Rattle.fact_versions.specs.declared.version.Version.{Version}
+use Rattle.dimension_rows.specs.declared.dimension_row.TheConstants.{MAX_DIMENSION_ROWS}
 use Rattle.dimension_rows.specs.declared.dimension_row.DimensionRow.{DimensionRow}
 use Rattle.dimension_rows.specs.Keys.{key_of}
 use Rattle.csv_load.specs.Rows.{typed_rows}
@@ -191,6 +194,17 @@ pub tells_dangling : {V : Type 0} (result : Result V StatementFault) (store : St
     → IfErr result (Tells (loaded_records store Fact records))
 tells_dangling (Ok versions) store records rows room typed refused = tt
 tells_dangling (Err fault) store records rows room typed refused = dangling_fault store records rows fault room typed refused
+
+few_enough : (most count records : ℕ) → most < records → nat_lt most (count + records) ≡ true
+few_enough most count records over = grind (arith, nat_tests)
+
+-- more records than the fact table has room for are more than any table has
+pub over_every_table : (store : Store) (table : Table) (records : List (List (List ℕ))) → MAX_VERSIONS < length records
+    → loaded_records store table records ≡ Err Limit
+over_every_table store Fact records over = rw (few_enough MAX_VERSIONS (count_in store Fact) (length records) over) refl
+over_every_table store (Dimension dimension) records over =
+    let over' : MAX_DIMENSION_ROWS < length records = omega arith in
+    rw (few_enough MAX_DIMENSION_ROWS (count_in store (Dimension dimension)) (length records) over') refl
 
 pub not_over : (over : Bool) → true ≡ not over → over ≡ false
 not_over true is = cc

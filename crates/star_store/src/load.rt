@@ -1,5 +1,5 @@
 //! Loads: the checks of a block, in their order, and the rows that it adds.
-ghost use Rattle.std.specs.Prelude.{◌≡◌, ℕ, ◌+◌, ◌^◌, ◌<◌, List, ◌≤◌, ◌++◌, false, not, nat_lt, All, IsSome, Some, None, Ok, IfOk, IfErr, IfSome, IsErrOf, OnOk, OnErr, length, map};
+ghost use Rattle.std.specs.Prelude.{◌≡◌, ℕ, ◌+◌, ◌^◌, ◌<◌, List, ◌≤◌, ◌++◌, false, not, nat_lt, All, IsSome, IsTrue, Some, None, Ok, IfOk, IfErr, IfSome, IsErrOf, OnOk, OnErr, length, map};
 ghost use Rattle.std.specs.Option.{ForSome};
 ghost use Rattle.star_values.specs.declared.refusal.Refusal.TheVariants.{BadRecord};
 ghost use Rattle.star_lists.specs.Roomy.{Roomy};
@@ -27,7 +27,9 @@ ghost use Rattle.star_values.specs.declared.statement_fault.StatementFault.TheVa
 use crate::done::Done;
 use crate::rows::{append_rows, kinds_of, repeats_a_key};
 use crate::versions::{append_versions, versions_of};
-use csv_load::{BlockForm, LoadRows, ReadBlock, each_record_is_a_row, rows_have_the_kinds};
+use csv_load::{
+    BlockForm, LoadRows, ReadBlock, count_records, each_record_is_a_row, rows_have_the_kinds,
+};
 use dimension_rows::{DimensionRows, Dims, MAX_DIMENSION_ROWS};
 use fact_versions::{FactVersions, MAX_VERSIONS, Version};
 use star_history::later_rows_move_no_key_number;
@@ -71,6 +73,32 @@ fn form_for(alloc: Global, columns: &[ColumnDef], header: bool) -> Result<BlockF
         header,
         kinds: ListOf::from(kinds),
     })
+}
+
+/// From so many bytes on the records of a block are counted before rows are made of them: those of a smaller one take no
+/// more memory than a few loads that are taken.
+const COUNTED_FIRST: usize = 4 * 1024 * 1024;
+
+/// Whether a block has more records than any table has room for, whose rows need not be made then. Of a block that is not
+/// large this is not asked.
+pub fn is_over_every_table(alloc: Global, block: &[u8], header: bool) -> Result<bool, NoMemory>
+    ensures { IfOk result (λ over. IsTrue over → MAX_VERSIONS < length (records_in header block.now)) }
+{
+    if block.len() < COUNTED_FIRST {
+        return Ok(false);
+    }
+    let count = count_records(alloc, block, header)?;
+    Ok(count > MAX_VERSIONS as u64)
+}
+
+/// Whether a block that was not read before has more records than any table has room for.
+fn is_over(alloc: Global, load: &BlockToLoad<'_>) -> Result<bool, NoMemory>
+    ensures { IfOk result (λ over. IsTrue over → MAX_VERSIONS < length (records_in load.now.header load.now.block.now)) }
+{
+    if load.read.is_some() {
+        return Ok(false);
+    }
+    is_over_every_table(alloc, load.block, load.header)
 }
 
 /// The block as it is read for a table with these columns. It is read now, unless it was read so before.
@@ -312,6 +340,10 @@ pub(crate) fn load(
     let Some(table) = find_table(schema, name) else {
         return Err(StatementFault::Refused(Refusal::UnknownName));
     };
+    let over = is_over(alloc, &load)?;
+    if over {
+        return Err(StatementFault::Refused(Refusal::Limit));
+    }
     let read = read_for(alloc, columns_of(schema, table), load)?;
     match table {
         Table::Fact => load_facts(alloc, schema, dims, facts, commits, read),

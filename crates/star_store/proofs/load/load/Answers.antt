@@ -5,6 +5,8 @@ use Rattle.star_store.specs.Done.{Commits}
 use Rattle.star_store.specs.Loads.{loaded_records}
 use Rattle.star_history.specs.Kept.{tables_of}
 use Rattle.star_store.proofs.ChangeLemmas.{keyed_after, load_change-early, load_change-found, load_change-unknown, loaded_in}
+use Rattle.csv_load.specs.Records.{records_in}
+use Rattle.star_store.proofs.LoadLemmas.{over_every_table}
 use Rattle.star_store.proofs.load.load.Goals as goal
 
 pub returns-then-is_none-clause-commits : goal.returns-then-is_none-clause-commits
@@ -20,6 +22,15 @@ returns-in_default-clause-commits c = (
       (ap not c.if-is_none.ensures) (sym c.find_table.ensures ∙ c.in_default.is),
   refl,
 )
+
+pub returns-then-over-clause-commits : goal.returns-then-over-clause-commits
+returns-then-over-clause-commits c =
+    let old = plain (tables_of c.args.schema.now c.args.dims.now c.args.facts.now c.args.commits.now) in (
+      load_change-found old c.args.name.now c.args.load.header c.args.load.block.now c.in-Some.table
+          (ap not c.if-is_none.ensures) (sym c.find_table.ensures ∙ c.in-Some.is)
+          ∙ over_every_table old c.in-Some.table (records_in c.args.load.header c.args.load.block.now) (c.in_ok-over.ensures c.if-over.true),
+      refl,
+    )
 
 pub load_facts-requires-clause-loaded : goal.load_facts-requires-clause-loaded
 load_facts-requires-clause-loaded c =
