@@ -7,6 +7,7 @@ mod board_seats;
 mod front;
 mod halt;
 mod laws;
+mod pace;
 mod piece;
 mod reply;
 mod run;

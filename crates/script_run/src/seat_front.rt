@@ -17,6 +17,7 @@ ghost use Rattle.script_run.specs.declared.seat_turn.Asked.TheVariants as asked;
 
 use crate::front::write_reply;
 use crate::halt::Halt;
+use crate::pace::Pace;
 use crate::seat_turn::{Asked, ask_turn, submit_turn};
 use crate::waiting::is_wait;
 use board_lock::{BoardLock, BoardSeat};
@@ -36,12 +37,8 @@ pub struct SeatFront {
     /// The seat, of which contracts say what it knows.
     pub seat: BoardSeat<Core>,
 
-    /// How many replies it waits for. It decides when they are waited for, and no promise rests on
-    /// it.
-    pub(crate) waiting: u64,
-
-    /// With fewer than so many it goes on and gives the next statement.
-    most: u64,
+    /// When replies are waited for. No promise rests on it.
+    pub(crate) pace: Pace,
 }
 
 /// What came of asking for the next reply.
@@ -75,12 +72,12 @@ impl SeatFront {
     /// `most` replies.
     pub fn new(alloc: Global, seat: BoardSeat<Core>, most: u32) -> SeatFront
         ensures seat { result.seat ≡ seat }
+        ensures pace { result.pace ≡ record { waiting = 0; most = most } }
     {
         SeatFront {
             alloc,
             seat,
-            waiting: 0,
-            most: u64::from(most),
+            pace: Pace::new(most),
         }
     }
 
@@ -140,10 +137,10 @@ impl SeatFront {
     {
         let mut refused = false;
         'replies: for _ in rt.forever() {
-            let patient = is_patient(all, self.waiting, self.most);
+            let patient = self.pace.is_patient(all);
             match self.next_reply(rt, board, gate, patient) {
                 Waited::Got(ready) => {
-                    self.waiting = self.waiting.saturating_sub(1);
+                    self.pace.take();
                     let reply = ready.into_reply();
                     let written = write_reply(self.alloc, &reply, sink);
                     drop(reply);
@@ -182,7 +179,7 @@ impl SeatFront {
         if !submit_turn(rt, board, &mut self.seat, self.alloc, statement) {
             return self.lose(rt, board, gate, sink);
         }
-        self.waiting = self.waiting.saturating_add(1);
+        self.pace.give();
         self.write_replies(rt, board, gate, waits, sink)
     }
 
@@ -190,9 +187,9 @@ impl SeatFront {
     /// where no memory is left to tell, and then the replies come later.
     fn waits_at(&self, statement: &Statement) -> bool
         ensures { IsTrue result →
-            IsTrue (means_to_wait statement.now) × (0 < self.now.waiting) }
+            IsTrue (means_to_wait statement.now) × (0 < self.now.pace.waiting) }
     {
-        self.waiting > 0 && matches!(is_wait(self.alloc, statement), Ok(true))
+        self.pace.waits() && matches!(is_wait(self.alloc, statement), Ok(true))
     }
 
     /// A statement for which no memory was left: the replies before its own are written, and its
@@ -248,14 +245,6 @@ impl SeatFront {
             refused |= self.play(rt, board, gate, statement, sink)?;
         }
     }
-}
-
-/// Whether the next reply is to be waited for: all of them are, or too many are waited for.
-fn is_patient(all: bool, waiting: u64, most: u64) -> bool
-    ensures all { IsTrue all → IsTrue result }
-    ensures few { (result ≡ false) → waiting < most }
-{
-    all || waiting >= most
 }
 
 /// One turn in which the next reply is asked for, and outside of it the work that was taken in it.

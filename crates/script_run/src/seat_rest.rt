@@ -56,7 +56,7 @@ impl SeatFront {
             (sight_in (view_of self.old.seat)) (sight_in (view_of self.new.seat)) }
     {
         let_go_turn(rt, board, &mut self.seat);
-        self.waiting = 0;
+        self.pace.stop();
     }
 
     /// Marks the core closing, so that each worker ends once it finds nothing left to do.
