@@ -4,6 +4,9 @@ pub mod EachLemmas
 pub mod PartLemmas
 pub mod PartialLemmas
 pub mod HomeLemmas
+pub mod AbsorbLemmas
+mod AbsorbCellLemmas
+mod AbsorbKeptLemmas
 mod FoldLemmas
 mod ListLemmas
 mod PlainLemmas

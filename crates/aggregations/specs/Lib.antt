@@ -2,6 +2,7 @@
 pub mod Grouped
 pub mod Folding
 pub mod Partial
+pub mod Absorbing
 pub mod Homes
 pub mod Cells
 pub mod Finish

@@ -16,6 +16,7 @@ ghost use Rattle.star_history.specs.Keyed.{joined_by_keys};
 ghost use Rattle.star_history.specs.Read.{NamesItsPlaces, value_by_key};
 ghost use Rattle.aggregations.specs.declared.ordered.NumberedKey.{NumberedKey};
 ghost use Rattle.aggregations.specs.Grouped.{Tally, grouped_of};
+ghost use Rattle.aggregations.specs.Absorbing.{without_rows};
 ghost use Rattle.aggregations.specs.Folding.{with_row, with_value};
 ghost use Rattle.aggregations.specs.Cells.{groups_in};
 ghost use Rattle.aggregations.specs.Finish.{answer_from, each_of, group_at, group_end, numbered_from};
@@ -39,6 +40,11 @@ pub fn one_row_more_is_folded()
     groups_take_one_row_more();
     cells_take_one_row_more();
 }
+
+/// Groups without their rows are those of no rows.
+pub fn groups_without_rows_are_those_of_none()
+    ensures { (query : Query) (rows : List Joined) → without_rows (grouped_of query rows) ≡ grouped_of query [] }
+{}
 
 /// The same by key numbers: where the query names the dimensions of its places, the row is the version
 /// joined with the rows at its key numbers.

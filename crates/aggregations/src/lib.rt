@@ -1,6 +1,7 @@
 //! What does a query compute of its rows? It folds them into groups, in any order, exactly.
 #![tactic(auto)]
 
+mod absorbing;
 mod adding;
 mod code_entry;
 mod crossing;
@@ -21,6 +22,6 @@ mod texts;
 pub use crossing::groups_may_be_sent;
 pub use groups::Groups;
 pub use laws::{
-    codes_are_of_one_key, one_row_more_is_folded, parts_may_come_in_any_order,
-    values_by_key_fold_the_same,
+    codes_are_of_one_key, groups_without_rows_are_those_of_none, one_row_more_is_folded,
+    parts_may_come_in_any_order, values_by_key_fold_the_same,
 };
