@@ -12,4 +12,5 @@ pub mod LimitLemmas
 pub mod MetLemmas
 pub mod VectorLemmas
 pub mod MeantLemmas
+pub mod BlankLemmas
 pub mod CrossingLemmas

@@ -4,6 +4,8 @@ pub mod Lap
 pub mod Range
 pub mod Stamped
 pub mod Batches
+pub mod Blanks
+pub mod Blanked
 pub mod Calls
 pub mod Examples
 pub mod ByValue

@@ -1,4 +1,5 @@
 //! That a scan and what it cuts may cross to other threads.
+use crate::blank::Blanked;
 use crate::scan::{Cut, Scan};
 
 /// A scan may be sent to another thread.
@@ -9,6 +10,11 @@ pub fn scans_may_be_sent() {
 /// What a cut gives may be sent to another thread.
 pub fn cuts_may_be_sent() {
     is_sent::<Cut>();
+}
+
+/// A batch whose rows are not written yet may be sent to another thread.
+pub fn blanks_may_be_sent() {
+    is_sent::<Blanked>();
 }
 
 fn is_sent<T: Send>() {}

@@ -9,7 +9,8 @@ ghost use Rattle.continuous_scan.specs.Scanning.{Running, Scanning};
 ghost use Rattle.continuous_scan.specs.Lap.{lap, still_to_come};
 ghost use Rattle.continuous_scan.specs.Range.{new_scan, some_run, IsNearest, covered, first_in, end_in, after_cut, cut_positions};
 ghost use Rattle.continuous_scan.specs.Calls.{AreInStep, CanCut, Call, CanCallAll, Followed, followed, below};
-ghost use Rattle.continuous_scan.specs.Stamped.{roster_of, bits_of, takes_version};
+ghost use Rattle.continuous_scan.specs.Stamped.{CanTestAll, batch_over, versions_from, roster_of, bits_of, takes_version};
+ghost use Rattle.continuous_scan.specs.Blanks.{CanAskAll, asked_by};
 ghost use Rattle.continuous_scan.specs.Examples.{range_of, one_over, second_of_three, third_of_three};
 
 use bit_words::numbers_go_in_and_out;
@@ -63,6 +64,21 @@ pub fn bits_are_those_of_slots()
 {
     numbers_go_in_and_out();
 }
+
+/// The rows of a batch hang on what is asked for each slot, and on nothing else of the queries that run,
+/// and of the table on the versions at their positions. What may be tested may be asked.
+pub fn rows_go_by_what_is_asked()
+    ensures rows { (first end number room : ℕ) (running other : List (Option Running))
+        (versions : List Version) → asked_by running ≡ asked_by other →
+        batch_over first end number room running versions
+        ≡ batch_over first end number room other versions }
+    ensures later { (first end number room : ℕ) (running : List (Option Running))
+        (versions later : List Version) → versions_from first end versions ≡ versions_from first end later →
+        batch_over first end number room running versions
+        ≡ batch_over first end number room running later }
+    ensures tests { (running : List (Option Running)) (version : Version) →
+        CanTestAll running version → CanAskAll (asked_by running) version }
+{}
 
 /// Cuts over tables of 1,000, 5 and 3 rows. Of three queries over five rows each gets all five.
 pub fn cuts_are_computed()

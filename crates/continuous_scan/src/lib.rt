@@ -1,6 +1,7 @@
 //! Which positions of the fact table come next. What is done to the rows of a batch is in the crates above.
 #![tactic(auto)]
 
+mod blank;
 mod by_value;
 mod conditions;
 mod crossing;
@@ -11,13 +12,15 @@ mod range;
 mod runner;
 mod scan;
 mod seeing;
+mod shared;
 mod slots;
 mod stamping;
 
-pub use crossing::{cuts_may_be_sent, scans_may_be_sent};
+pub use blank::{Blank, Blanked};
+pub use crossing::{blanks_may_be_sent, cuts_may_be_sent, scans_may_be_sent};
 pub use laws::{
     a_cut_ends_at_its_nearest_bound, a_cut_takes_no_more_than_is_left,
     a_lap_has_each_position_once, bits_are_those_of_slots, cuts_are_computed,
-    each_position_is_cut_once,
+    each_position_is_cut_once, rows_go_by_what_is_asked,
 };
 pub use scan::{Cut, Scan};

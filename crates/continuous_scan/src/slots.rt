@@ -73,6 +73,32 @@ impl Slots {
         self.used > 0
     }
 
+    /// All slots.
+    pub(crate) fn as_slice(&self) -> &[Option<Runner>]
+        ensures { result.now ≡ self.now }
+    {
+        self.running.as_slice()
+    }
+
+    /// The slots in which a query runs.
+    pub(crate) fn roster(&self) -> Bits<1>
+        requires { length self.now ≤ 64 }
+        ensures { result ≡ roster_of self.now }
+    {
+        roster_of(self.in_use())
+    }
+
+    /// The same slots once more. The queries are shared, and not copied.
+    pub(crate) fn copy(&self, alloc: Global) -> Result<Slots, NoMemory>
+        ensures { IfOk result (λ slots. slots ≡ self.now) }
+    {
+        let running = copies(alloc, self.running.as_slice())?;
+        Ok(Slots {
+            running,
+            used: self.used,
+        })
+    }
+
     /// The slots in use.
     pub(crate) fn in_use(&self) -> &[Option<Runner>]
         ensures used { AreUsed (length result.now) self.now }
@@ -101,6 +127,28 @@ fn empty_slots(alloc: Global, slots: u32) -> Result<ListOf<Option<Runner>>, NoMe
         running.push(None)?;
     }
     Ok(running)
+}
+
+/// What is in a slot, once more.
+fn copy_of(slot: &Option<Runner>) -> Result<Option<Runner>, NoMemory>
+    ensures { IfOk result (λ copy. copy ≡ slot.now) }
+{
+    match slot {
+        None => Ok(None),
+        Some(query) => Ok(Some(query.another()?)),
+    }
+}
+
+/// What is in some slots, once more.
+fn copies(alloc: Global, running: &[Option<Runner>]) -> Result<ListOf<Option<Runner>>, NoMemory>
+    ensures { IfOk result (λ copies. copies ≡ running.now) }
+{
+    let mut copies = ListOf::new(alloc);
+    copies.reserve(running.len())?;
+    for slot in 0..running.len() {
+        copies.push(copy_of(&running[slot])?)?;
+    }
+    Ok(copies)
 }
 
 /// Puts a query into a slot, or none.
