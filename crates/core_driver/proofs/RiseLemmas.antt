@@ -1,5 +1,5 @@
 -- Where a query runs and a frame is free, a batch is cut, and the count of positions rises.
-use Rattle.core_driver.proofs.Words.{◌+◌, ◌-◌, ◌<◌, ◌∙◌, ◌∷◌, ◌≡◌, ◌≤◌, ◌⊎◌, [], Abandon, All, All-head, All-tail, ap, arith, cases_lt, Cut, cuts, Distribute, end_in, Event, first_in, Give, inl, inr, IsDriven, IsLed, IsLedCutting, IsOfAdmission, IsRunning, IsSomeAnd, IsSound, life-runs, life_of, List, MayCut, positions_of, refl, Rises, Runs, Scan, Some, some-runs, State, StepsKeep, Submit, subst, sym, Take, Took, TookCutting, ℕ, ⊎_elim}
+use Rattle.core_driver.proofs.Words.{◌+◌, ◌-◌, ◌<◌, ◌∙◌, ◌∷◌, ◌≡◌, ◌≤◌, ◌⊎◌, [], Abandon, All, All-head, All-tail, ap, arith, Carry, cases_lt, Cut, cuts, Distribute, end_in, Event, first_in, Give, inl, inr, IsDriven, IsLed, IsLedCutting, IsOfAdmission, IsRunning, IsSomeAnd, IsSound, life-runs, life_of, List, MayCut, positions_of, refl, Rises, Runs, Scan, Some, some-runs, State, StepsKeep, Submit, subst, sym, Take, Took, TookCutting, ℕ, ⊎_elim}
 use Rattle.pipeline_manager.specs.declared.life.Life.TheVariants as life
 use Rattle.core_state.specs.Events.{after_event}
 use Rattle.core_state.specs.Numbered.{counted, last_number}
@@ -57,6 +57,7 @@ count-same : (event : Event) (old new : State) → IsDriven event → Took event
 count-same (Submit seat statement) old new driven took = absurd (⊎_elim (λ never. never) (λ never. never) driven)
 count-same Cut old new driven took = inl refl
 count-same (Take worker batch) old new driven took = inr (took-hands (Take worker batch) old new tt took).cut
+count-same (Carry worker batch) old new driven took = absurd (⊎_elim (λ never. never) (λ never. never) driven)
 count-same (Give worker) old new driven took = inr (took-hands (Give worker) old new tt took).cut
 count-same (Distribute batch) old new driven took = inr (ap (λ (scan : Scan). scan.cut) (distributes batch old new took).scan)
 count-same (Abandon query) old new driven took = absurd (⊎_elim (λ never. never) (λ never. never) driven)

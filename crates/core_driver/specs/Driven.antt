@@ -12,7 +12,7 @@ use Rattle.core_state.specs.State.{State}
 use Rattle.core_state.specs.Tables.{tables_of}
 use Rattle.core_parts.specs.Filtered.{order_by}
 use Rattle.core_state.specs.declared.event.Event.{Event}
-use Rattle.core_state.specs.declared.event.Event.TheVariants.{Submit, Reserve, Build, Start, Cut, Take, Give, Distribute, Finish, Clear, Release, Reorder, Abandon}
+use Rattle.core_state.specs.declared.event.Event.TheVariants.{Submit, Reserve, Build, Start, Cut, Take, Carry, Give, Distribute, Finish, Clear, Release, Reorder, Abandon}
 use Rattle.event_core.specs.Chosen.{IsOfKind, NoneMayCome}
 use Rattle.event_core.specs.Took.{IsLed, MayWantMemory}
 use Rattle.event_core.specs.declared.choosing.EventKind.{EventKind}
@@ -42,12 +42,13 @@ pub record MayWantOne (kinds : List EventKind) (state : State) : Type 0 where
 abbrev pub MayClear : State → Type 0
 MayClear state = (slot : ℕ) × (dimension : ℕ) × IsEnabled state (Clear slot dimension)
 
--- an event by which no query begins to run, none is submitted, and none is abandoned
+-- an event by which no query begins to run, none is submitted, none is abandoned, and no worker carries a batch
 abbrev pub IsOfRound : Event → Type 0
 IsOfRound (Submit seat statement) = ⊥
 IsOfRound (Reserve query slot) = ⊥
 IsOfRound (Build query dimension) = ⊥
 IsOfRound (Start query) = ⊥
+IsOfRound (Carry worker batch) = ⊥
 IsOfRound (Abandon query) = ⊥
 IsOfRound other = Unit {0}
 
@@ -58,7 +59,7 @@ IsOfAdmission (Build query dimension) = Unit {0}
 IsOfAdmission (Start query) = Unit {0}
 IsOfAdmission other = ⊥
 
--- an event that the driver may take: no statement is submitted, and no query abandoned
+-- an event that the driver may take: no statement is submitted, no query abandoned, and no batch carried
 abbrev pub IsDriven : Event → Type 0
 IsDriven event = IsOfAdmission event ⊎ IsOfRound event
 
@@ -77,6 +78,7 @@ IsOfLanding (Reserve query slot) = ⊥
 IsOfLanding (Build query dimension) = ⊥
 IsOfLanding (Start query) = ⊥
 IsOfLanding Cut = ⊥
+IsOfLanding (Carry worker batch) = ⊥
 IsOfLanding (Abandon query) = ⊥
 IsOfLanding other = Unit {0}
 

@@ -3,3 +3,5 @@ pub mod FilterPlaceLemmas
 pub mod FirstFilterLemmas
 pub mod OrderLemmas
 pub mod SpareLemmas
+pub mod VersionLemmas
+pub mod TakingLemmas

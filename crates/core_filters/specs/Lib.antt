@@ -3,3 +3,4 @@ pub mod Filtered
 pub mod Numbered
 pub mod Filters
 pub mod Spares
+pub mod Versions

@@ -1,5 +1,5 @@
 -- References to the tables of the present versions of filters, which are made ahead: one for each seat.
-use Rattle.std.specs.Prelude.{ℕ, ◌<◌, ◌==◌, Bool, false, if◌then◌else◌, List, [], length, map, replicate, slice_index_or, slice_set, Option, Some, None}
+use Rattle.std.specs.Prelude.{◌≡◌, ◌≢◌, AllPairs, ℕ, ◌<◌, ◌==◌, Bool, false, if◌then◌else◌, List, [], ◌∷◌, fold, length, map, replicate, slice_index_or, slice_set, Option, Some, None}
 use Rattle.std.specs.Option.{option_map_or}
 use Rattle.dimension_filter.specs.Filter.{Filter}
 use Rattle.core_filters.specs.Filtered.{FilterVersion, version_at}
@@ -38,3 +38,26 @@ is_present versions version =
 abbrev pub with_returned : (seat : ℕ) → FilterVersion → (present : Bool) → Spares → Spares
 with_returned seat version present spares =
     if present then with_spare version.filter.dimension seat (Some version.filter) spares else spares
+
+-- versions of different filters
+abbrev pub AreApart : List FilterVersion → Type 0
+AreApart versions =
+    AllPairs (λ version other. version.filter.dimension ≢ other.filter.dimension) versions
+
+-- what is kept for a seat is the reference to the table of this version
+abbrev pub IsKept : (seat : ℕ) → Spares → FilterVersion → Type 0
+IsKept seat spares version = spare_at spares version.filter.dimension seat ≡ Some version.filter
+
+-- the references once a seat took those to the tables of these versions
+abbrev pub with_all_taken : (seat : ℕ) → List FilterVersion → Spares → Spares
+with_all_taken seat versions spares =
+    fold (λ before version. with_spare version.filter.dimension seat None before) spares versions
+
+-- the references once a seat gave these versions back, the last one first, of which those are kept
+-- that are present
+abbrev pub with_all_returned : (seat : ℕ) → (present : List FilterVersion) → List FilterVersion →
+    Spares → Spares
+with_all_returned seat present [] spares = spares
+with_all_returned seat present (version ∷ versions) spares =
+    with_returned seat version (is_present present version)
+    (with_all_returned seat present versions spares)

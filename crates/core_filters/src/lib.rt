@@ -4,8 +4,12 @@
 
 mod filters;
 mod spares;
+mod tallies;
 mod version;
+mod versions;
 
 pub use filters::Filters;
 pub use spares::Spares;
+pub use tallies::Tallies;
 pub use version::{Reference, References, Version};
+pub use versions::{MAX_FILTERS, Versions};

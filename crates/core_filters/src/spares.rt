@@ -1,9 +1,13 @@
 //! The references to the present versions of filters that are kept, so that a batch is taken without memory.
-ghost use Rattle.std.specs.Prelude.{◌≡◌, ◌<◌, [], length, slice_index_or, slice_set, true, None, Some, IfOk};
-ghost use Rattle.core_filters.specs.Spares.{HasPlace, first_spares, is_present, spare_at, with_returned, with_spare};
+ghost use Rattle.std.specs.Prelude.{◌≡◌, ◌<◌, ◌≤◌, ◌++◌, [], length, option_map, slice_index_or, slice_set, true, All, None, Some, IfOk, IfSome};
+ghost use Rattle.std.specs.Option.{option_to_list};
+ghost use Rattle.core_filters.specs.Filters.{left_of, versions_left};
+ghost use Rattle.core_filters.specs.Spares.{AreApart, HasPlace, IsKept, first_spares, is_present, spare_at, with_all_returned, with_all_taken, with_returned, with_spare};
 
 use crate::filters::Filters;
 use crate::version::{Reference, References, Version};
+use crate::versions::Versions;
+use batch_flow::Batch;
 use star_lists::ListOf;
 use star_values::NoMemory;
 use std::alloc::Global;
@@ -61,6 +65,18 @@ impl Spares {
         take_version(&mut self.dimensions, seat, version)
     }
 
+    /// Takes the references of a seat, which are kept, to the versions that a batch has still to
+    /// pass, and gives these versions once more by them.
+    pub fn take_all(&mut self, seat: u32, filters: &Filters, batch: &Batch) -> Versions
+        requires apart { AreApart (versions_left filters.now batch.now) }
+        requires kept { All (IsKept seat self.old) (versions_left filters.now batch.now) }
+        ensures versions { result ≡ versions_left filters.now batch.now }
+        ensures left { self.new
+            ≡ with_all_taken seat (versions_left filters.now batch.now) self.old }
+    {
+        take_left(&mut self.dimensions, seat, filters, filters.order(), batch)
+    }
+
     /// Keeps the reference of a seat again, where its version is still the present one of the filter. It lets any other go.
     pub fn give(&mut self, seat: u32, version: Version, filters: &Filters)
         requires { is_present filters.now.versions version ≡ true → HasPlace version.filter.dimension seat self.old }
@@ -68,6 +84,16 @@ impl Spares {
     {
         let present = filters.is_present(&version);
         give_version(&mut self.dimensions, seat, version, present);
+    }
+
+    /// Keeps the references of a seat again whose versions are still the present ones of their
+    /// filters. It lets all others go.
+    pub fn give_all(&mut self, seat: u32, versions: Versions, filters: &Filters)
+        requires { All (λ version. is_present filters.now.versions version ≡ true
+            → HasPlace version.filter.dimension seat self.old) versions }
+        ensures { self.new ≡ with_all_returned seat filters.now.versions versions self.old }
+    {
+        give_each(&mut self.dimensions, seat, versions, filters);
     }
 }
 
@@ -104,6 +130,51 @@ fn take_version(spares: &mut ListOf<References>, seat: u32, version: &Version) -
     version.another(reference)
 }
 
+/// What `Spares::take_all` does, over the list alone, of the filters of these dimensions.
+fn take_left(
+    spares: &mut ListOf<References>,
+    seat: u32,
+    filters: &Filters,
+    order: &[u8],
+    batch: &Batch,
+) -> Versions
+    requires few { length order.now ≤ 8 }
+    requires dimensions { All (λ dimension. dimension < 8) order.now }
+    requires apart { AreApart (left_of filters.now.versions batch.now order.now) }
+    requires kept { All (IsKept seat spares.old)
+        (left_of filters.now.versions batch.now order.now) }
+    ensures versions { result ≡ left_of filters.now.versions batch.now order.now }
+    ensures left { spares.new
+        ≡ with_all_taken seat (left_of filters.now.versions batch.now order.now) spares.old }
+{
+    let mut versions = Versions::new();
+    'order: for dimension in order {
+        let left = filters.left(*dimension, batch);
+        take_next(spares, seat, left, &mut versions);
+    }
+    versions
+}
+
+/// Takes the reference to a version, if there is one, and puts the version behind others.
+fn take_next(
+    spares: &mut ListOf<References>,
+    seat: u32,
+    left: Option<&Version>,
+    versions: &mut Versions,
+)
+    requires kept { IfSome left (λ version. IsKept seat spares.old version.now) }
+    requires room { length versions.old < 8 }
+    ensures versions { versions.new
+        ≡ versions.old ++ option_to_list (option_map (λ version. version.now) left.entry) }
+    ensures left { spares.new
+        ≡ with_all_taken seat (option_to_list (option_map (λ version. version.now) left.entry))
+        spares.old }
+{
+    if let Some(version) = left {
+        versions.push(take_version(spares, seat, version));
+    }
+}
+
 /// What `Spares::give` does, over the list alone, with a version that is the present one or is not.
 fn give_version(spares: &mut ListOf<References>, seat: u32, version: Version, present: bool)
     requires { present ≡ true → HasPlace version.filter.dimension seat spares.old }
@@ -111,6 +182,18 @@ fn give_version(spares: &mut ListOf<References>, seat: u32, version: Version, pr
 {
     if present {
         put_at(spares, version.dimension(), seat, version.into_reference());
+    }
+}
+
+/// What `Spares::give_all` does, over the list alone. The last version is given first.
+fn give_each(spares: &mut ListOf<References>, seat: u32, mut versions: Versions, filters: &Filters)
+    requires { All (λ version. is_present filters.now.versions version ≡ true
+        → HasPlace version.filter.dimension seat spares.old) versions }
+    ensures { spares.new ≡ with_all_returned seat filters.now.versions versions spares.old }
+{
+    'versions: while let Some(version) = versions.pop() {
+        let kept = filters.is_present(&version);
+        give_version(spares, seat, version, kept);
     }
 }
 

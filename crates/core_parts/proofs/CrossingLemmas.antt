@@ -8,6 +8,7 @@ use Rattle.star_plan.specs.contracts.star_query.StarQuery as query
 use Rattle.aggregations.proofs.groups.Groups.TheSendSync as groups
 use Rattle.continuous_scan.proofs.CrossingLemmas.{option_send, query_send, query_sync}
 use Rattle.core_parts.proofs.home.Home.TheSendSync as home
+use Rattle.core_parts.proofs.numbers.Numbers.TheSendSync as numbers
 use Rattle.core_parts.proofs.submitted.Submitted.TheSendSync as submitted
 use Rattle.core_parts.specs.contracts.asked.Asked as asked
 use Rattle.core_parts.specs.contracts.asked.Asked.TheInside as inside_asked
@@ -33,7 +34,10 @@ lent_send =
         search sendable,
         (
           search (sendable, bits.the_send) depth 10,
-          (search sendable, (search (sendable, crosses) depth 10, (search (sendable, crosses) depth 10, tt))),
+          (
+            numbers.the_send,
+            (search (sendable, crosses) depth 10, (search (sendable, crosses) depth 10, tt)),
+          ),
         ),
       ),
     ) in

@@ -5,6 +5,7 @@ pub mod FirstFilterLemmas
 pub mod FlightLemmas
 pub mod NumberLemmas
 pub mod OrderLemmas
+pub mod PassedLemmas
 pub mod PassingLemmas
 pub mod SeatLemmas
 pub mod GoneLemmas

@@ -6,6 +6,7 @@ pub mod Stands
 pub mod Seated
 pub mod Held
 pub mod Numbered
+pub mod Spares
 pub mod Known
 pub mod Asked
 pub mod LetGo

@@ -1,14 +1,14 @@
 //! A worker's hand. A batch that is in one is in `home`, or in `lent` while the worker has it.
 ghost use Rattle.std.specs.Prelude.{◌≡◌};
 
-use core_filters::Version;
+use core_filters::Versions;
 use std::marker::Model;
 
-/// A worker's hand, with the version of a filter that its batch is to pass.
+/// A worker's hand, with the versions of filters that its batch is to pass, in their order.
 #[derive(Debug, Drop)]
 pub struct Hand {
     pub worker: u32,
-    pub version: Version,
+    pub versions: Versions,
 }
 
 impl Model for Hand {
@@ -16,7 +16,7 @@ impl Model for Hand {
 
     ghost Value = { state.Hand };
 
-    ghost view = { λ hand. record { worker = hand.worker; version = hand.version } };
+    ghost view = { λ hand. record { worker = hand.worker; versions = hand.versions } };
 }
 
 impl Hand {
@@ -26,9 +26,9 @@ impl Hand {
         self.worker
     }
 
-    pub fn version(&self) -> &Version
-        ensures { result.now ≡ self.now.version }
+    pub fn versions(&self) -> &Versions
+        ensures { result.now ≡ self.now.versions }
     {
-        &self.version
+        &self.versions
     }
 }

@@ -8,13 +8,14 @@ pub mod flights;
 mod hand;
 mod home;
 mod lent;
+mod numbers;
 mod passing;
 mod queries;
 mod seat;
 mod submitted;
 
 pub use asked::Asked;
-pub use core_filters::{Filters, References, Spares, Version};
+pub use core_filters::{Filters, MAX_FILTERS, References, Spares, Tallies, Version, Versions};
 pub use crossing::{
     filters_may_be_shared, flights_may_be_sent, queries_may_be_sent, seats_may_be_sent,
 };

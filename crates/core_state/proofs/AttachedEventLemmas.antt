@@ -1,5 +1,5 @@
 -- The other events leave as it is what a distributor has.
-use Rattle.core_state.proofs.Words.{◌-◌, ◌∙◌, ◌≡◌, after_cutting, ap, attached_to, Build, Clear, cond, covered, Cut, cut_life, end_in, Event, false, first_in, gets_rows, Give, groups_in, holder_of, IsEnabled, IsSound, life_in-cut, Lives, None, Option, option_and_then, option_map, option_map_or, outcome_of, query_in, QueryLife, refl, Release, Reorder, Reserve, slot_at, Some, State, Submit, tables_of, Take, ℕ}
+use Rattle.core_state.proofs.Words.{◌-◌, ◌∙◌, ◌≡◌, after_cutting, ap, attached_to, Build, Carry, Clear, cond, covered, Cut, cut_life, end_in, Event, false, first_in, gets_rows, Give, groups_in, holder_of, IsEnabled, IsSound, life_in-cut, Lives, None, Option, option_and_then, option_map, option_map_or, outcome_of, query_in, QueryLife, refl, Release, Reorder, Reserve, slot_at, Some, State, Submit, tables_of, Take, ℕ}
 use Rattle.pipeline_manager.specs.Changes.{after_cut}
 use Rattle.core_state.specs.Events.{after_event}
 use Rattle.core_state.specs.Handed.{LeavesAttached}
@@ -40,6 +40,7 @@ attached-event state (Reserve query slot) sound may leaves = attached-views stat
 attached-event state (Build query dimension) sound may leaves = attached-views state _ (views-build state query dimension)
 attached-event state Cut sound may leaves = attached-cut state
 attached-event state (Take worker batch) sound may leaves = refl
+attached-event state (Carry worker batch) sound may leaves = refl
 attached-event state (Give worker) sound may leaves = attached-views state _ (views-give state worker)
 attached-event state (Clear slot dimension) sound may leaves = attached-views state _ (views-clear state slot dimension)
 attached-event state (Release slot) sound may leaves = attached-views state _ (views-release state slot may)

@@ -145,8 +145,8 @@ versions-first last dimensions flights none = record {
       (sym (still-counted last (length dimensions) last_number more))
       (All-weaker (λ (version : FilterVersion). version.number < last + 1 + length dimensions) (λ version. version.number ≤ last + length dimensions)
       (λ version low. omega arith) (first_versions dimensions (last + 1)) (first-numbers dimensions (last + 1)));
-  held = λ more. none_in (λ hand. hand.version.number ≤ counted last (length dimensions));
-  present = none_in (λ hand. IsPresentByNumber (first_versions dimensions (last + 1)) hand.version);
+  held = λ more. none_in (λ hand. All (λ version. version.number ≤ counted last (length dimensions)) hand.versions);
+  present = none_in (λ hand. All (IsPresentByNumber (first_versions dimensions (last + 1))) hand.versions);
 }
   where
     none_in : (P : Hand → Type 0) → All (λ (flight : Flight). IfSome flight.hand P) flights

@@ -138,8 +138,8 @@ pub versions-with : (last : ℕ) (versions : List FilterVersion) (flights others
     → AreSoundVersions last versions flights → AreSoundVersions last versions others
 versions-with last versions flights others keep old = record {
   given = old.given;
-  held = λ more. keep (λ hand. hand.version.number ≤ last) (old.held more);
-  present = keep (λ hand. IsPresentByNumber versions hand.version) old.present;
+  held = λ more. keep (λ hand. All (λ version. version.number ≤ last) hand.versions) (old.held more);
+  present = keep (λ hand. All (IsPresentByNumber versions) hand.versions) old.present;
 }
 
 -- what is asked and told of a number stays so

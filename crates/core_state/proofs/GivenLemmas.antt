@@ -1,12 +1,14 @@
 -- A batch that a worker gives back keeps a core sound.
-use Rattle.core_state.proofs.Words.{◌+◌, ◌<◌, ◌∙◌, ◌∷◌, ◌≢◌, [], AcceptsAll, after_give, All-contains, All-map, all_at, AllPairs, AllPairs-cons, arith, bits_left_at, Change, changes_of, cond, cons_option, Contains, empty_store, Encodes, eqb, Filter, find, Flight, frame_words, get_or, given_back, Hand, held_by, IfSome, is_held_by, IsMatched, IsOnRoster, IsOver, IsSettled, IsSome, IsSound, IsSoundBatch, IsSoundHand, IsSoundQuery, IsSoundRow, length, length-map-range_with_len, List, map, None, OnRoster, Option, option_map, option_map_or, passed_by, PlainVersion, refl, rows_in, slice_get, Some, State, store_of, subst, suc, sym, tables_of, tallies_after, Tally, zero, ℕ}
+use Rattle.core_state.proofs.Words.{◌+◌, ◌<◌, ◌∙◌, ◌∷◌, ◌≡◌, ◌≢◌, [], AcceptsAll, after_give, All, All-contains, All-map, all_at, AllPairs, AllPairs-cons, arith, bit_at, bits_left_at, Change, changes_of, cond, cons_option, Contains, empty_store, Encodes, eq-eqb, eqb, false, Filter, FilterVersion, find, Flight, frame_words, get_or, given_back, Hand, Has-with, held_by, IfSome, is_held_by, IsMatched, IsOnRoster, IsOver, IsSettled, IsSome, IsSound, IsSoundBatch, IsSoundHand, IsSoundQuery, IsSoundRow, length, length-map-range_with_len, List, map, ne_eqb, None, OnRoster, Option, option_map, option_map_or, passed_by, PlainVersion, refl, Rows, rows_in, slice_get, Some, State, store_of, subst, suc, sym, tables_of, tallies_after, Tally, true, with_number, zero, ℕ, ⊎_elim}
+use Rattle.core_state.specs.Cutting.{passed_through}
+use Rattle.core_state.specs.Flown.{IsSoundTask}
 use Rattle.core_state.proofs.AcceptedLemmas.{accepted-on, find-holds}
 use Rattle.core_state.proofs.FlownLemmas.{Flies, KeepsPlace, flown, sound-flown}
 use Rattle.core_state.proofs.FoundLemmas.{both-some, some-of}
 use Rattle.core_state.proofs.FrameLemmas.{versions-with}
 use Rattle.core_state.proofs.GiveLemmas.{SaysByKey, bits-given, given-bits}
 use Rattle.core_state.proofs.KeyedLemmas.{filter-there, says-by-key}
-use Rattle.core_state.proofs.TakeLemmas.{batch-stays, by-number, cons-tail, workers, workers-changed}
+use Rattle.core_state.proofs.TakeLemmas.{AreApart, batch-stays, by-number, cons-tail, workers, workers-changed}
 use Rattle.core_state.proofs.TallyLemmas.{tallied-after}
 
 -- the tables of each history whose changes were taken are settled
@@ -21,24 +23,28 @@ entry-over state sound entry on =
     find-holds (IsSoundQuery state) (λ a. eqb a.number entry.number) state.accepted is.0 is.1 sound.queries.each in
     subst (IsOver (tables_of state).schema) is.2 of_query.over
 
--- the vectors of a filter in a hand say what the queries of the batch take
-hand-says : Settles → (state : State) → IsSound state → (flight : Flight) → IsSoundBatch (frame_words state) (tables_of state) state.lives state.accepted flight → (hand : Hand) → IsSoundHand (length state.seats) state.lives.filters (tables_of state) flight hand
+-- the vectors of a version that a batch may pass say what the queries of the batch take
+task-says : (state : State) → IsSound state → (flight : Flight) → IsSoundBatch (frame_words state) (tables_of state) state.lives state.accepted flight
+    → (filter : Filter) → IsSoundTask state.lives.filters (tables_of state) flight filter
     → (entry : OnRoster) → Contains flight.roster entry → (version : PlainVersion)
     → IsMatched (tables_of state).schema (tables_of state).dimensions version.row version.begin
-    → SaysByKey state hand.version.filter entry version
-hand-says settles state sound flight of_batch hand of_hand entry on version matched =
+    → SaysByKey state filter entry version
+task-says state sound flight of_batch filter task entry on version matched =
     let over : IsOver (tables_of state).schema entry.query =
     entry-over state sound entry (All-contains (IsOnRoster state.lives state.accepted) flight.roster entry of_batch.roster on) in
-    says-by-key (tables_of state) hand.version.filter entry.slot entry.query entry.snapshot version
-    (All-contains (λ e. Encodes hand.version.filter e.slot e.query e.snapshot
-    (rows_in (tables_of state).dimensions hand.version.filter.dimension)) flight.roster entry of_hand.encodes on)
-    over.choices ((sound.filters.set hand.version.filter.dimension).0 of_hand.is_filter) matched
+    says-by-key (tables_of state) filter entry.slot entry.query entry.snapshot version
+    (All-contains (λ e. Encodes filter e.slot e.query e.snapshot (rows_in (tables_of state).dimensions filter.dimension)) flight.roster entry
+    task.encodes on) over.choices ((sound.filters.set filter.dimension).0 task.is_filter) matched
 
--- a batch that has passed the version in its hand is sound
-batch-passed : Settles → (state : State) → IsSound state → (flight : Flight) → IsSoundBatch (frame_words state) (tables_of state) state.lives state.accepted flight
-    → (hand : Hand) → IsSoundHand (length state.seats) state.lives.filters (tables_of state) flight hand
-    → IsSoundBatch (frame_words state) (tables_of state) state.lives state.accepted (record flight { rows = passed_by hand.version.filter flight.rows; hand = None })
-batch-passed settles state sound flight old hand of_hand = record {
+-- a batch behind a version, in no hand
+abbrev pub passed_one : Filter → Flight → Flight
+passed_one filter flight = record flight { rows = passed_by filter flight.rows; hand = None }
+
+-- a batch that has passed a version that it may pass is sound
+pub batch-passed : Settles → (state : State) → IsSound state → (flight : Flight) → IsSoundBatch (frame_words state) (tables_of state) state.lives state.accepted flight
+    → (filter : Filter) → IsSoundTask state.lives.filters (tables_of state) flight filter
+    → IsSoundBatch (frame_words state) (tables_of state) state.lives state.accepted (passed_one filter flight)
+batch-passed settles state sound flight old filter task = record {
   within = old.within;
   bits = length-map-range_with_len (bits_left_at filter flight.rows.keys flight.rows.bits) 0 (length flight.rows.bits) ∙ old.bits;
   keys = old.keys;
@@ -49,26 +55,64 @@ batch-passed settles state sound flight old hand of_hand = record {
       let inside : row < length flight.rows.bits = let all = old.bits in omega arith in
       both-some (IsSoundRow state.lives.filters (tables_of state) flight row)
       (λ version. IsMatched (tables_of state).schema (tables_of state).dimensions version.row version.begin)
-      (IsSoundRow state.lives.filters (tables_of state) (record flight { rows = passed_by filter flight.rows; hand = None }) row)
+      (IsSoundRow state.lives.filters (tables_of state) (passed_one filter flight) row)
       (slice_get (tables_of state).versions (flight.rows.first + row))
       (λ version of_row matched. record {
         keys = of_row.keys;
-        bits = λ entry on. bits-given state flight filter row version entry inside there of_hand.is_filter on
-            (hand-says settles state sound flight old hand of_hand entry on version matched) of_row;
+        bits = λ entry on. bits-given state flight filter row version entry inside there task.is_filter on
+            (task-says state sound flight old filter task entry on version matched) of_row;
         others = λ slot has. of_row.others slot ((given-bits filter flight.rows.keys flight.rows.bits row slot inside).0 has).0;
       }) (old.rows row low)
       (all_at (λ version. IsMatched (tables_of state).schema (tables_of state).dimensions version.row version.begin) (tables_of state).versions
       (flight.rows.first + row) settled.versions.matched);
 }
   where
-    filter : Filter
-    filter = hand.version.filter
-
     settled : IsSettled (tables_of state)
     settled = settles (changes_of state.entries) sound.store
 
     there : filter.dimension < length (tables_of state).schema.dimensions
-    there = (filter-there (tables_of state).schema filter.dimension ((sound.filters.set filter.dimension).0 of_hand.is_filter)).0
+    there = (filter-there (tables_of state).schema filter.dimension ((sound.filters.set filter.dimension).0 task.is_filter)).0
+
+-- a filter that was not passed is not passed by another
+still-left : (passed dimension other : ℕ) → dimension ≢ other → eqb (bit_at passed other) 1 ≡ false
+    → eqb (bit_at (with_number passed dimension) other) 1 ≡ false
+still-left passed dimension other apart left =
+    ne_eqb (bit_at (with_number passed dimension) other) 1 (λ has. ⊎_elim
+    (λ old. let both : true ≡ false = sym (eq-eqb (bit_at passed other) 1 old) ∙ left in cc)
+    (λ same. apart (sym same)) ((Has-with passed dimension other).0 has))
+
+-- versions that a batch may pass
+abbrev pub AreTasks : State → Flight → List FilterVersion → Type 0
+AreTasks state flight versions = All (λ version. IsSoundTask state.lives.filters (tables_of state) flight version.filter) versions
+
+pub apart-rest : (version : FilterVersion) (versions : List FilterVersion) → AreApart (version ∷ versions) → AreApart versions
+apart-rest version versions apart = λ i j d before low. apart (suc i) (suc j) d (omega arith) (omega arith)
+
+-- behind one of them it may still pass the others
+pub tasks-left : (state : State) (flight : Flight) (version : FilterVersion) (versions : List FilterVersion) → AreTasks state flight (version ∷ versions)
+    → AreApart (version ∷ versions) → AreTasks state (passed_one version.filter flight) versions
+tasks-left state flight version versions tasks apart = λ k d low.
+    let other = get_or versions k d in
+    let task : IsSoundTask state.lives.filters (tables_of state) flight other.filter = tasks (suc k) d (omega arith) in
+    record {
+      table = task.table;
+      is_filter = task.is_filter;
+      not_passed = still-left flight.rows.passed version.filter.dimension other.filter.dimension (apart 0 (suc k) d (omega arith) (omega arith))
+          task.not_passed;
+      encodes = task.encodes;
+    }
+
+-- a batch that has passed versions that it may pass, of each filter one, is sound
+batch-through : Settles → (state : State) → IsSound state → (versions : List FilterVersion) (flight : Flight)
+    → IsSoundBatch (frame_words state) (tables_of state) state.lives state.accepted flight → AreTasks state flight versions → AreApart versions
+    → IsSoundBatch (frame_words state) (tables_of state) state.lives state.accepted
+    (record flight { rows = passed_through versions flight.rows; hand = None })
+batch-through settles state sound [] flight old tasks apart =
+    batch-stays (frame_words state) (tables_of state) state.lives state.accepted flight None old
+batch-through settles state sound (version ∷ versions) flight old tasks apart =
+    batch-through settles state sound versions (passed_one version.filter flight)
+    (batch-passed settles state sound flight old version.filter (tasks 0 version (omega arith)))
+    (tasks-left state flight version versions tasks apart) (apart-rest version versions apart)
 
 -- a batch is sound as it is given back, whether it was in a hand or not
 batch-given : Settles → (state : State) → IsSound state → (flight : Flight) → IsSoundBatch (frame_words state) (tables_of state) state.lives state.accepted flight
@@ -77,17 +121,31 @@ batch-given settles state sound flight old of_hand = by_hand flight.hand of_hand
   where
     by_hand : (o : Option Hand) → IfSome o (IsSoundHand (length state.seats) state.lives.filters (tables_of state) flight)
         → IsSoundBatch (frame_words state) (tables_of state) state.lives state.accepted
-        (record flight { rows = option_map_or (λ hand. passed_by hand.version.filter flight.rows) o flight.rows; hand = None })
+        (record flight { rows = option_map_or (λ hand. passed_through hand.versions flight.rows) o flight.rows; hand = None })
     by_hand None h = batch-stays (frame_words state) (tables_of state) state.lives state.accepted flight None old
-    by_hand (Some hand) h = batch-passed settles state sound flight old hand h
+    by_hand (Some hand) h = batch-through settles state sound hand.versions flight old h.each h.apart
+
+-- the rows of a batch behind some versions are those of its positions
+record KeepsRows (before after : Rows) : Type 0 where
+  pub number : after.number ≡ before.number
+  pub first : after.first ≡ before.first
+  pub count : after.count ≡ before.count
+
+rows-through : (versions : List FilterVersion) (rows : Rows) → KeepsRows rows (passed_through versions rows)
+rows-through [] rows = record { number = refl; first = refl; count = refl }
+rows-through (version ∷ versions) rows =
+    let rest = rows-through versions (passed_by version.filter rows) in
+    record { number = rest.number; first = rest.first; count = rest.count }
 
 place-given : (flight : Flight) → KeepsPlace flight (given_back flight)
 place-given flight = by_hand flight.hand
   where
     by_hand : (o : Option Hand) → KeepsPlace flight
-        (record flight { rows = option_map_or (λ hand. passed_by hand.version.filter flight.rows) o flight.rows; hand = None })
+        (record flight { rows = option_map_or (λ hand. passed_through hand.versions flight.rows) o flight.rows; hand = None })
     by_hand None = record { number = refl; first = refl; count = refl; roster = refl }
-    by_hand (Some hand) = record { number = refl; first = refl; count = refl; roster = refl }
+    by_hand (Some hand) =
+        let rows = rows-through hand.versions flight.rows in
+        record { number = rows.number; first = rows.first; count = rows.count; roster = refl }
 
 abbrev given : (batch : ℕ) → Flight → Flight
 given batch flight = cond {A = Flight} (eqb flight.rows.number batch) (given_back flight) flight

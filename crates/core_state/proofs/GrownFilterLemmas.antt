@@ -1,5 +1,6 @@
 -- Filters and hands stay sound where the tables grow.
-use Rattle.core_state.proofs.Words.{◌<◌, ◌↔◌, ◌∙◌, ◌≡◌, ◌≤◌, Accepted, accepted_at, ap, AreSoundFilters, AreSoundHands, arith, Contains, DimensionRow, Encodes, Entry, eqb, Filter, filter_dimensions, FitsSlot, Flight, get_or, Hand, Has, Held, IfSome_then, IsOnRoster, IsSound, IsSoundFilter, IsSoundHand, IsSoundQuery, IsTrue, length, length-append, List, OnRoster, Query, rows_in, selection_in, slot_at, SlotState, Some, State, Store, subst, sym, tables_by, tables_of, takes, vector_of, ℕ}
+use Rattle.core_state.proofs.Words.{◌<◌, ◌↔◌, ◌∙◌, ◌≡◌, ◌≤◌, Accepted, accepted_at, All-weaker, ap, AreSoundFilters, AreSoundHands, arith, Contains, DimensionRow, Encodes, Entry, eqb, Filter, filter_dimensions, FitsSlot, Flight, get_or, Hand, Has, Held, IfSome_then, IsOnRoster, IsSound, IsSoundFilter, IsSoundHand, IsSoundQuery, IsTrue, length, length-append, List, OnRoster, Query, rows_in, selection_in, slot_at, SlotState, Some, State, Store, subst, sym, tables_by, tables_of, takes, vector_of, ℕ}
+use Rattle.core_state.specs.Flown.{IsSoundTask}
 use Rattle.core_state.proofs.AcceptedLemmas.{accepted-on, find-holds}
 use Rattle.core_state.proofs.FoundLemmas.{some-at, some-by}
 use Rattle.core_state.proofs.GrownRowsLemmas.{Behind, Grows, some-behind}
@@ -81,18 +82,28 @@ filters-grown state entries sound grows = record {
       (sound.filters.set dimension);
 }
 
-pub hand-grown : (state : State) (entries : List Entry) → IsSound state → Grows (tables_of state) (tables_by entries) → (flight : Flight) (hand : Hand)
+task-grown : (state : State) (entries : List Entry) → IsSound state → Grows (tables_of state) (tables_by entries) → (flight : Flight) (filter : Filter)
     → ((k : ℕ) (d : OnRoster) → k < length flight.roster → IsOnRoster state.lives state.accepted (get_or flight.roster k d))
-    → IsSoundHand (length state.seats) state.lives.filters (tables_of state) flight hand → IsSoundHand (length state.seats) state.lives.filters (tables_by entries) flight hand
-hand-grown state entries sound grows flight hand roster old = record {
-  seat = old.seat;
+    → IsSoundTask state.lives.filters (tables_of state) flight filter → IsSoundTask state.lives.filters (tables_by entries) flight filter
+task-grown state entries sound grows flight filter roster old = record {
   table = old.table;
   is_filter = old.is_filter;
   not_passed = old.not_passed;
   encodes = λ k d low.
       let entry = get_or flight.roster k d in
-      encodes-grown (tables_of state) (tables_by entries) hand.version.filter entry.slot entry.query entry.snapshot grows
+      encodes-grown (tables_of state) (tables_by entries) filter entry.slot entry.query entry.snapshot grows
       (snapshot-on state sound entry (roster k d low)) (old.encodes k d low);
+}
+
+pub hand-grown : (state : State) (entries : List Entry) → IsSound state → Grows (tables_of state) (tables_by entries) → (flight : Flight) (hand : Hand)
+    → ((k : ℕ) (d : OnRoster) → k < length flight.roster → IsOnRoster state.lives state.accepted (get_or flight.roster k d))
+    → IsSoundHand (length state.seats) state.lives.filters (tables_of state) flight hand → IsSoundHand (length state.seats) state.lives.filters (tables_by entries) flight hand
+hand-grown state entries sound grows flight hand roster old = record {
+  seat = old.seat;
+  each = All-weaker (λ version. IsSoundTask state.lives.filters (tables_of state) flight version.filter)
+      (λ version. IsSoundTask state.lives.filters (tables_by entries) flight version.filter)
+      (λ version. task-grown state entries sound grows flight version.filter roster) hand.versions old.each;
+  apart = old.apart;
 }
 
 pub hands-grown : (state : State) (entries : List Entry) → IsSound state → Grows (tables_of state) (tables_by entries)

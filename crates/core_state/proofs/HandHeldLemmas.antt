@@ -1,5 +1,6 @@
 -- What a worker took stays right while it holds it, whatever is committed meanwhile.
-use Rattle.core_state.proofs.Words.{◌*◌, ◌++◌, ◌+◌, ◌<◌, ◌↔◌, ◌∙◌, ◌≡◌, AcceptsAll, All, All-contains, ap, arith, changes_of, Contains, empty_store, Entry, filter_dimensions, Flight, frame_words, Hand, Has, IfSome, IfSome_then, IsOnRoster, IsSome, IsSound, IsSoundBatch, IsSoundHand, length, List, None, Option, refl, slice_get, Some, State, subst, sym, TableDef, tables_by, tables_of, ℕ}
+use Rattle.core_state.proofs.Words.{◌*◌, ◌++◌, ◌+◌, ◌<◌, ◌↔◌, ◌∙◌, ◌≡◌, AcceptsAll, All, All-contains, All-weaker, ap, arith, changes_of, Contains, empty_store, Entry, filter_dimensions, Flight, frame_words, Hand, Has, IfSome, IfSome_then, IsOnRoster, IsSome, IsSound, IsSoundBatch, IsSoundHand, length, List, None, Option, refl, slice_get, Some, State, subst, sym, TableDef, tables_by, tables_of, ℕ}
+use Rattle.core_state.specs.Flown.{IsSoundTask}
 use Rattle.core_state.specs.Hands.{StandsFor}
 use Rattle.core_state.proofs.FoundLemmas.{some-at}
 use Rattle.core_state.proofs.GivenLemmas.{Settles}
@@ -19,7 +20,7 @@ fact-there state flight sound flies = by_fact (tables_of state).schema.fact refl
     by_fact (Some table) some = refl
 
 -- the tables of a later core are those of an earlier one, grown
-later-grown : (before after : State) (flight : Flight) (more : List Entry) → IsSound before → IsSound after
+pub later-grown : (before after : State) (flight : Flight) (more : List Entry) → IsSound before → IsSound after
     → after.entries ≡ before.entries ++ more → Contains before.scan.flights flight → Grows (tables_of before) (tables_of after)
 later-grown before after flight more sound later entries flies =
     subst (λ all. Grows (tables_of before) (tables_by all)) (sym entries)
@@ -60,17 +61,22 @@ batch-held settles before after flight home sound later settings grows old now a
     grown : IsSoundBatch (frame_words before) (tables_by after.entries) before.lives before.accepted flight
     grown = batch-grown before after.entries sound (settles (changes_of before.entries) sound.store) grows flight old
 
--- a version that a worker took is sound in a later core
+-- what a worker took is sound in a later core
 hand-held : (before after : State) (flight : Flight) (hand : Hand) → IsSound before → IsSound after → after.settings ≡ before.settings
     → Grows (tables_of before) (tables_of after) → All (IsOnRoster before.lives before.accepted) flight.roster
     → IsSoundHand (length before.seats) before.lives.filters (tables_of before) flight hand
     → IsSoundHand (length after.seats) after.lives.filters (tables_of after) flight hand
 hand-held before after flight hand sound later settings grows roster old = record {
   seat = subst (λ n. hand.worker < n) (sound.seats.count ∙ ap (λ settings. settings.seats) (sym settings) ∙ sym later.seats.count) old.seat;
-  table = old.table;
-  is_filter = (same-filters before after sound later grows hand.version.filter.dimension).1 old.is_filter;
-  not_passed = old.not_passed;
-  encodes = grown.encodes;
+  each = All-weaker (λ version. IsSoundTask before.lives.filters (tables_by after.entries) flight version.filter)
+      (λ version. IsSoundTask after.lives.filters (tables_of after) flight version.filter)
+      (λ version task. record {
+        table = task.table;
+        is_filter = (same-filters before after sound later grows version.filter.dimension).1 task.is_filter;
+        not_passed = task.not_passed;
+        encodes = task.encodes;
+      }) hand.versions grown.each;
+  apart = old.apart;
 }
   where
     grown : IsSoundHand (length before.seats) before.lives.filters (tables_by after.entries) flight hand

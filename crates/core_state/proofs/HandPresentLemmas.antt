@@ -1,13 +1,15 @@
 -- A batch gets the same bits from each filter of a dimension that has every query on its roster.
-use Rattle.core_state.proofs.Words.{◌+◌, ◌<◌, ◌↔◌, ◌∙◌, ◌≡◌, [], All-contains, Any, Any-from_list_any, arith, bits_left_at, Bool, changes_of, Contains, Encodes, eqb, eqb-true, Filter, filtered, FilterVersion, Flight, frame_words, get_or, get_or-map-range_with_len, Hand, Has, IfSome, is_visible, IsMatched, IsOnRoster, IsOver, IsSettled, IsSound, IsSoundBatch, IsSoundFilter, IsSoundHand, IsSoundRow, IsTrue, joined, key_place, length, length-map-range_with_len, List, list_all, OnRoster, passes, PlainVersion, range_with_len, refl, rows_in, slice_get, slice_get_at, Some, State, subst, sym, tables_of, takes_at, true, vector_of, version_at, ℕ}
+use Rattle.core_state.proofs.Words.{◌+◌, ◌<◌, ◌↔◌, ◌∙◌, ◌∷◌, ◌≡◌, [], All-contains, Any, Any-from_list_any, ap, arith, bits_left_at, Bool, changes_of, Contains, drop, Encodes, eqb, eqb-true, Filter, filtered, FilterVersion, Flight, frame_words, get_or, get_or-map-range_with_len, Hand, Has, IfSome, is_visible, IsMatched, IsOnRoster, IsOver, IsSettled, IsSound, IsSoundBatch, IsSoundFilter, IsSoundHand, IsSoundRow, IsTrue, joined, key_place, length, length-map-range_with_len, List, list_all, map, None, OnRoster, passes, PlainVersion, range_with_len, refl, Rows, rows_in, slice_get, slice_get_at, slice_index_or, Some, State, subst, suc, sym, tables_of, takes_at, true, vector_of, version_at, with_number, ℕ}
 use Rattle.std.proofs.lemmas.List.FromFn.{fill_by_all}
 use Rattle.bit_words.proofs.SetLemmas.{same_members}
+use Rattle.core_state.specs.Cutting.{passed_by, passed_through}
+use Rattle.core_state.specs.Flown.{IsSoundTask}
 use Rattle.core_state.proofs.AcceptedLemmas.{find-holds}
-use Rattle.core_state.proofs.FoundLemmas.{find-passes, some-at}
+use Rattle.core_state.proofs.FoundLemmas.{some-at}
 use Rattle.core_state.proofs.GiveLemmas.{SaysByKey, all-three, asked, given-bits}
-use Rattle.core_state.proofs.GivenLemmas.{Settles, entry-over}
+use Rattle.core_state.proofs.GivenLemmas.{AreTasks, Settles, apart-rest, batch-passed, entry-over, passed_one, tasks-left}
 use Rattle.core_state.proofs.KeyedLemmas.{says-by-key}
-use Rattle.core_state.proofs.TakeLemmas.{encodes-there}
+use Rattle.core_state.proofs.TakeLemmas.{AreApart, dimension-found, encodes-there}
 
 -- a filter of a dimension has every query on a roster
 pub record HasRoster (state : State) (flight : Flight) (dimension : ℕ) (filter : Filter) : Type 0 where
@@ -136,34 +138,68 @@ rows-same settles state sound flight of_batch dimension filter other first secon
     settled : IsSettled (tables_of state)
     settled = settles (changes_of state.entries) sound.store
 
--- a version in a hand leaves a batch the bits that the present version leaves it
-pub same-bits : Settles → (state : State) (flight : Flight) (hand : Hand) (present : FilterVersion) → IsSound state
-    → Contains state.scan.flights flight → flight.hand ≡ Some hand
-    → version_at state.filters.versions hand.version.filter.dimension ≡ Some present
-    → filtered hand.version.filter flight.rows.keys flight.rows.bits ≡ filtered present.filter flight.rows.keys flight.rows.bits
-same-bits settles state flight hand present sound flies held found =
-    rows-same settles state sound flight of_batch hand.version.filter.dimension hand.version.filter present.filter
+-- the rows of a batch with other bits, that have passed one dimension more
+abbrev rows_with : Rows → (bits : List ℕ) → (dimension : ℕ) → Rows
+rows_with rows bits dimension = record rows { bits = bits; passed = with_number rows.passed dimension }
+
+-- a batch behind a version that it may pass is the batch behind the present one
+one-same : Settles → (state : State) → IsSound state → (flight : Flight) → IsSoundBatch (frame_words state) (tables_of state) state.lives state.accepted flight
+    → (filter : Filter) (present : FilterVersion) → IsSoundTask state.lives.filters (tables_of state) flight filter
+    → version_at state.filters.versions filter.dimension ≡ Some present
+    → passed_by filter flight.rows ≡ passed_by present.filter flight.rows
+one-same settles state sound flight of_batch filter present task found =
+    ap (λ bits. rows_with flight.rows bits filter.dimension)
+    (rows-same settles state sound flight of_batch filter.dimension filter present.filter
     (record {
       same = refl;
-      is_filter = of_hand.is_filter;
-      encodes = λ entry on. All-contains (λ e. Encodes hand.version.filter e.slot e.query e.snapshot
-          (rows_in (tables_of state).dimensions hand.version.filter.dimension)) flight.roster entry of_hand.encodes on;
+      is_filter = task.is_filter;
+      encodes = λ entry on. All-contains (λ e. Encodes filter e.slot e.query e.snapshot
+          (rows_in (tables_of state).dimensions filter.dimension)) flight.roster entry task.encodes on;
     })
     (record {
-      same = eqb-true present.filter.dimension hand.version.filter.dimension
-          (find-passes (λ v. eqb v.filter.dimension hand.version.filter.dimension) state.filters.versions present found);
+      same = same;
       is_filter = of_filter.is_filter;
       encodes = λ entry on. encodes-there state sound present.filter of_filter entry
           (All-contains (IsOnRoster state.lives state.accepted) flight.roster entry of_batch.roster on);
-    })
+    }))
+    ∙ ap (rows_with flight.rows (filtered present.filter flight.rows.keys flight.rows.bits)) (sym same)
   where
-    of_batch : IsSoundBatch (frame_words state) (tables_of state) state.lives state.accepted flight
-    of_batch = All-contains (IsSoundBatch (frame_words state) (tables_of state) state.lives state.accepted) state.scan.flights flight sound.batches flies
+    same : present.filter.dimension ≡ filter.dimension
+    same = dimension-found state.filters.versions filter.dimension present found
 
+    of_filter : IsSoundFilter state.accepted (tables_of state) state.lives.slots state.lives.filters present.filter
+    of_filter = find-holds (λ v. IsSoundFilter state.accepted (tables_of state) state.lives.slots state.lives.filters v.filter)
+        (λ v. eqb v.filter.dimension filter.dimension) state.filters.versions present found sound.filters.each
+
+-- a batch behind versions that it may pass, of each filter one, is the batch behind the present ones
+all-same : Settles → (state : State) → IsSound state → (versions presents : List FilterVersion) (flight : Flight)
+    → IsSoundBatch (frame_words state) (tables_of state) state.lives state.accepted flight → AreTasks state flight versions → AreApart versions
+    → map (λ version. version_at state.filters.versions version.filter.dimension) versions ≡ map Some presents
+    → passed_through versions flight.rows ≡ passed_through presents flight.rows
+all-same settles state sound [] [] flight of_batch tasks apart found = refl
+all-same settles state sound [] (present ∷ presents) flight of_batch tasks apart found =
+    absurd (let count : 0 ≡ suc (length (map Some presents)) = ap length found in omega arith)
+all-same settles state sound (version ∷ versions) [] flight of_batch tasks apart found =
+    absurd (let count : suc (length (map (λ (v : FilterVersion). version_at state.filters.versions v.filter.dimension) versions)) ≡ 0 =
+    ap length found in omega arith)
+all-same settles state sound (version ∷ versions) (present ∷ presents) flight of_batch tasks apart found =
+    let task : IsSoundTask state.lives.filters (tables_of state) flight version.filter = tasks 0 version (omega arith) in
+    all-same settles state sound versions presents (passed_one version.filter flight)
+    (batch-passed settles state sound flight of_batch version.filter task)
+    (tasks-left state flight version versions tasks apart) (apart-rest version versions apart) (ap (drop 1) found)
+    ∙ ap (passed_through presents)
+    (one-same settles state sound flight of_batch version.filter present task (ap (λ all. slice_index_or all 0 None) found))
+
+-- the versions in a hand leave a batch the bits that the present versions leave it
+pub same-rows : Settles → (state : State) (flight : Flight) (hand : Hand) (presents : List FilterVersion) → IsSound state
+    → Contains state.scan.flights flight → flight.hand ≡ Some hand
+    → map (λ version. version_at state.filters.versions version.filter.dimension) hand.versions ≡ map Some presents
+    → passed_through hand.versions flight.rows ≡ passed_through presents flight.rows
+same-rows settles state flight hand presents sound flies held found =
+    all-same settles state sound hand.versions presents flight
+    (All-contains (IsSoundBatch (frame_words state) (tables_of state) state.lives state.accepted) state.scan.flights flight sound.batches flies)
+    of_hand.each of_hand.apart found
+  where
     of_hand : IsSoundHand (length state.seats) state.lives.filters (tables_of state) flight hand
     of_hand = some-at (IsSoundHand (length state.seats) state.lives.filters (tables_of state) flight) flight.hand hand held
         (All-contains (λ f. IfSome f.hand (IsSoundHand (length state.seats) state.lives.filters (tables_of state) f)) state.scan.flights flight sound.hands.each flies)
-
-    of_filter : IsSoundFilter state.accepted (tables_of state) state.lives.slots state.lives.filters present.filter
-    of_filter = find-holds (λ v. IsSoundFilter state.accepted (tables_of state) state.lives.slots state.lives.filters v.filter) (λ v. eqb v.filter.dimension hand.version.filter.dimension)
-        state.filters.versions present found sound.filters.each

@@ -10,6 +10,7 @@ pub mod ReserveLemmas
 pub mod FlownLemmas
 pub mod AcceptedLemmas
 pub mod TakeLemmas
+pub mod CarryLemmas
 pub mod StartLemmas
 pub mod PermutedLemmas
 pub mod RowsLemmas
@@ -58,6 +59,7 @@ pub mod SubmitLemmas
 pub mod HandPresentLemmas
 pub mod HandTablesLemmas
 pub mod HandHeldLemmas
+pub mod OutsideLemmas
 pub mod RowReplyLemmas
 pub mod RowLemmas
 pub mod MoverLemmas

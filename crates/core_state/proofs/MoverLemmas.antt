@@ -1,8 +1,8 @@
 -- A step moves no row but that of its mover: which hands stay at each event, and what an abandoned query leaves of a row.
-use Rattle.core_state.proofs.Words.{◌++◌, ◌∙◌, ◌∷◌, ◌≡◌, ◌≢◌, [], Abandon, Accepted, accepted_at, after_abandoning, after_cutting, after_distribute, after_give, after_step, after_steps, after_submitting, after_take, after_taking, All, All-append, All-cons, All-head, All-nil, All-tail, all_pairs_head, all_pairs_tail, AllPairs, ap, append_assoc, Bool, cond, Cut, Distribute, Done, empty_seat, Entry, eqb, eqb-true, Event, false, FilterVersion, find, Flight, flight_at, get_or, get_or-set_other, Give, given_back, Hand, held_by, IfSome, is_held_by, IsEnabled, IsSound, IsThrough, List, MayDistribute, MaySpoil, MayStep, MayStepAll, MayTake, ne_eqb, None, not, Option, option_map, option_map_or, refl, Replying, seat_at, Some, State, Step, Submit, subst, sym, Take, true, Wanting, without_pending, ℕ}
+use Rattle.core_state.proofs.Words.{◌++◌, ◌∙◌, ◌∷◌, ◌≡◌, ◌≢◌, [], Abandon, Accepted, accepted_at, after_abandoning, after_carry, after_cutting, after_distribute, after_give, after_step, after_steps, after_submitting, after_take, after_taking, All, All-append, All-cons, All-head, All-nil, All-tail, all_pairs_head, all_pairs_tail, AllPairs, ap, append_assoc, Bool, Carry, cond, Cut, Distribute, Done, empty_seat, Entry, eqb, eqb-true, Event, false, FilterVersion, find, Flight, flight_at, get_or, get_or-set_other, Give, given_back, Hand, held_by, IfSome, is_held_by, IsEnabled, IsSound, IsThrough, List, MayCarry, MayDistribute, MaySpoil, MayStep, MayStepAll, MayTake, ne_eqb, None, not, Option, option_map, option_map_or, refl, Replying, seat_at, Some, State, Step, Submit, subst, sym, Take, true, Wanting, without_pending, ℕ}
 use Rattle.core_state.specs.Cutting.{with_flight}
 use Rattle.core_state.specs.Events.{IsWanting, after_event, after_want}
-use Rattle.core_state.specs.Found.{next_filter}
+use Rattle.core_state.specs.Found.{filters_left, next_filter}
 use Rattle.core_state.specs.Movers.{AreOfSeat, IsOfSeat, mover_of_event}
 use Rattle.core_state.specs.Rows.{AbandonsRow, IsMindful, sight_of}
 use Rattle.core_state.proofs.AcceptedLemmas.{find-holds}
@@ -110,14 +110,25 @@ hands-taken worker batch other state may sound apart =
   where
     taken : Flight → Flight
     taken flight = record flight {
-      hand = option_map (λ version. record { worker = worker; version = version }) (next_filter state.filters flight);
+      hand = option_map (λ version. record { worker = worker; versions = version ∷ [] }) (next_filter state.filters flight);
     }
 
     by_next : (next : Option FilterVersion)
-        → option_map_or (λ h. eqb h.worker other) (option_map {U = Hand} (λ version. record { worker = worker; version = version }) next) false
+        → option_map_or (λ h. eqb h.worker other) (option_map {U = Hand} (λ version. record { worker = worker; versions = version ∷ [] }) next) false
         ≡ false
     by_next None = refl
     by_next (Some version) = ne_eqb worker other (λ same. apart (sym same))
+
+-- one that is carried was idle, and is in the worker's hand then
+hands-carried : (worker batch other : ℕ) (state : State) → MayCarry worker batch state → IsSound state → other ≢ worker
+    → held_by (after_carry worker batch state).scan.flights other ≡ held_by state.scan.flights other
+hands-carried worker batch other state may sound apart =
+    let found = some-of (flight_at state.scan.flights batch) may.there in
+    let idle : found.0.hand ≡ None =
+    some-at (λ (f : Flight). f.hand ≡ None) (flight_at state.scan.flights batch) found.0 found.1 may.idle in
+    held-changed other batch (λ flight. record flight { hand = Some (record { worker = worker; versions = filters_left state.filters flight }) })
+    (λ flight. ne_eqb worker other (λ same. apart (sym same))) state.scan.flights
+    (free-idle other batch state.scan.flights found.0 found.1 idle sound.numbers.apart)
 
 -- one that is given back was in the worker's hand, and is in none then
 hands-given : (worker other : ℕ) (state : State) → IsSound state → other ≢ worker
@@ -199,6 +210,9 @@ mindful-event Cut state seat may sound of =
 mindful-event (Take worker batch) state seat may sound of =
     mindful-frame seat state (after_take worker batch state) (makes-done (Take worker batch) state tt may).frame
     (λ other apart. hands-taken worker batch other state may sound (λ same. apart (same ∙ of)))
+mindful-event (Carry worker batch) state seat may sound of =
+    mindful-frame seat state (after_carry worker batch state) (makes-done (Carry worker batch) state tt may).frame
+    (λ other apart. hands-carried worker batch other state may sound (λ same. apart (same ∙ of)))
 mindful-event (Give worker) state seat may sound of =
     mindful-frame seat state (after_give worker state) (makes-done (Give worker) state tt may).frame
     (λ other apart. hands-given worker other state sound (λ same. apart (same ∙ of)))

@@ -1,5 +1,5 @@
 -- A scan of an empty core, and what the other events leave of a scan.
-use Rattle.core_state.proofs.Words.{◌<◌, ◌∙◌, ◌∷◌, ◌≡◌, [], Accepted, after_build_wants, after_reorder, after_take, after_taking, ap, arith, Build, CanBuild, Clear, Distribute, empty_core, Event, Finish, forgotten, Free, get_or, get_or-replicate, Give, holder_of, IsEnabled, IsScannedAs, IsSound, length, length-replicate, life_of, List, Lives, map, None, Option, option_and_then, outcome_of, Pending, refl, Release, Reorder, replicate, Reserve, RunSettings, Scanning, seat_at, slot_at, start_in, State, Submit, subst, sym, tables_of, take, Take, without_groups, ℕ}
+use Rattle.core_state.proofs.Words.{◌<◌, ◌∙◌, ◌∷◌, ◌≡◌, [], Accepted, after_build_wants, after_carry, after_reorder, after_take, after_taking, ap, arith, Build, CanBuild, Carry, Clear, Distribute, empty_core, Event, Finish, forgotten, Free, get_or, get_or-replicate, Give, holder_of, IsEnabled, IsScannedAs, IsSound, length, length-replicate, life_of, List, Lives, map, None, Option, option_and_then, outcome_of, Pending, refl, Release, Reorder, replicate, Reserve, RunSettings, Scanning, seat_at, slot_at, start_in, State, Submit, subst, sym, tables_of, take, Take, without_groups, ℕ}
 use Rattle.continuous_scan.specs.Range.{new_scan}
 use Rattle.core_state.specs.Events.{after_event}
 use Rattle.core_state.specs.Scanned.{LeavesScan}
@@ -25,6 +25,8 @@ scanned-event state scan (Reserve query slot) sound may leaves = scanned-views s
 scanned-event state scan (Build query dimension) sound may leaves = scanned-views state _ scan (views-build state query dimension)
 scanned-event state scan (Take worker batch) sound may leaves = scanned-views state (after_take worker batch state) scan
     (views-all state (after_take worker batch state) (record { position = refl; accepted = refl; queries = refl; slots = refl }))
+scanned-event state scan (Carry worker batch) sound may leaves = scanned-views state (after_carry worker batch state) scan
+    (views-all state (after_carry worker batch state) (record { position = refl; accepted = refl; queries = refl; slots = refl }))
 scanned-event state scan (Give worker) sound may leaves = scanned-views state _ scan (views-give state worker)
 scanned-event state scan (Distribute batch) sound may leaves = scanned-distribute state scan batch [] sound may.there
 scanned-event state scan (Finish slot) sound may leaves = scanned-finish state _ scan slot (views-finish state slot sound may)

@@ -1,5 +1,5 @@
 -- Each step keeps a core sound, and so does each list of steps.
-use Rattle.core_state.proofs.Words.{◌<◌, ◌∷◌, [], Abandon, after_abandoning, after_build, after_build_wants, after_clear, after_cutting, after_distribute, after_finish, after_give, after_release, after_reorder, after_reserving, after_start, after_step, after_steps, after_submitting, after_take, after_taking, All-nil, ap, AreFed, arith, Build, CanAbandon, CanBuild, CanClear, CanFree, CanRun, CanSpoil, Clear, Cut, Distribute, Done, Event, false, Finish, Give, held_by, is_begun, IsEnabled, IsFed, IsSome, IsSound, length, List, MayCut, MayDistribute, MayFinish, MayReserve, MaySpoil, MayStep, MayStepAll, MayTake, next_ready, option_map_or, Release, Reorder, Replying, Reserve, Start, State, Statement, Step, Submit, Take, Wanting, ℕ}
+use Rattle.core_state.proofs.Words.{◌<◌, ◌∷◌, [], Abandon, after_abandoning, after_build, after_build_wants, after_carry, after_clear, after_cutting, after_distribute, after_finish, after_give, after_release, after_reorder, after_reserving, after_start, after_step, after_steps, after_submitting, after_take, after_taking, All-nil, ap, AreFed, arith, Build, CanAbandon, CanBuild, CanClear, CanFree, CanRun, CanSpoil, Carry, Clear, Cut, Distribute, Done, Event, false, Finish, Give, held_by, is_begun, IsEnabled, IsFed, IsSome, IsSound, length, List, MayCarry, MayCut, MayDistribute, MayFinish, MayReserve, MaySpoil, MayStep, MayStepAll, MayTake, next_ready, option_map_or, Release, Reorder, Replying, Reserve, Start, State, Statement, Step, Submit, Take, Wanting, ℕ}
 use Rattle.core_state.specs.Events.{after_event, after_want}
 
 -- what the laws say of the events
@@ -11,6 +11,7 @@ pub record EventsKeep : Type 0 where
   pub start : (query : ℕ) (state : State) → CanRun query state.lives → IsSound state → IsSound (after_start query state)
   pub cut : (state : State) → MayCut state → IsSound state → IsSound (after_cutting state)
   pub take : (worker batch : ℕ) (state : State) → MayTake worker batch state → IsSound state → IsSound (after_take worker batch state)
+  pub carry : (worker batch : ℕ) (state : State) → MayCarry worker batch state → IsSound state → IsSound (after_carry worker batch state)
   pub give : (worker : ℕ) (state : State) → IsSome (held_by state.scan.flights worker) → IsSound state → IsSound (after_give worker state)
   pub distribute : (batch : ℕ) (spoiled : List ℕ) (state : State) → MayDistribute batch state → AreFed batch spoiled state
       → IsSound state → IsSound (after_distribute batch spoiled state)
@@ -36,6 +37,7 @@ sound-event keep (Build query dimension) state may sound = keep.build query dime
 sound-event keep (Start query) state may sound = keep.start query state may sound
 sound-event keep Cut state may sound = keep.cut state may sound
 sound-event keep (Take worker batch) state may sound = keep.take worker batch state may sound
+sound-event keep (Carry worker batch) state may sound = keep.carry worker batch state may sound
 sound-event keep (Give worker) state may sound = keep.give worker state may sound
 sound-event keep (Distribute batch) state may sound = keep.distribute batch [] state may (none-fed batch state) sound
 sound-event keep (Finish slot) state may sound = keep.finish slot state may sound

@@ -2,7 +2,7 @@
 use Rattle.core_state.proofs.Words.{◌&&◌, ◌+◌, ◌∷◌, ◌≡◌, ◌≤◌, [], All, All-cons, All-head, All-tail, ap, arith, Bool, cond, counted, eqb, false, Filter, FilterVersion, Flight, Hand, length, List, None, Option, option_map_or, range_with_len, Rows, slice_index_or, Some, suc, tallies_after, Tally, true, ℕ}
 use Rattle.std.specs.Prelude.{fold}
 use Rattle.dimension_filter.specs.Pass.{bits_left, drops_below, is_asked_at, key_in, probes_below}
-use Rattle.core_state.specs.Cutting.{with_batch, with_tally}
+use Rattle.core_state.specs.Cutting.{passed_by, tallies_through, with_batch, with_tally}
 
 -- of those that pass a test no more pass another one, too
 fewer-from : (p q : ℕ → Bool) (few many : ℕ) (xs : List ℕ) → few ≤ many
@@ -48,6 +48,17 @@ tallied dimension change keeps (version ∷ versions) (tally ∷ tallies) count 
     by_test true few = keeps tally few
     by_test false few = few
 
+-- each tally has at most as many drops as probes after a batch passed some versions, one after the other
+tallied-through : (passed : List FilterVersion) (rows : Rows) (versions : List FilterVersion) (tallies : List Tally) → length tallies ≡ length versions
+    → All (λ tally. tally.drops ≤ tally.probes) tallies
+    → (length (tallies_through passed rows versions tallies) ≡ length versions)
+    × All (λ tally. tally.drops ≤ tally.probes) (tallies_through passed rows versions tallies)
+tallied-through [] rows versions tallies count all = (count, all)
+tallied-through (version ∷ passed) rows versions tallies count all =
+    let change : Tally → Tally = with_batch version.filter rows in
+    let after = tallied version.filter.dimension change (tally-batch version.filter rows) versions tallies count all in
+    tallied-through passed (passed_by version.filter rows) versions (with_tally version.filter.dimension change versions tallies) after.0 after.1
+
 -- the tallies after a batch is given back
 pub tallied-after : (flight : Flight) (versions : List FilterVersion) (tallies : List Tally) → length tallies ≡ length versions
     → All (λ tally. tally.drops ≤ tally.probes) tallies
@@ -56,9 +67,8 @@ pub tallied-after : (flight : Flight) (versions : List FilterVersion) (tallies :
 tallied-after flight versions tallies count all = by_hand flight.hand
   where
     After : Option Hand → List Tally
-    After o = option_map_or (λ hand. with_tally hand.version.filter.dimension (with_batch hand.version.filter flight.rows) versions tallies) o tallies
+    After o = option_map_or (λ hand. tallies_through hand.versions flight.rows versions tallies) o tallies
 
     by_hand : (o : Option Hand) → (length (After o) ≡ length versions) × All (λ tally. tally.drops ≤ tally.probes) (After o)
     by_hand None = (count, all)
-    by_hand (Some hand) = tallied hand.version.filter.dimension (with_batch hand.version.filter flight.rows)
-        (tally-batch hand.version.filter flight.rows) versions tallies count all
+    by_hand (Some hand) = tallied-through hand.versions flight.rows versions tallies count all

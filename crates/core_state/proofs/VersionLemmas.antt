@@ -1,14 +1,15 @@
 -- A core in which a filter has a next version, and a slot another state.
-use Rattle.core_state.proofs.Words.{◌+◌, ◌<◌, ◌↔◌, ◌∙◌, ◌∷◌, ◌≡◌, ◌≢◌, ◌≤◌, [], accepted_at, All, All-cons, All-head, All-map, All-nil, All-tail, ap, AreSoundVersions, arith, Bool, Clearing, cond, DimensionRow, Encodes, eqb, eqb-false, eqb-true, false, Filter, Filters, FilterVersion, FitsSlot, Flight, Free, get_or, gets_rows, Hand, Has, Held, IfSome, IfSome_then, IsClearOf, IsOnRoster, IsPermutation, IsPresentByNumber, IsSound, IsSoundFilter, IsTrue, last_after, last_number, length, length-map, length-set, life_in, List, map, next_number, None, OnRoster, Option, option_map, Query, refl, rows_in, selection_in, set, slice_get, slot_at, SlotState, Some, State, subst, sym, tables_of, takes, true, vector_of, version_at, versions_in_hands, ℕ}
+use Rattle.core_state.proofs.Words.{◌++◌, ◌+◌, ◌<◌, ◌↔◌, ◌∙◌, ◌∷◌, ◌≡◌, ◌≢◌, ◌≤◌, [], accepted_at, All, All-append, All-cons, All-contains, All-head, All-map, All-nil, All-tail, ap, AreSoundVersions, arith, Bool, Clearing, cond, Contains-append_right, Contains-get_or, DimensionRow, Encodes, eqb, eqb-false, eqb-true, false, Filter, Filters, FilterVersion, FitsSlot, Flight, Free, get_or, gets_rows, Hand, Has, Held, IfSome, IfSome_then, IsClearOf, IsOnRoster, IsPermutation, IsPresentByNumber, IsSound, IsSoundFilter, IsTrue, last_after, last_number, length, length-map, length-set, life_in, List, map, next_number, None, OnRoster, Option, option_map, Query, refl, rows_in, selection_in, set, slice_get, slot_at, SlotState, Some, State, subst, sym, tables_of, takes, true, vector_of, version_at, versions_in_hands, ℕ}
 use Rattle.dimension_filter.specs.Filter as table
 use Rattle.dimension_filter.specs.Filter.{AreAscending, is_stored}
 use Rattle.pipeline_manager.specs.Sound as managed
+use Rattle.star_history.proofs.LoadedLemmas.{all_front}
+use Rattle.core_parts.specs.InFlight.{numbers_in_hand}
 use Rattle.core_state.proofs.CutNumberLemmas.{next-apart, next-given, still-given}
 use Rattle.core_state.proofs.FoundLemmas.{both-some}
 use Rattle.core_state.proofs.FrameLemmas.{at-set, filter-with}
 use Rattle.core_state.proofs.HeldLemmas.{entry-set, fits-set}
 use Rattle.core_state.proofs.MovedLemmas.{Holds, held_now, sound-held}
-use Rattle.core_state.proofs.TakeLemmas.{All-option, All-option_tail}
 
 -- the next version of a filter of this dimension
 abbrev pub versioned : (dimension number : ℕ) → (Filter → Filter) → FilterVersion → FilterVersion
@@ -137,25 +138,38 @@ found-versioned dimension number change keeps (version ∷ versions) at =
     by_test true rest = refl
     by_test false rest = rest
 
--- what holds of the number of the version in each hand holds of all these numbers
-some-mapped : {X : Type 0} (f : X → ℕ) (P : ℕ → Type 0) (o : Option X) → IfSome o (λ x. P (f x)) ↔ IfSome (option_map f o) P
-some-mapped f P None = (λ h. tt, λ h. tt)
-some-mapped f P (Some x) = (λ h. h, λ h. h)
+-- what holds of the number of each version in a hand holds of all these numbers
+all-numbers : (P : ℕ → Type 0) (versions : List FilterVersion) → All P (map (λ version. version.number) versions)
+    → All (λ version. P version.number) versions
+all-numbers P [] all = All-nil (λ (version : FilterVersion). P version.number)
+all-numbers P (version ∷ versions) all =
+    All-cons (λ (v : FilterVersion). P v.number) version versions (All-head P version.number (map (λ v. v.number) versions) all)
+    (all-numbers P versions (All-tail P version.number (map (λ v. v.number) versions) all))
 
-numbers-in_hands : (P : ℕ → Type 0) (flights : List Flight) → All (λ flight. IfSome flight.hand (λ hand. P hand.version.number)) flights
+numbers-in_hand : (P : ℕ → Type 0) (hand : Option Hand)
+    → IfSome hand (λ held. All (λ version. P version.number) held.versions) ↔ All P (numbers_in_hand hand)
+numbers-in_hand P None = (λ h. All-nil P, λ all. tt)
+numbers-in_hand P (Some hand) =
+    (λ each. All-map P (λ (version : FilterVersion). version.number) hand.versions each, all-numbers P hand.versions)
+
+numbers-in_hands : (P : ℕ → Type 0) (flights : List Flight)
+    → All (λ flight. IfSome flight.hand (λ hand. All (λ version. P version.number) hand.versions)) flights
     ↔ All P (versions_in_hands flights)
-numbers-in_hands P [] = (λ all. All-nil P, λ all. All-nil (λ (flight : Flight). IfSome flight.hand (λ hand. P hand.version.number)))
+numbers-in_hands P [] =
+    (λ all. All-nil P, λ all. All-nil (λ (flight : Flight). IfSome flight.hand (λ hand. All (λ version. P version.number) hand.versions)))
 numbers-in_hands P (flight ∷ flights) =
-    let first = some-mapped (λ (hand : Hand). hand.version.number) P flight.hand in
+    let first = numbers-in_hand P flight.hand in
     let rest = numbers-in_hands P flights in (
-      λ all. All-option P (option_map (λ hand. hand.version.number) flight.hand) (versions_in_hands flights)
+      λ all. All-append P (numbers_in_hand flight.hand) (versions_in_hands flights)
           (first.0 (All-head InHand flight flights all)) (rest.0 (All-tail InHand flight flights all)),
-      λ all. let parts = All-option_tail P (option_map (λ hand. hand.version.number) flight.hand) (versions_in_hands flights) all in
-          All-cons InHand flight flights (first.1 parts.0) (rest.1 parts.1),
+      λ all. All-cons InHand flight flights (first.1 (all_front P (numbers_in_hand flight.hand) (versions_in_hands flights) all))
+          (rest.1 (λ k d low. All-contains P (numbers_in_hand flight.hand ++ versions_in_hands flights) (get_or (versions_in_hands flights) k d) all
+          (Contains-append_right (numbers_in_hand flight.hand) (versions_in_hands flights) (get_or (versions_in_hands flights) k d)
+          (Contains-get_or (versions_in_hands flights) k d low)))),
     )
   where
     InHand : Flight → Type 0
-    InHand f = IfSome f.hand (λ hand. P hand.version.number)
+    InHand f = IfSome f.hand (λ hand. All (λ version. P version.number) hand.versions)
 
 -- the next version has a number that no hand has
 versions-next : (last dimension : ℕ) (change : Filter → Filter) → ((filter : Filter) → (change filter).dimension ≡ filter.dimension)
@@ -172,17 +186,20 @@ versions-next last dimension change keeps versions flights old = record {
       (subst (λ n. n ≤ last + 1) (sym next) (omega arith)) (omega arith)));
   held = λ more.
       let above = still-given last last_number more in
-      subst (λ n. All (λ (flight : Flight). IfSome flight.hand (λ hand. hand.version.number ≤ n)) flights) (sym above.1)
-      (λ k d low. IfSome_then (get_or flights k d).hand (old.held above.0 k d low) (λ hand below. omega arith));
-  present = λ k d low. both-some (λ hand. hand.version.number ≢ number) (λ hand. IsPresentByNumber versions hand.version)
-      (λ hand. IsPresentByNumber (map (versioned dimension number change) versions) hand.version)
-      (get_or flights k d).hand (λ hand. present hand.version) (apart k d low) (old.present k d low);
+      subst (λ n. All (λ (flight : Flight). IfSome flight.hand (λ hand. All (λ version. version.number ≤ n) hand.versions)) flights) (sym above.1)
+      (λ k d low. IfSome_then (get_or flights k d).hand (old.held above.0 k d low)
+      (λ hand below i e within. let under = below i e within in omega arith));
+  present = λ k d low. both-some (λ hand. All (λ version. version.number ≢ number) hand.versions)
+      (λ hand. All (IsPresentByNumber versions) hand.versions)
+      (λ hand. All (IsPresentByNumber (map (versioned dimension number change) versions)) hand.versions)
+      (get_or flights k d).hand
+      (λ hand others all i e within. present (get_or hand.versions i e) (others i e within) (all i e within)) (apart k d low) (old.present k d low);
 }
   where
     number : ℕ
     number = next_number last (versions_in_hands flights)
 
-    apart : All (λ flight. IfSome flight.hand (λ hand. hand.version.number ≢ number)) flights
+    apart : All (λ flight. IfSome flight.hand (λ hand. All (λ version. version.number ≢ number) hand.versions)) flights
     apart = (numbers-in_hands (λ n. n ≢ number) flights).1
         (next-apart last (versions_in_hands flights) (λ more. (numbers-in_hands (λ n. n ≤ last) flights).0 (old.held more)))
 

@@ -1,5 +1,5 @@
 -- What an event leaves that no seat sees: all but the lives, the filters, the scan and what is kept of queries; and what it makes of lives and scan.
-use Rattle.core_state.proofs.Words.{◌++◌, ◌-◌, ◌∙◌, ◌∷◌, ◌≡◌, ◌⊎◌, [], Abandon, Accepted, accepted_at, after_build_wants, after_distribute, after_spoil, All, All-nil, All-weaker, ap, Bool, Build, CanBuild, Clear, cond, Cut, Distribute, end_in, eqb, Event, extent_in, false, fed, Filter, Finish, first_in, first_of, flight_at, fold, forgotten, gets_rows, Give, HasAccepted, inl, inr, is_held_by, is_open, IsEnabled, IsFed, IsSomeAnd, Life, life_in, List, list_any, Lives, map, MaySpoil, None, Option, option_map, option_map_or, Pending, Query, refl, Release, Reserve, slot_of, Some, Start, started, State, Submit, subst, sym, tables_of, Take, true, unkept, versions_in, with_built, with_version, without_groups, ℕ}
+use Rattle.core_state.proofs.Words.{◌++◌, ◌-◌, ◌∙◌, ◌∷◌, ◌≡◌, ◌⊎◌, [], Abandon, Accepted, accepted_at, after_build_wants, after_distribute, after_spoil, All, All-nil, All-weaker, ap, Bool, Build, CanBuild, Carry, Clear, cond, Cut, Distribute, end_in, eqb, Event, extent_in, false, fed, Filter, Finish, first_in, first_of, flight_at, fold, forgotten, gets_rows, Give, HasAccepted, inl, inr, is_held_by, is_open, IsEnabled, IsFed, IsSomeAnd, Life, life_in, List, list_any, Lives, map, MaySpoil, None, Option, option_map, option_map_or, Pending, Query, refl, Release, Reserve, slot_of, Some, Start, started, State, Submit, subst, sym, tables_of, Take, true, unkept, versions_in, with_built, with_version, without_groups, ℕ}
 use Rattle.std.proofs.Common.{find}
 use Rattle.std.proofs.lemmas.List.Folds.{find-append}
 use Rattle.std.specs.Option.{option_or}
@@ -148,6 +148,7 @@ abbrev pub IsStill : Event → Type 0
 IsStill (Submit seat statement) = ⊥
 IsStill Cut = ⊥
 IsStill (Take worker batch) = ⊥
+IsStill (Carry worker batch) = ⊥
 IsStill (Give worker) = ⊥
 IsStill (Distribute batch) = ⊥
 IsStill (Abandon query) = ⊥
@@ -247,6 +248,8 @@ makes-done (Build query dimension) state leaves may =
 makes-done Cut state leaves may = makes-by Cut state _ may refl refl refl refl refl refl (λ still. absurd still)
 makes-done (Take worker batch) state leaves may =
     makes-by (Take worker batch) state _ may refl refl refl refl refl refl (λ still. absurd still)
+makes-done (Carry worker batch) state leaves may =
+    makes-by (Carry worker batch) state _ may refl refl refl refl refl refl (λ still. absurd still)
 makes-done (Give worker) state leaves may =
     by-option (Makes (Give worker) state) (find (is_held_by worker) state.scan.flights) _ state
     (makes-by (Give worker) state state may refl refl refl refl refl refl (λ still. absurd still))

@@ -84,8 +84,8 @@ pub use Rattle.star_statement.specs.Text.{meaning_of}
 pub use Rattle.core_state.specs.Admitting.{after_build, after_build_wants, after_clear, after_finish, after_release, after_reserving, after_start, selection_in, versions_in_hands, with_built, with_version}
 pub use Rattle.core_state.specs.Answers.{IsRight}
 pub use Rattle.core_state.specs.Beside.{IsOfRows, IsSoundBeside, with_entry}
-pub use Rattle.core_state.specs.Cutting.{after_cutting, after_distribute, after_give, after_reorder, after_take, bits_of, end_in, fed, first_in, frame_words, gets_rows, given_back, passed_by, roster_of, rows_for, rows_of, slots_of, starts_of, takes_version, tallies_after, unkept, versions_from, with_rows}
-pub use Rattle.core_state.specs.Events.{AreFed, IsEnabled, IsFed, IsThrough, MayCut, MayDistribute, MayFinish, MayReserve, MayTake}
+pub use Rattle.core_state.specs.Cutting.{after_carry, after_cutting, after_distribute, after_give, after_reorder, after_take, bits_of, end_in, fed, first_in, frame_words, gets_rows, given_back, passed_by, roster_of, rows_for, rows_of, slots_of, starts_of, takes_version, tallies_after, unkept, versions_from, with_rows}
+pub use Rattle.core_state.specs.Events.{AreFed, IsEnabled, IsFed, IsThrough, MayCarry, MayCut, MayDistribute, MayFinish, MayReserve, MayTake}
 pub use Rattle.core_state.specs.Flown.{Encodes, FitsSlot, IsClearOf, IsOnRoster, IsSoundBatch, IsSoundFilter, IsSoundHand, IsSoundRow, keeps_so_far, MayBeOnRoster}
 pub use Rattle.core_state.specs.Found.{accepted_at, entry_of, flight_at, has_passed, has_passed_all, held_by, holder_of, is_empty, is_held_by, is_on_roster, running_at, start_at, start_in, version_at}
 pub use Rattle.core_state.specs.Handed.{AreKeyedTablesOf, attached_at, attached_to, fed_at, fed_in}
@@ -99,5 +99,5 @@ pub use Rattle.core_state.specs.Submitting.{after_abandoning, after_outcome, aft
 pub use Rattle.core_state.specs.Tables.{changes_of, filter_dimensions, key_number, key_numbers, tables_by, tables_of, versions_in}
 pub use Rattle.core_state.specs.Whole.{IsAccountedFor}
 pub use Rattle.core_state.specs.declared.event.Event.{Event}
-pub use Rattle.core_state.specs.declared.event.Event.TheVariants.{Abandon, Build, Clear, Cut, Distribute, Finish, Give, Release, Reorder, Reserve, Start, Submit, Take}
+pub use Rattle.core_state.specs.declared.event.Event.TheVariants.{Abandon, Build, Carry, Clear, Cut, Distribute, Finish, Give, Release, Reorder, Reserve, Start, Submit, Take}
 pub use Rattle.core_state.specs.declared.settings.RunSettings.{RunSettings}

@@ -1,5 +1,5 @@
 -- What becomes of the core where a query gets a slot, its filters and its start, and where it leaves them.
-use Rattle.std.specs.Prelude.{ℕ, ◌==◌, List, map, filter_map, option_map, slice_index_or, if◌then◌else◌}
+use Rattle.std.specs.Prelude.{ℕ, ◌==◌, List, map, flat_map, slice_index_or, if◌then◌else◌}
 use Rattle.std.specs.Option.{option_map_or}
 use Rattle.star_plan.specs.Test.{Query, Selection, Unnamed}
 use Rattle.star_history.specs.Store.{rows_in}
@@ -8,6 +8,7 @@ use Rattle.pipeline_manager.specs.Lives.{slot_of}
 use Rattle.dimension_filter.specs.Changes.{filter_with, filter_without}
 use Rattle.dimension_filter.specs.Filter.{Filter}
 use Rattle.continuous_scan.specs.Range.{first_of}
+use Rattle.core_parts.specs.InFlight.{numbers_in_hand}
 use Rattle.core_state.specs.Found.{accepted_at}
 use Rattle.core_state.specs.Numbered.{last_after, next_number}
 use Rattle.core_state.specs.State.{Flight, State}
@@ -20,7 +21,7 @@ after_reserving slot state = record state { lives = after_reserve slot state.liv
 
 -- the numbers of the versions in hands
 abbrev pub versions_in_hands : List Flight → List ℕ
-versions_in_hands flights = filter_map (λ flight. option_map (λ hand. hand.version.number) flight.hand) flights
+versions_in_hands flights = flat_map (λ flight. numbers_in_hand flight.hand) flights
 
 -- the core with the next version of the filter of a dimension
 abbrev pub with_version : (dimension : ℕ) → (Filter → Filter) → State → State

@@ -5,9 +5,9 @@ use Rattle.pipeline_manager.specs.Conditions.{CanAbandon, CanBuild, CanClear, Ca
 use Rattle.pipeline_manager.specs.Lives.{life_of, oldest_waiting, slot_at}
 use Rattle.pipeline_manager.specs.declared.life.SlotState.TheVariants.{Free}
 use Rattle.core_state.specs.declared.event.Event.{Event}
-use Rattle.core_state.specs.declared.event.Event.TheVariants.{Submit, Reserve, Build, Start, Cut, Take, Give, Distribute, Finish, Clear, Release, Reorder, Abandon}
+use Rattle.core_state.specs.declared.event.Event.TheVariants.{Submit, Reserve, Build, Start, Cut, Take, Carry, Give, Distribute, Finish, Clear, Release, Reorder, Abandon}
 use Rattle.core_state.specs.Admitting.{after_build, after_build_wants, after_clear, after_finish, after_release, after_reserving, after_start}
-use Rattle.core_state.specs.Cutting.{after_cutting, after_distribute, after_give, after_reorder, after_take, gets_rows}
+use Rattle.core_state.specs.Cutting.{after_carry, after_cutting, after_distribute, after_give, after_reorder, after_take, gets_rows}
 use Rattle.core_state.specs.Found.{flight_at, has_passed_all, held_by, is_empty, is_on_roster, next_filter}
 use Rattle.core_state.specs.State.{Filters, Flight, State}
 use Rattle.core_state.specs.Submitting.{after_abandoning, after_submitting}
@@ -36,6 +36,13 @@ pub record MayTake (worker batch : ℕ) (state : State) : Type 0 where
   pub empty : held_by state.scan.flights worker ≡ None
   pub there : IsSome (flight_at state.scan.flights batch)
   pub wanting : IfSome (flight_at state.scan.flights batch) (IsWanting state.filters)
+
+-- the worker's hand is empty, and the batch is idle
+pub record MayCarry (worker batch : ℕ) (state : State) : Type 0 where
+  pub seat : worker < length state.seats
+  pub empty : held_by state.scan.flights worker ≡ None
+  pub there : IsSome (flight_at state.scan.flights batch)
+  pub idle : IfSome (flight_at state.scan.flights batch) (λ flight. flight.hand ≡ None)
 
 -- a batch is idle, and has passed every filter or has no bit left
 pub record IsThrough (filters : Filters) (flight : Flight) : Type 0 where
@@ -70,6 +77,7 @@ IsEnabled state (Build query dimension) = CanBuild query dimension state.lives
 IsEnabled state (Start query) = CanRun query state.lives
 IsEnabled state Cut = MayCut state
 IsEnabled state (Take worker batch) = MayTake worker batch state
+IsEnabled state (Carry worker batch) = MayCarry worker batch state
 IsEnabled state (Give worker) = IsSome (held_by state.scan.flights worker)
 IsEnabled state (Distribute batch) = MayDistribute batch state
 IsEnabled state (Finish slot) = MayFinish slot state
@@ -86,6 +94,7 @@ after_event (Build query dimension) state = after_build query dimension state
 after_event (Start query) state = after_start query state
 after_event Cut state = after_cutting state
 after_event (Take worker batch) state = after_take worker batch state
+after_event (Carry worker batch) state = after_carry worker batch state
 after_event (Give worker) state = after_give worker state
 after_event (Distribute batch) state = after_distribute batch [] state
 after_event (Finish slot) state = after_finish slot state

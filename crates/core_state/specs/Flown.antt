@@ -1,5 +1,5 @@
 -- What holds of filters, batches and hands in every core.
-use Rattle.std.specs.Prelude.{◌≡◌, ℕ, ◌+◌, ◌*◌, ◌<◌, ◌≤◌, ◌↔◌, ◌&&◌, Bool, true, false, if◌then◌else◌, List, length, All, Contains, IfSome, IsTrue, slice_get, slice_index_or}
+use Rattle.std.specs.Prelude.{◌≡◌, ◌≢◌, ℕ, ◌+◌, ◌*◌, ◌<◌, ◌≤◌, ◌↔◌, ◌&&◌, Bool, true, false, if◌then◌else◌, List, length, All, AllPairs, Contains, IfSome, IsTrue, slice_get, slice_index_or}
 use Rattle.std.specs.List.{list_all, range_with_len}
 use Rattle.bit_words.specs.Sets.{Has}
 use Rattle.star_plan.specs.Joined.{takes, takes_at}
@@ -112,13 +112,18 @@ pub record IsSoundBatch (words : ℕ) (store : Store) (lives : Lives) (accepted 
       IfSome (slice_get store.versions (flight.rows.first + row))
       (IsSoundRow lives.filters store flight row)
 
--- what a worker holds: a batch that did not pass this filter, whose version has every query on the batch's roster,
--- whatever became of the filter since
+-- a version that a batch is to pass: the batch did not pass this filter, and the version has every query on the batch's
+-- roster, whatever became of the filter since
+pub record IsSoundTask (filters : ℕ) (store : Store) (flight : Flight) (filter : Filter) : Type 0 where
+  pub table : table.IsSound filter
+  pub is_filter : Has filters filter.dimension
+  pub not_passed : has_passed flight filter.dimension ≡ false
+  pub encodes : All (λ entry. Encodes filter entry.slot entry.query entry.snapshot
+      (rows_in store.dimensions filter.dimension)) flight.roster
+
+-- what a worker holds: versions that its batch is to pass, of each filter one at most
 pub record IsSoundHand (seats filters : ℕ) (store : Store) (flight : Flight)
     (hand : Hand) : Type 0 where
   pub seat : hand.worker < seats
-  pub table : table.IsSound hand.version.filter
-  pub is_filter : Has filters hand.version.filter.dimension
-  pub not_passed : has_passed flight hand.version.filter.dimension ≡ false
-  pub encodes : All (λ entry. Encodes hand.version.filter entry.slot entry.query entry.snapshot
-      (rows_in store.dimensions hand.version.filter.dimension)) flight.roster
+  pub each : All (λ version. IsSoundTask filters store flight version.filter) hand.versions
+  pub apart : AllPairs (λ version other. version.filter.dimension ≢ other.filter.dimension) hand.versions

@@ -1,5 +1,5 @@
 -- What is found in the core by its number.
-use Rattle.std.specs.Prelude.{ℕ, Bool, false, ◌==◌, not, List, find, Option, Some, None, option_map}
+use Rattle.std.specs.Prelude.{ℕ, Bool, false, ◌==◌, not, List, filter_map, find, Option, Some, None, option_map, if◌then◌else◌}
 use Rattle.std.specs.List.{list_all, list_any}
 use Rattle.std.specs.Int.{bit_at}
 use Rattle.std.specs.Option.{option_map_or, option_and_then}
@@ -34,6 +34,11 @@ has_passed flight dimension = bit_at flight.rows.passed dimension == 1
 abbrev pub next_filter : Filters → Flight → Option FilterVersion
 next_filter filters flight =
     option_and_then (version_at filters.versions) (find (λ dimension. not (has_passed flight dimension)) filters.order)
+
+-- what a batch has still to pass: the present versions of the filters that it did not pass, in their present order
+abbrev pub filters_left : Filters → Flight → List FilterVersion
+filters_left filters flight = filter_map
+    (λ dimension. if has_passed flight dimension then None else version_at filters.versions dimension) filters.order
 
 -- whether no row of a batch has a bit left
 abbrev pub is_empty : Flight → Bool

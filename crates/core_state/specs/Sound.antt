@@ -173,8 +173,10 @@ IsPresentByNumber versions held =
 -- hand that has the dimension and the number of a present one is that one
 pub record AreSoundVersions (last : ℕ) (versions : List FilterVersion) (flights : List Flight) : Type 0 where
   pub given : last < last_number → All (λ version. version.number ≤ last) versions
-  pub held : last < last_number → All (λ flight. IfSome flight.hand (λ hand. hand.version.number ≤ last)) flights
-  pub present : All (λ flight. IfSome flight.hand (λ hand. IsPresentByNumber versions hand.version)) flights
+  pub held : last < last_number → All (λ flight. IfSome flight.hand
+      (λ hand. All (λ version. version.number ≤ last) hand.versions)) flights
+  pub present : All (λ flight. IfSome flight.hand
+      (λ hand. All (IsPresentByNumber versions) hand.versions)) flights
 
 -- batches in flight have different numbers, and until the numbers have run out none is above the last one given; so it is with versions,
 -- of which none has a number before the fact table is declared

@@ -1,17 +1,21 @@
--- Two queries over four sales, event by event: one counts all sales, and one, which starts in mid-table, those in Oslo.
-use Rattle.std.specs.Prelude.{ℕ, pos, List, [], ◌∷◌, map, fold, codes, None}
+-- Two queries over four sales, event by event: one counts all sales, and one, which starts in mid-table, those in Oslo; by batches
+-- that are taken, and by batches that are carried. And one query over two dimensions, whose batches are carried through two filters.
+use Rattle.std.specs.Prelude.{ℕ, pos, List, [], ◌∷◌, map, fold, codes, None, Some}
 use Rattle.std.specs.Option.{option_map_or}
+use Rattle.star_values.specs.declared.value.Kind.TheVariants as kind
 use Rattle.star_values.specs.declared.value.Value.TheVariants.{Int, Str}
 use Rattle.star_plan.specs.Test.{Query, Unnamed, Chosen, Compare}
 use Rattle.star_plan.specs.declared.item.Item.TheVariants.{CountAll}
 use Rattle.star_plan.specs.declared.predicate.How.TheVariants.{Eq}
 use Rattle.star_plan.specs.declared.table.Table.TheVariants.{Fact, Dimension}
+use Rattle.star_plan.specs.declared.table_def.TableDef.{TableDef}
 use Rattle.star_history.specs.Examples.{sale, sales, store}
 use Rattle.star_history.specs.History.{DimensionDeclared, FactDeclared, Loaded}
 use Rattle.star_statement.specs.Outcome.{Accepted, only_tells}
 use Rattle.aggregations.specs.Grouped.{Tally}
+use Rattle.core_parts.specs.InFlight.{numbers_in_hand}
 use Rattle.core_state.specs.declared.event.Event.{Event}
-use Rattle.core_state.specs.declared.event.Event.TheVariants.{Reserve, Build, Start, Cut, Take, Give, Distribute, Finish, Clear, Release}
+use Rattle.core_state.specs.declared.event.Event.TheVariants.{Reserve, Build, Start, Cut, Take, Carry, Give, Distribute, Finish, Clear, Release, Reorder}
 use Rattle.core_state.specs.declared.settings.RunSettings.{RunSettings}
 use Rattle.core_state.specs.Events.{after_event}
 use Rattle.core_state.specs.Sound.{empty_core}
@@ -82,6 +86,87 @@ third_passed = after_events (Take 0 3 ∷ Clear 0 0 ∷ Give 0 ∷ []) third_cut
 -- slot 0 is free, and the second query is answered
 abbrev pub both_answered : State
 both_answered = after_events (Release 0 ∷ Distribute 3 ∷ Finish 1 ∷ []) third_passed
+
+-- the same with batches that are carried: seat 0 carries the first while the second query is built and starts
+abbrev pub first_carried : State
+first_carried = after_events (Reserve 6 1 ∷ Carry 0 1 ∷ Build 6 0 ∷ Start 6 ∷ []) (asking oslo_sales first_cut)
+
+-- it comes home, and seat 1 carries the second batch
+abbrev pub second_carried : State
+second_carried = after_events (Give 0 ∷ Distribute 1 ∷ Cut ∷ Carry 1 2 ∷ []) first_carried
+
+-- the second comes home, the first query is answered, and slot 0 is cleared while seat 0 carries the third batch
+abbrev pub third_carried : State
+third_carried = after_events (Give 1 ∷ Distribute 2 ∷ Finish 0 ∷ Cut ∷ Carry 0 3 ∷ Clear 0 0 ∷ []) second_carried
+
+-- the third comes home, and both queries are answered
+abbrev pub both_carried : State
+both_carried = after_events (Give 0 ∷ Release 0 ∷ Distribute 3 ∷ Finish 1 ∷ []) third_carried
+
+-- dimension goods (id int key, kind text)
+abbrev pub goods : TableDef
+goods = record {
+  name = codes "goods";
+  columns = record { name = codes "id"; kind = kind.Int; target = None }
+      ∷ record { name = codes "kind"; kind = kind.Text; target = None } ∷ [];
+}
+
+-- fact orders (store_id int references store, goods_id int references goods)
+abbrev pub orders : TableDef
+orders = record {
+  name = codes "orders";
+  columns = record { name = codes "store_id"; kind = kind.Int; target = Some 0 }
+      ∷ record { name = codes "goods_id"; kind = kind.Int; target = Some 1 } ∷ [];
+}
+
+-- commits 1 and 2 load two stores and two kinds of goods, and commit 3 four orders; these were the first six statements of seat 0
+abbrev pub ordered : State
+ordered =
+    let stores = (Int (pos 1) ∷ Str (codes "Oslo") ∷ []) ∷ (Int (pos 2) ∷ Str (codes "Rome") ∷ []) ∷ [] in
+    let kinds = (Int (pos 1) ∷ Str (codes "tea") ∷ []) ∷ (Int (pos 2) ∷ Str (codes "salt") ∷ []) ∷ [] in
+    let sold = sale 1 1 ∷ sale 1 2 ∷ sale 2 1 ∷ sale 1 1 ∷ [] in
+    let first = with_change 0 1 (DimensionDeclared store) (empty_core small) in
+    let second = with_change 0 2 (DimensionDeclared goods) first in
+    let third = with_change 0 3 (FactDeclared orders) second in
+    let fourth = with_change 0 4 (Loaded (Dimension 0) stores) third in
+    let fifth = with_change 0 5 (Loaded (Dimension 1) kinds) fourth in
+    let sixth = with_change 0 6 (Loaded Fact sold) fifth in
+    record sixth { numbers = record sixth.numbers { statement = 6 } }
+
+-- select count(*) from orders, store, goods where store_id = store.id and city = 'Oslo' and goods_id = goods.id and kind = 'tea'
+abbrev pub tea_in_oslo : Query
+tea_in_oslo = record {
+  fact = None;
+  choices = Chosen (Compare 1 Eq (Str (codes "Oslo"))) ∷ Chosen (Compare 1 Eq (Str (codes "tea"))) ∷ [];
+  groups = [];
+  items = CountAll ∷ [];
+}
+
+-- statement 7 is the query: it runs in slot 0, and one batch is cut
+abbrev pub order_cut : State
+order_cut = after_events (Reserve 7 0 ∷ Build 7 0 ∷ Build 7 1 ∷ Start 7 ∷ Cut ∷ [])
+    (after_outcome 0 (only_tells (Accepted tea_in_oslo 3)) ordered)
+
+-- seat 1 carries it through both filters
+abbrev pub order_carried : State
+order_carried = after_events (Carry 1 1 ∷ []) order_cut
+
+-- it comes home, and is distributed; while seat 0 carries the second, the filters get another order
+abbrev pub order_turned : State
+order_turned = after_events (Give 1 ∷ Distribute 1 ∷ Cut ∷ Carry 0 2 ∷ Reorder ∷ []) order_carried
+
+-- the second comes home, and the query is answered
+abbrev pub order_answered : State
+order_answered = after_events (Give 0 ∷ Distribute 2 ∷ Finish 0 ∷ []) order_turned
+
+-- statement 8 asks the same again: it runs in slot 1, and seat 1 carries its first batch in the new order
+abbrev pub order_again : State
+order_again = after_events (Reserve 8 1 ∷ Build 8 0 ∷ Build 8 1 ∷ Start 8 ∷ Cut ∷ Carry 1 3 ∷ [])
+    (after_outcome 0 (only_tells (Accepted tea_in_oslo 3)) order_answered)
+
+-- the numbers of the versions in the hand of each batch in flight
+abbrev pub in_hands : State → List (List ℕ)
+in_hands state = map (λ flight. numbers_in_hand flight.hand) state.scan.flights
 
 -- the first position, the number of rows, the roster and the bits of each batch in flight
 abbrev pub flying : State → List (ℕ × ℕ × ℕ × List ℕ)

@@ -1,7 +1,7 @@
 //! What holds of every core still holds after an event of a batch.
 ghost use Rattle.std.specs.Prelude.{ℕ, List, IsSome};
-ghost use Rattle.core_state.specs.Cutting.{after_distribute, after_give, after_take};
-ghost use Rattle.core_state.specs.Events.{AreFed, MayDistribute, MayTake};
+ghost use Rattle.core_state.specs.Cutting.{after_carry, after_distribute, after_give, after_take};
+ghost use Rattle.core_state.specs.Events.{AreFed, MayCarry, MayDistribute, MayTake};
 ghost use Rattle.core_state.specs.Found.{held_by};
 ghost use Rattle.core_state.specs.Sound.{IsSound};
 ghost use Rattle.core_state.specs.State.{State};
@@ -13,6 +13,12 @@ use star_history::accepted_histories_are_settled;
 pub fn a_taken_batch_keeps_a_core_sound()
     ensures { (worker batch : ℕ) (state : State) → MayTake worker batch state → IsSound state →
         IsSound (after_take worker batch state) }
+{}
+
+/// A batch that a worker carries through all filters that are left of it keeps a core sound.
+pub fn a_carried_batch_keeps_a_core_sound()
+    ensures { (worker batch : ℕ) (state : State) → MayCarry worker batch state → IsSound state →
+        IsSound (after_carry worker batch state) }
 {}
 
 /// A batch that a worker gives back keeps a core sound: each bit that is left of it says what its query keeps,

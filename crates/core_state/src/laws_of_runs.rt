@@ -8,8 +8,8 @@ ghost use Rattle.core_state.specs.declared.settings.RunSettings.{RunSettings};
 
 use crate::laws::an_empty_core_is_sound;
 use crate::laws_of_batches::{
-    a_distributed_batch_keeps_a_core_sound, a_given_batch_keeps_a_core_sound,
-    a_taken_batch_keeps_a_core_sound,
+    a_carried_batch_keeps_a_core_sound, a_distributed_batch_keeps_a_core_sound,
+    a_given_batch_keeps_a_core_sound, a_taken_batch_keeps_a_core_sound,
 };
 use crate::laws_of_filters::{a_build_keeps_a_core_sound, a_clearing_keeps_a_core_sound};
 use crate::laws_of_order::a_new_order_keeps_a_core_sound;
@@ -36,6 +36,7 @@ pub fn every_step_keeps_a_core_sound()
     a_start_keeps_a_core_sound();
     a_cut_keeps_a_core_sound();
     a_taken_batch_keeps_a_core_sound();
+    a_carried_batch_keeps_a_core_sound();
     a_given_batch_keeps_a_core_sound();
     a_distributed_batch_keeps_a_core_sound();
     a_finish_keeps_a_core_sound();

@@ -6,6 +6,7 @@ mod laws;
 mod laws_of_answers;
 mod laws_of_attached;
 mod laws_of_batches;
+mod laws_of_carried;
 mod laws_of_filters;
 mod laws_of_folding;
 mod laws_of_hands;
@@ -31,15 +32,16 @@ pub use laws::an_empty_core_is_sound;
 pub use laws_of_answers::{a_reply_that_may_be_taken_is_right, later_steps_change_no_answer};
 pub use laws_of_attached::a_distributor_follows_the_core;
 pub use laws_of_batches::{
-    a_distributed_batch_keeps_a_core_sound, a_given_batch_keeps_a_core_sound,
-    a_taken_batch_keeps_a_core_sound,
+    a_carried_batch_keeps_a_core_sound, a_distributed_batch_keeps_a_core_sound,
+    a_given_batch_keeps_a_core_sound, a_taken_batch_keeps_a_core_sound,
 };
+pub use laws_of_carried::{a_carried_batch_passes_every_filter, a_later_core_folds_the_same_rows};
 pub use laws_of_filters::{a_build_keeps_a_core_sound, a_clearing_keeps_a_core_sound};
 pub use laws_of_folding::{
     a_distributor_folds_what_the_core_folds, folded_rows_are_few, spoiled_slots_are_spoiled_queries,
 };
 pub use laws_of_hands::{
-    a_version_in_a_hand_passes_as_the_present_one, what_a_worker_took_stays_right,
+    versions_in_a_hand_pass_as_the_present_ones, what_a_worker_took_stays_right,
 };
 pub use laws_of_order::a_new_order_keeps_a_core_sound;
 pub use laws_of_parts::{
@@ -79,4 +81,4 @@ pub use laws_of_the_whole::{
     no_step_takes_a_statement_back, only_abandon_abandons,
 };
 pub use settings::RunSettings;
-pub use story::two_queries_share_a_scan;
+pub use story::{batches_are_carried, two_filters_are_carried, two_queries_share_a_scan};

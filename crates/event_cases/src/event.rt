@@ -66,6 +66,10 @@ fn with_two(word: &str, first: u64, second: u64) -> Option<Event> {
             worker: short_of(first)?,
             batch: second,
         }),
+        "carry" => Some(Event::Carry {
+            worker: short_of(first)?,
+            batch: second,
+        }),
         "clear" => Some(Event::Clear {
             slot: short_of(first)?,
             dimension: byte_of(second)?,

@@ -1,15 +1,17 @@
 -- When an event may come, by what the code asks of the batches in flight.
-use Rattle.event_core.proofs.Words.{◌<◌, ◌||◌, ◌∙◌, ◌∷◌, ◌≡◌, ◌≤◌, [], All, All-head, All-tail, ap, arith, bit_at, Bool, CanEnd, cond, eqb, false, find, find_position, Flight, flight_as, flight_at, flights_as, get_or, held_by, IfSome, IsCore, IsSome, IsThrough, IsWanting, Known, known_in, length, length-map, List, list_any, list_any_none, map, MayCut, MayDistribute, MayFinish, MayTake, None, not, not-true, Option, option_map, option_map_or, Parts, position, Reach, reaches_in, refl, Roomy, slots_of, Some, some-at, state_of, Submitted, subst, sym, Through, true, Wants, ℕ}
+use Rattle.event_core.proofs.Words.{◌<◌, ◌||◌, ◌∙◌, ◌∷◌, ◌≡◌, ◌≤◌, [], All, All-head, All-tail, ap, arith, bit_at, Bool, CanEnd, cond, eqb, false, find, find_position, Flight, flight_as, flight_at, flights_as, get_or, held_by, IfSome, IsCore, IsSome, IsThrough, IsWanting, Known, known_in, length, length-map, List, list_any, list_any_none, map, MayCut, MayDistribute, MayFinish, MayTake, None, not, not-true, Option, option_map, option_map_or, Parts, position, Reach, reaches_in, refl, Roomy, slots_of, Some, some-at, state_of, Submitted, subst, sym, Through, true, Wants, ℕ, is_none}
 use Rattle.std.proofs.Common.{◌↔◌, is_some, IsTrue, nat_lt}
 use Rattle.std.specs.Prelude.{Any}
 use Rattle.pipeline_manager.specs.Conditions.{IsRunning}
 use Rattle.std.proofs.lemmas.Bool.{lt-ltb, ltb-true}
 use Rattle.std.proofs.lemmas.List.Folds.{find_at}
 use Rattle.std.proofs.lemmas.Option.{slice_get_past}
+use Rattle.core_state.specs.Events.{MayCarry}
 use Rattle.core_state.specs.Found.{is_on_roster}
 use Rattle.core_state.specs.State as state
 use Rattle.core_state.proofs.FinishLemmas.{none-passes}
 use Rattle.event_choice.proofs.FlightLemmas.{not-both}
+use Rattle.event_core.specs.Lent.{HasFreeHand}
 use Rattle.event_core.proofs.EnablingSetLemmas.{bit-roster}
 use Rattle.star_lists.proofs.PlaceLemmas.{past-from_none}
 
@@ -72,6 +74,15 @@ flight-there known reaches batch flights place flight at is =
     find-map (flight_as known reaches) (λ flight. eqb flight.rows.number batch) flights
     ∙ ap (option_map (flight_as known reaches)) (some-there (λ flight. eqb flight.batch.number batch) flights place flight at is)
 
+-- the batch of the number among those of the parts
+found-at : (parts : Parts) (batch : ℕ) (flights : List Flight) (place : ℕ) (flight : Flight) → flights ≡ parts.flights
+    → position (λ flight. eqb flight.batch.number batch) flights ≡ Some place → flight ≡ get_or flights place flight
+    → flight_at (state_of parts).scan.flights batch ≡ Some (flight_as (known_in parts.asked) (reaches_in parts.lives.queries) flight)
+found-at parts batch flights place flight same at is =
+    subst (λ list. flight_at (flights_as (known_in parts.asked) (reaches_in parts.lives.queries) list) batch
+    ≡ Some (flight_as (known_in parts.asked) (reaches_in parts.lives.queries) flight)) same
+    (flight-there (known_in parts.asked) (reaches_in parts.lives.queries) batch flights place flight at is)
+
 -- what is found
 some-flight : (o : Option state.Flight) (flight : state.Flight) → o ≡ Some flight → IsSome o
 some-flight o flight is = ap is_some is
@@ -123,8 +134,7 @@ distributed-through parts batch filters flights place flight through meant same 
     own = flight_as known reaches flight
 
     there : flight_at (flights_as known reaches parts.flights) batch ≡ Some (flight_as known reaches flight)
-    there = subst (λ list. flight_at (flights_as known reaches list) batch ≡ Some (flight_as known reaches flight)) same
-        (flight-there known reaches batch flights place flight at is)
+    there = found-at parts batch flights place flight same at is
 
     of-parts : IsTrue through ↔ Through parts.filters flight
     of-parts = subst (λ (filters : state.Filters). IsTrue through ↔ Through filters flight) meant test
@@ -135,88 +145,145 @@ distributed-through parts batch filters flights place flight through meant same 
     to-code : IsThrough parts.filters (flight_as known reaches flight) → Through parts.filters flight
     to-code law = record { idle = law.idle; through = law.through }
 
--- no worker past the last seat takes a batch
-pub untaken-seat : (parts : Parts) (worker batch seats : ℕ) → seats ≡ length parts.seats → seats ≤ worker
-    → IsTrue false ↔ MayTake worker batch (state_of parts)
-untaken-seat parts worker batch seats count past = (
-  (λ never. absurd (not-both false refl never)),
-  (λ may. absurd (let seat : worker < length (state_of parts).seats = may.seat in
-      let same : length (state_of parts).seats ≡ length parts.seats = length-map parts.seats _ in omega arith)),
-)
-
--- nor one whose hand is not empty
-pub untaken-hand : (parts : Parts) (worker batch : ℕ) (flights : List Flight) → flights ≡ parts.flights
-    → is_some (position (λ flight. option_map_or (λ hand. eqb hand.worker worker) flight.hand false) flights) ≡ true
-    → IsTrue false ↔ MayTake worker batch (state_of parts)
-untaken-hand parts worker batch flights same held = (
-  (λ never. absurd (not-both false refl never)),
-  (λ may. absurd (not-both (is_some (held_by (state_of parts).scan.flights worker)) (ap is_some may.empty)
-      (sym (is-held (known_in parts.asked) (reaches_in parts.lives.queries) worker parts.flights)
-      ∙ subst (λ list. is_some (position (λ (flight : Flight). option_map_or (λ hand. eqb hand.worker worker) flight.hand false) list) ≡ true) same held))),
-)
-
--- nor does one take a batch that is not there
-pub untaken-batch : (parts : Parts) (worker batch : ℕ) (flights : List Flight) → flights ≡ parts.flights
-    → position (λ flight. eqb flight.batch.number batch) flights ≡ None → IsTrue false ↔ MayTake worker batch (state_of parts)
-untaken-batch parts worker batch flights same none = (
-  (λ never. absurd (not-both false refl never)),
-  (λ may. absurd (not-both (is_some (flight_at (state_of parts).scan.flights batch))
-      (ap is_some (no-flight (known_in parts.asked) (reaches_in parts.lives.queries) batch parts.flights
-      (subst (λ list. position (λ (flight : Flight). eqb flight.batch.number batch) list ≡ None) same none))) may.there)),
-)
-
 -- where nothing is found there is none
 none-found : (o : Option state.Flight) → is_some o ≡ false → o ≡ None
 none-found None is = refl
 none-found (Some flight) is = absurd (not-both true is refl)
 
+-- a worker's hand is empty where no batch has a place in it
+pub empty-hand : (parts : Parts) (worker : ℕ) → position (λ flight. option_map_or (λ hand. eqb hand.worker worker) flight.hand false) parts.flights ≡ None
+    → held_by (state_of parts).scan.flights worker ≡ None
+empty-hand parts worker none =
+    none-found (held_by (state_of parts).scan.flights worker)
+    (sym (is-held (known_in parts.asked) (reaches_in parts.lives.queries) worker parts.flights) ∙ ap is_some none)
+
+-- whether it is, is told by whether one has
+pub free-hand : (parts : Parts) (worker : ℕ) (flights : List Flight) (place : Option ℕ) (free : Bool) → flights ≡ parts.flights
+    → position (λ flight. option_map_or (λ hand. eqb hand.worker worker) flight.hand false) flights ≡ place
+    → is_some place ≡ not free → worker < length (state_of parts).seats → IsTrue free ↔ HasFreeHand worker (state_of parts)
+free-hand parts worker flights place free same at told seat = by_place place free here told
+  where
+    here : position (λ (flight : Flight). option_map_or (λ hand. eqb hand.worker worker) flight.hand false) parts.flights ≡ place
+    here = ap (position (λ (flight : Flight). option_map_or (λ hand. eqb hand.worker worker) flight.hand false)) (sym same) ∙ at
+
+    by_place : (o : Option ℕ) (t : Bool)
+        → position (λ (flight : Flight). option_map_or (λ hand. eqb hand.worker worker) flight.hand false) parts.flights ≡ o
+        → is_some o ≡ not t → IsTrue t ↔ HasFreeHand worker (state_of parts)
+    by_place None true none told = (λ _. (seat, empty-hand parts worker none), λ _. refl)
+    by_place None false none told = absurd (let both : false ≡ true = told in cc)
+    by_place (Some place) true held told = absurd (let both : true ≡ false = told in cc)
+    by_place (Some place) false held told = (
+      (λ never. absurd (not-both false refl never)),
+      (λ free. absurd (not-both (is_some (held_by (state_of parts).scan.flights worker)) (ap is_some free.1)
+          (sym (is-held (known_in parts.asked) (reaches_in parts.lives.queries) worker parts.flights) ∙ ap is_some held))),
+    )
+
+-- a worker without a seat has none
+pub no-seat : (parts : Parts) (worker : ℕ) (has : Bool) → IsTrue has ↔ (worker < length (state_of parts).seats) → has ≡ false
+    → IsTrue has ↔ HasFreeHand worker (state_of parts)
+no-seat parts worker has test none =
+    ((λ holds. absurd (not-both has none holds)), (λ free. absurd (not-both has none (test.1 free.0))))
+
+-- a worker whose hand is not empty takes no batch
+pub untaken-hand : (parts : Parts) (worker batch : ℕ) (free : Bool) → IsTrue free ↔ HasFreeHand worker (state_of parts) → free ≡ false
+    → IsTrue false ↔ MayTake worker batch (state_of parts)
+untaken-hand parts worker batch free test none = (
+  (λ never. absurd (not-both false refl never)),
+  (λ may. absurd (not-both free none (test.1 (may.seat, may.empty)))),
+)
+
+-- nor does it carry one
+pub uncarried-hand : (parts : Parts) (worker batch : ℕ) (free : Bool) → IsTrue free ↔ HasFreeHand worker (state_of parts) → free ≡ false
+    → IsTrue false ↔ MayCarry worker batch (state_of parts)
+uncarried-hand parts worker batch free test none = (
+  (λ never. absurd (not-both false refl never)),
+  (λ may. absurd (not-both free none (test.1 (may.seat, may.empty)))),
+)
+
+-- a batch that has no place is not there
+not-there : (parts : Parts) (batch : ℕ) (flights : List Flight) → flights ≡ parts.flights
+    → position (λ flight. eqb flight.batch.number batch) flights ≡ None → IsSome (flight_at (state_of parts).scan.flights batch) → ⊥
+not-there parts batch flights same none there =
+    not-both (is_some (flight_at (state_of parts).scan.flights batch))
+    (ap is_some (no-flight (known_in parts.asked) (reaches_in parts.lives.queries) batch parts.flights
+    (subst (λ list. position (λ (flight : Flight). eqb flight.batch.number batch) list ≡ None) same none))) there
+
+-- so no worker takes it
+pub untaken-batch : (parts : Parts) (worker batch : ℕ) (flights : List Flight) → flights ≡ parts.flights
+    → position (λ flight. eqb flight.batch.number batch) flights ≡ None → IsTrue false ↔ MayTake worker batch (state_of parts)
+untaken-batch parts worker batch flights same none = (
+  (λ never. absurd (not-both false refl never)),
+  (λ may. absurd (not-there parts batch flights same none may.there)),
+)
+
+-- nor carries it
+pub uncarried-batch : (parts : Parts) (worker batch : ℕ) (flights : List Flight) → flights ≡ parts.flights
+    → position (λ flight. eqb flight.batch.number batch) flights ≡ None → IsTrue false ↔ MayCarry worker batch (state_of parts)
+uncarried-batch parts worker batch flights same none = (
+  (λ never. absurd (not-both false refl never)),
+  (λ may. absurd (not-there parts batch flights same none may.there)),
+)
+
 -- a worker with an empty hand may take a batch that wants a filter
-pub taken-wanting : (parts : Parts) (worker batch seats : ℕ) (filters : state.Filters) (flights : List Flight) (place : ℕ)
-    → (flight : Flight) (wanting : Bool) → filters ≡ parts.filters → seats ≡ length parts.seats → worker < seats → flights ≡ parts.flights
-    → is_some (position (λ flight. option_map_or (λ hand. eqb hand.worker worker) flight.hand false) flights) ≡ false
+pub taken-wanting : (parts : Parts) (worker batch : ℕ) (filters : state.Filters) (flights : List Flight) (place : ℕ)
+    → (flight : Flight) (wanting : Bool) → filters ≡ parts.filters → HasFreeHand worker (state_of parts) → flights ≡ parts.flights
     → position (λ flight. eqb flight.batch.number batch) flights ≡ Some place → flight ≡ get_or flights place flight
     → IsTrue wanting ↔ Wants filters flight → IsTrue wanting ↔ MayTake worker batch (state_of parts)
-taken-wanting parts worker batch seats filters flights place flight wanting meant count low same free at is test = (
+taken-wanting parts worker batch filters flights place flight wanting meant free same at is test = (
   (λ passes. record {
-    seat = seat;
-    empty = empty;
+    seat = free.0;
+    empty = free.1;
     there = some-flight found own there;
     wanting = if-flight (IsWanting parts.filters) found own there (of-code (of-parts.0 passes));
   }),
   (λ may. of-parts.1 (to-code (some-at (IsWanting parts.filters) found own there may.wanting))),
 )
   where
-    known : List Known
-    known = known_in parts.asked
-
-    reaches : List Reach
-    reaches = reaches_in parts.lives.queries
-
     found : Option state.Flight
-    found = flight_at (flights_as known reaches parts.flights) batch
+    found = flight_at (state_of parts).scan.flights batch
 
     own : state.Flight
-    own = flight_as known reaches flight
+    own = flight_as (known_in parts.asked) (reaches_in parts.lives.queries) flight
 
-    there : flight_at (flights_as known reaches parts.flights) batch ≡ Some (flight_as known reaches flight)
-    there = subst (λ list. flight_at (flights_as known reaches list) batch ≡ Some (flight_as known reaches flight)) same
-        (flight-there known reaches batch flights place flight at is)
-
-    seat : worker < length (state_of parts).seats
-    seat = let same : length (state_of parts).seats ≡ length parts.seats = length-map parts.seats _ in omega arith
-
-    empty : held_by (flights_as known reaches parts.flights) worker ≡ None
-    empty = none-found _ (sym (is-held known reaches worker parts.flights)
-        ∙ subst (λ list. is_some (position (λ (flight : Flight). option_map_or (λ hand. eqb hand.worker worker) flight.hand false) list) ≡ false) same free)
+    there : flight_at (state_of parts).scan.flights batch ≡ Some own
+    there = found-at parts batch flights place flight same at is
 
     of-parts : IsTrue wanting ↔ Wants parts.filters flight
     of-parts = subst (λ (filters : state.Filters). IsTrue wanting ↔ Wants filters flight) meant test
 
-    of-code : Wants parts.filters flight → IsWanting parts.filters (flight_as known reaches flight)
+    of-code : Wants parts.filters flight → IsWanting parts.filters own
     of-code code = record { idle = code.idle; bits = code.bits; filter = code.filter }
 
-    to-code : IsWanting parts.filters (flight_as known reaches flight) → Wants parts.filters flight
+    to-code : IsWanting parts.filters own → Wants parts.filters flight
     to-code law = record { idle = law.idle; bits = law.bits; filter = law.filter }
+
+-- and carry one that is idle
+pub carried-idle : (parts : Parts) (worker batch : ℕ) (flights : List Flight) (place : ℕ) (flight : Flight) (idle : Bool)
+    → HasFreeHand worker (state_of parts) → flights ≡ parts.flights
+    → position (λ flight. eqb flight.batch.number batch) flights ≡ Some place → flight ≡ get_or flights place flight
+    → idle ≡ is_none flight.hand → IsTrue idle ↔ MayCarry worker batch (state_of parts)
+carried-idle parts worker batch flights place flight idle free same at is test = (
+  (λ holds. record {
+    seat = free.0;
+    empty = free.1;
+    there = some-flight found own there;
+    idle = if-flight (λ (one : state.Flight). one.hand ≡ None) found own there (none-there flight.hand (sym test ∙ holds));
+  }),
+  (λ may. test ∙ ap is_none (some-at (λ (one : state.Flight). one.hand ≡ None) found own there may.idle)),
+)
+  where
+    found : Option state.Flight
+    found = flight_at (state_of parts).scan.flights batch
+
+    own : state.Flight
+    own = flight_as (known_in parts.asked) (reaches_in parts.lives.queries) flight
+
+    there : flight_at (state_of parts).scan.flights batch ≡ Some own
+    there = found-at parts batch flights place flight same at is
+
+    none-there : (o : Option state.Hand) → is_none o ≡ true → o ≡ None
+    none-there None none = refl
+    none-there (Some hand) never = absurd (not-both false refl never)
 
 -- whether a slot is on some roster, by the rosters' sets and by their entries
 on-some : (known : List Known) (reaches : List Reach) (slot : ℕ) (flights : List Flight)
@@ -256,11 +323,6 @@ given-held parts worker flights held same test =
     is : held ≡ is_some (held_by (state_of parts).scan.flights worker)
     is = test ∙ ap (λ list. is_some (position (λ (flight : Flight). option_map_or (λ hand. eqb hand.worker worker) flight.hand false) list)) same
         ∙ is-held (known_in parts.asked) (reaches_in parts.lives.queries) worker parts.flights
-
--- the seats are as many as the code has
-pub seats-seen : (parts : Parts) (seats : List (Roomy Submitted)) (count : ℕ) → map (λ seat. seat.items) seats ≡ parts.seats
-    → count ≡ length seats → count ≡ length parts.seats
-seats-seen parts seats count same is = is ∙ sym (length-map seats (λ (seat : Roomy Submitted). seat.items)) ∙ ap length same
 
 -- where a query runs, a cut may come as far as a frame is free
 pub cut-seen : (parts now : Parts) (free : ℕ) (runs : Bool) → parts ≡ now

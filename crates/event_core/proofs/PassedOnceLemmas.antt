@@ -7,7 +7,7 @@ use Rattle.core_state.specs.Events.{after_event}
 use Rattle.core_state.specs.State as state
 use Rattle.core_parts.specs.Filtered.{with_tally}
 use Rattle.star_lists.proofs.PlaceLemmas.{position-past, position-within}
-use Rattle.event_core.proofs.EnablingLemmas.{taken-wanting}
+use Rattle.event_core.proofs.EnablingLemmas.{empty-hand, taken-wanting}
 use Rattle.event_core.proofs.HandLemmas.{AreApart, apart-head, apart-tail, becomes-given, becomes-taken, held-there}
 use Rattle.event_core.proofs.LivedLemmas.{QuietEventsLeave}
 use Rattle.event_core.proofs.WorkLemmas.{seen-same}
@@ -103,8 +103,8 @@ none-first p (x ∷ xs) none =
     ∙ (let rest = none-first p xs (All-tail (λ one. p one ≡ false) x xs none) in omega arith)
 
 -- so there is none
-none-placed : {X : Type 0} (p : X → Bool) (xs : List X) → All (λ one. p one ≡ false) xs → is_some (position p xs) ≡ false
-none-placed p xs none = ap is_some (position-past p xs (let first = none-first p xs none in omega arith))
+none-placed : {X : Type 0} (p : X → Bool) (xs : List X) → All (λ one. p one ≡ false) xs → position p xs ≡ None
+none-placed p xs none = position-past p xs (let first = none-first p xs none in omega arith)
 
 -- the batch passes the version of the filter that it meets next
 pub passes-one : QuietEventsLeave → (parts : Parts) (tallies : List Tally) (front : List Flight) (flight : Flight) (back : List Flight)
@@ -142,7 +142,7 @@ passes-one quiet parts tallies front flight back version core idle bits next = r
     old = parts_at parts tallies (front ++ flight ∷ back)
 
     hand : state.Hand
-    hand = record { worker = 0; version = version }
+    hand = record { worker = 0; versions = version ∷ [] }
 
     held : Flight
     held = record flight { hand = Some hand }
@@ -164,19 +164,20 @@ passes-one quiet parts tallies front flight back version core idle bits next = r
         (eq-eqb flight.batch.number flight.batch.number refl)
 
     may : MayTake 0 flight.batch.number (state_of old)
-    may = (taken-wanting old 0 flight.batch.number (length parts.seats) old.filters (front ++ flight ∷ back) (length front) flight true refl refl
-        seats refl (none-placed (λ (one : Flight). option_map_or (λ (hand : state.Hand). eqb hand.worker 0) one.hand false)
-        (front ++ flight ∷ back) (idle-not_held 0 (front ++ flight ∷ back) idle))
-        at (sym (get_or-append_seam front flight back flight)) (
+    may = (taken-wanting old 0 flight.batch.number old.filters (front ++ flight ∷ back) (length front) flight true refl (
+      seats,
+      empty-hand old 0 (none-placed (λ (one : Flight). option_map_or (λ (hand : state.Hand). eqb hand.worker 0) one.hand false)
+          (front ++ flight ∷ back) (idle-not_held 0 (front ++ flight ∷ back) idle)),
+    )
+        refl at (sym (get_or-append_seam front flight back flight)) (
           (λ yes. record { idle = one-all IsIdle front flight back idle; bits = bits; filter = subst (λ o. IsSome o) (sym next) refl }),
           (λ wants. refl),
         )).0 refl
       where
-        seats : 0 < length parts.seats
+        seats : 0 < length (state_of old).seats
         seats =
             let count = core.sound.seats.count in
             let some = core.sound.settings.seats in
-            let same = length-map parts.seats (seat_as known) in
             omega arith
 
     took : Becomes mid (after_take 0 flight.batch.number (state_of old))

@@ -1,21 +1,23 @@
 -- Of each present version every seat has its reference, which is kept or in its hand: events keep it so.
-use Rattle.event_core.proofs.Words.{◌++◌, ◌+◌, ◌<◌, ◌∙◌, ◌∷◌, ◌≡◌, ◌≢◌, ◌≤◌, ◌⊎◌, [], All, All-head, All-tail, ap, arith, bit_at, Bool, cases_eq, ChangeKind, cond, drop, eq-eqb, eqb, eqb-true, false, Filter, filter_dimensions, Filters, FilterVersion, find, find-passes, Flight, flight_as, flight_at, flight_behind, get_or, get_or-map, get_or-range_with_len, get_or-set_other, get_or-set_same, held_by, IfSome, inl, inr, IsCore, IsSome, IsThrough, IsTrue, IsWanting, KeyedStore, known_in, length, length-map, length-range_with_len, length-set, List, map, MayDistribute, MayTake, ne_eqb, next_of, None, none-some, not, Option, option_and_then, option_map, option_map_or, Parts, passed_in, plain, position, range_with_len, reaches_in, refl, replicate, same_Some, Schema, set, slice_get, Some, some-at, state_of, Store, subst, suc, sym, tables_of, TableDef, take, true, version_at, with_filters_for, with_new, zero, ℕ}
+use Rattle.event_core.proofs.Words.{◌++◌, ◌+◌, ◌<◌, ◌∙◌, ◌∷◌, ◌≡◌, ◌≢◌, ◌≤◌, ◌⊎◌, [], All, All-head, All-tail, ap, arith, bit_at, Bool, cases_eq, ChangeKind, cond, drop, eq-eqb, eqb, eqb-true, false, Filter, filter_dimensions, Filters, FilterVersion, find, find-passes, Flight, flight_as, flight_at, flight_behind, get_or, get_or-map, get_or-range_with_len, get_or-set_other, get_or-set_same, held_by, IfSome, inl, inr, IsCore, IsSome, IsThrough, IsTrue, IsWanting, KeyedStore, known_in, length, length-map, length-range_with_len, length-set, List, map, MayDistribute, MayTake, ne_eqb, next_of, None, none-some, not, Option, option_and_then, option_map, option_map_or, Parts, passed_in, plain, position, range_with_len, reaches_in, refl, replicate, same_Some, Schema, set, slice_get, Some, some-at, state_of, Store, subst, suc, sym, tables_of, TableDef, take, true, version_at, with_filters_for, with_new, zero, ℕ, All-cons, All-nil, Contains, filter_map, Rows, ⊎_elim, append-nil, cons_option}
 use Rattle.std.specs.Option.{option_or}
 use Rattle.std.proofs.lemmas.Bool.{false≢true}
 use Rattle.std.proofs.lemmas.List.{get_or-replicate, length-replicate}
+use Rattle.std.proofs.lemmas.List.Elements.{All-contains_itself, All-weaker, Contains-append_cases, Contains-append_left, Contains-append_right}
 use Rattle.std.proofs.lemmas.List.Folds.{find-append}
 use Rattle.star_statement.specs.declared.applied.ChangeKind.TheVariants.{DeclaresFact}
 use Rattle.core_filters.specs.Filtered.{first_version, first_versions}
-use Rattle.core_filters.specs.Filters.{first_filters}
-use Rattle.core_filters.specs.Spares.{first_spares, HasPlace, is_present, references_to, spare_at, Spares, with_returned, with_spare}
+use Rattle.core_filters.specs.Filters.{first_filters, versions_left}
+use Rattle.core_filters.specs.Spares.{first_spares, HasPlace, is_present, references_to, spare_at, Spares, with_all_returned, with_all_taken, with_returned, with_spare}
 use Rattle.core_filters.proofs.FirstFilterLemmas.{length-first, referenced_are_numbered}
 use Rattle.core_filters.proofs.SpareLemmas.{places-stay, spare-apart, spare-put}
 use Rattle.core_parts.specs.InFlight.{Hand}
 use Rattle.core_parts.specs.Passed.{with_flights_done}
+use Rattle.core_state.specs.Events.{MayCarry}
 use Rattle.core_state.specs.Sound.{IsPresentByNumber}
 use Rattle.core_state.specs.State as state
 use Rattle.core_state.proofs.DeclareLemmas.{nil-by-map, no-filters}
-use Rattle.event_core.specs.Spared.{AreSpare, HasReference, IsSpare, version_held}
+use Rattle.event_core.specs.Spared.{AreSpare, AreSpareBy, HasReference, IsSpare, versions_held, versions_in}
 use Rattle.event_core.proofs.EventsHandLemmas.{find-images, found-there, has_number, is_in_hand}
 
 -- what is found stays where one that fails is written over by one that fails
@@ -51,18 +53,43 @@ find-left {X = X} p (x ∷ xs) zero old is was =
 find-left {X = X} p (x ∷ xs) (suc place) old is was =
     ap (λ o. cond {A = Option X} (p x) (Some x) o) (find-left p xs place old is was)
 
--- the version in the hand that a batch is in
-abbrev version_in : Flight → Option FilterVersion
-version_in flight = option_map (λ (hand : Hand). hand.version) flight.hand
+-- a list with one more in front has that one
+pub contains-first : {X : Type 0} (x : X) (xs : List X) → Contains (x ∷ xs) x
+contains-first x xs = (0, omega arith, refl)
+
+-- and the others
+pub contains-more : {X : Type 0} (x y : X) (xs : List X) → Contains xs y → Contains (x ∷ xs) y
+contains-more x y xs has = (suc has.0, omega (arith, has.1), has.2)
+
+-- what it has is that one or one of the others
+pub contains-cases : {X : Type 0} (x y : X) (xs : List X) → Contains (x ∷ xs) y → (x ≡ y) ⊎ Contains xs y
+contains-cases x y xs has = by_place has.0 has.1 has.2
+  where
+    by_place : (k : ℕ) → k < length (x ∷ xs) → get_or (x ∷ xs) k y ≡ y → (x ≡ y) ⊎ Contains xs y
+    by_place zero low is = inl is
+    by_place (suc k) low is = inr (k, omega arith, is)
+
+-- an empty list has nothing
+contains-none : {X : Type 0} (x : X) → Contains [] x → ⊥
+contains-none x has = omega (arith, has.1)
+
+-- the versions in the hand that a batch is in, if one is found
+abbrev versions_of : Option Flight → List FilterVersion
+versions_of found = option_map_or (λ (flight : Flight). versions_in flight.hand) found []
 
 -- an idle batch is in no seat's hand
 not-held : (seat : ℕ) (flight : Flight) → flight.hand ≡ None → is_in_hand seat flight ≡ false
 not-held seat flight idle = ap (λ o. option_map_or (λ (hand : Hand). eqb hand.worker seat) o false) idle
 
--- the references go on with other batches and other references, where the places stay
-spare-moved : (seats dimension : ℕ) (version : FilterVersion) (old new : List Flight) (spares left : Spares) → length left ≡ length spares
+-- the versions in the hand of each seat
+abbrev pub Hands : Type 0
+Hands = (seat : ℕ) → List FilterVersion
+
+-- the references go on with other hands and other references, where the places stay
+spare-moved : (seats dimension : ℕ) (version : FilterVersion) (old new : Hands) (spares left : Spares) → length left ≡ length spares
     → length (get_or left dimension []) ≡ length (get_or spares dimension [])
-    → ((seat : ℕ) → seat < seats → HasReference dimension version seat old spares → HasReference dimension version seat new left)
+    → ((seat : ℕ) → seat < seats → HasReference dimension version seat (old seat) spares
+    → HasReference dimension version seat (new seat) left)
     → IsSpare seats dimension version old spares → IsSpare seats dimension version new left
 spare-moved seats dimension version old new spares left long places goes before = record {
   listed = subst (λ n. dimension < n) (sym long) before.listed;
@@ -82,49 +109,56 @@ pub spare-with : (seats : ℕ) (old new : Filters) (flights : List Flight) (spar
     → AreSpare seats old.versions flights spares → AreSpare seats new.versions flights spares
 spare-with seats old new flights spares same all = subst (λ list. AreSpare seats list flights spares) (sym same) all
 
--- so have the same hands
-spare-held : (seats : ℕ) (versions : List FilterVersion) (old new : List Flight) (spares : Spares)
-    → ((seat : ℕ) → version_held new seat ≡ version_held old seat) → AreSpare seats versions old spares → AreSpare seats versions new spares
-spare-held seats versions old new spares same all = record {
+-- so have hands in which at least the same is
+spare-more : (seats : ℕ) (versions : List FilterVersion) (old new : Hands) (spares : Spares)
+    → ((seat : ℕ) (version : FilterVersion) → Contains (old seat) version → Contains (new seat) version)
+    → AreSpareBy seats versions old spares → AreSpareBy seats versions new spares
+spare-more seats versions old new spares more all = record {
   present = λ dimension version is.
       spare-moved seats dimension version old new spares spares refl refl (λ seat low. goes dimension version seat)
       (all.present dimension version is);
 }
   where
-    goes : (dimension : ℕ) (version : FilterVersion) (seat : ℕ) → HasReference dimension version seat old spares
-        → HasReference dimension version seat new spares
+    goes : (dimension : ℕ) (version : FilterVersion) (seat : ℕ) → HasReference dimension version seat (old seat) spares
+        → HasReference dimension version seat (new seat) spares
     goes dimension version seat (inl kept) = inl kept
-    goes dimension version seat (inr held) = inr (same seat ∙ held)
+    goes dimension version seat (inr held) = inr (more seat version held)
+
+-- and the same hands
+spare-held : (seats : ℕ) (versions : List FilterVersion) (old new : Hands) (spares : Spares)
+    → ((seat : ℕ) → new seat ≡ old seat) → AreSpareBy seats versions old spares → AreSpareBy seats versions new spares
+spare-held seats versions old new spares same =
+    spare-more seats versions old new spares (λ seat version. subst (λ list. Contains list version) (sym (same seat)))
 
 -- so have batches that are in the same hands
 pub spare-hands : (seats : ℕ) (versions : List FilterVersion) (old new : List Flight) (spares : Spares)
     → map (λ (flight : Flight). flight.hand) new ≡ map (λ (flight : Flight). flight.hand) old
     → AreSpare seats versions old spares → AreSpare seats versions new spares
-spare-hands seats versions old new spares same all =
-    spare-held seats versions old new spares
-    (λ seat. by_hands new seat ∙ ap (λ hands. option_and_then of_hand (find (own seat) hands)) same ∙ sym (by_hands old seat)) all
+spare-hands seats versions old new spares same =
+    spare-held seats versions (versions_held old) (versions_held new) spares
+    (λ seat. by_hands new seat ∙ ap (λ hands. of_hand (find (own seat) hands)) same ∙ sym (by_hands old seat))
   where
     own : (seat : ℕ) → Option Hand → Bool
     own seat o = option_map_or (λ hand. eqb hand.worker seat) o false
 
-    of_hand : Option Hand → Option FilterVersion
-    of_hand o = option_map (λ (hand : Hand). hand.version) o
+    of_hand : Option (Option Hand) → List FilterVersion
+    of_hand o = option_map_or versions_in o []
 
-    held : (o : Option Flight) → option_and_then version_in o ≡ option_and_then of_hand (option_map (λ (flight : Flight). flight.hand) o)
+    held : (o : Option Flight) → versions_of o ≡ of_hand (option_map (λ (flight : Flight). flight.hand) o)
     held None = refl
     held (Some flight) = refl
 
     by_hands : (flights : List Flight) (seat : ℕ)
-        → version_held flights seat ≡ option_and_then of_hand (find (own seat) (map (λ (flight : Flight). flight.hand) flights))
+        → versions_held flights seat ≡ of_hand (find (own seat) (map (λ (flight : Flight). flight.hand) flights))
     by_hands flights seat = held (find (is_in_hand seat) flights)
-        ∙ ap (option_and_then of_hand) (sym (find-images (own seat) (λ (flight : Flight). flight.hand) flights))
+        ∙ ap of_hand (sym (find-images (own seat) (λ (flight : Flight). flight.hand) flights))
 
 -- a batch more in flight, which is idle
 pub spare-cut : (seats : ℕ) (versions : List FilterVersion) (flights new : List Flight) (flight : Flight) (spares : Spares)
     → new ≡ flights ++ flight ∷ [] → flight.hand ≡ None → AreSpare seats versions flights spares → AreSpare seats versions new spares
 spare-cut seats versions flights new flight spares is idle all =
-    spare-held seats versions flights new spares
-    (λ seat. ap (λ list. version_held list seat) is ∙ ap (option_and_then version_in) (found seat)) all
+    spare-held seats versions (versions_held flights) (versions_held new) spares
+    (λ seat. ap (λ list. versions_held list seat) is ∙ ap versions_of (found seat)) all
   where
     or-none : (o : Option Flight) → option_or o None ≡ o
     or-none None = refl
@@ -140,9 +174,9 @@ pub spare-left : (seats : ℕ) (versions : List FilterVersion) (flights new : Li
     → slice_get flights place ≡ Some flight → flight.hand ≡ None → new ≡ take place flights ++ drop (place + 1) flights
     → AreSpare seats versions flights spares → AreSpare seats versions new spares
 spare-left seats versions flights new place flight spares there idle is all =
-    spare-held seats versions flights new spares
-    (λ seat. ap (λ list. version_held list seat) (is ∙ ap (λ n. take place flights ++ drop n flights) next)
-    ∙ ap (option_and_then version_in) (find-left (is_in_hand seat) flights place flight there (not-held seat flight idle))) all
+    spare-held seats versions (versions_held flights) (versions_held new) spares
+    (λ seat. ap (λ list. versions_held list seat) (is ∙ ap (λ n. take place flights ++ drop n flights) next)
+    ∙ ap versions_of (find-left (is_in_hand seat) flights place flight there (not-held seat flight idle))) all
   where
     next : place + 1 ≡ suc place
     next = omega arith
@@ -153,12 +187,12 @@ pub spare-passed : (seats : ℕ) (old new : Filters) (flights passed : List Flig
     → AreSpare seats old.versions flights spares → AreSpare seats new.versions passed spares
 spare-passed seats old new flights passed spares flown done all =
     subst (λ (one : Filters). AreSpare seats one.versions passed spares) (sym done)
-    (spare-held seats old.versions flights passed spares
-    (λ seat. ap (λ list. version_held list seat) flown
-    ∙ ap (option_and_then version_in) (find-images (is_in_hand seat) (flight_behind old) flights)
+    (spare-held seats old.versions (versions_held flights) (versions_held passed) spares
+    (λ seat. ap (λ list. versions_held list seat) flown
+    ∙ ap versions_of (find-images (is_in_hand seat) (flight_behind old) flights)
     ∙ same (find (is_in_hand seat) flights)) all)
   where
-    same : (o : Option Flight) → option_and_then version_in (option_map (flight_behind old) o) ≡ option_and_then version_in o
+    same : (o : Option Flight) → versions_of (option_map (flight_behind old) o) ≡ versions_of o
     same None = refl
     same (Some flight) = refl
 
@@ -230,14 +264,17 @@ spare-renewed parts now filters spares left version dimension references is own 
     others : (at : ℕ) → at ≢ dimension → get_or (set spares dimension references) at [] ≡ get_or spares at []
     others at apart = get_or-set_other spares dimension at references [] apart
 
-    goes : (at : ℕ) (found : FilterVersion) → at ≢ dimension → (seat : ℕ) → HasReference at found seat parts.flights spares
-        → HasReference at found seat parts.flights (set spares dimension references)
+    hands : Hands
+    hands = versions_held parts.flights
+
+    goes : (at : ℕ) (found : FilterVersion) → at ≢ dimension → (seat : ℕ) → HasReference at found seat (hands seat) spares
+        → HasReference at found seat (hands seat) (set spares dimension references)
     goes at found apart seat (inl kept) = inl (ap (λ (list : List (Option Filter)). get_or list seat None) (others at apart) ∙ kept)
     goes at found apart seat (inr held) = inr held
 
-    by_test : (at : ℕ) (found before : FilterVersion) → before.filter.dimension ≡ at → IsSpare seats at before parts.flights spares
+    by_test : (at : ℕ) (found before : FilterVersion) → before.filter.dimension ≡ at → IsSpare seats at before hands spares
         → (t : Bool) → eqb before.filter.dimension version.filter.dimension ≡ t → cond {A = FilterVersion} t version before ≡ found
-        → IsSpare seats at found parts.flights (set spares dimension references)
+        → IsSpare seats at found hands (set spares dimension references)
     by_test at found before has old true same turns =
         let here : at ≡ dimension =
         sym has ∙ eqb-true before.filter.dimension version.filter.dimension same ∙ own in
@@ -251,13 +288,13 @@ spare-renewed parts now filters spares left version dimension references is own 
     by_test at found before has old false other turns =
         let apart : at ≢ dimension = λ here. false≢true (sym other
         ∙ eq-eqb before.filter.dimension version.filter.dimension (has ∙ here ∙ sym own)) in
-        subst (λ v. IsSpare seats at v parts.flights (set spares dimension references)) turns
-        (spare-moved seats at before parts.flights parts.flights spares (set spares dimension references)
+        subst (λ v. IsSpare seats at v hands (set spares dimension references)) turns
+        (spare-moved seats at before hands hands spares (set spares dimension references)
         (length-set spares dimension references) (ap (λ (list : List (Option Filter)). length list) (others at apart))
         (λ seat low. goes at before apart seat) old)
 
     by_old : (at : ℕ) (found : FilterVersion) (o : Option FilterVersion) → version_at parts.filters.versions at ≡ o
-        → option_map (next version) o ≡ Some found → IsSpare seats at found parts.flights (set spares dimension references)
+        → option_map (next version) o ≡ Some found → IsSpare seats at found hands (set spares dimension references)
     by_old at found None none some = absurd (none-some found some)
     by_old at found (Some before) was some =
         by_test at found before (of-dimension parts.filters.versions at before was) (all.present at before was)
@@ -287,25 +324,76 @@ next-present filters flight version is =
     by_first (Some dimension) found =
         ap (version_at filters.versions) (of-dimension filters.versions dimension version found) ∙ found
 
+-- a version is the present one of its filter
+abbrev IsPresentIn : List FilterVersion → FilterVersion → Type 0
+IsPresentIn versions version = version_at versions version.filter.dimension ≡ Some version
+
+-- what a batch has still to pass are present versions
+left-present : (filters : Filters) (rows : Rows) → All (IsPresentIn filters.versions) (versions_left filters rows)
+left-present filters rows = of_order filters.order
+  where
+    left : ℕ → Option FilterVersion
+    left dimension = cond {A = Option FilterVersion} (eqb (bit_at rows.passed dimension) 1) None (version_at filters.versions dimension)
+
+    one : (dimension : ℕ) (o : Option FilterVersion) → left dimension ≡ o → IfSome o (IsPresentIn filters.versions)
+    one dimension None none = tt
+    one dimension (Some version) is = by_test (eqb (bit_at rows.passed dimension) 1) is
+      where
+        by_test : (t : Bool) → cond {A = Option FilterVersion} t None (version_at filters.versions dimension) ≡ Some version
+            → IsPresentIn filters.versions version
+        by_test true none = absurd (none-some version none)
+        by_test false found = ap (version_at filters.versions) (of-dimension filters.versions dimension version found) ∙ found
+
+    behind : (o : Option FilterVersion) (rest : List FilterVersion) → IfSome o (IsPresentIn filters.versions)
+        → All (IsPresentIn filters.versions) rest → All (IsPresentIn filters.versions) (cons_option o rest)
+    behind None rest has all = all
+    behind (Some version) rest has all = All-cons (IsPresentIn filters.versions) version rest has all
+
+    of_order : (order : List ℕ) → All (IsPresentIn filters.versions) (filter_map left order)
+    of_order [] = All-nil (IsPresentIn filters.versions)
+    of_order (dimension ∷ order) =
+        behind (left dimension) (filter_map left order) (one dimension (left dimension) refl) (of_order order)
+
+-- the reference of a worker to a present version is kept where its hand is empty
+spare-kept : (parts : Parts) (worker : ℕ) (version : FilterVersion) (spares : Spares) → worker < parts.settings.seats
+    → held_by (state_of parts).scan.flights worker ≡ None → IsPresentIn parts.filters.versions version
+    → AreSpare parts.settings.seats parts.filters.versions parts.flights spares
+    → spare_at spares version.filter.dimension worker ≡ Some version.filter
+spare-kept parts worker version spares low empty present all =
+    by_place ((all.present version.filter.dimension version present).each worker low)
+  where
+    by_place : HasReference version.filter.dimension version worker (versions_held parts.flights worker) spares
+        → spare_at spares version.filter.dimension worker ≡ Some version.filter
+    by_place (inl kept) = kept
+    by_place (inr held) = absurd (contains-none version
+        (subst (λ list. Contains list version) (ap versions_of (none-held parts worker empty)) held))
+
 -- the reference of a worker that may take a batch is kept
 pub spare-waits : (parts now : Parts) (worker batch : ℕ) (flight : Flight) (version : FilterVersion) (spares : Spares) → parts ≡ now
     → IsCore parts → MayTake worker batch (state_of now) → next_of parts.filters flight.batch ≡ Some version
     → AreSpare parts.settings.seats parts.filters.versions parts.flights spares
     → spare_at spares version.filter.dimension worker ≡ Some version.filter
-spare-waits parts now worker batch flight version spares is core may meets all =
-    by_place ((all.present version.filter.dimension version (next-present parts.filters flight version meets)).each worker low)
+spare-waits parts now worker batch flight version spares is core may meets =
+    spare-kept parts worker version spares (subst (λ n. worker < n) core.sound.seats.count here.seat) here.empty
+    (next-present parts.filters flight version meets)
   where
     here : MayTake worker batch (state_of parts)
     here = subst (λ (p : Parts). MayTake worker batch (state_of p)) (sym is) may
 
-    low : worker < parts.settings.seats
-    low = subst (λ n. worker < n) core.sound.seats.count here.seat
-
-    by_place : HasReference version.filter.dimension version worker parts.flights spares
-        → spare_at spares version.filter.dimension worker ≡ Some version.filter
-    by_place (inl kept) = kept
-    by_place (inr held) = absurd (none-some version
-        (sym (ap (option_and_then version_in) (none-held parts worker here.empty)) ∙ held))
+-- so are those of one that may carry a batch, to all versions that it has still to pass
+pub spares-wait : (parts now : Parts) (worker batch : ℕ) (rows : Rows) (spares : Spares) → parts ≡ now
+    → IsCore parts → MayCarry worker batch (state_of now)
+    → AreSpare parts.settings.seats parts.filters.versions parts.flights spares
+    → All (λ (version : FilterVersion). spare_at spares version.filter.dimension worker ≡ Some version.filter)
+    (versions_left parts.filters rows)
+spares-wait parts now worker batch rows spares is core may all =
+    All-weaker (IsPresentIn parts.filters.versions)
+    (λ (version : FilterVersion). spare_at spares version.filter.dimension worker ≡ Some version.filter)
+    (λ version present. spare-kept parts worker version spares (subst (λ n. worker < n) core.sound.seats.count here.seat) here.empty present all)
+    (versions_left parts.filters rows) (left-present parts.filters rows)
+  where
+    here : MayCarry worker batch (state_of parts)
+    here = subst (λ (p : Parts). MayCarry worker batch (state_of p)) (sym is) may
 
 -- a batch that is taken is idle
 pub idle-wanting : (parts now : Parts) (worker batch place : ℕ) (flight : Flight) → parts ≡ now → MayTake worker batch (state_of now)
@@ -315,6 +403,14 @@ idle-wanting parts now worker batch place flight is may at there =
     (flight_as (known_in parts.asked) (reaches_in parts.lives.queries) flight) (found-there parts batch place flight at there)
     (subst (λ (p : Parts). MayTake worker batch (state_of p)) (sym is) may).wanting).idle
 
+-- so is one that is carried
+pub idle-carried : (parts now : Parts) (worker batch place : ℕ) (flight : Flight) → parts ≡ now → MayCarry worker batch (state_of now)
+    → position (has_number batch) parts.flights ≡ Some place → slice_get parts.flights place ≡ Some flight → flight.hand ≡ None
+idle-carried parts now worker batch place flight is may at there =
+    some-at (λ (one : state.Flight). one.hand ≡ None) (flight_at (state_of parts).scan.flights batch)
+    (flight_as (known_in parts.asked) (reaches_in parts.lives.queries) flight) (found-there parts batch place flight at there)
+    (subst (λ (p : Parts). MayCarry worker batch (state_of p)) (sym is) may).idle
+
 -- so is one that is distributed
 pub idle-through : (parts now : Parts) (batch place : ℕ) (flight : Flight) → parts ≡ now → MayDistribute batch (state_of now)
     → position (has_number batch) parts.flights ≡ Some place → slice_get parts.flights place ≡ Some flight → flight.hand ≡ None
@@ -323,65 +419,122 @@ idle-through parts now batch place flight is may at there =
     (flight_as (known_in parts.asked) (reaches_in parts.lives.queries) flight) (found-there parts batch place flight at there)
     (subst (λ (p : Parts). MayDistribute batch (state_of p)) (sym is) may).through).idle
 
--- a batch is taken by the reference of the worker, which is in its hand now
-pub spare-taken : (parts now : Parts) (worker batch place : ℕ) (flight : Flight) (version : FilterVersion) (flights : List Flight)
-    (spares left : Spares) → parts ≡ now → MayTake worker batch (state_of now)
-    → position (has_number batch) parts.flights ≡ Some place → slice_get parts.flights place ≡ Some flight
-    → next_of parts.filters flight.batch ≡ Some version
-    → flights ≡ set parts.flights place (record flight { hand = Some (record { worker = worker; version = version }) })
-    → left ≡ with_spare version.filter.dimension worker None spares
-    → AreSpare parts.settings.seats parts.filters.versions parts.flights spares
-    → AreSpare parts.settings.seats parts.filters.versions flights left
-spare-taken parts now worker batch place flight version flights spares left is may at there meets flights_are left_is all =
-    subst (λ list. AreSpare parts.settings.seats parts.filters.versions list left) (sym flights_are)
-    (subst (AreSpare parts.settings.seats parts.filters.versions (set parts.flights place held)) (sym left_is) (record {
-      present = λ at found is.
-          let before = all.present at found is in
-          spare-moved parts.settings.seats at found parts.flights (set parts.flights place held) spares
-          (with_spare dimension worker None spares) (length-set spares dimension (set (get_or spares dimension []) worker None))
-          (places-stay dimension worker at None spares before.listed)
-          (λ seat low. by_seat at found is before.listed seat (cases_eq seat worker)) before;
-    }))
+-- the reference of a worker to a present version that is in its hand may go
+spare-out : (seats worker : ℕ) (versions : List FilterVersion) (hands : Hands) (version : FilterVersion) (spares : Spares)
+    → IsPresentIn versions version → Contains (hands worker) version
+    → AreSpareBy seats versions hands spares
+    → AreSpareBy seats versions hands (with_spare version.filter.dimension worker None spares)
+spare-out seats worker versions hands version spares present held all = record {
+  present = λ at found is.
+      let before = all.present at found is in
+      spare-moved seats at found hands hands spares (with_spare dimension worker None spares)
+      (length-set spares dimension (set (get_or spares dimension []) worker None))
+      (places-stay dimension worker at None spares before.listed)
+      (λ seat low. by_seat at found is before.listed seat (cases_eq seat worker)) before;
+}
   where
     dimension : ℕ
     dimension = version.filter.dimension
 
-    held : Flight
-    held = record flight { hand = Some (record { worker = worker; version = version }) }
-
-    idle : flight.hand ≡ None
-    idle = idle-wanting parts now worker batch place flight is may at there
-
-    empty : find (is_in_hand worker) parts.flights ≡ None
-    empty = none-held parts worker (subst (λ (p : Parts). MayTake worker batch (state_of p)) (sym is) may).empty
-
-    stays : (seat : ℕ) → seat ≢ worker → version_held (set parts.flights place held) seat ≡ version_held parts.flights seat
-    stays seat other = ap (option_and_then version_in)
-        (find-set (is_in_hand seat) parts.flights place flight held there (not-held seat flight idle)
-        (ne_eqb worker seat (λ same. other (sym same))))
-
-    in_hand : version_held (set parts.flights place held) worker ≡ Some version
-    in_hand = ap (option_and_then version_in)
-        (find-written (is_in_hand worker) parts.flights place flight held there empty (eq-eqb worker worker refl))
-
-    by_place : (at : ℕ) (found : FilterVersion) → version_at parts.filters.versions at ≡ Some found → at < length spares → (seat : ℕ)
+    by_place : (at : ℕ) (found : FilterVersion) → version_at versions at ≡ Some found → at < length spares → (seat : ℕ)
         → seat ≡ worker → spare_at spares at seat ≡ Some found.filter → (at ≡ dimension) ⊎ (at ≢ dimension)
-        → HasReference at found seat (set parts.flights place held) (with_spare dimension worker None spares)
+        → HasReference at found seat (hands seat) (with_spare dimension worker None spares)
     by_place at found is listed seat own kept (inl same) =
-        inr (ap (version_held (set parts.flights place held)) own ∙ in_hand
-        ∙ sym (sym is ∙ ap (version_at parts.filters.versions) same ∙ next-present parts.filters flight version meets))
+        inr (subst (λ n. Contains (hands n) found) (sym own)
+        (subst (Contains (hands worker)) (same_Some version found (sym present ∙ ap (version_at versions) (sym same) ∙ is)) held))
     by_place at found is listed seat own kept (inr apart) =
         inl (spare-apart dimension worker at seat None spares listed (λ same. absurd (apart same)) ∙ kept)
 
-    by_seat : (at : ℕ) (found : FilterVersion) → version_at parts.filters.versions at ≡ Some found → at < length spares → (seat : ℕ)
-        → (seat ≡ worker) ⊎ (seat ≢ worker) → HasReference at found seat parts.flights spares
-        → HasReference at found seat (set parts.flights place held) (with_spare dimension worker None spares)
+    by_seat : (at : ℕ) (found : FilterVersion) → version_at versions at ≡ Some found → at < length spares → (seat : ℕ)
+        → (seat ≡ worker) ⊎ (seat ≢ worker) → HasReference at found seat (hands seat) spares
+        → HasReference at found seat (hands seat) (with_spare dimension worker None spares)
     by_seat at found is listed seat (inl own) (inl kept) = by_place at found is listed seat own kept (cases_eq at dimension)
-    by_seat at found is listed seat (inl own) (inr has) = absurd (none-some found
-        (sym (ap (option_and_then version_in) empty) ∙ ap (version_held parts.flights) (sym own) ∙ has))
+    by_seat at found is listed seat (inl own) (inr has) = inr has
     by_seat at found is listed seat (inr other) (inl kept) =
         inl (spare-apart dimension worker at seat None spares listed (λ same. other) ∙ kept)
-    by_seat at found is listed seat (inr other) (inr has) = inr (stays seat other ∙ has)
+    by_seat at found is listed seat (inr other) (inr has) = inr has
+
+-- so may those to all of these versions
+spares-out : (seats worker : ℕ) (versions : List FilterVersion) (hands : Hands) (left : List FilterVersion) (spares : Spares)
+    → All (IsPresentIn versions) left → All (Contains (hands worker)) left → AreSpareBy seats versions hands spares
+    → AreSpareBy seats versions hands (with_all_taken worker left spares)
+spares-out seats worker versions hands [] spares present held all = all
+spares-out seats worker versions hands (version ∷ left) spares present held all =
+    spares-out seats worker versions hands left (with_spare version.filter.dimension worker None spares)
+    (All-tail (IsPresentIn versions) version left present)
+    (All-tail (Contains (hands worker)) version left held)
+    (spare-out seats worker versions hands version spares
+    (All-head (IsPresentIn versions) version left present)
+    (All-head (Contains (hands worker)) version left held) all)
+
+-- a batch is taken by the references of the worker to present versions, which are in its hand now
+spares-taken : (parts : Parts) (worker place : ℕ) (flight : Flight) (versions : List FilterVersion) (flights : List Flight)
+    (spares left : Spares) → held_by (state_of parts).scan.flights worker ≡ None → flight.hand ≡ None
+    → slice_get parts.flights place ≡ Some flight
+    → All (IsPresentIn parts.filters.versions) versions
+    → flights ≡ set parts.flights place (record flight { hand = Some (record { worker = worker; versions = versions }) })
+    → left ≡ with_all_taken worker versions spares
+    → AreSpare parts.settings.seats parts.filters.versions parts.flights spares
+    → AreSpare parts.settings.seats parts.filters.versions flights left
+spares-taken parts worker place flight versions flights spares left free idle there present flights_are left_is all =
+    subst (λ list. AreSpare parts.settings.seats parts.filters.versions list left) (sym flights_are)
+    (subst (AreSpare parts.settings.seats parts.filters.versions (set parts.flights place held)) (sym left_is)
+    (spares-out parts.settings.seats worker parts.filters.versions (versions_held (set parts.flights place held)) versions spares present
+    (subst (λ list. All (Contains list) versions) (sym in_hand) (All-contains_itself versions))
+    (spare-more parts.settings.seats parts.filters.versions (versions_held parts.flights) (versions_held (set parts.flights place held))
+    spares (λ seat version. more seat version (cases_eq seat worker)) all)))
+  where
+    held : Flight
+    held = record flight { hand = Some (record { worker = worker; versions = versions }) }
+
+    empty : find (is_in_hand worker) parts.flights ≡ None
+    empty = none-held parts worker free
+
+    in_hand : versions_held (set parts.flights place held) worker ≡ versions
+    in_hand = ap versions_of
+        (find-written (is_in_hand worker) parts.flights place flight held there empty (eq-eqb worker worker refl))
+
+    stays : (seat : ℕ) → seat ≢ worker → versions_held (set parts.flights place held) seat ≡ versions_held parts.flights seat
+    stays seat other = ap versions_of
+        (find-set (is_in_hand seat) parts.flights place flight held there (not-held seat flight idle)
+        (ne_eqb worker seat (λ same. other (sym same))))
+
+    more : (seat : ℕ) (version : FilterVersion) → (seat ≡ worker) ⊎ (seat ≢ worker) → Contains (versions_held parts.flights seat) version
+        → Contains (versions_held (set parts.flights place held) seat) version
+    more seat version (inl own) has = absurd (contains-none version
+        (subst (λ list. Contains list version) (ap (versions_held parts.flights) own ∙ ap versions_of empty) has))
+    more seat version (inr other) has = subst (λ list. Contains list version) (sym (stays seat other)) has
+
+-- of the version of the filter that it meets next
+pub spare-taken : (parts now : Parts) (worker batch place : ℕ) (flight : Flight) (version : FilterVersion) (flights : List Flight)
+    (spares left : Spares) → parts ≡ now → MayTake worker batch (state_of now)
+    → position (has_number batch) parts.flights ≡ Some place → slice_get parts.flights place ≡ Some flight
+    → next_of parts.filters flight.batch ≡ Some version
+    → flights ≡ set parts.flights place (record flight { hand = Some (record { worker = worker; versions = version ∷ [] }) })
+    → left ≡ with_spare version.filter.dimension worker None spares
+    → AreSpare parts.settings.seats parts.filters.versions parts.flights spares
+    → AreSpare parts.settings.seats parts.filters.versions flights left
+spare-taken parts now worker batch place flight version flights spares left is may at there meets flights_are left_is =
+    spares-taken parts worker place flight (version ∷ []) flights spares left
+    (subst (λ (p : Parts). MayTake worker batch (state_of p)) (sym is) may).empty
+    (idle-wanting parts now worker batch place flight is may at there) there
+    (All-cons (IsPresentIn parts.filters.versions) version [] (next-present parts.filters flight version meets)
+    (All-nil (IsPresentIn parts.filters.versions)))
+    flights_are left_is
+
+-- of those of all that it has still to pass
+pub spare-carried : (parts now : Parts) (worker batch place : ℕ) (flight : Flight) (flights : List Flight)
+    (spares left : Spares) → parts ≡ now → MayCarry worker batch (state_of now)
+    → position (has_number batch) parts.flights ≡ Some place → slice_get parts.flights place ≡ Some flight
+    → flights ≡ set parts.flights place
+    (record flight { hand = Some (record { worker = worker; versions = versions_left parts.filters flight.batch }) })
+    → left ≡ with_all_taken worker (versions_left parts.filters flight.batch) spares
+    → AreSpare parts.settings.seats parts.filters.versions parts.flights spares
+    → AreSpare parts.settings.seats parts.filters.versions flights left
+spare-carried parts now worker batch place flight flights spares left is may at there =
+    spares-taken parts worker place flight (versions_left parts.filters flight.batch) flights spares left
+    (subst (λ (p : Parts). MayCarry worker batch (state_of p)) (sym is) may).empty
+    (idle-carried parts now worker batch place flight is may at there) there (left-present parts.filters flight.batch)
 
 -- a present version with the number of a version in a hand is that one
 is-held : (versions : List FilterVersion) (held found : FilterVersion) → version_at versions held.filter.dimension ≡ Some found
@@ -406,47 +559,50 @@ spare-place seats versions flights spares version seat low all present = by_foun
         let has = all.present version.filter.dimension found is in
         record { listed = has.listed; within = subst (λ n. seat < n) (sym has.many) low }
 
--- a batch is given back, and the reference of the worker is kept again where its version is still the present one
-pub spare-given : (seats worker place : ℕ) (old new : Filters) (flights given : List Flight) (flight : Flight) (hand : Hand)
-    (version : FilterVersion) (spares left : Spares) → new.versions ≡ old.versions
-    → find (is_in_hand worker) flights ≡ Some flight → slice_get flights place ≡ Some flight → flight.hand ≡ Some hand
-    → hand.worker ≡ worker → version ≡ hand.version → IsPresentByNumber old.versions hand.version
-    → given ≡ set flights place (passed_in hand flight)
-    → left ≡ with_returned worker version (is_present new.versions version) spares
-    → AreSpare seats old.versions flights spares → AreSpare seats new.versions given left
-spare-given seats worker place old new flights given flight hand version spares left same_versions found_in there held own_hand version_is
-    by_number given_is left_is all =
-    subst (λ list. AreSpare seats new.versions list left) (sym given_is)
-    (subst (AreSpare seats new.versions (set flights place back)) (sym (left_is ∙ returned_is))
-    (spare-with seats old new (set flights place back) _ same_versions (returned (is_present old.versions hand.version) refl)))
+-- hands of which that of one worker has these versions
+abbrev with_hand : (worker : ℕ) → List FilterVersion → Hands → (seat : ℕ) → List FilterVersion
+with_hand worker versions hands seat = cond {A = List FilterVersion} (eqb seat worker) versions (hands seat)
+
+own-hand : (worker : ℕ) (versions : List FilterVersion) (hands : Hands) (seat : ℕ) → seat ≡ worker
+    → with_hand worker versions hands seat ≡ versions
+own-hand worker versions hands seat own =
+    ap (λ t. cond {A = List FilterVersion} t versions (hands seat)) (eq-eqb seat worker own)
+
+other-hand : (worker : ℕ) (versions : List FilterVersion) (hands : Hands) (seat : ℕ) → seat ≢ worker
+    → with_hand worker versions hands seat ≡ hands seat
+other-hand worker versions hands seat other =
+    ap (λ t. cond {A = List FilterVersion} t versions (hands seat)) (ne_eqb seat worker other)
+
+-- the first version in the hand of a worker is given back: its reference is kept again where it is still the present one
+spare-back : (seats worker : ℕ) (present : List FilterVersion) (hands : Hands) (version : FilterVersion) (rest : List FilterVersion)
+    (spares : Spares) → IsPresentByNumber present version → AreSpareBy seats present (with_hand worker (version ∷ rest) hands) spares
+    → AreSpareBy seats present (with_hand worker rest hands) (with_returned worker version (is_present present version) spares)
+spare-back seats worker present hands version rest spares by_number all = returned (is_present present version) refl
   where
     dimension : ℕ
-    dimension = hand.version.filter.dimension
+    dimension = version.filter.dimension
 
     table : Option Filter
-    table = Some hand.version.filter
+    table = Some version.filter
 
-    back : Flight
-    back = passed_in hand flight
+    old : Hands
+    old = with_hand worker (version ∷ rest) hands
 
-    returned_is : with_returned worker version (is_present new.versions version) spares
-        ≡ with_returned worker hand.version (is_present old.versions hand.version) spares
-    returned_is = ap (λ list. with_returned worker version (is_present list version) spares) same_versions
-        ∙ ap (λ (v : FilterVersion). with_returned worker v (is_present old.versions v) spares) version_is
+    new : Hands
+    new = with_hand worker rest hands
 
-    stays : (seat : ℕ) → seat ≢ worker → version_held (set flights place back) seat ≡ version_held flights seat
-    stays seat other = ap (option_and_then version_in)
-        (find-set (is_in_hand seat) flights place flight back there
-        (ap (λ o. option_map_or (λ (h : Hand). eqb h.worker seat) o false) held
-        ∙ ne_eqb hand.worker seat (λ same. other (sym same ∙ own_hand))) refl)
+    other : (seat : ℕ) (found : FilterVersion) → seat ≢ worker → Contains (old seat) found → Contains (new seat) found
+    other seat found apart = subst (λ list. Contains list found)
+        (other-hand worker (version ∷ rest) hands seat apart ∙ sym (other-hand worker rest hands seat apart))
 
-    was : version_held flights worker ≡ Some hand.version
-    was = ap (option_and_then version_in) found_in ∙ ap (option_map (λ (h : Hand). h.version)) held
+    mine : (seat : ℕ) (found : FilterVersion) → seat ≡ worker → Contains (old seat) found
+        → (version ≡ found) ⊎ Contains (new seat) found
+    mine seat found own has = ⊎_elim (λ same. inl same)
+        (λ more. inr (subst (λ list. Contains list found) (sym (own-hand worker rest hands seat own)) more))
+        (contains-cases version found rest
+        (subst (λ list. Contains list found) (own-hand worker (version ∷ rest) hands seat own) has))
 
-    held-by : (seat : ℕ) (found : FilterVersion) → seat ≡ worker → version_held flights seat ≡ Some found → found ≡ hand.version
-    held-by seat found own has = same_Some found hand.version (sym has ∙ ap (version_held flights) own ∙ was)
-
-    put : (at : ℕ) (found : FilterVersion) → at ≡ dimension → found ≡ hand.version → IsSpare seats at found flights spares → (seat : ℕ)
+    put : (at : ℕ) (found : FilterVersion) → at ≡ dimension → found ≡ version → IsSpare seats at found old spares → (seat : ℕ)
         → seat < seats → seat ≡ worker → spare_at (with_spare dimension worker table spares) at seat ≡ Some found.filter
     put at found same is before seat low own =
         ap (λ n. spare_at (with_spare dimension worker table spares) n seat) same
@@ -458,60 +614,134 @@ spare-given seats worker place old new flights given flight hand version spares 
         })
         ∙ ap (λ (v : FilterVersion). Some v.filter) (sym is)
 
-    by_place : is_present old.versions hand.version ≡ true → (at : ℕ) (found : FilterVersion) → version_at old.versions at ≡ Some found
-        → IsSpare seats at found flights spares → (seat : ℕ) → seat < seats → seat ≡ worker → spare_at spares at seat ≡ Some found.filter
+    of_it : (at : ℕ) (found : FilterVersion) → version_at present at ≡ Some found → version ≡ found → at ≡ dimension
+    of_it at found is same = sym (of-dimension present at found is) ∙ ap (λ (v : FilterVersion). v.filter.dimension) (sym same)
+
+    by_place : is_present present version ≡ true → (at : ℕ) (found : FilterVersion) → version_at present at ≡ Some found
+        → IsSpare seats at found old spares → (seat : ℕ) → seat < seats → seat ≡ worker → spare_at spares at seat ≡ Some found.filter
         → (at ≡ dimension) ⊎ (at ≢ dimension)
-        → HasReference at found seat (set flights place back) (with_spare dimension worker table spares)
-    by_place present at found is before seat low own kept (inl same) =
+        → HasReference at found seat (new seat) (with_spare dimension worker table spares)
+    by_place is_now at found is before seat low own kept (inl same) =
         inl (put at found same
-        (is-held old.versions hand.version found (ap (version_at old.versions) (sym same) ∙ is) present by_number) before seat low own)
-    by_place present at found is before seat low own kept (inr apart) =
+        (is-held present version found (ap (version_at present) (sym same) ∙ is) is_now by_number) before seat low own)
+    by_place is_now at found is before seat low own kept (inr apart) =
         inl (spare-apart dimension worker at seat table spares before.listed (λ same. absurd (apart same)) ∙ kept)
 
-    kept-again : is_present old.versions hand.version ≡ true → (at : ℕ) (found : FilterVersion) → version_at old.versions at ≡ Some found
-        → IsSpare seats at found flights spares → (seat : ℕ) → seat < seats → (seat ≡ worker) ⊎ (seat ≢ worker)
-        → HasReference at found seat flights spares
-        → HasReference at found seat (set flights place back) (with_spare dimension worker table spares)
-    kept-again present at found is before seat low (inl own) (inl kept) =
-        by_place present at found is before seat low own kept (cases_eq at dimension)
-    kept-again present at found is before seat low (inl own) (inr has) =
-        let version_of = held-by seat found own has in
-        inl (put at found (sym (of-dimension old.versions at found is) ∙ ap (λ (v : FilterVersion). v.filter.dimension) version_of)
-        version_of before seat low own)
-    kept-again present at found is before seat low (inr other) (inl kept) =
-        inl (spare-apart dimension worker at seat table spares before.listed (λ same. other) ∙ kept)
-    kept-again present at found is before seat low (inr other) (inr has) = inr (stays seat other ∙ has)
+    kept-again : is_present present version ≡ true → (at : ℕ) (found : FilterVersion) → version_at present at ≡ Some found
+        → IsSpare seats at found old spares → (seat : ℕ) → seat < seats → (seat ≡ worker) ⊎ (seat ≢ worker)
+        → HasReference at found seat (old seat) spares
+        → HasReference at found seat (new seat) (with_spare dimension worker table spares)
+    kept-again is_now at found is before seat low (inl own) (inl kept) =
+        by_place is_now at found is before seat low own kept (cases_eq at dimension)
+    kept-again is_now at found is before seat low (inl own) (inr has) =
+        ⊎_elim (λ same. inl (put at found (of_it at found is same) (sym same) before seat low own)) (λ more. inr more)
+        (mine seat found own has)
+    kept-again is_now at found is before seat low (inr apart) (inl kept) =
+        inl (spare-apart dimension worker at seat table spares before.listed (λ same. apart) ∙ kept)
+    kept-again is_now at found is before seat low (inr apart) (inr has) = inr (other seat found apart has)
 
-    let-go : is_present old.versions hand.version ≡ false → (at : ℕ) (found : FilterVersion) → version_at old.versions at ≡ Some found
-        → (seat : ℕ) → (seat ≡ worker) ⊎ (seat ≢ worker) → HasReference at found seat flights spares
-        → HasReference at found seat (set flights place back) spares
+    let-go : is_present present version ≡ false → (at : ℕ) (found : FilterVersion) → version_at present at ≡ Some found
+        → (seat : ℕ) → (seat ≡ worker) ⊎ (seat ≢ worker) → HasReference at found seat (old seat) spares
+        → HasReference at found seat (new seat) spares
     let-go absent at found is seat (inl own) (inl kept) = inl kept
     let-go absent at found is seat (inl own) (inr has) =
-        let version_of = held-by seat found own has in
-        let here : version_at old.versions dimension ≡ Some found =
-        ap (version_at old.versions)
-        (sym (sym (of-dimension old.versions at found is) ∙ ap (λ (v : FilterVersion). v.filter.dimension) version_of)) ∙ is in
-        absurd (false≢true (sym absent
-        ∙ ap (λ o. option_map_or (λ (one : FilterVersion). eqb one.number hand.version.number) o false) here
-        ∙ eq-eqb found.number hand.version.number (ap (λ (v : FilterVersion). v.number) version_of)))
-    let-go absent at found is seat (inr other) (inl kept) = inl kept
-    let-go absent at found is seat (inr other) (inr has) = inr (stays seat other ∙ has)
+        ⊎_elim (λ same. absurd (never same)) (λ more. inr more) (mine seat found own has)
+      where
+        never : version ≡ found → ⊥
+        never same = false≢true (sym absent
+            ∙ ap (λ o. option_map_or (λ (one : FilterVersion). eqb one.number version.number) o false)
+            (ap (version_at present) (sym (of_it at found is same)) ∙ is)
+            ∙ eq-eqb found.number version.number (ap (λ (v : FilterVersion). v.number) (sym same)))
+    let-go absent at found is seat (inr apart) (inl kept) = inl kept
+    let-go absent at found is seat (inr apart) (inr has) = inr (other seat found apart has)
 
-    returned : (t : Bool) → is_present old.versions hand.version ≡ t
-        → AreSpare seats old.versions (set flights place back) (with_returned worker hand.version t spares)
-    returned true present = record {
+    returned : (t : Bool) → is_present present version ≡ t → AreSpareBy seats present new (with_returned worker version t spares)
+    returned true is_now = record {
       present = λ at found is.
           let before = all.present at found is in
-          spare-moved seats at found flights (set flights place back) spares (with_spare dimension worker table spares)
+          spare-moved seats at found old new spares (with_spare dimension worker table spares)
           (length-set spares dimension (set (get_or spares dimension []) worker table))
           (places-stay dimension worker at table spares before.listed)
-          (λ seat low. kept-again present at found is before seat low (cases_eq seat worker)) before;
+          (λ seat low. kept-again is_now at found is before seat low (cases_eq seat worker)) before;
     }
     returned false absent = record {
       present = λ at found is.
-          spare-moved seats at found flights (set flights place back) spares spares refl refl
+          spare-moved seats at found old new spares spares refl refl
           (λ seat low. let-go absent at found is seat (cases_eq seat worker)) (all.present at found is);
     }
+
+-- so are all of these, the last one first, while others stay in the hand
+spares-back : (seats worker : ℕ) (present : List FilterVersion) (hands : Hands) (versions rest : List FilterVersion) (spares : Spares)
+    → All (IsPresentByNumber present) versions → AreSpareBy seats present (with_hand worker (versions ++ rest) hands) spares
+    → AreSpareBy seats present (with_hand worker rest hands) (with_all_returned worker present versions spares)
+spares-back seats worker present hands [] rest spares by_number all = all
+spares-back seats worker present hands (version ∷ versions) rest spares by_number all =
+    spare-back seats worker present hands version rest (with_all_returned worker present versions spares)
+    (All-head (IsPresentByNumber present) version versions by_number)
+    (spares-back seats worker present hands versions (version ∷ rest) spares
+    (All-tail (IsPresentByNumber present) version versions by_number)
+    (spare-more seats present (with_hand worker (version ∷ (versions ++ rest)) hands) (with_hand worker (versions ++ version ∷ rest) hands)
+    spares (λ seat found. more seat found (eqb seat worker)) all))
+  where
+    moved : (found : FilterVersion) → Contains (version ∷ (versions ++ rest)) found → Contains (versions ++ version ∷ rest) found
+    moved found has = ⊎_elim
+        (λ same. Contains-append_right versions (version ∷ rest) found
+        (subst (Contains (version ∷ rest)) same (contains-first version rest)))
+        (λ others. ⊎_elim (Contains-append_left versions (version ∷ rest) found)
+        (λ behind. Contains-append_right versions (version ∷ rest) found (contains-more version found rest behind))
+        (Contains-append_cases versions rest found others))
+        (contains-cases version found (versions ++ rest) has)
+
+    more : (seat : ℕ) (found : FilterVersion) (t : Bool)
+        → Contains (cond {A = List FilterVersion} t (version ∷ (versions ++ rest)) (hands seat)) found
+        → Contains (cond {A = List FilterVersion} t (versions ++ version ∷ rest) (hands seat)) found
+    more seat found true has = moved found has
+    more seat found false has = has
+
+-- a batch is given back, and the references of the worker to versions that are still the present ones are kept again
+pub spare-given : (seats worker place : ℕ) (old new : Filters) (flights given : List Flight) (flight : Flight) (hand : Hand)
+    (versions : List FilterVersion) (spares left : Spares) → new.versions ≡ old.versions
+    → find (is_in_hand worker) flights ≡ Some flight → slice_get flights place ≡ Some flight → flight.hand ≡ Some hand
+    → hand.worker ≡ worker → versions ≡ hand.versions → All (IsPresentByNumber old.versions) hand.versions
+    → given ≡ set flights place (passed_in hand flight)
+    → left ≡ with_all_returned worker old.versions versions spares
+    → AreSpare seats old.versions flights spares → AreSpare seats new.versions given left
+spare-given seats worker place old new flights given flight hand versions spares left same_versions found_in there held own_hand versions_are
+    by_number given_is left_is all =
+    subst (λ list. AreSpare seats new.versions list left) (sym given_is)
+    (subst (AreSpare seats new.versions (set flights place back))
+    (sym (left_is ∙ ap (λ list. with_all_returned worker old.versions list spares) versions_are))
+    (spare-with seats old new (set flights place back) (with_all_returned worker old.versions hand.versions spares) same_versions
+    (spare-more seats old.versions (with_hand worker [] hands) (versions_held (set flights place back))
+    (with_all_returned worker old.versions hand.versions spares) (λ seat version. more seat version (cases_eq seat worker))
+    (spares-back seats worker old.versions hands hand.versions [] spares by_number
+    (spare-held seats old.versions hands (with_hand worker (hand.versions ++ []) hands) spares
+    (λ seat. was seat (cases_eq seat worker)) all)))))
+  where
+    hands : Hands
+    hands = versions_held flights
+
+    back : Flight
+    back = passed_in hand flight
+
+    here : hands worker ≡ hand.versions
+    here = ap versions_of found_in ∙ ap versions_in held
+
+    was : (seat : ℕ) → (seat ≡ worker) ⊎ (seat ≢ worker) → with_hand worker (hand.versions ++ []) hands seat ≡ hands seat
+    was seat (inl own) = own-hand worker (hand.versions ++ []) hands seat own ∙ append-nil hand.versions ∙ sym here ∙ ap hands (sym own)
+    was seat (inr other) = other-hand worker (hand.versions ++ []) hands seat other
+
+    fails : (seat : ℕ) → seat ≢ worker → is_in_hand seat flight ≡ false
+    fails seat other = ap (λ o. option_map_or (λ (h : Hand). eqb h.worker seat) o false) held
+        ∙ ne_eqb hand.worker seat (λ same. other (sym same ∙ own_hand))
+
+    more : (seat : ℕ) (version : FilterVersion) → (seat ≡ worker) ⊎ (seat ≢ worker) → Contains (with_hand worker [] hands seat) version
+        → Contains (versions_held (set flights place back) seat) version
+    more seat version (inl own) has =
+        absurd (contains-none version (subst (λ list. Contains list version) (own-hand worker [] hands seat own) has))
+    more seat version (inr other) has = subst (λ list. Contains list version)
+        (other-hand worker [] hands seat other
+        ∙ sym (ap versions_of (find-set (is_in_hand seat) flights place flight back there (fails seat other) refl))) has
 
 -- the first version of the filter of a dimension
 record IsFirst (at : ℕ) (found : FilterVersion) : Type 0 where
@@ -573,7 +803,7 @@ spare-declared schema seats filters flights spares few filters_are made =
         ∙ length-first (range_with_len 0 8) 1 ∙ length-range_with_len 0 8
 
     present : (at : ℕ) (found : FilterVersion) → version_at (first_versions (filter_dimensions schema) 1) at ≡ Some found
-        → IsSpare seats at found flights (first_spares seats (first_versions (range_with_len 0 8) 1))
+        → IsSpare seats at found (versions_held flights) (first_spares seats (first_versions (range_with_len 0 8) 1))
     present at found is =
         let first : IsFirst at found =
         first-found (filter_dimensions schema) 1 at found (referenced_are_numbered schema few).members is in

@@ -1,6 +1,6 @@
 -- What a call leaves that takes the submission of a statement, if it may come.
 use Rattle.event_core.proofs.Words.{◌<◌, ◌≡◌, after_submitting, ap, length, Parts, refl, state_of, Statement, subst, sym}
-use Rattle.std.proofs.Common.{Bool, true, false, Err, Ok, Result, inl, ℕ}
+use Rattle.std.proofs.Common.{Bool, false, Err, Ok, inl, ℕ}
 use Rattle.std.specs.Prelude.{◌↔◌, IsTrue}
 use Rattle.core_state.specs.Events.{after_event}
 use Rattle.core_state.specs.Sound.{IsSound}

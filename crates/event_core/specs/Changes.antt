@@ -14,7 +14,7 @@ use Rattle.continuous_scan.specs.Range as scanned
 use Rattle.continuous_scan.specs.Stamped.{batch_of}
 use Rattle.distributor.specs.Folded.{after_batch}
 use Rattle.aggregations.specs.Grouped.{Grouped}
-use Rattle.core_state.specs.Cutting.{order_by, with_batch, with_tally}
+use Rattle.core_state.specs.Cutting.{order_by, tallies_through}
 use Rattle.core_state.specs.Handed.{detached_for}
 use Rattle.core_state.specs.Numbered.{counted, last_after}
 use Rattle.core_state.specs.Scanned.{stopped_for}
@@ -91,18 +91,17 @@ cut_into holders frame inside number parts =
 abbrev pub with_flight_at : (place : ℕ) → Flight → Parts → Parts
 with_flight_at place flight parts = record parts { flights = slice_set parts.flights place flight }
 
--- `take` of the batch at a place, with a version
-abbrev pub taken : (place worker : ℕ) → Flight → state.FilterVersion → Parts → Parts
-taken place worker flight version parts =
-    with_flight_at place (record flight { hand = Some (record { worker = worker; version = version }) }) parts
+-- the batch at a place in a worker's hand, with these versions: `take` with one, `carry` with all that are left
+abbrev pub taken : (place worker : ℕ) → Flight → List state.FilterVersion → Parts → Parts
+taken place worker flight versions parts =
+    with_flight_at place (record flight { hand = Some (record { worker = worker; versions = versions }) }) parts
 
 -- `give` of the batch at a place, which is in a hand
 abbrev pub given : (place : ℕ) → Flight → state.Hand → Parts → Parts
 given place flight hand parts = record parts {
   flights = slice_set parts.flights place (passed_in hand flight);
   filters = record parts.filters {
-    tallies = with_tally hand.version.filter.dimension (with_batch hand.version.filter flight.batch)
-        parts.filters.versions parts.filters.tallies;
+    tallies = tallies_through hand.versions flight.batch parts.filters.versions parts.filters.tallies;
   };
 }
 

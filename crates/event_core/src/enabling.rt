@@ -1,7 +1,8 @@
 //! Which events may come.
 ghost use Rattle.std.specs.Prelude.{◌↔◌, IsTrue};
-ghost use Rattle.core_state.specs.Events.{IsEnabled, MayCut, MayDistribute, MayFinish, MayTake};
+ghost use Rattle.core_state.specs.Events.{IsEnabled, MayCarry, MayCut, MayDistribute, MayFinish, MayTake};
 ghost use Rattle.core_state.specs.declared.event.Event.TheVariants.{Give};
+ghost use Rattle.event_core.specs.Lent.{HasFreeHand};
 ghost use Rattle.event_core.specs.Seen.{state_of};
 
 use crate::machine::Core;
@@ -24,6 +25,7 @@ impl Core {
             Event::Start { query } => may_start(&self.manager, *query),
             Event::Cut => self.may_cut(),
             Event::Take { worker, batch } => self.may_take(*worker, *batch),
+            Event::Carry { worker, batch } => self.may_carry(*worker, *batch),
             Event::Give { worker } => self.may_give(*worker),
             Event::Distribute { batch } => self.may_distribute(*batch),
             Event::Finish { slot } => self.may_finish(*slot),
@@ -43,14 +45,34 @@ impl Core {
     fn may_take(&self, worker: u32, batch: u64) -> bool
         ensures { IsTrue result ↔ MayTake worker batch (state_of self.now) }
     {
-        let flights = self.flights.as_slice();
-        if worker as usize >= self.seats.len() || place_held_by(flights, worker).is_some() {
+        if !self.has_free_hand(worker) {
             return false;
         }
+        let flights = self.flights.as_slice();
         match place_of(flights, batch) {
             None => false,
             Some(place) => is_wanting(&self.filters, &flights[place]),
         }
+    }
+
+    fn may_carry(&self, worker: u32, batch: u64) -> bool
+        ensures { IsTrue result ↔ MayCarry worker batch (state_of self.now) }
+    {
+        if !self.has_free_hand(worker) {
+            return false;
+        }
+        let flights = self.flights.as_slice();
+        match place_of(flights, batch) {
+            None => false,
+            Some(place) => flights[place].is_idle(),
+        }
+    }
+
+    /// Whether there is a seat of this number, and no batch is in its hand.
+    fn has_free_hand(&self, worker: u32) -> bool
+        ensures { IsTrue result ↔ HasFreeHand worker (state_of self.now) }
+    {
+        self.has_seat(worker) && place_held_by(self.flights.as_slice(), worker).is_none()
     }
 
     fn may_give(&self, worker: u32) -> bool

@@ -1,15 +1,15 @@
 //! What becomes of the parts of a core is what becomes of its state: batches.
-ghost use Rattle.std.specs.Prelude.{◌≡◌, false, ◌==◌, ℕ, List, ◌∷◌, [], ◌++◌, length, map, position, slice_get, Some};
+ghost use Rattle.std.specs.Prelude.{◌≡◌, ◌≢◌, false, ◌==◌, ℕ, All, AllPairs, List, ◌∷◌, [], ◌++◌, length, map, position, slice_get, Some};
 ghost use Rattle.std.specs.Option.{option_map_or};
 ghost use Rattle.bit_words.specs.Sets.{Has};
-ghost use Rattle.core_state.specs.Cutting.{after_cutting, after_give, after_take};
-ghost use Rattle.core_state.specs.Events.{MayCut, MayTake};
+ghost use Rattle.core_state.specs.Cutting.{after_carry, after_cutting, after_give, after_take};
+ghost use Rattle.core_state.specs.Events.{MayCarry, MayCut, MayTake};
 ghost use Rattle.core_state.specs.Numbered.{next_number};
 ghost use Rattle.core_state.specs.State as state;
 ghost use Rattle.core_parts.specs.Lent.{Flight};
 ghost use Rattle.event_core.specs.Changes.{cut_into, given, taken};
 ghost use Rattle.event_core.specs.Core.{AreHolders, Becomes, CanCutNext, IsCore};
-ghost use Rattle.core_parts.specs.Filters.{next_of};
+ghost use Rattle.core_filters.specs.Filters.{next_of, versions_left};
 ghost use Rattle.event_core.specs.Parts.{Parts};
 ghost use Rattle.event_core.specs.Seen.{state_of};
 
@@ -38,15 +38,23 @@ pub(crate) fn cuts_follow_the_core()
     a_distributor_follows_the_core();
 }
 
-/// A batch that is taken gets a hand, and one that is given back has passed the version in it.
+/// A batch that is taken or carried gets a hand, and one that is given back has passed the versions in it, which are of
+/// different filters, none of which it had passed.
 pub(crate) fn hands_follow_the_core()
     ensures taken { (parts : Parts) (worker batch place : ℕ) (flight : Flight) (version : state.FilterVersion) → IsCore parts →
         MayTake worker batch (state_of parts) → position (λ flight. flight.batch.number == batch) parts.flights ≡ Some place →
         slice_get parts.flights place ≡ Some flight → next_of parts.filters flight.batch ≡ Some version →
-        Becomes (taken place worker flight version parts) (after_take worker batch (state_of parts)) }
+        Becomes (taken place worker flight (version ∷ []) parts) (after_take worker batch (state_of parts)) }
+    ensures carried { (parts : Parts) (worker batch place : ℕ) (flight : Flight) → IsCore parts →
+        MayCarry worker batch (state_of parts) → position (λ flight. flight.batch.number == batch) parts.flights ≡ Some place →
+        slice_get parts.flights place ≡ Some flight →
+        Becomes (taken place worker flight (versions_left parts.filters flight.batch) parts) (after_carry worker batch (state_of parts)) }
     ensures may { (parts : Parts) (place : ℕ) (flight : Flight) (hand : state.Hand) → IsCore parts →
         slice_get parts.flights place ≡ Some flight → flight.hand ≡ Some hand →
-        ¬ (Has flight.batch.passed hand.version.filter.dimension) }
+        All (λ version. ¬ (Has flight.batch.passed version.filter.dimension)) hand.versions }
+    ensures apart { (parts : Parts) (place : ℕ) (flight : Flight) (hand : state.Hand) → IsCore parts →
+        slice_get parts.flights place ≡ Some flight → flight.hand ≡ Some hand →
+        AllPairs (λ version other. version.filter.dimension ≢ other.filter.dimension) hand.versions }
     ensures given { (parts : Parts) (worker place : ℕ) (flight : Flight) (hand : state.Hand) → IsCore parts →
         position (λ flight. option_map_or (λ hand. hand.worker == worker) flight.hand false) parts.flights ≡ Some place →
         slice_get parts.flights place ≡ Some flight → flight.hand ≡ Some hand →

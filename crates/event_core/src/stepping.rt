@@ -95,6 +95,7 @@ impl Core {
             Event::Start { query } => self.start(query),
             Event::Cut => self.cut(),
             Event::Take { worker, batch } => self.take(worker, batch),
+            Event::Carry { worker, batch } => self.carry(worker, batch),
             Event::Give { worker } => self.give(worker),
             Event::Distribute { batch } => self.distribute(batch),
             Event::Finish { slot } => self.finish(slot),

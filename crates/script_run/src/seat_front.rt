@@ -272,7 +272,7 @@ fn ask_and_work<R: Wait, G: Gate>(
     }
 }
 
-/// Outside of a turn: lets a batch that was taken in it pass its filter. Another turn follows,
+/// Outside of a turn: lets a batch that was taken in it pass its filters. Another turn follows,
 /// unless no memory was left.
 fn work_outside<G: Gate>(seat: &BoardSeat<Core>, look: Look, gate: &G) -> Turned
     requires { HasLooked look (sight_in (view_of seat.now)).row.hand }

@@ -1,20 +1,23 @@
 -- What is found in the hand of a worker: after a batch is taken, and after it is given back.
-use Rattle.std.proofs.Common.{◌≡◌, ◌≢◌, ℕ, Bool, true, false, cond, eqb, eq-eqb, List, [], ◌∷◌, find, Option, Some, None, option_map, refl, sym, ap, ◌∙◌, subst}
+use Rattle.std.proofs.Common.{◌≡◌, ◌≢◌, ℕ, Bool, true, false, cond, eqb, eq-eqb, List, [], ◌∷◌, find, length, Option, Some, None, option_map, refl, sym, ap, ◌∙◌, subst}
 use Rattle.std.proofs.lemmas.Bool.{eqb-true, ne_eqb}
-use Rattle.std.proofs.lemmas.List.Elements.{All-head, All-tail}
+use Rattle.std.proofs.lemmas.List.Elements.{All-head, All-tail, All-weaker}
 use Rattle.std.specs.Int.{bit_at}
 use Rattle.std.specs.List.{cons_option, filter_map}
 use Rattle.std.specs.Option.{option_map_or}
 use Rattle.std.specs.Prelude.{All, AllPairs, IfSome, IsSome}
 use Rattle.bit_words.specs.Sets.{Has}
 use Rattle.batch_flow.specs.Rows.{Rows}
-use Rattle.core_parts.specs.InFlight.{passed_by}
-use Rattle.core_parts.specs.Passed.{tally_of}
-use Rattle.core_state.specs.Cutting.{after_give, after_take, given_back, tallies_after, with_flight}
-use Rattle.core_state.specs.Events.{IsWanting, MayTake}
-use Rattle.core_state.specs.Found.{flight_at, has_passed, held_by, is_held_by, next_filter}
+use Rattle.core_parts.specs.InFlight.{passed_through}
+use Rattle.core_parts.specs.Passed.{AreUnpassed, done_through}
+use Rattle.core_parts.specs.Spares.{AreApart}
+use Rattle.core_state.specs.Cutting.{after_carry, after_give, given_back, tallies_after, with_flight}
+use Rattle.core_state.specs.Events.{MayCarry}
+use Rattle.core_state.specs.Flown.{IsSoundHand, IsSoundTask}
+use Rattle.core_state.specs.Found.{filters_left, flight_at, held_by, is_held_by}
 use Rattle.core_state.specs.Sound.{IsSound}
 use Rattle.core_state.specs.State.{FilterVersion, Flight, Hand, State}
+use Rattle.core_state.specs.Tables.{tables_of}
 use Rattle.core_state.proofs.FoundLemmas.{find-passes, some-at, some-of, some-passes}
 use Rattle.core_state.proofs.Words.{all_pairs_head, all_pairs_tail}
 use Rattle.event_core.specs.Lent.{IsDoneFor, IsWorkOf}
@@ -60,25 +63,30 @@ holds-weaker IsSo IsOther weaker held holds = record {
   is_so = weaker holds.flight holds.hand holds.is_so;
 }
 
--- the batch of a work did not pass the filter where that in the hand did not
-pub work-fresh : (work : Work) (flight : Flight) (hand : Hand) → IsWorkOf work flight hand
-    → has_passed flight hand.version.filter.dimension ≡ false → IsFresh work
-work-fresh work flight hand is fails = λ has.
-    let there : bit_at flight.rows.passed hand.version.filter.dimension ≡ 1 =
-    sym (ap (λ (version : FilterVersion). bit_at flight.rows.passed version.filter.dimension) is.version)
-    ∙ sym (ap (λ (rows : Rows). bit_at rows.passed work.version.filter.dimension) is.batch) ∙ has in
-    let both : false ≡ true = sym fails ∙ eq-eqb (bit_at flight.rows.passed hand.version.filter.dimension) 1 there in
-    cc
+-- the batch of a work passed none of the filters of its versions where those in the hand are sound
+pub work-fresh : (work : Work) (state : State) (flight : Flight) (hand : Hand) → IsWorkOf work flight hand
+    → IsSoundHand (length state.seats) state.lives.filters (tables_of state) flight hand → IsFresh work
+work-fresh work state flight hand is sound = record {
+  unpassed = subst (AreUnpassed work.batch) (sym is.versions)
+      (subst (λ (rows : Rows). AreUnpassed rows hand.versions) (sym is.batch)
+      (All-weaker (λ (version : FilterVersion). IsSoundTask state.lives.filters (tables_of state) flight version.filter)
+      (λ (version : FilterVersion). ¬ (Has flight.rows.passed version.filter.dimension)) unpassed hand.versions sound.each));
+  apart = subst AreApart (sym is.versions) sound.apart;
+}
+  where
+    unpassed : (version : FilterVersion) → IsSoundTask state.lives.filters (tables_of state) flight version.filter
+        → ¬ (Has flight.rows.passed version.filter.dimension)
+    unpassed version task has =
+        let both : false ≡ true = sym task.not_passed ∙ eq-eqb (bit_at flight.rows.passed version.filter.dimension) 1 has in cc
 
--- a work whose batch passed its version is done for each batch in a hand that it was the work of
-pub done-by : (work done : Work) → done.batch ≡ passed_by work.version.filter work.batch → done.version ≡ work.version
-    → done.tally ≡ Some (tally_of work.version.filter work.batch) → (flight : Flight) (hand : Hand) → IsWorkOf work flight hand
+-- a work whose batch passed its versions is done for each batch in a hand that it was the work of
+pub done-by : (work done : Work) → done.batch ≡ passed_through work.versions work.batch → done.versions ≡ work.versions
+    → done.tallies ≡ done_through work.versions work.batch → (flight : Flight) (hand : Hand) → IsWorkOf work flight hand
     → IsDoneFor done flight hand
-done-by work done batch version tally flight hand is = record {
-  batch = batch ∙ ap (λ (v : FilterVersion). passed_by v.filter work.batch) is.version ∙ ap (passed_by hand.version.filter) is.batch;
-  version = version ∙ is.version;
-  tally = tally ∙ ap (λ (v : FilterVersion). Some (tally_of v.filter work.batch)) is.version
-      ∙ ap (λ rows. Some (tally_of hand.version.filter rows)) is.batch;
+done-by work done batch versions tallies flight hand is = record {
+  batch = batch ∙ ap (λ list. passed_through list work.batch) is.versions ∙ ap (passed_through hand.versions) is.batch;
+  versions = versions ∙ is.versions;
+  tallies = tallies ∙ ap (λ list. done_through list work.batch) is.versions ∙ ap (done_through hand.versions) is.batch;
 }
 
 -- A batch that is taken.
@@ -104,25 +112,15 @@ held-taken worker number change (first ∷ flights) flight is held =
         (sym (ap (λ f. is_held_by worker (change f)) same ∙ held)) refl
     by_number false found rest = by_hand (is_held_by worker first) first (rest found)
 
--- a batch that a worker takes is in its hand
-pub taken-held : (worker batch : ℕ) (state : State) → MayTake worker batch state
-    → IsSome (held_by (after_take worker batch state).scan.flights worker)
-taken-held worker batch state may =
+-- a batch that a worker carries is in its hand
+pub carried-held : (worker batch : ℕ) (state : State) → MayCarry worker batch state
+    → IsSome (held_by (after_carry worker batch state).scan.flights worker)
+carried-held worker batch state may =
     let found = some-of (flight_at state.scan.flights batch) may.there in
-    let wants : IsWanting state.filters found.0 =
-    some-at (IsWanting state.filters) (flight_at state.scan.flights batch) found.0 found.1 may.wanting in
-    held-taken worker batch taken state.scan.flights found.0 found.1 (by_next (next_filter state.filters found.0) wants.filter)
+    held-taken worker batch carried state.scan.flights found.0 found.1 (eq-eqb worker worker refl)
   where
-    taken : Flight → Flight
-    taken flight = record flight {
-      hand = option_map (λ version. record { worker = worker; version = version }) (next_filter state.filters flight);
-    }
-
-    by_next : (next : Option FilterVersion) → IsSome next
-        → option_map_or (λ h. eqb h.worker worker) (option_map {U = Hand} (λ version. record { worker = worker; version = version }) next) false
-        ≡ true
-    by_next None some = absurd (let both : false ≡ true = some in cc)
-    by_next (Some version) some = eq-eqb worker worker refl
+    carried : Flight → Flight
+    carried flight = record flight { hand = Some (record { worker = worker; versions = filters_left state.filters flight }) }
 
 -- A batch that is given back.
 

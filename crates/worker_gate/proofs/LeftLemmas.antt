@@ -12,7 +12,7 @@ use Rattle.core_state.specs.State.{Entry, Flight, Seat, State}
 use Rattle.core_state.specs.Steps.{Done, MayStep, Replying, Step, Wanting, after_step}
 use Rattle.core_state.specs.Submitting.{empty_seat, seat_at}
 use Rattle.core_state.specs.declared.event.Event.{Event}
-use Rattle.core_state.specs.declared.event.Event.TheVariants.{Submit, Take, Give, Abandon}
+use Rattle.core_state.specs.declared.event.Event.TheVariants.{Submit, Take, Carry, Give, Abandon}
 use Rattle.core_state.proofs.WholeFrameLemmas.{Frame}
 use Rattle.event_core.specs.Chosen.{kind_of}
 use Rattle.event_core.specs.Lent.{IsAtHome}
@@ -40,6 +40,7 @@ kind-moves : (event : Event) (kind : EventKind) (state : State) (seat : ℕ) →
     → IfSome (mover_of_event state event) (λ mover. mover ≡ seat)
 kind-moves (Submit mover statement) kind state seat is = absurd (none-some kind is)
 kind-moves (Take worker batch) kind state seat is = absurd (none-some kind is)
+kind-moves (Carry worker batch) kind state seat is = absurd (none-some kind is)
 kind-moves (Give worker) kind state seat is = absurd (none-some kind is)
 kind-moves (Abandon query) kind state seat is = absurd (none-some kind is)
 kind-moves other kind state seat is = tt

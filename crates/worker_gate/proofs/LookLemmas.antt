@@ -4,15 +4,15 @@ use Rattle.std.specs.Prelude.{IfSome, IsSome, IsSomeAnd}
 use Rattle.core_parts.specs.Asked.{known_in}
 use Rattle.core_parts.specs.Known.{reaches_in}
 use Rattle.core_parts.specs.Lent.{lent_to}
-use Rattle.core_state.specs.Cutting.{after_take, frame_words}
-use Rattle.core_state.specs.Events.{IsWanting, MayTake, after_event}
+use Rattle.core_state.specs.Cutting.{after_carry, frame_words}
+use Rattle.core_state.specs.Events.{IsWanting, MayCarry, after_event}
 use Rattle.core_state.specs.Flown.{IsSoundBatch, IsSoundHand}
 use Rattle.core_state.specs.Found.{flight_at, held_by}
 use Rattle.core_state.specs.Rows.{SeatRow, row_of}
 use Rattle.core_state.specs.Sound.{IsSound}
 use Rattle.core_state.specs.State.{Flight, Hand, State}
 use Rattle.core_state.specs.Tables.{tables_of}
-use Rattle.core_state.specs.declared.event.Event.TheVariants.{Take}
+use Rattle.core_state.specs.declared.event.Event.TheVariants.{Carry}
 use Rattle.event_core.specs.Lent.{IsHome, IsWorkOf}
 use Rattle.event_core.specs.Parts.{Beside, Parts, beside_of}
 use Rattle.event_core.specs.Seen.{state_of}
@@ -24,43 +24,43 @@ use Rattle.worker_gate.specs.Looks.{HasLooked, IsIdle, IsStuck, Takes, TellsLook
 use Rattle.worker_gate.specs.Turns.{LooksLast}
 use Rattle.worker_gate.specs.declared.looking.Look.{Look}
 use Rattle.worker_gate.specs.declared.looking.Look.TheVariants as look
-use Rattle.worker_gate.proofs.HandLemmas.{holds-found, taken-held, work-fresh}
+use Rattle.worker_gate.proofs.HandLemmas.{carried-held, holds-found, work-fresh}
 use Rattle.worker_gate.proofs.LentLemmas.{home-empty}
 use Rattle.worker_gate.proofs.ManagedLemmas.{marks-stay}
 
 -- A batch that is taken.
 
--- a batch that wants a filter may be taken
-pub may-take : (state : State) (worker batch : ℕ) → IsSound state → worker < state.settings.seats → held_by state.scan.flights worker ≡ None
-    → IsSomeAnd (flight_at state.scan.flights batch) (IsWanting state.filters) → MayTake worker batch state
-may-take state worker batch sound low empty wants = record {
+-- a batch that wants a filter may be carried
+pub may-carry : (state : State) (worker batch : ℕ) → IsSound state → worker < state.settings.seats → held_by state.scan.flights worker ≡ None
+    → IsSomeAnd (flight_at state.scan.flights batch) (IsWanting state.filters) → MayCarry worker batch state
+may-carry state worker batch sound low empty wants = record {
   seat = (let count = sound.seats.count in omega arith);
   empty = empty;
   there = by_found (flight_at state.scan.flights batch) wants;
-  wanting = by_wants (flight_at state.scan.flights batch) wants;
+  idle = by_wants (flight_at state.scan.flights batch) wants;
 }
   where
     by_found : (o : Option Flight) → IsSomeAnd o (IsWanting state.filters) → IsSome o
     by_found None never = absurd never
     by_found (Some flight) is = refl
 
-    by_wants : (o : Option Flight) → IsSomeAnd o (IsWanting state.filters) → IfSome o (IsWanting state.filters)
+    by_wants : (o : Option Flight) → IsSomeAnd o (IsWanting state.filters) → IfSome o (λ (flight : Flight). flight.hand ≡ None)
     by_wants None never = absurd never
-    by_wants (Some flight) is = is
+    by_wants (Some flight) is = is.idle
 
--- what a Take makes of a core
-after-taken : (worker batch : ℕ) (old new : State) → Took (Take worker batch) old new → new ≡ after_take worker batch old
+-- what a Carry makes of a core
+after-carried : (worker batch : ℕ) (old new : State) → Took (Carry worker batch) old new → new ≡ after_carry worker batch old
 unfolding after_event
-after-taken worker batch old new took = ⊎_elim (λ done. done) (λ never. absurd never) took.after
+after-carried worker batch old new took = ⊎_elim (λ done. done) (λ never. absurd never) took.after
 
 -- the batch is in the worker's hand
-pub held-took : (worker batch : ℕ) (old new : State) → Took (Take worker batch) old new → IsSome (held_by new.scan.flights worker)
+pub held-took : (worker batch : ℕ) (old new : State) → Took (Carry worker batch) old new → IsSome (held_by new.scan.flights worker)
 held-took worker batch old new took =
-    subst (λ (state : State). IsSome (held_by state.scan.flights worker)) (sym (after-taken worker batch old new took))
-    (taken-held worker batch old took.enabled)
+    subst (λ (state : State). IsSome (held_by state.scan.flights worker)) (sym (after-carried worker batch old new took))
+    (carried-held worker batch old took.enabled)
 
 -- and nothing is lent to it
-pub home-took : (worker batch : ℕ) (old new : Parts) → Took (Take worker batch) (state_of old) (state_of new) → beside_of new ≡ beside_of old
+pub home-took : (worker batch : ℕ) (old new : Parts) → Took (Carry worker batch) (state_of old) (state_of new) → beside_of new ≡ beside_of old
     → IsHome worker (lent_to new.flights)
 home-took worker batch old new took beside =
     subst (IsHome worker) (sym (ap (λ (b : Beside). b.lent) beside))
@@ -77,18 +77,18 @@ has-work : IsRight → (work : Work) (worker : ℕ) (state : State) → IsSound 
     → HasWork work (held_by state.scan.flights worker)
 has-work right work worker state sound holds = record {
   holds = holds;
-  fresh = work-fresh work holds.flight holds.hand holds.is_so
-      (right state worker holds.flight holds.hand sound holds.has holds.is_in).1.not_passed;
+  fresh = work-fresh work state holds.flight holds.hand holds.is_so
+      (right state worker holds.flight holds.hand sound holds.has holds.is_in).1;
 }
 
 -- a batch was taken, and then lent
-pub takes-by : IsRight → (work : Work) (worker batch : ℕ) (old between new : Parts) → Took (Take worker batch) (state_of old) (state_of between)
+pub takes-by : IsRight → (work : Work) (worker batch : ℕ) (old between new : Parts) → Took (Carry worker batch) (state_of old) (state_of between)
     → beside_of between ≡ beside_of old → state_of new ≡ state_of between → new.marks ≡ between.marks
     → IfSome (held_by (state_of between).scan.flights worker) (λ flight. IfSome flight.hand (IsWorkOf work flight)) → IsSound (state_of new)
     → Takes work worker old new
 takes-by right work worker batch old between new took beside same marks is sound = record {
   batch = batch;
-  took = subst (λ (state : State). Took (Take worker batch) (state_of old) state) (sym same) took;
+  took = subst (λ (state : State). Took (Carry worker batch) (state_of old) state) (sym same) took;
   has = has-work right work worker (state_of new) sound
       (subst (λ (state : State). Holds (IsWorkOf work) (held_by state.scan.flights worker)) (sym same)
       (holds-found (IsWorkOf work) (state_of between).scan.flights worker (held-took worker batch (state_of old) (state_of between) took) is));

@@ -3,7 +3,7 @@ use Rattle.std.specs.Prelude.{◌≡◌, ℕ, true, false, All, Option, None}
 use Rattle.core_state.specs.Events.{IsWanting}
 use Rattle.core_state.specs.Found.{held_by}
 use Rattle.core_state.specs.State.{Flight, State}
-use Rattle.core_state.specs.declared.event.Event.TheVariants.{Take}
+use Rattle.core_state.specs.declared.event.Event.TheVariants.{Carry}
 use Rattle.event_core.specs.Parts.{Parts}
 use Rattle.event_core.specs.Seen.{state_of}
 use Rattle.event_core.specs.Took.{Took}
@@ -20,10 +20,10 @@ use Rattle.worker_gate.specs.declared.looking.Look.TheVariants as look
 abbrev pub NoneWants : State → Type 0
 NoneWants state = All (λ flight. IsWanting state.filters flight → ⊥) state.scan.flights
 
--- a worker took a batch, and has it as its work
+-- a worker carries a batch through all filters that it did not pass, and has it as its work
 pub record Takes (work : Work) (worker : ℕ) (old new : Parts) : Type 0 where
   pub batch : ℕ
-  pub took : Took (Take worker batch) (state_of old) (state_of new)
+  pub took : Took (Carry worker batch) (state_of old) (state_of new)
   pub has : HasWork work (held_by (state_of new).scan.flights worker)
   pub marks : new.marks ≡ old.marks
 

@@ -1,5 +1,5 @@
-//! What a worker does: it takes a batch under the lock, lets it pass one filter outside, and gives it back. Where no
-//! batch wants a filter it makes one of the other events.
+//! What a worker does: it takes a batch under the lock, lets it pass all filters that are left outside, and gives it back.
+//! Where no batch wants a filter it makes one of the other events.
 #![tactic(auto)]
 
 mod crossing;

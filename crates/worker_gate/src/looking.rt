@@ -12,7 +12,7 @@ use event_core::{Core, EventKind, Work};
 /// What a worker found to do.
 #[derive(Debug, Drop)]
 pub enum Look {
-    /// A batch to let pass a filter, outside of the lock.
+    /// A batch to let pass filters, outside of the lock.
     Got(Work),
 
     /// An event of this kind was made, and there may be more to do.

@@ -1,7 +1,7 @@
 //! How a worker takes a batch, and how it gives it back.
 ghost use Rattle.std.specs.Prelude.{◌≡◌, ◌<◌, None};
 ghost use Rattle.core_state.specs.Cutting.{after_give};
-ghost use Rattle.core_state.specs.Events.{MayTake};
+ghost use Rattle.core_state.specs.Events.{MayCarry};
 ghost use Rattle.core_state.specs.Found.{held_by};
 ghost use Rattle.core_state.specs.declared.event.Event.TheVariants.{Give};
 ghost use Rattle.event_core.specs.Seen.{state_of};
@@ -17,15 +17,15 @@ use event_core::{Core, Work, every_core_is_sound};
 /// What a worker found that asked for a batch.
 #[derive(Debug, Drop)]
 pub enum Taken {
-    /// A batch, and the version of the filter that it is to pass.
+    /// A batch, and the versions of the filters that it is to pass.
     Got(Work),
 
     /// No batch wants a filter.
     Nothing,
 }
 
-/// Takes a batch that has a bit left and did not pass every filter, with the present version of the one that it meets
-/// next. The worker's hand is empty. No memory is taken.
+/// Takes a batch that has a bit left and did not pass every filter, with the present versions of all that it did not pass.
+/// The worker's hand is empty. No memory is taken.
 pub fn take_work(core: &mut Core, worker: u32) -> Taken
     requires seat { worker < (state_of core.old).settings.seats }
     requires empty { held_by (state_of core.old).scan.flights worker ≡ None }
@@ -35,14 +35,14 @@ pub fn take_work(core: &mut Core, worker: u32) -> Taken
     // It is called for what it ensures.
     every_core_is_sound(core);
     match core.next_take() {
-        Some(batch) => Taken::Got(take_batch(core, worker, batch)),
+        Some(batch) => Taken::Got(carry_batch(core, worker, batch)),
         None => Taken::Nothing,
     }
 }
 
 /// Takes the batch of a number.
-fn take_batch(core: &mut Core, worker: u32, batch: u64) -> Work
-    requires { MayTake worker batch (state_of core.old) }
+fn carry_batch(core: &mut Core, worker: u32, batch: u64) -> Work
+    requires { MayCarry worker batch (state_of core.old) }
     ensures takes { Takes result worker core.old core.new }
     ensures moves { MovesHand worker (state_of core.old) (state_of core.new) }
 {
@@ -50,11 +50,11 @@ fn take_batch(core: &mut Core, worker: u32, batch: u64) -> Work
     every_core_is_sound(core);
     a_step_moves_one_row();
     a_work_stays_right();
-    make(core, Event::Take { worker, batch });
+    make(core, Event::Carry { worker, batch });
     core.lend(worker)
 }
 
-/// Gives back the batch in a worker's hand, which has passed the version in it. The hand is empty then. No memory is
+/// Gives back the batch in a worker's hand, which has passed the versions in it. The hand is empty then. No memory is
 /// taken.
 pub fn give_work(core: &mut Core, worker: u32, work: Work)
     requires { HasDone work (held_by (state_of core.old).scan.flights worker) }

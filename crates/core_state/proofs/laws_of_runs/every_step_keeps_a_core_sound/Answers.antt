@@ -10,6 +10,7 @@ returns c = sound-step (record {
   start = c.a_start_keeps_a_core_sound.ensures;
   cut = c.a_cut_keeps_a_core_sound.ensures;
   take = c.a_taken_batch_keeps_a_core_sound.ensures;
+  carry = c.a_carried_batch_keeps_a_core_sound.ensures;
   give = c.a_given_batch_keeps_a_core_sound.ensures;
   distribute = c.a_distributed_batch_keeps_a_core_sound.ensures;
   finish = c.a_finish_keeps_a_core_sound.ensures;

@@ -1,13 +1,13 @@
--- A batch that wants a filter may be taken, and where there is none nothing has changed.
+-- A batch that wants a filter may be carried, and where there is none nothing has changed.
 use Rattle.std.proofs.Common.{refl}
 use Rattle.event_core.specs.Seen.{state_of}
 use Rattle.worker_gate.proofs.LeftLemmas.{leaves-same, moves-none}
-use Rattle.worker_gate.proofs.LookLemmas.{may-take}
+use Rattle.worker_gate.proofs.LookLemmas.{may-carry}
 use Rattle.worker_gate.proofs.working.take_work.Goals as goal
 
-pub take_batch-requires : goal.take_batch-requires
-take_batch-requires c =
-    may-take (state_of c.args.core.now) c.args.worker c.in-Some.batch c.every_core_is_sound.ensures c.requires.seat c.requires.empty
+pub carry_batch-requires : goal.carry_batch-requires
+carry_batch-requires c =
+    may-carry (state_of c.args.core.now) c.args.worker c.in-Some.batch c.every_core_is_sound.ensures c.requires.seat c.requires.empty
     c.in-Some.ensures.some
 
 pub returns-in-None-clause-tells : goal.returns-in-None-clause-tells

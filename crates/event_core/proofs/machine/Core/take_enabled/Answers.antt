@@ -30,6 +30,10 @@ pub returns-in-Take-clause-taken : goal.returns-in-Take-clause-taken
 unfolding after_event
 returns-in-Take-clause-taken c = took-done _ _ _ _ c.requires.enabled c.in-Take.is c.take.ensures.after
 
+pub returns-in-Carry-clause-taken : goal.returns-in-Carry-clause-taken
+unfolding after_event
+returns-in-Carry-clause-taken c = took-done _ _ _ _ c.requires.enabled c.in-Carry.is c.carry.ensures.after
+
 pub returns-in-Give-clause-taken : goal.returns-in-Give-clause-taken
 unfolding after_event
 returns-in-Give-clause-taken c = took-done _ _ _ _ c.requires.enabled c.in-Give.is c.give.ensures.after

@@ -1,12 +1,12 @@
 -- The batch that was taken is in the worker's hand, and lent to it.
 use Rattle.std.proofs.Common.{refl, subst, sym}
 use Rattle.core_state.specs.State.{State}
-use Rattle.core_state.specs.declared.event.Event.TheVariants.{Take}
+use Rattle.core_state.specs.declared.event.Event.TheVariants.{Carry}
 use Rattle.event_core.specs.Seen.{state_of}
 use Rattle.event_core.specs.Took.{Took}
 use Rattle.worker_gate.proofs.LeftLemmas.{moves-taken}
 use Rattle.worker_gate.proofs.LookLemmas.{held-took, home-took, takes-by}
-use Rattle.worker_gate.proofs.working.take_batch.Goals as goal
+use Rattle.worker_gate.proofs.working.carry_batch.Goals as goal
 
 pub lend-requires : goal.lend-requires
 lend-requires c = record {
@@ -21,7 +21,7 @@ returns-clause-takes c =
 
 pub returns-clause-moves : goal.returns-clause-moves
 returns-clause-moves c =
-    moves-taken c.a_step_moves_one_row.ensures.one (Take c.args.worker c.args.batch) (state_of c.args.core.now) (state_of c.lend.new.self)
+    moves-taken c.a_step_moves_one_row.ensures.one (Carry c.args.worker c.args.batch) (state_of c.args.core.now) (state_of c.lend.new.self)
     c.args.worker tt c.every_core_is_sound.ensures
-    (subst (λ (state : State). Took (Take c.args.worker c.args.batch) (state_of c.args.core.now) state) (sym c.lend.ensures.state) c.make.ensures.took)
+    (subst (λ (state : State). Took (Carry c.args.worker c.args.batch) (state_of c.args.core.now) state) (sym c.lend.ensures.state) c.make.ensures.took)
     refl
