@@ -5,8 +5,10 @@ pub mod PartLemmas
 pub mod PartialLemmas
 pub mod HomeLemmas
 pub mod AbsorbLemmas
+pub mod ApartLemmas
 mod AbsorbCellLemmas
 mod AbsorbKeptLemmas
+mod MakingLemmas
 mod FoldLemmas
 mod ListLemmas
 mod PlainLemmas

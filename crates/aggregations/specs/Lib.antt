@@ -3,6 +3,7 @@ pub mod Grouped
 pub mod Folding
 pub mod Partial
 pub mod Absorbing
+pub mod Taken
 pub mod Homes
 pub mod Cells
 pub mod Finish

@@ -1,5 +1,5 @@
 //! What one row more, or a part of rows, makes of groups, and what groups end as, as laws.
-ghost use Rattle.std.specs.Prelude.{◌≡◌, ◌==◌, List, [], ◌∷◌, ◌++◌, IsPermutation, fold, length};
+ghost use Rattle.std.specs.Prelude.{◌≡◌, ◌==◌, ℕ, List, [], ◌∷◌, ◌++◌, IsPermutation, fold, length, take};
 ghost use Rattle.std.specs.List.{IsDistinct};
 ghost use Rattle.std.specs.List.Sorted.{IsSortedByKey};
 ghost use Rattle.std.specs.Ordering.{eq_by_cmp};
@@ -7,6 +7,7 @@ ghost use Rattle.star_values.specs.declared.value.Value.{Value};
 ghost use Rattle.star_values.specs.Value.{row_cmp};
 ghost use Rattle.star_lists.specs.Roomy.{Roomy};
 ghost use Rattle.star_plan.specs.Answer.{answer_of};
+ghost use Rattle.star_plan.specs.declared.place.Place.{Place};
 ghost use Rattle.star_plan.specs.Joined.{Joined, value_at};
 ghost use Rattle.star_plan.specs.Test.{Query};
 ghost use Rattle.fact_versions.specs.declared.version.Version.{Version};
@@ -15,12 +16,13 @@ ghost use Rattle.star_history.specs.Kept.{rows_of_all};
 ghost use Rattle.star_history.specs.Keyed.{joined_by_keys};
 ghost use Rattle.star_history.specs.Read.{NamesItsPlaces, value_by_key};
 ghost use Rattle.aggregations.specs.declared.ordered.NumberedKey.{NumberedKey};
-ghost use Rattle.aggregations.specs.Grouped.{Tally, grouped_of};
-ghost use Rattle.aggregations.specs.Absorbing.{without_rows};
+ghost use Rattle.aggregations.specs.Grouped.{AreOfItems, Grouped, Tally, grouped_of};
+ghost use Rattle.aggregations.specs.Absorbing.{absorbed, with_all, without_rows};
+ghost use Rattle.aggregations.specs.Taken.{AreKnown, HasFirst, HasKeys, HasKeysOf, with_keys_of};
 ghost use Rattle.aggregations.specs.Folding.{with_row, with_value};
 ghost use Rattle.aggregations.specs.Cells.{groups_in};
 ghost use Rattle.aggregations.specs.Finish.{answer_from, each_of, group_at, group_end, numbered_from};
-ghost use Rattle.aggregations.specs.Homes.{CodesAreOfOneKey};
+ghost use Rattle.aggregations.specs.Homes.{CodesAreOfOneKey, keys_in};
 ghost use Rattle.aggregations.specs.Partial.{PartsAdd, PartsCommute, part_of_all, with_part};
 
 use star_history::values_by_key_are_those_of_joined_rows;
@@ -66,6 +68,26 @@ pub fn parts_may_come_in_any_order()
         fold (λ before value. with_value value before) tally values ≡ with_part (part_of_all values) tally }
 {
     the_least_of_values_ignores_their_order();
+}
+
+/// Rows may be folded apart, by groups of no rows of the same query, and be taken in later: rows whose groups are there
+/// change no order, so it does not matter when.
+pub fn rows_may_be_folded_apart()
+    ensures absorbed { (rows : List (Place → Value)) (other groups : Grouped) → AreOfItems groups →
+        other ≡ with_all rows (without_rows groups) → absorbed other groups ≡ with_all rows groups }
+    ensures swap { (rows more : List (Place → Value)) (groups : Grouped) → AreKnown rows groups →
+        with_all rows (with_all more groups) ≡ with_all more (with_all rows groups) }
+    ensures keys { (rows : List (Place → Value)) (groups : Grouped) → AreKnown rows groups →
+        keys_in (with_all rows groups).groups ≡ keys_in groups.groups }
+    ensures first { (rows : List (Place → Value)) (from : ℕ) (groups : Grouped) → HasFirst groups →
+        HasKeys (take from (keys_in (with_all rows (without_rows groups)).groups)) groups.groups →
+        (with_all rows (with_keys_of from (with_all rows (without_rows groups)) groups)
+        ≡ with_all rows groups)
+        × AreKnown rows (with_keys_of from (with_all rows (without_rows groups)) groups) }
+    ensures known { (rows : List (Place → Value)) (groups : Grouped) → HasFirst groups →
+        AreKnown rows groups → HasKeysOf (with_all rows (without_rows groups)) groups }
+{
+    parts_may_come_in_any_order();
 }
 
 /// Two codes of which none is `NO_CODE` are those of one key: so a group is known by them.

@@ -13,6 +13,7 @@ mod keeping;
 mod kept_groups;
 mod keys;
 mod laws;
+mod making;
 mod ordered;
 mod partial;
 mod taking;
@@ -23,5 +24,5 @@ pub use crossing::groups_may_be_sent;
 pub use groups::Groups;
 pub use laws::{
     codes_are_of_one_key, groups_without_rows_are_those_of_none, one_row_more_is_folded,
-    parts_may_come_in_any_order, values_by_key_fold_the_same,
+    parts_may_come_in_any_order, rows_may_be_folded_apart, values_by_key_fold_the_same,
 };
