@@ -1,5 +1,5 @@
 -- Which events the kinds that are asked for make.
-use Rattle.core_driver.proofs.Words.{◌↔◌, ◌∙◌, ◌∷◌, ◌≡◌, [], All, All-cons, All-nil, arith, Bool, Build, Clear, Event, EventKind, false, Finish, Give, IfSome, is_some, IsEnabled, IsLed, IsOfAdmission, IsOfKind, IsOfSome, IsStill, IsTrue, kind_of, List, None, NoneOfMayCome, Option, refl, Release, Reserve, Some, Start, State, subst, suc, sym, true, zero, ℕ}
+use Rattle.core_driver.proofs.Words.{◌↔◌, ◌∙◌, ◌∷◌, ◌≡◌, [], All, All-cons, All-nil, arith, Bool, Build, Clear, Event, EventKind, false, Finish, Give, IfSome, is_some, IsEnabled, IsLed, IsOfAdmission, IsOfKind, IsOfSome, IsStill, IsTrue, kind_of, List, None, NoneOfMayCome, Option, refl, Release, Reserve, Some, Start, State, Submit, subst, suc, sym, true, zero, ℕ}
 use Rattle.event_core.specs.declared.choosing.EventKind.TheVariants as kind
 use Rattle.core_driver.proofs.LedLemmas.{led-wider}
 use Rattle.event_core.specs.Lent.{IsAtHome}
@@ -95,7 +95,8 @@ next-told kinds state None told is one enabled none = (
 )
 next-told kinds state (Some event) told is one enabled none = ((λ tells. (event, (one, enabled))), (λ may. is))
 
--- an event of one of these kinds gives no batch back, so that none has to be with the core
+-- an event of one of these kinds gives no batch back, and submits no statement, so that no batch has to be with the core
 pub some-home : (kinds : List EventKind) (event : Event) (lent : List ℕ) → IsOfSome kinds event → IsAtHome event lent
 some-home kinds (Give worker) lent some = absurd (some-gives-none kinds worker some)
+some-home kinds (Submit seat statement) lent some = absurd (let both : None ≡ Some some.1 = some.4 in cc)
 some-home kinds other lent some = tt

@@ -1,7 +1,10 @@
 //! The references to the present versions of filters that are kept, so that a batch is taken without memory.
-ghost use Rattle.std.specs.Prelude.{◌≡◌, ◌<◌, ◌≤◌, ◌++◌, [], length, option_map, slice_index_or, slice_set, true, All, None, Some, IfOk, IfSome};
+ghost use Rattle.std.specs.Prelude.{◌≡◌, ◌<◌, ◌≤◌, ◌==◌, ◌++◌, [], if◌then◌else◌, length, option_map, slice_index_or, slice_set, true, All, None, Some, IfOk, IfSome};
 ghost use Rattle.std.specs.Option.{option_to_list};
-ghost use Rattle.core_filters.specs.Filters.{left_of, versions_left};
+ghost use Rattle.std.specs.Int.{bit_at};
+ghost use Rattle.batch_flow.specs.Rows.{Rows};
+ghost use Rattle.core_filters.specs.Filtered.{version_at};
+ghost use Rattle.core_filters.specs.Filters.{left_of, no_rows, rows_or_none, versions_left};
 ghost use Rattle.core_filters.specs.Spares.{AreApart, HasPlace, IsKept, first_spares, is_present, spare_at, with_all_returned, with_all_taken, with_returned, with_spare};
 
 use crate::filters::Filters;
@@ -74,7 +77,26 @@ impl Spares {
         ensures left { self.new
             ≡ with_all_taken seat (versions_left filters.now batch.now) self.old }
     {
-        take_left(&mut self.dimensions, seat, filters, filters.order(), batch)
+        take_left(
+            &mut self.dimensions,
+            seat,
+            filters,
+            filters.order(),
+            Some(batch),
+        )
+    }
+
+    /// Takes the references of a seat, which are kept, to the versions of all filters, in their
+    /// present order, as they are left to a batch that passed none.
+    pub fn take_present(&mut self, seat: u32, filters: &Filters) -> Versions
+        requires apart { AreApart (versions_left filters.now no_rows) }
+        requires kept { All (IsKept seat self.old) (versions_left filters.now no_rows) }
+        ensures versions { (rows : Rows) → rows.passed ≡ 0 →
+            result ≡ versions_left filters.now rows }
+        ensures left { self.new
+            ≡ with_all_taken seat (versions_left filters.now no_rows) self.old }
+    {
+        take_left(&mut self.dimensions, seat, filters, filters.order(), None)
     }
 
     /// Keeps the reference of a seat again, where its version is still the present one of the filter. It lets any other go.
@@ -130,29 +152,47 @@ fn take_version(spares: &mut ListOf<References>, seat: u32, version: &Version) -
     version.another(reference)
 }
 
-/// What `Spares::take_all` does, over the list alone, of the filters of these dimensions.
+/// What `Spares::take_all` does, over the list alone, of the filters of these dimensions. Where there is no batch, none of them
+/// was passed.
 fn take_left(
     spares: &mut ListOf<References>,
     seat: u32,
     filters: &Filters,
     order: &[u8],
-    batch: &Batch,
+    batch: Option<&Batch>,
 ) -> Versions
     requires few { length order.now ≤ 8 }
     requires dimensions { All (λ dimension. dimension < 8) order.now }
-    requires apart { AreApart (left_of filters.now.versions batch.now order.now) }
-    requires kept { All (IsKept seat spares.old)
-        (left_of filters.now.versions batch.now order.now) }
-    ensures versions { result ≡ left_of filters.now.versions batch.now order.now }
-    ensures left { spares.new
-        ≡ with_all_taken seat (left_of filters.now.versions batch.now order.now) spares.old }
+    requires apart { let rows = rows_or_none (option_map (λ batch. batch.now) batch) in
+        AreApart (left_of filters.now.versions rows order.now) }
+    requires kept { let rows = rows_or_none (option_map (λ batch. batch.now) batch) in
+        All (IsKept seat spares.old) (left_of filters.now.versions rows order.now) }
+    ensures versions { let rows = rows_or_none (option_map (λ batch. batch.now) batch.entry) in
+        result ≡ left_of filters.now.versions rows order.now }
+    ensures left { let rows = rows_or_none (option_map (λ batch. batch.now) batch.entry) in
+        spares.new ≡ with_all_taken seat (left_of filters.now.versions rows order.now) spares.old }
 {
     let mut versions = Versions::new();
     'order: for dimension in order {
-        let left = filters.left(*dimension, batch);
+        let left = left_to(filters, *dimension, batch);
         take_next(spares, seat, left, &mut versions);
     }
     versions
+}
+
+/// The present version of the filter of a dimension, if it has one that a batch did not pass. Where there is no batch, it was not
+/// passed.
+fn left_to<'a>(filters: &'a Filters, dimension: u8, batch: Option<&Batch>) -> Option<&'a Version>
+    requires { dimension < 8 }
+    ensures { option_map (λ version. version.now) result
+        ≡ (let rows = rows_or_none (option_map (λ batch. batch.now) batch.entry) in
+        if bit_at rows.passed dimension == 1 then None
+        else version_at filters.now.versions dimension) }
+{
+    match batch {
+        Some(batch) => filters.left(dimension, batch),
+        None => filters.find(dimension),
+    }
 }
 
 /// Takes the reference to a version, if there is one, and puts the version behind others.

@@ -2,6 +2,7 @@
 pub mod Filtered
 pub mod InFlight
 pub mod Lent
+pub mod Seen
 pub mod Stands
 pub mod Seated
 pub mod Held

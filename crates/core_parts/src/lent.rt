@@ -1,11 +1,15 @@
 //! What stands for a batch in flight that a worker has. One that is with the core is in `home`.
 ghost use Rattle.std.specs.Prelude.{◌≡◌, map};
+ghost use Rattle.continuous_scan.specs.Blanks.{asked_by};
+ghost use Rattle.core_parts.specs.Seen.{seen_of, written};
 
 use crate::hand::Hand;
 use crate::numbers::Numbers;
 use batch_flow::Batch;
 use bit_words::Bits;
+use continuous_scan::{Blank, Scan};
 use core_filters::Versions;
+use fact_versions::FactVersions;
 use std::fmt;
 use std::marker::Model;
 use std::snapshot::Snapshot;
@@ -18,24 +22,39 @@ pub(crate) struct Lent {
     number: u64,
     roster: Bits<1>,
     version_numbers: Numbers,
-    batch: Snapshot<Batch>,
+    batch: Seen,
     versions: Snapshot<Versions>,
+}
+
+/// What is seen of a batch that is lent. It has no bytes.
+#[derive(Drop)]
+pub(crate) enum Seen {
+    /// The batch, as it was lent.
+    Written(Snapshot<Batch>),
+
+    /// What is to be written of the fact table, for the queries that ran as it was cut.
+    Unwritten {
+        blank: Snapshot<Blank>,
+        scan: Snapshot<Scan>,
+        facts: Snapshot<FactVersions>,
+    },
 }
 
 impl Model for Lent {
     ghost use Rattle.std.specs.Prelude.{◌≡◌, map};
     ghost use Rattle.core_parts.specs.Lent as seen;
+    ghost use Rattle.core_parts.specs.Seen.{seen_of};
 
     ghost Value = { seen.Lent };
 
     ghost view = { λ lent. record {
-      batch = lent.batch.value;
+      batch = seen_of lent.batch;
       hand = record { worker = lent.worker; versions = lent.versions.value };
     } };
 
     ghost invariant = { λ lent.
-        (lent.number ≡ lent.batch.value.number)
-        × (lent.roster ≡ lent.batch.value.roster)
+        (lent.number ≡ (seen_of lent.batch).number)
+        × (lent.roster ≡ (seen_of lent.batch).roster)
         × (lent.version_numbers ≡ map (λ version. version.number) lent.versions.value) };
 }
 
@@ -50,7 +69,36 @@ impl Lent {
             number: batch.number(),
             roster: batch.roster(),
             version_numbers: Numbers::of_versions(versions),
-            batch: Snapshot::of(batch),
+            batch: Seen::Written(Snapshot::of(batch)),
+            versions: Snapshot::of(versions),
+        }
+    }
+
+    /// What is to stand for a batch in a hand that is not written yet: it was cut of this scan, and
+    /// is to be written of these versions.
+    pub(crate) fn unwritten(
+        blank: &Blank,
+        scan: Snapshot<Scan>,
+        facts: &FactVersions,
+        hand: &Hand,
+    ) -> Lent
+        requires { asked_by scan.value.running ≡ blank.now.asked }
+        ensures { result ≡ record {
+          batch = written blank.now scan.value.running facts.now.items;
+          hand = hand.now;
+        } }
+    {
+        let versions = hand.versions();
+        Lent {
+            worker: hand.worker(),
+            number: blank.number(),
+            roster: blank.roster(),
+            version_numbers: Numbers::of_versions(versions),
+            batch: Seen::Unwritten {
+                blank: Snapshot::of(blank),
+                scan,
+                facts: Snapshot::of(facts),
+            },
             versions: Snapshot::of(versions),
         }
     }

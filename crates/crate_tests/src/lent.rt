@@ -1,25 +1,30 @@
-//! A batch that is out with a worker, while the slot of a query that is over is cleared and another
-//! query takes it.
+//! A batch that is out with a worker, and written and folded there, while the slot of a query that is
+//! over is cleared and another query takes it.
 ghost use Rattle.std.specs.Prelude.{◌≡◌, ◌<◌, None};
 ghost use Rattle.core_state.specs.Found.{held_by};
 ghost use Rattle.core_state.specs.Rows.{IsMindful};
+ghost use Rattle.event_core.specs.Board.{core_row};
 ghost use Rattle.event_core.specs.Chosen.{IsOfKind};
 ghost use Rattle.event_core.specs.Seen.{state_of};
 ghost use Rattle.worker_gate.specs.Hands.{HasWork};
-ghost use Rattle.worker_gate.specs.Left.{LeavesRows};
+ghost use Rattle.worker_gate.specs.Left.{LeavesAllLoans, LeavesRows};
 
 use core_state::{
     Event, RunSettings, a_statement_and_a_reply_move_the_row_of_their_seat, a_step_moves_one_row,
+    a_work_stays_right, every_step_keeps_a_core_sound,
 };
-use event_core::{Core, EventKind, Ready, Work, every_core_is_sound};
+use event_core::{
+    Core, EventKind, Ready, SubmitFault, every_core_is_sound, what_is_beside_stays_lent,
+};
 use pipeline_manager::Life;
 use reply_text::print_reply;
 use script_reader::{Next, ScriptReader, Statement};
+use star_statement::ReadStatement;
 use star_values::{ByteText, NoMemory};
 use std::alloc::Global;
 use std::hash::RandomState;
 use std::test::Fail;
-use worker_gate::{NoGate, Taken, do_work, give_work, take_work};
+use worker_gate::{Carried, NoGate, Taken, do_work, give_work, take_work};
 
 /// A core with a seat that submits, and seat 1, which works. A batch has two rows.
 const SETTINGS: RunSettings = RunSettings {
@@ -29,7 +34,8 @@ const SETTINGS: RunSettings = RunSettings {
     seats: 2,
 };
 
-/// Two batches of rows, each with a row of each city. The queries have the numbers 5, 6 and 7.
+/// Two batches of rows, each with a row of each city. The queries have the numbers 5, 6 and 7. The
+/// load behind the second one is refused, since the tables are lent.
 const SCRIPT: &str = "dimension store (id int key, city text)
 fact sales (store_id int references store, units int)
 load store
@@ -44,6 +50,9 @@ load sales
 .
 select count(*) from sales
 select count(*) from sales, store where store_id = id and city = 'Oslo'
+load store
+3,Rome
+.
 select count(*) from sales, store where store_id = id and city = 'Rome'
 ";
 
@@ -65,6 +74,9 @@ answer 2 rows 1
 enum Meanwhile {
     Nothing,
 
+    /// A statement that changes the tables, which are lent.
+    HasToWait,
+
     /// A query for which a slot is held is built, and begins.
     Begins,
 
@@ -76,10 +88,12 @@ enum Meanwhile {
 fn make(core: &mut Core, kind: EventKind, event: Event) -> bool
     requires kind { IsOfKind kind event }
     ensures leaves { LeavesRows (state_of core.old) (state_of core.new) }
+    ensures loans { LeavesAllLoans core.old core.new }
 {
-    // Both are called for what they ensure.
+    // All three are called for what they ensure.
     every_core_is_sound(core);
     a_step_moves_one_row();
+    what_is_beside_stays_lent();
     match core.step(event) {
         Ok(()) => true,
         Err(_) => false,
@@ -89,6 +103,7 @@ fn make(core: &mut Core, kind: EventKind, event: Event) -> bool
 /// Makes the event of a kind that may come now, and says whether there was one.
 fn make_one(core: &mut Core, kind: EventKind) -> bool
     ensures leaves { LeavesRows (state_of core.old) (state_of core.new) }
+    ensures loans { LeavesAllLoans core.old core.new }
 {
     match core.next_event(kind) {
         Some(event) => make(core, kind, event),
@@ -99,6 +114,7 @@ fn make_one(core: &mut Core, kind: EventKind) -> bool
 /// Makes an event of each of these kinds, in turn, and says whether there was one of each.
 fn make_each(core: &mut Core, kinds: &[EventKind]) -> bool
     ensures mindful { IsMindful 0 (state_of core.old) (state_of core.new) }
+    ensures loans { LeavesAllLoans core.old core.new }
 {
     let mut all = true;
     'kinds: for kind in kinds {
@@ -107,16 +123,31 @@ fn make_each(core: &mut Core, kinds: &[EventKind]) -> bool
     all
 }
 
-/// Gives a statement of seat 0 to the core, and says whether there was memory for it.
-fn give(core: &mut Core, statement: Statement) -> bool
+/// Submits a statement of seat 0.
+fn submit_one(core: &mut Core, statement: &Statement) -> Result<(), SubmitFault>
     ensures mindful { IsMindful 0 (state_of core.old) (state_of core.new) }
+    ensures loans { LeavesAllLoans core.old core.new }
 {
-    // It is called for what it ensures.
+    // Both are called for what they ensure.
     a_statement_and_a_reply_move_the_row_of_their_seat();
-    match core.step(Event::Submit { seat: 0, statement }) {
-        Ok(()) => true,
-        Err(_) => false,
-    }
+    what_is_beside_stays_lent();
+    core.submit_read(0, &mut ReadStatement::unread(statement))
+}
+
+/// Gives a statement of seat 0 to the core, and says whether it took it.
+fn give(core: &mut Core, statement: &Statement) -> bool
+    ensures mindful { IsMindful 0 (state_of core.old) (state_of core.new) }
+    ensures loans { LeavesAllLoans core.old core.new }
+{
+    submit_one(core, statement).is_ok()
+}
+
+/// Gives a statement of seat 0 to the core, and says whether it has to wait.
+fn has_to_wait(core: &mut Core, statement: &Statement) -> bool
+    ensures mindful { IsMindful 0 (state_of core.old) (state_of core.new) }
+    ensures loans { LeavesAllLoans core.old core.new }
+{
+    submit_one(core, statement) == Err(SubmitFault::Busy)
 }
 
 /// The next statement of a script, if there is one, and memory for it.
@@ -131,9 +162,21 @@ fn next_of(script: &mut ScriptReader) -> Option<Statement> {
 /// Gives the next statement of a script to the core, and says whether it could.
 fn give_next(core: &mut Core, script: &mut ScriptReader) -> bool
     ensures mindful { IsMindful 0 (state_of core.old) (state_of core.new) }
+    ensures loans { LeavesAllLoans core.old core.new }
 {
     match next_of(script) {
-        Some(statement) => give(core, statement),
+        Some(statement) => give(core, &statement),
+        None => false,
+    }
+}
+
+/// Whether the next statement of a script has to wait.
+fn next_has_to_wait(core: &mut Core, script: &mut ScriptReader) -> bool
+    ensures mindful { IsMindful 0 (state_of core.old) (state_of core.new) }
+    ensures loans { LeavesAllLoans core.old core.new }
+{
+    match next_of(script) {
+        Some(statement) => has_to_wait(core, &statement),
         None => false,
     }
 }
@@ -141,6 +184,7 @@ fn give_next(core: &mut Core, script: &mut ScriptReader) -> bool
 /// Gives so many statements of a script to the core, and says whether it could.
 fn submit(core: &mut Core, script: &mut ScriptReader, count: u32) -> bool
     ensures mindful { IsMindful 0 (state_of core.old) (state_of core.new) }
+    ensures loans { LeavesAllLoans core.old core.new }
 {
     let mut all = true;
     'statements: for _ in 0..count {
@@ -152,6 +196,7 @@ fn submit(core: &mut Core, script: &mut ScriptReader, count: u32) -> bool
 /// The slot of a query that is over is cleared and free, and the next query has it, and begins.
 fn take_the_slot(core: &mut Core, script: &mut ScriptReader) -> bool
     ensures mindful { IsMindful 0 (state_of core.old) (state_of core.new) }
+    ensures loans { LeavesAllLoans core.old core.new }
 {
     let freed = make_each(core, &[EventKind::Clear, EventKind::Release]);
     let submitted = submit(core, script, 1);
@@ -165,36 +210,40 @@ fn take_the_slot(core: &mut Core, script: &mut ScriptReader) -> bool
 /// Lets come what is to come while a batch is out, and says whether all came.
 fn come(core: &mut Core, script: &mut ScriptReader, meanwhile: Meanwhile) -> bool
     ensures mindful { IsMindful 0 (state_of core.old) (state_of core.new) }
+    ensures loans { LeavesAllLoans core.old core.new }
 {
     match meanwhile {
         Meanwhile::Nothing => true,
+        Meanwhile::HasToWait => next_has_to_wait(core, script),
         Meanwhile::Begins => make_each(core, &[EventKind::Build, EventKind::Start]),
         Meanwhile::TakesTheSlot => take_the_slot(core, script),
     }
 }
 
-/// Lets things come while a work is out, then does it and gives it back. Says whether all came, and
-/// whether these are the bits of its rows then.
+/// Lets things come while a work is out, then does it and gives it back. Says whether all came,
+/// whether these are the bits of its rows then, and whether they were folded outside, unless the core
+/// is marked waiting.
 fn do_behind(
     core: &mut Core,
     script: &mut ScriptReader,
     meanwhile: Meanwhile,
-    work: Work,
+    carried: Carried,
     bits: &[u64],
 ) -> bool
-    requires work { HasWork work (held_by (state_of core.old).scan.flights 1) }
+    requires { HasWork carried (core_row core.old 1) }
     ensures settings { (state_of core.new).settings ≡ (state_of core.old).settings }
     ensures empty { held_by (state_of core.new).scan.flights 1 ≡ None }
 {
     let came = come(core, script, meanwhile);
-    let done = do_work(work, 1, &NoGate);
+    let done = do_work(carried, 1, &NoGate);
     let kept = done.batch.all_bits() == bits;
+    let folded = done.folding.is_some() != core.is_waiting();
     give_work(core, 1, done);
-    came & kept
+    came & kept & folded
 }
 
 /// The worker takes a batch, lets it pass behind what comes meanwhile, and gives it back. Says
-/// whether there was one, all came, and these are the bits of its rows then.
+/// whether there was one, and all is as it should be.
 fn pass(core: &mut Core, script: &mut ScriptReader, meanwhile: Meanwhile, bits: &[u64]) -> bool
     requires seat { 1 < (state_of core.old).settings.seats }
     requires empty { held_by (state_of core.old).scan.flights 1 ≡ None }
@@ -202,8 +251,35 @@ fn pass(core: &mut Core, script: &mut ScriptReader, meanwhile: Meanwhile, bits: 
     ensures empty { held_by (state_of core.new).scan.flights 1 ≡ None }
 {
     match take_work(core, 1) {
-        Taken::Got(work) => do_behind(core, script, meanwhile, work, bits),
+        Taken::Got(work) => do_behind(core, script, meanwhile, Carried::Written(work), bits),
         Taken::Nothing => false,
+    }
+}
+
+/// The worker cuts a batch, which it writes behind what comes meanwhile, lets it pass, and gives it
+/// back. Says whether there was one, and all is as it should be.
+fn cut_and_pass(
+    core: &mut Core,
+    script: &mut ScriptReader,
+    meanwhile: Meanwhile,
+    bits: &[u64],
+) -> bool
+    requires seat { 1 < (state_of core.old).settings.seats }
+    requires empty { held_by (state_of core.old).scan.flights 1 ≡ None }
+    ensures seat { 1 < (state_of core.new).settings.seats }
+    ensures empty { held_by (state_of core.new).scan.flights 1 ≡ None }
+{
+    // All four are called for what they ensure.
+    every_core_is_sound(core);
+    a_step_moves_one_row();
+    a_work_stays_right();
+    every_step_keeps_a_core_sound();
+    if !core.enabled(&Event::Cut) {
+        return false;
+    }
+    match core.cut_for(1) {
+        Some(blank) => do_behind(core, script, meanwhile, Carried::Blank(blank), bits),
+        None => false,
     }
 }
 
@@ -242,7 +318,7 @@ fn enter_in_mid_table(core: &mut Core, script: &mut ScriptReader) -> bool
     all &= go_on(core, script, 1, &[EventKind::Reserve]);
     all &= pass(core, script, Meanwhile::Begins, &[1, 1]);
     all &= enters_at_two(core, 6);
-    all & go_on(core, script, 0, &[EventKind::Distribute, EventKind::Cut])
+    all & go_on(core, script, 0, &[EventKind::Cut])
 }
 
 /// The second batch is of both. Only behind it is the first query over.
@@ -253,29 +329,29 @@ fn finish_the_first(core: &mut Core, script: &mut ScriptReader) -> bool
     ensures empty { held_by (state_of core.new).scan.flights 1 ≡ None }
 {
     let mut all = !go_on(core, script, 0, &[EventKind::Finish]);
-    all &= pass(core, script, Meanwhile::Nothing, &[3, 1]);
-    let finish = [EventKind::Distribute, EventKind::Finish, EventKind::Cut];
-    all & go_on(core, script, 0, &finish)
+    all &= pass(core, script, Meanwhile::HasToWait, &[3, 1]);
+    all & go_on(core, script, 0, &[EventKind::Finish])
 }
 
-/// The third batch is of the second query, and is out while a third takes the slot of the first.
+/// The third batch is of the second query, and is out while a third takes the slot of the first: only
+/// then its rows are written.
 fn finish_the_second(core: &mut Core, script: &mut ScriptReader) -> bool
     requires seat { 1 < (state_of core.old).settings.seats }
     requires empty { held_by (state_of core.old).scan.flights 1 ≡ None }
     ensures seat { 1 < (state_of core.new).settings.seats }
     ensures empty { held_by (state_of core.new).scan.flights 1 ≡ None }
 {
-    let mut all = pass(core, script, Meanwhile::TakesTheSlot, &[2, 0]);
+    let mut all = cut_and_pass(core, script, Meanwhile::TakesTheSlot, &[2, 0]);
     all &= enters_at_two(core, 7);
-    let finish = [EventKind::Distribute, EventKind::Finish, EventKind::Cut];
-    all & go_on(core, script, 0, &finish)
+    all & go_on(core, script, 0, &[EventKind::Finish, EventKind::Cut])
 }
 
-/// Two batches more are of the third.
+/// Two batches more are of the third. The core is marked waiting, so that they are folded at home.
 fn finish_the_third(core: &mut Core, script: &mut ScriptReader) -> bool
     requires seat { 1 < (state_of core.old).settings.seats }
     requires empty { held_by (state_of core.old).scan.flights 1 ≡ None }
 {
+    core.mark_waiting(true);
     let mut all = pass(core, script, Meanwhile::Nothing, &[0, 1]);
     all &= go_on(core, script, 0, &[EventKind::Distribute, EventKind::Cut]);
     all &= pass(core, script, Meanwhile::Nothing, &[0, 1]);

@@ -1,14 +1,15 @@
 -- Where no batch is lent, no event passes a batch that is.
-use Rattle.std.proofs.Common.{◌≡◌, ◌≢◌, ℕ, List, [], sym, subst}
+use Rattle.std.proofs.Common.{◌≡◌, ◌≢◌, ℕ, List, [], refl, sym, subst}
 use Rattle.std.proofs.lemmas.List.Elements.{All-nil}
 use Rattle.std.specs.Prelude.{All}
 use Rattle.core_state.specs.declared.event.Event.{Event}
-use Rattle.core_state.specs.declared.event.Event.TheVariants.{Give}
+use Rattle.core_state.specs.declared.event.Event.TheVariants.{Give, Submit}
 use Rattle.event_core.specs.Lent.{IsAtHome}
 
 -- where there are no workers with batches, an event is at home
 home-of-none : (event : Event) → IsAtHome event []
 home-of-none (Give worker) = All-nil (λ (other : ℕ). other ≢ worker)
+home-of-none (Submit seat statement) = refl
 home-of-none other = tt
 
 -- so it is where the workers with batches are none

@@ -1,6 +1,7 @@
 -- Parts whose state is known are those of a core where they fit that state.
-use Rattle.event_core.proofs.Words.{after_step, All, AreTablesOf, attached_for, attached_to, Becomes, frame_words, frames_of, IsCore, IsScannedAs, IsSome, IsSound, MayStep, Parts, State, state_of, Step, subst, sym}
+use Rattle.event_core.proofs.Words.{after_step, All, AreTablesOf, attached_for, attached_to, Becomes, frame_words, frames_of, IsCore, IsScannedAs, IsSome, IsSound, List, MayStep, Option, Parts, State, state_of, Step, subst, sym}
 use Rattle.std.specs.Prelude.{◌≡◌, None}
+use Rattle.distributor.specs.Shared.{Lending}
 
 -- each step keeps a core sound
 abbrev pub KeepSound : Type 0
@@ -33,4 +34,19 @@ pub becomes-of : (parts : Parts) (after : State) → state_of parts ≡ after �
 becomes-of parts after same are = record {
   state = same;
   core = core-of parts (subst (AreOf parts) (sym same) are);
+}
+
+-- what is out with seats is no part of the state
+pub becomes-out : (parts : Parts) (out : List (Option Lending)) (after : State) → Becomes parts after → Becomes (record parts { out = out }) after
+becomes-out parts out after becomes = record {
+  state = becomes.state;
+  core = record {
+    sound = becomes.core.sound;
+    tables = becomes.core.tables;
+    scanned = becomes.core.scanned;
+    attached = becomes.core.attached;
+    beside = becomes.core.beside;
+    frames = becomes.core.frames;
+    words = becomes.core.words;
+  };
 }

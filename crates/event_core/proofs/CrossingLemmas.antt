@@ -8,7 +8,7 @@ use Rattle.star_lists.proofs.list_of.ListOf.TheSendSync as list
 use Rattle.continuous_scan.proofs.CrossingLemmas.{scan_send}
 use Rattle.star_lists.proofs.CrossingLemmas.{trail_send}
 use Rattle.core_parts.proofs.CrossingLemmas.{flights_send, queries_send, seat_send}
-use Rattle.star_store.proofs.store.Store.TheSendSync as store
+use Rattle.star_store.proofs.tables.Tables.TheSendSync as tables
 use Rattle.event_core.proofs.logged.Logged.TheSendSync as logged
 use Rattle.event_core.proofs.marks.Marks.TheSendSync as marks
 use Rattle.pipeline_manager.proofs.life.QueryLife.TheSendSync as life
@@ -22,7 +22,7 @@ use Rattle.pipeline_manager.specs.contracts.manager.Manager as manager
 use Rattle.pipeline_manager.specs.contracts.manager.Manager.TheInside as inside_manager
 use Rattle.core_filters.proofs.filters.Filters.TheSendSync as filters
 use Rattle.core_filters.proofs.spares.Spares.TheSendSync as spares
-use Rattle.distributor.proofs.distributor.Distributor.TheSendSync as distributor
+use Rattle.distributor.proofs.CrossingLemmas.{shared_send}
 use Rattle.frame_pool.proofs.pool.Pool.TheSendSync as pool
 use Rattle.event_core.specs.contracts.machine.Core as core
 use Rattle.event_core.specs.contracts.machine.Core.TheInside as inside_core
@@ -57,8 +57,8 @@ pub core_send : IsSend core.the_row
 core_send =
     let number : IsSend u64 = search sendable in
     let numbers = both number (both number (both number (both number (both marks.the_send tt)))) in
-    let moving = both distributor.the_send (both flights_send (both pool.the_send numbers)) in
+    let moving = both shared_send (both flights_send (both pool.the_send numbers)) in
     let running = both manager_send (both filters.the_send (both spares.the_send (both scan_send moving))) in
     let asking = both (trail_send _ logged.the_send) (both (list.the_send _ seat_send) (both queries_send running)) in
-    let fields = declared_send inside_core.the_type (heap.the_send, (search sendable depth 8, (search (sendable, crosses) depth 20, (store.the_send, asking)))) in
+    let fields = declared_send inside_core.the_type (heap.the_send, (search sendable depth 8, (search (sendable, crosses) depth 20, (tables.the_send, asking)))) in
     view_send inside_core.the_row _ _ _ _ fields

@@ -1,5 +1,5 @@
 -- When an event may come, by what the code asks of the batches in flight.
-use Rattle.event_core.proofs.Words.{◌<◌, ◌||◌, ◌∙◌, ◌∷◌, ◌≡◌, ◌≤◌, [], All, All-head, All-tail, ap, arith, bit_at, Bool, CanEnd, cond, eqb, false, find, find_position, Flight, flight_as, flight_at, flights_as, get_or, held_by, IfSome, IsCore, IsSome, IsThrough, IsWanting, Known, known_in, length, length-map, List, list_any, list_any_none, map, MayCut, MayDistribute, MayFinish, MayTake, None, not, not-true, Option, option_map, option_map_or, Parts, position, Reach, reaches_in, refl, Roomy, slots_of, Some, some-at, state_of, Submitted, subst, sym, Through, true, Wants, ℕ, is_none}
+use Rattle.event_core.proofs.Words.{◌<◌, ◌||◌, ◌∙◌, ◌∷◌, ◌≡◌, [], All, All-head, All-tail, ap, bit_at, Bool, CanEnd, cond, eqb, false, find, find_position, Flight, flight_as, flight_at, flights_as, get_or, held_by, IfSome, IsCore, IsSome, IsThrough, IsWanting, Known, known_in, length, List, list_any, list_any_none, map, MayCut, MayDistribute, MayFinish, MayTake, None, not, not-true, Option, option_map, option_map_or, Parts, position, Reach, reaches_in, refl, slots_of, Some, some-at, state_of, subst, sym, Through, true, Wants, ℕ, is_none}
 use Rattle.std.proofs.Common.{◌↔◌, is_some, IsTrue, nat_lt}
 use Rattle.std.specs.Prelude.{Any}
 use Rattle.pipeline_manager.specs.Conditions.{IsRunning}

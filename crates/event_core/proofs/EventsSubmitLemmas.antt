@@ -4,6 +4,7 @@ use Rattle.std.proofs.Common.{Err, Result}
 use Rattle.std.specs.Result.{OnErr}
 use Rattle.std.proofs.Math.Seq.{map-set_same}
 use Rattle.star_statement.specs.Outcome as outcome
+use Rattle.star_statement.specs.declared.applied.ApplyFault.{ApplyFault}
 use Rattle.star_statement.specs.declared.applied.Applied.TheVariants.{Replied, Accepted}
 use Rattle.star_statement.specs.declared.applied.ChangeKind.TheVariants.{DeclaresFact}
 use Rattle.core_state.specs.State as state
@@ -132,13 +133,13 @@ RepliedLaw = (parts : Parts) (seat : ℕ) (statement : Statement) (reply : Reply
     (after_submitting seat statement (state_of parts))
 
 -- of one that declares the fact table: none was declared
-abbrev UndeclaredLaw : Type 0
+abbrev pub UndeclaredLaw : Type 0
 UndeclaredLaw = (parts : Parts) (statement : Statement) (change : Change) → IsCore parts
     → (outcome_of (tables_of (state_of parts)) statement).change ≡ Some change → kind_of_change change ≡ DeclaresFact
     → (tables_of (state_of parts)).schema.fact ≡ None
 
 pub undeclared-before : UndeclaredLaw → (parts : Parts) (statement : Statement) (kind : ChangeKind) (reply : Reply) (tables : KeyedStore)
-    → IsCore parts → Follows parts.tables tables (Ok (Changed kind reply)) (outcome_of (plain parts.tables) statement)
+    → IsCore parts → Follows {E = ApplyFault} parts.tables tables (Ok (Changed kind reply)) (outcome_of (plain parts.tables) statement)
     → kind ≡ DeclaresFact → parts.tables.schema.fact ≡ None
 undeclared-before law parts statement kind reply tables core follows declares =
     let change = some-change (outcome_of (plain parts.tables) statement).change kind follows.1 in
@@ -181,7 +182,7 @@ pub replies : RepliedLaw → (old : Parts) (seat number : ℕ) (statement : Stat
     → IsCore old → seat < length old.seats → number ≡ old.numbers.statement + 1
     → log ≡ old.log → asked ≡ old.asked → before ≡ old.seats
     → seats ≡ with_stood seat (statement_of number (Waits reply)) before
-    → Follows old.tables tables (Ok (Replied reply)) (outcome_of (plain old.tables) statement) → IsKeyed tables
+    → Follows {E = ApplyFault} old.tables tables (Ok (Replied reply)) (outcome_of (plain old.tables) statement) → IsKeyed tables
     → Becomes (record old {
       tables = tables;
       log = log;
@@ -231,7 +232,7 @@ pub changes : ChangedLaw → (old : Parts) (seat number : ℕ) (statement : Stat
     → IsCore old → seat < length old.seats → number ≡ old.numbers.statement + 1
     → earlier ≡ old.log → log ≡ earlier ++ record { seat = seat; statement = number; kind = kind } ∷ []
     → asked ≡ old.asked → before ≡ old.seats → seats ≡ with_stood seat (statement_of number (Waits reply)) before
-    → Follows old.tables tables (Ok (Changed kind reply)) (outcome_of (plain old.tables) statement) → IsKeyed tables
+    → Follows {E = ApplyFault} old.tables tables (Ok (Changed kind reply)) (outcome_of (plain old.tables) statement) → IsKeyed tables
     → schema ≡ tables.schema
     → ((parts : Parts) → parts.tables.schema ≡ schema → parts.lives ≡ old.lives → parts.filters ≡ old.filters
     → parts.numbers.version ≡ old.numbers.version → with_filters_for kind parts
@@ -304,7 +305,7 @@ pub accepts : AcceptedLaw → (old : Parts) (seat number : ℕ) (statement : Sta
     → one ≡ asked_first number seat query snapshot → asked ≡ earlier ++ one ∷ []
     → extent ≡ length tables.versions → lives ≡ after_submit one.number extent old.lives
     → seats ≡ with_stood seat (statement_of number IsAsked) before
-    → Follows old.tables tables (Ok (Accepted query snapshot)) (outcome_of (plain old.tables) statement)
+    → Follows {E = ApplyFault} old.tables tables (Ok (Accepted query snapshot)) (outcome_of (plain old.tables) statement)
     → Becomes (record old {
       tables = tables;
       log = log;

@@ -1,8 +1,11 @@
 -- What is beside the state, and events leave: the workers to which batches are lent, where batches in flight change.
-use Rattle.event_core.proofs.Words.{◌++◌, ◌+◌, ◌∙◌, ◌∷◌, ◌≡◌, ◌≢◌, [], All, All-head, All-tail, ap, append-nil, arith, Bool, cond, cons_option, drop, false, filter_map, filter_map-append, Filters, Flight, flight_behind, lent_to, List, map, None, none-some, Option, option_map, Parts, passed_in, refl, same_Some, set, slice_get, Some, subst, suc, sym, take, true, zero, ℕ}
-use Rattle.core_state.specs.State as state
+use Rattle.event_core.proofs.Words.{◌++◌, ◌+◌, ◌∙◌, ◌∷◌, ◌≡◌, ◌≢◌, [], All, All-head, All-tail, ap, append-nil, arith, Bool, cond, cons_option, drop, false, filter_map, filter_map-append, Filters, Flight, flight_behind, is_none, lent_to, List, Lives, map, None, none-some, Option, option_map, Parts, passed_in, refl, Rows, same_Some, set, slice_get, Some, subst, suc, sym, take, true, zero, ℕ}
 use Rattle.event_core.specs.Lent.{IsHome}
-use Rattle.event_core.specs.Parts.{beside_of}
+use Rattle.distributor.specs.Shared.{Lending}
+use Rattle.core_parts.specs.InFlight.{passed_through}
+use Rattle.core_parts.specs.Passed.{behind_all}
+use Rattle.core_state.specs.State as state
+use Rattle.event_core.specs.Parts.{AreBacked, beside_of, fixed_by, lent_as, lent_batches, LentBatch}
 use Rattle.event_core.proofs.EventsHandLemmas.{IsHeldAt}
 
 -- what is picked of a list stays where one is written over by one of which the same is picked
@@ -44,58 +47,107 @@ picked-there {Y = Y} P f (first ∷ xs) (suc place) x y there is all = picked-th
 abbrev lent_by : Flight → Option ℕ
 lent_by flight = cond {A = Option ℕ} flight.lent (option_map (λ (hand : state.Hand). hand.worker) flight.hand) None
 
+-- what rests on a batch in a hand, where it is lent
+abbrev rests_on : Flight → state.Hand → LentBatch
+rests_on flight hand = record {
+  worker = hand.worker;
+  roster = flight.batch.roster;
+  passes = (passed_through hand.versions flight.batch).passed;
+}
+
 -- an idle batch is lent to nobody
-not-lent : (flight : Flight) → flight.hand ≡ None → lent_by flight ≡ None
+not-lent : (flight : Flight) → flight.hand ≡ None → lent_as flight ≡ None
 not-lent flight idle =
-    ap (λ o. cond {A = Option ℕ} flight.lent (option_map (λ (hand : state.Hand). hand.worker) o) None) idle ∙ neither flight.lent
+    ap (λ o. cond {A = Option LentBatch} flight.lent (option_map (rests_on flight) o) None) idle ∙ neither flight.lent
   where
-    neither : (t : Bool) → cond {A = Option ℕ} t None None ≡ None
+    neither : (t : Bool) → cond {A = Option LentBatch} t None None ≡ None
     neither true = refl
     neither false = refl
 
--- where batches are lent to the same workers, what is beside the state is the same
-pub beside-by : (parts now : Parts) (flights : List Flight) → parts ≡ now → lent_to flights ≡ lent_to parts.flights
-    → beside_of (record parts { flights = flights }) ≡ beside_of now
-beside-by parts now flights is same = ap (λ lent. record (beside_of parts) { lent = lent }) same ∙ ap beside_of is
+-- nor is one that is at home
+at-home : (flight : Flight) (hand : Option state.Hand) → flight.lent ≡ false
+    → cond {A = Option LentBatch} flight.lent (option_map (rests_on flight) hand) None ≡ None
+at-home flight hand home = ap (λ t. cond {A = Option LentBatch} t (option_map (rests_on flight) hand) None) home
+
+-- the workers to which batches are lent are those of the batches that are lent
+pub workers-lent : (flights : List Flight) → lent_to flights ≡ map (λ (batch : LentBatch). batch.worker) (lent_batches flights)
+workers-lent [] = refl
+workers-lent (flight ∷ flights) = by_cases flight.lent flight.hand (workers-lent flights)
+  where
+    by_cases : (t : Bool) (o : Option state.Hand)
+        → lent_to flights ≡ map (λ (batch : LentBatch). batch.worker) (lent_batches flights)
+        → cons_option (cond {A = Option ℕ} t (option_map (λ (hand : state.Hand). hand.worker) o) None) (lent_to flights)
+        ≡ map (λ (batch : LentBatch). batch.worker)
+        (cons_option (cond {A = Option LentBatch} t (option_map (rests_on flight) o) None) (lent_batches flights))
+    by_cases false o rest = rest
+    by_cases true None rest = rest
+    by_cases true (Some hand) rest = ap (λ list. hand.worker ∷ list) rest
+
+-- where the same batches are lent and the same is out, what is beside the state is the same
+pub beside-by : (parts now : Parts) (flights : List Flight) (lives : Lives) (out : List (Option Lending)) → parts ≡ now
+    → lent_batches flights ≡ lent_batches parts.flights → lives.filters ≡ parts.lives.filters → out ≡ parts.out
+    → beside_of (record parts { flights = flights; lives = lives; out = out }) ≡ beside_of now
+beside-by parts now flights lives out is same filters outside =
+    ap (λ list. record (beside_of parts) {
+      lent = list;
+      batches = lent_batches flights;
+      out = out;
+      fixed = fixed_by out parts.tables lives.filters;
+    }) (workers-lent flights ∙ ap (map (λ (batch : LentBatch). batch.worker)) same ∙ sym (workers-lent parts.flights))
+    ∙ ap (λ list. record (beside_of parts) { batches = list; out = out; fixed = fixed_by out parts.tables lives.filters }) same
+    ∙ ap (λ list. record (beside_of parts) { out = list; fixed = fixed_by list parts.tables lives.filters }) outside
+    ∙ ap (λ set. record (beside_of parts) { fixed = fixed_by parts.out parts.tables set }) filters
+    ∙ ap beside_of is
+
+-- and what is out rests on what is lent, as before
+pub backed-by : (parts : Parts) (flights : List Flight) (lives : Lives) (out : List (Option Lending))
+    → lent_batches flights ≡ lent_batches parts.flights → lives.filters ≡ parts.lives.filters → out ≡ parts.out
+    → AreBacked (beside_of parts) → AreBacked (beside_of (record parts { flights = flights; lives = lives; out = out }))
+backed-by parts flights lives out same filters outside backed =
+    subst AreBacked (sym (beside-by parts parts flights lives out refl same filters outside)) backed
 
 -- a batch more, which is idle
 pub lent-cut : (flights new : List Flight) (flight : Flight) → new ≡ flights ++ flight ∷ [] → flight.hand ≡ None
-    → lent_to new ≡ lent_to flights
+    → lent_batches new ≡ lent_batches flights
 lent-cut flights new flight is idle =
-    ap lent_to is ∙ filter_map-append lent_by flights (flight ∷ [])
-    ∙ ap (λ o. filter_map lent_by flights ++ cons_option o []) (not-lent flight idle) ∙ append-nil (filter_map lent_by flights)
+    ap lent_batches is ∙ filter_map-append lent_as flights (flight ∷ [])
+    ∙ ap (λ o. filter_map lent_as flights ++ cons_option o []) (not-lent flight idle) ∙ append-nil (filter_map lent_as flights)
 
 -- an idle batch is taken into a hand
 pub lent-taken : (flights new : List Flight) (place : ℕ) (flight : Flight) (hand : state.Hand) → slice_get flights place ≡ Some flight
     → flight.hand ≡ None → flight.lent ≡ false → new ≡ set flights place (record flight { hand = Some hand })
-    → lent_to new ≡ lent_to flights
+    → lent_batches new ≡ lent_batches flights
 lent-taken flights new place flight hand there idle home is =
-    ap lent_to is
-    ∙ picked-set lent_by flights place flight (record flight { hand = Some hand }) there
-    (ap (λ t. cond {A = Option ℕ} t (Some hand.worker) None) home ∙ sym (not-lent flight idle))
+    ap lent_batches is
+    ∙ picked-set lent_as flights place flight (record flight { hand = Some hand }) there
+    (at-home flight (Some hand) home ∙ sym (not-lent flight idle))
 
 -- a batch that is not lent is given back
 pub lent-given : (flights new : List Flight) (place : ℕ) (flight : Flight) (hand : state.Hand) → slice_get flights place ≡ Some flight
-    → flight.lent ≡ false → new ≡ set flights place (passed_in hand flight) → lent_to new ≡ lent_to flights
+    → flight.lent ≡ false → new ≡ set flights place (passed_in hand flight) → lent_batches new ≡ lent_batches flights
 lent-given flights new place flight hand there home is =
-    ap lent_to is
-    ∙ picked-set lent_by flights place flight (passed_in hand flight) there
-    (sym (ap (λ t. cond {A = Option ℕ} t (option_map (λ (one : state.Hand). one.worker) flight.hand) None) home))
+    ap lent_batches is ∙ picked-set lent_as flights place flight (passed_in hand flight) there (sym (at-home flight flight.hand home))
 
 -- a batch less, which is idle
 pub lent-left : (flights new : List Flight) (place : ℕ) (flight : Flight) → slice_get flights place ≡ Some flight → flight.hand ≡ None
-    → new ≡ take place flights ++ drop (place + 1) flights → lent_to new ≡ lent_to flights
+    → new ≡ take place flights ++ drop (place + 1) flights → lent_batches new ≡ lent_batches flights
 lent-left flights new place flight there idle is =
-    ap lent_to (is ∙ ap (λ n. take place flights ++ drop n flights) next)
-    ∙ picked-left lent_by flights place flight there (not-lent flight idle)
+    ap lent_batches (is ∙ ap (λ n. take place flights ++ drop n flights) next)
+    ∙ picked-left lent_as flights place flight there (not-lent flight idle)
   where
     next : place + 1 ≡ suc place
     next = omega arith
 
 -- all idle batches pass all filters
 pub lent-passed : (filters : Filters) (flights new : List Flight) → new ≡ map (flight_behind filters) flights
-    → lent_to new ≡ lent_to flights
-lent-passed filters flights new is = ap lent_to is ∙ picked-map lent_by (flight_behind filters) (λ flight. refl) flights
+    → lent_batches new ≡ lent_batches flights
+lent-passed filters flights new is =
+    ap lent_batches is ∙ picked-map lent_as (flight_behind filters) (λ flight. by_hand flight flight.hand refl) flights
+  where
+    by_hand : (flight : Flight) (o : Option state.Hand) → flight.hand ≡ o → lent_as (flight_behind filters flight) ≡ lent_as flight
+    by_hand flight None idle = not-lent (flight_behind filters flight) idle ∙ sym (not-lent flight idle)
+    by_hand flight (Some hand) held = ap (λ rows. lent_as (record flight { batch = rows }))
+        (ap (λ o. cond {A = Rows} (is_none o) (behind_all filters.versions filters.order flight.batch) flight.batch) held)
 
 -- the batch in the hand of a worker who is at home is not lent
 pub home-held : (worker : ℕ) (flights : List Flight) (place : ℕ) (one : IsHeldAt worker flights place) → IsHome worker (lent_to flights)

@@ -10,6 +10,7 @@ pub mod ClearedLemmas
 pub mod ChoosingLemmas
 pub mod CoreAtLemmas
 pub mod CrossingLemmas
+pub mod CutForLemmas
 pub mod CutHolderLemmas
 pub mod CutIntoLemmas
 pub mod CutNextLemmas
@@ -33,13 +34,16 @@ pub mod HandLemmas
 pub mod IdleLemmas
 pub mod HeldSlotLemmas
 pub mod KeptLifeLemmas
+pub mod LandLemmas
 pub mod LentLemmas
 pub mod LetGoLemmas
 pub mod LivedLemmas
+pub mod LoanLemmas
 pub mod MachineLemmas
 pub mod MadeLemmas
 pub mod NewCoreLemmas
 pub mod NextVersionLemmas
+pub mod OutLemmas
 pub mod PassedAllLemmas
 pub mod PassedOnceLemmas
 pub mod QuietLemmas
@@ -56,9 +60,11 @@ pub mod StartEventLemmas
 pub mod StartedLemmas
 pub mod SubmittedCoreLemmas
 pub mod SubmittedSeatLemmas
+pub mod SubmitBesideLemmas
 pub mod StepsLemmas
 pub mod TakenReplyLemmas
 pub mod TakenStepLemmas
 pub mod TookLemmas
 pub mod UnbuiltLemmas
+pub mod WillPassLemmas
 pub mod WorkLemmas

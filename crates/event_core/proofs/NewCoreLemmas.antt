@@ -1,6 +1,7 @@
 -- The parts of a new core.
-use Rattle.event_core.proofs.Words.{◌*◌, ◌+◌, ◌∙◌, ◌∷◌, ◌≡◌, ◌≤◌, [], All, All-nil, ap, AreWithin, arith, AskedQueries, AskedQuery, Becomes, empty_core, empty_store, first_parts, Flight, frame_words, frames_of, Free, Grouped, HasRoom, IsKeyed, KeyedStore, List, Lives, Logged, map, new_scan, None, Option, Parts, parts_by, plain, plain_version, refl, replicate, Roomy, RunSettings, Scanning, Stock, Store, Submitted, subst, sym, Version, ℕ}
+use Rattle.event_core.proofs.Words.{◌*◌, ◌+◌, ◌∙◌, ◌∷◌, ◌≡◌, ◌≤◌, [], All, All-nil, ap, AreWithin, arith, AskedQueries, AskedQuery, Becomes, empty_core, empty_store, first_parts, Flight, frame_words, frames_of, Free, HasRoom, IsKeyed, KeyedStore, List, Lives, Logged, map, new_scan, None, Parts, parts_by, plain, plain_version, refl, replicate, Roomy, RunSettings, Scanning, Stock, Store, Submitted, subst, sym, Version, ℕ}
 use Rattle.star_history.specs.Keyed.{HasKeyNumbers}
+use Rattle.distributor.specs.Shared.{SharedGroups}
 use Rattle.core_state.specs.State as state
 use Rattle.core_parts.specs.Filters.{no_filters}
 use Rattle.event_core.specs.Parts.{first_marks}
@@ -18,8 +19,8 @@ none-keyed P (version ∷ versions) none = absurd (let some : plain_version vers
 
 -- parts of which nothing was cut and no number given
 abbrev parts_of : RunSettings → KeyedStore → List Logged → List (List Submitted) → List AskedQuery → Lives → state.Filters → Scanning
-    → List (Option Grouped) → List Flight → Stock → Parts
-parts_of settings tables log seats asked lives filters scan attached flights pool = record {
+    → SharedGroups → List Flight → Stock → Parts
+parts_of settings tables log seats asked lives filters scan groups flights pool = record {
   settings = settings;
   tables = tables;
   log = log;
@@ -28,7 +29,8 @@ parts_of settings tables log seats asked lives filters scan attached flights poo
   lives = lives;
   filters = filters;
   scan = scan;
-  attached = attached;
+  attached = groups.attached;
+  out = groups.out;
   flights = flights;
   pool = pool;
   cut = 0;
@@ -38,20 +40,20 @@ parts_of settings tables log seats asked lives filters scan attached flights poo
 
 -- parts that are each as in a new core are its parts
 first-of : (settings : RunSettings) (tables : KeyedStore) (log : List Logged) (seats : List (List Submitted)) (asked : List AskedQuery)
-    (lives : Lives) (filters : state.Filters) (scan : Scanning) (attached : List (Option Grouped)) (flights : List Flight) (pool : Stock)
+    (lives : Lives) (filters : state.Filters) (scan : Scanning) (groups : SharedGroups) (flights : List Flight) (pool : Stock)
     (frames : List (List ℕ)) → log ≡ [] → seats ≡ replicate settings.seats [] → asked ≡ []
     → lives ≡ record { queries = []; slots = replicate settings.slots Free; filters = 0 } → filters ≡ no_filters
-    → scan ≡ new_scan settings.slots → attached ≡ replicate settings.slots None → flights ≡ []
+    → scan ≡ new_scan settings.slots → groups ≡ record { attached = replicate settings.slots None; out = replicate settings.seats None } → flights ≡ []
     → pool ≡ record { made = frames_of settings; words = 16 + settings.batch * 16; inside = frames }
-    → parts_of settings tables log seats asked lives filters scan attached flights pool ≡ first_parts settings tables frames
-first-of settings tables log seats asked lives filters scan attached flights pool frames same_log same_seats same_asked same_lives same_filters same_scan same_attached same_flights same_pool =
-    ap (λ one. parts_of settings tables one seats asked lives filters scan attached flights pool) same_log
-    ∙ ap (λ one. parts_of settings tables [] one asked lives filters scan attached flights pool) same_seats
-    ∙ ap (λ one. parts_of settings tables [] no_seats one lives filters scan attached flights pool) same_asked
-    ∙ ap (λ one. parts_of settings tables [] no_seats [] one filters scan attached flights pool) same_lives
-    ∙ ap (λ one. parts_of settings tables [] no_seats [] no_lives one scan attached flights pool) same_filters
-    ∙ ap (λ one. parts_of settings tables [] no_seats [] no_lives no_filters one attached flights pool) same_scan
-    ∙ ap (λ one. parts_of settings tables [] no_seats [] no_lives no_filters (new_scan settings.slots) one flights pool) same_attached
+    → parts_of settings tables log seats asked lives filters scan groups flights pool ≡ first_parts settings tables frames
+first-of settings tables log seats asked lives filters scan groups flights pool frames same_log same_seats same_asked same_lives same_filters same_scan same_groups same_flights same_pool =
+    ap (λ one. parts_of settings tables one seats asked lives filters scan groups flights pool) same_log
+    ∙ ap (λ one. parts_of settings tables [] one asked lives filters scan groups flights pool) same_seats
+    ∙ ap (λ one. parts_of settings tables [] no_seats one lives filters scan groups flights pool) same_asked
+    ∙ ap (λ one. parts_of settings tables [] no_seats [] one filters scan groups flights pool) same_lives
+    ∙ ap (λ one. parts_of settings tables [] no_seats [] no_lives one scan groups flights pool) same_filters
+    ∙ ap (λ one. parts_of settings tables [] no_seats [] no_lives no_filters one groups flights pool) same_scan
+    ∙ ap (λ one. parts_of settings tables [] no_seats [] no_lives no_filters (new_scan settings.slots) one flights pool) same_groups
     ∙ ap (λ one. parts_of settings tables [] no_seats [] no_lives no_filters (new_scan settings.slots) none one pool) same_flights
     ∙ ap (λ one. parts_of settings tables [] no_seats [] no_lives no_filters (new_scan settings.slots) none [] one) same_pool
   where
@@ -61,26 +63,26 @@ first-of settings tables log seats asked lives filters scan attached flights poo
     no_lives : Lives
     no_lives = record { queries = []; slots = replicate settings.slots Free; filters = 0 }
 
-    none : List (Option Grouped)
-    none = replicate settings.slots None
+    none : SharedGroups
+    none = record { attached = replicate settings.slots None; out = replicate settings.seats None }
 
 -- the parts that the code makes are those of an empty core
 pub becomes-empty : NewLaw → (settings : RunSettings) (tables : KeyedStore) (log : List Logged) (seats : List (Roomy Submitted))
-    (asked : AskedQueries) (lives : Lives) (filters : state.Filters) (scan : Scanning) (attached : List (Option Grouped))
+    (asked : AskedQueries) (lives : Lives) (filters : state.Filters) (scan : Scanning) (groups : SharedGroups)
     (flights : Roomy Flight) (pool : Stock) → AreWithin settings → plain tables ≡ empty_store → log ≡ []
     → map (λ seat. seat.items) seats ≡ replicate settings.seats [] → asked.items ≡ []
     → lives ≡ record { queries = []; slots = replicate settings.slots Free; filters = 0 } → filters ≡ no_filters
-    → scan ≡ new_scan settings.slots → attached ≡ replicate settings.slots None → flights.items ≡ []
+    → scan ≡ new_scan settings.slots → groups ≡ record { attached = replicate settings.slots None; out = replicate settings.seats None } → flights.items ≡ []
     → pool ≡ record {
       made = frames_of settings;
       words = 16 + settings.batch * 16;
       inside = replicate (frames_of settings) (replicate (16 + settings.batch * 16) 0);
     }
-    → Becomes (parts_by settings tables log seats asked lives filters scan attached flights pool 0 0 0 0 first_marks) (empty_core settings)
-becomes-empty law settings tables log seats asked lives filters scan attached flights pool within none same_log same_seats same_asked same_lives same_filters same_scan same_attached same_flights same_pool =
+    → Becomes (parts_by settings tables log seats asked lives filters scan groups flights pool 0 0 0 0 first_marks) (empty_core settings)
+becomes-empty law settings tables log seats asked lives filters scan groups flights pool within none same_log same_seats same_asked same_lives same_filters same_scan same_groups same_flights same_pool =
     subst (λ parts. Becomes parts (empty_core settings))
-    (sym (first-of settings tables log (map (λ (seat : Roomy Submitted). seat.items) seats) asked.items lives filters scan attached
-    flights.items pool (replicate (frames_of settings) (replicate (16 + settings.batch * 16) 0)) same_log same_seats same_asked same_lives same_filters same_scan same_attached same_flights same_pool))
+    (sym (first-of settings tables log (map (λ (seat : Roomy Submitted). seat.items) seats) asked.items lives filters scan groups
+    flights.items pool (replicate (frames_of settings) (replicate (16 + settings.batch * 16) 0)) same_log same_seats same_asked same_lives same_filters same_scan same_groups same_flights same_pool))
     (law settings (replicate (frames_of settings) (replicate (16 + settings.batch * 16) 0)) tables within refl none
     (none-keyed (HasKeyNumbers tables.schema tables.dimensions) tables.versions (ap (λ (store : Store). store.versions) none)))
 

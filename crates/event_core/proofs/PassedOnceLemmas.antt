@@ -1,5 +1,5 @@
 -- A batch passes the filter that it meets next: the front takes it and gives it back.
-use Rattle.event_core.proofs.Words.{◌++◌, ◌+◌, ◌<◌, ◌∙◌, ◌∷◌, ◌≡◌, ◌≢◌, [], after_give, after_take, All, All-append, All-cons, All-head, All-nil, All-tail, ap, arith, Becomes, Bool, cond, eq-eqb, eqb, false, Flight, flight_as, flights_as, get_or-append_seam, Give, inl, is_some, IsCore, IsEnabled, IsLed, IsPassing, IsSome, Known, known_in, length, length-append, length-map, List, list_all, MayTake, ne_eqb, next_of, None, not, Option, option_map_or, Parts, passed_by, plus, position_or_len, Reach, reaches_in, refl, seat_as, slice_get, slice_get-get_or, Some, state_of, subst, sym, Take, Tally, tally_of, true, ℕ}
+use Rattle.event_core.proofs.Words.{◌++◌, ◌+◌, ◌<◌, ◌∙◌, ◌∷◌, ◌≡◌, ◌≢◌, [], after_give, after_take, All, All-append, All-cons, All-head, All-nil, All-tail, ap, arith, Becomes, Bool, cond, eq-eqb, eqb, false, Flight, flight_as, flights_as, get_or-append_seam, Give, inl, IsCore, IsEnabled, IsLed, IsPassing, IsSome, Known, known_in, length, length-append, List, list_all, MayTake, ne_eqb, next_of, None, not, Option, option_map_or, Parts, passed_by, plus, position_or_len, Reach, reaches_in, refl, slice_get, slice_get-get_or, Some, state_of, subst, sym, Take, Tally, tally_of, true, ℕ}
 use Rattle.std.proofs.Math.Seq.{set-append_seam}
 use Rattle.std.proofs.lemmas.List.{map-append}
 use Rattle.std.specs.List.{position}

@@ -1,5 +1,5 @@
 -- Of each present version every seat has its reference, which is kept or in its hand: events keep it so.
-use Rattle.event_core.proofs.Words.{◌++◌, ◌+◌, ◌<◌, ◌∙◌, ◌∷◌, ◌≡◌, ◌≢◌, ◌≤◌, ◌⊎◌, [], All, All-head, All-tail, ap, arith, bit_at, Bool, cases_eq, ChangeKind, cond, drop, eq-eqb, eqb, eqb-true, false, Filter, filter_dimensions, Filters, FilterVersion, find, find-passes, Flight, flight_as, flight_at, flight_behind, get_or, get_or-map, get_or-range_with_len, get_or-set_other, get_or-set_same, held_by, IfSome, inl, inr, IsCore, IsSome, IsThrough, IsTrue, IsWanting, KeyedStore, known_in, length, length-map, length-range_with_len, length-set, List, map, MayDistribute, MayTake, ne_eqb, next_of, None, none-some, not, Option, option_and_then, option_map, option_map_or, Parts, passed_in, plain, position, range_with_len, reaches_in, refl, replicate, same_Some, Schema, set, slice_get, Some, some-at, state_of, Store, subst, suc, sym, tables_of, TableDef, take, true, version_at, with_filters_for, with_new, zero, ℕ, All-cons, All-nil, Contains, filter_map, Rows, ⊎_elim, append-nil, cons_option}
+use Rattle.event_core.proofs.Words.{◌++◌, ◌+◌, ◌<◌, ◌∙◌, ◌∷◌, ◌≡◌, ◌≢◌, ◌≤◌, ◌⊎◌, [], All, All-head, All-tail, ap, arith, bit_at, Bool, cases_eq, ChangeKind, cond, drop, eq-eqb, eqb, eqb-true, false, Filter, filter_dimensions, Filters, FilterVersion, find, find-passes, Flight, flight_as, flight_at, flight_behind, get_or, get_or-map, get_or-range_with_len, get_or-set_other, get_or-set_same, held_by, IfSome, inl, inr, IsCore, IsSome, IsThrough, IsWanting, KeyedStore, known_in, length, length-map, length-range_with_len, length-set, List, map, MayDistribute, MayTake, ne_eqb, next_of, None, none-some, not, Option, option_and_then, option_map, option_map_or, Parts, passed_in, position, range_with_len, reaches_in, refl, replicate, same_Some, Schema, set, slice_get, Some, some-at, state_of, Store, subst, suc, sym, tables_of, TableDef, take, true, version_at, with_filters_for, with_new, zero, ℕ, All-cons, All-nil, Contains, filter_map, Rows, ⊎_elim, append-nil, cons_option}
 use Rattle.std.specs.Option.{option_or}
 use Rattle.std.proofs.lemmas.Bool.{false≢true}
 use Rattle.std.proofs.lemmas.List.{get_or-replicate, length-replicate}
@@ -70,7 +70,7 @@ contains-cases x y xs has = by_place has.0 has.1 has.2
     by_place (suc k) low is = inr (k, omega arith, is)
 
 -- an empty list has nothing
-contains-none : {X : Type 0} (x : X) → Contains [] x → ⊥
+pub contains-none : {X : Type 0} (x : X) → Contains [] x → ⊥
 contains-none x has = omega (arith, has.1)
 
 -- the versions in the hand that a batch is in, if one is found
@@ -301,7 +301,7 @@ spare-renewed parts now filters spares left version dimension references is own 
         (eqb before.filter.dimension version.filter.dimension) refl (same_Some (next version before) found some)
 
 -- in a seat's hand is no batch in the code where there is none in the state
-none-held : (parts : Parts) (seat : ℕ) → held_by (state_of parts).scan.flights seat ≡ None → find (is_in_hand seat) parts.flights ≡ None
+pub none-held : (parts : Parts) (seat : ℕ) → held_by (state_of parts).scan.flights seat ≡ None → find (is_in_hand seat) parts.flights ≡ None
 none-held parts seat none =
     no-image (find (is_in_hand seat) parts.flights)
     (sym (find-images (λ (flight : state.Flight). option_map_or (λ hand. eqb hand.worker seat) flight.hand false)

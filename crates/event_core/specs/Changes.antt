@@ -217,6 +217,7 @@ first_parts settings tables inside = record {
   filters = no_filters;
   scan = new_scan settings.slots;
   attached = replicate settings.slots None;
+  out = replicate settings.seats None;
   flights = [];
   pool = record { made = frames_of settings; words = 16 + settings.batch * 16; inside = inside };
   cut = 0;

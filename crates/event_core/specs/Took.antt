@@ -1,15 +1,20 @@
 -- What a core has become where it took an event.
-use Rattle.std.specs.Prelude.{◌≡◌, ◌↔◌, ◌⊎◌, List, [], ◌∷◌, ℕ, All, IsErrOf, OnErr, OnOk, Result}
+use Rattle.std.specs.Prelude.{◌≡◌, ◌≢◌, ◌↔◌, ◌⊎◌, List, [], ◌∷◌, ℕ, All, IsErrOf, OnErr, OnOk, Option, None, Some, Result}
+use Rattle.script_reader.specs.declared.statement.Statement.{Statement}
+use Rattle.core_state.specs.Cutting.{after_give}
 use Rattle.core_state.specs.Events.{AreFed, IsEnabled, after_event, after_want}
 use Rattle.core_state.specs.Sound.{IsSound}
 use Rattle.core_state.specs.State.{State}
 use Rattle.core_state.specs.Steps.{Step, Done, Wanting, Replying, MayStepAll, after_steps}
 use Rattle.core_state.specs.declared.event.Event.{Event}
-use Rattle.core_state.specs.declared.event.Event.TheVariants.{Submit, Build, Distribute, Clear}
+use Rattle.core_state.specs.declared.event.Event.TheVariants.{Submit, Build, Cut, Carry, Give, Distribute, Clear}
 use Rattle.event_core.specs.Parts.{Parts, beside_of}
 use Rattle.event_core.specs.Seen.{state_of}
 use Rattle.event_core.specs.declared.stepping.StepFault.{StepFault}
 use Rattle.event_core.specs.declared.stepping.StepFault.TheVariants.{NotEnabled, Memory}
+use Rattle.event_core.specs.declared.stepping.SubmitFault.{SubmitFault}
+use Rattle.event_core.specs.declared.stepping.SubmitFault.TheVariants as submit
+use Rattle.event_core.specs.declared.work.Folding.{Folding}
 
 -- at an event queries found no memory: the query that is built, or some of those that get rows of the batch
 abbrev pub IsSpoilt : Event → (old new : State) → Type 0
@@ -66,12 +71,32 @@ abbrev pub IsRefused : StepFault → State → Event → Type 0
 IsRefused NotEnabled state event = IsEnabled state event → ⊥
 IsRefused Memory state event = IsEnabled state event × MayWantMemory event
 
--- what a call leaves that takes an event if it may come, and what it tells: it may not come, it was taken, or there was no
--- memory for it, and then nothing has changed
-pub record Steps (event : Event) (old new : Parts) (result : Result (Unit {0}) StepFault) : Type 0 where
-  pub disabled : IsErrOf result NotEnabled ↔ (IsEnabled (state_of old) event → ⊥)
-  pub taken : OnOk result (Took event (state_of old) (state_of new))
+-- what a call leaves that takes the submission of a statement, as far as it does so, and what it tells. Where batches are
+-- lent it may tell that the statement has to wait until they are home
+pub record Submits (seat : ℕ) (statement : Statement) (old new : Parts) (result : Result (Unit {0}) SubmitFault) : Type 0 where
+  pub disabled : IsErrOf result submit.NotEnabled
+      ↔ (IsEnabled (state_of old) (Submit seat statement) → ⊥)
+  pub taken : OnOk result (Took (Submit seat statement) (state_of old) (state_of new))
   pub err : OnErr result (new ≡ old)
-  pub memory : IsErrOf result Memory → IsEnabled (state_of old) event × MayWantMemory event
+  pub busy : IsErrOf result submit.Busy → (beside_of old).lent ≢ []
   pub beside : beside_of new ≡ beside_of old
   pub sound : IsSound (state_of new)
+
+-- a batch was cut, and a worker carries it
+pub record CutsAndCarries (worker : ℕ) (old new : State) : Type 0 where
+  pub batch : ℕ
+  pub between : State
+  pub cut : Took Cut old between
+  pub carried : Took (Carry worker batch) between new
+
+-- a batch that came home was distributed where it was folded outside, and else nothing came of it
+abbrev pub Lands : Option Folding → (old new : State) → Type 0
+Lands None old new = new ≡ old
+Lands (Some folding) old new = (batch : ℕ) × Took (Distribute batch) old new
+
+-- the batch of a worker was given back, and where it was folded outside it was distributed too
+pub record CameHome (worker : ℕ) (folding : Option Folding) (old new : State) : Type 0 where
+  pub between : State
+  pub gave : Took (Give worker) old between
+  pub after : between ≡ after_give worker old
+  pub landed : Lands folding between new

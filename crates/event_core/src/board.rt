@@ -3,12 +3,11 @@ use crate::machine::Core;
 use board_lock::Board;
 
 impl Board for Core {
-    ghost use Rattle.core_state.specs.Rows.{SeatRow, empty_row};
     ghost use Rattle.core_state.specs.State as state;
     ghost use Rattle.core_state.specs.declared.settings.RunSettings.{RunSettings};
-    ghost use Rattle.event_core.specs.Board.{core_entries, core_row, core_settings};
+    ghost use Rattle.event_core.specs.Board.{CoreRow, core_entries, core_row, core_settings, first_row};
 
-    ghost Row = { SeatRow };
+    ghost Row = { CoreRow };
 
     ghost Entry = { state.Entry };
 
@@ -16,7 +15,7 @@ impl Board for Core {
 
     ghost row = { core_row };
 
-    ghost empty = { empty_row };
+    ghost empty = { first_row };
 
     ghost commits = { core_entries };
 

@@ -31,7 +31,7 @@ impl Core {
             Event::Finish { slot } => self.may_finish(*slot),
             Event::Clear { slot, dimension } => may_clear(&self.manager, *slot, *dimension),
             Event::Release { slot } => may_release(&self.manager, *slot),
-            Event::Reorder => self.store.schema().fact.is_some(),
+            Event::Reorder => self.tables.store().schema().fact.is_some(),
             Event::Abandon { query } => may_abandon(&self.manager, *query),
         }
     }

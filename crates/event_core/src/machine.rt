@@ -2,6 +2,8 @@
 ghost use Rattle.std.specs.Prelude.{◌≡◌, ◌↔◌, ◌+◌, ◌*◌, ◌<◌, ◌≤◌, IsTrue, false, ℕ, length, map, find, option_map, replicate, [], Some, None, IfOk, IsSome};
 ghost use Rattle.std.specs.Option.{option_map_or};
 ghost use Rattle.bit_words.specs.Sets.{Has};
+ghost use Rattle.star_history.specs.Keyed.{plain};
+ghost use Rattle.star_history.specs.Store.{empty_store};
 ghost use Rattle.pipeline_manager.specs.Conditions.{is_open};
 ghost use Rattle.pipeline_manager.specs.Lives.{life_of};
 ghost use Rattle.pipeline_manager.specs.declared.life.SlotState.TheVariants.{Free};
@@ -21,13 +23,13 @@ use crate::marks::Marks;
 use continuous_scan::Scan;
 use core_parts::{Filters, Flights, Queries, Seat, Spares};
 use core_state::RunSettings;
-use distributor::Distributor;
+use distributor::SharedDistributor;
 use event_choice::has;
 use filter_order::Tally;
 use frame_pool::Pool;
 use pipeline_manager::{Life, Manager};
 use star_lists::{ListOf, Trail};
-use star_store::Store;
+use star_store::{Store, Tables};
 use star_values::NoMemory;
 use std::alloc::Global;
 use std::hash::RandomState;
@@ -42,7 +44,8 @@ pub struct Core {
     /// What keys of rows and of groups are hashed by. Nothing that is seen depends on it.
     pub(crate) hash_keys: RandomState,
     pub(crate) settings: RunSettings,
-    pub(crate) store: Store,
+    /// The tables, of which a share is lent with each batch that is folded outside.
+    pub(crate) tables: Tables,
 
     /// The kinds of the changes that led to the tables. They are told of alone, and have no bytes.
     pub(crate) log: Trail<Logged>,
@@ -59,8 +62,8 @@ pub struct Core {
     pub(crate) spares: Spares,
     pub(crate) scan: Scan,
 
-    /// At the slot of each query that runs or is ending, the groups of its rows.
-    pub(crate) distributor: Distributor,
+    /// At the slot of each query that runs or is ending, the groups of its rows, of which some may be out with seats.
+    pub(crate) distributor: SharedDistributor,
     pub(crate) flights: Flights,
 
     /// The frames that no batch is in.
@@ -79,7 +82,8 @@ pub struct Core {
 }
 
 impl Model for Core {
-    ghost use Rattle.event_core.specs.Parts.{Parts, parts_by};
+    ghost use Rattle.std.specs.Prelude.{◌≡◌, length};
+    ghost use Rattle.event_core.specs.Parts.{AreBacked, Parts, beside_of, parts_by};
     ghost use Rattle.event_core.specs.Core.{IsCore, HasRoom};
     ghost use Rattle.event_core.specs.Spared.{AreSpare};
     ghost use Rattle.core_parts.specs.Asked.{AreFinished};
@@ -91,14 +95,17 @@ impl Model for Core {
 
     ghost coded = { Prim.hlevel (codes, star_query.the_row.coded) };
 
-    ghost view = { λ core. parts_by core.settings core.store core.log core.seats core.asked core.manager core.filters core.scan
+    ghost view = { λ core. parts_by core.settings core.tables core.log core.seats core.asked core.manager core.filters core.scan
         core.distributor core.flights core.pool core.cut core.last_statement core.last_batch core.last_version core.marks };
 
     ghost invariant = { λ core.
-        IsCore (parts_by core.settings core.store core.log core.seats core.asked core.manager core.filters core.scan
+        IsCore (parts_by core.settings core.tables core.log core.seats core.asked core.manager core.filters core.scan
         core.distributor core.flights core.pool core.cut core.last_statement core.last_batch core.last_version core.marks)
         × HasRoom core.settings core.flights × AreFinished core.manager core.asked
-        × AreSpare core.settings.seats core.filters.versions core.flights.items core.spares };
+        × AreSpare core.settings.seats core.filters.versions core.flights.items core.spares
+        × AreBacked (beside_of (parts_by core.settings core.tables core.log core.seats core.asked core.manager core.filters core.scan
+        core.distributor core.flights core.pool core.cut core.last_statement core.last_batch core.last_version core.marks))
+        × (length core.distributor.out ≡ core.settings.seats) };
 }
 
 /// By hand, so that a core goes by one call, wherever it falls, and the crates above prove nothing of its parts: a derived drop
@@ -109,7 +116,7 @@ impl Drop for Core {
             alloc: _,
             hash_keys: _,
             settings: _,
-            store,
+            tables,
             log,
             seats,
             asked,
@@ -126,7 +133,7 @@ impl Drop for Core {
             last_version: _,
             marks: _,
         } = self;
-        drop(store);
+        drop(tables);
         drop(log);
         drop(seats);
         drop(asked);
@@ -149,18 +156,19 @@ impl Core {
     ) -> Result<Core, NoMemory>
         requires { AreWithin settings }
         ensures state { IfOk result (λ core. state_of core ≡ empty_core settings) }
-        ensures beside { IfOk result (λ core. beside_of core ≡ first_beside) }
+        ensures beside { IfOk result (λ core. beside_of core ≡ first_beside settings.seats) }
     {
         a_new_core_is_empty();
         // All that may find no memory comes first: each `?` takes down again what was made before it.
         let seats = empty_seats(alloc, settings.seats)?;
         let (flights, pool) = free_frames(alloc, settings)?;
-        let (manager, scan, distributor) = free_slots(alloc, settings.slots)?;
+        let (manager, scan, distributor) = free_slots(alloc, hash_keys, settings)?;
+        let tables = no_tables(alloc, hash_keys)?;
         Ok(Core {
             alloc,
             hash_keys,
             settings,
-            store: Store::new(alloc, hash_keys),
+            tables,
             log: Trail::new(),
             seats,
             asked: Queries::new(alloc),
@@ -178,6 +186,7 @@ impl Core {
             marks: Marks {
                 closing: false,
                 distributed: 0,
+                waiting: false,
             },
         })
     }
@@ -235,7 +244,7 @@ impl Core {
     pub fn commits(&self) -> u64
         ensures { result ≡ (tables_of (state_of self.now)).commits }
     {
-        self.store.commits()
+        self.tables.store().commits()
     }
 
     /// How many batches are idle or in a hand.
@@ -253,6 +262,13 @@ impl Core {
     }
 }
 
+/// No tables yet, of which there is one share.
+fn no_tables(alloc: Global, hash_keys: RandomState) -> Result<Tables, NoMemory>
+    ensures { IfOk result (λ tables. plain tables ≡ empty_store) }
+{
+    Tables::new(Store::new(alloc, hash_keys), alloc)
+}
+
 /// So many seats that submitted nothing.
 fn empty_seats(alloc: Global, count: u32) -> Result<ListOf<Seat>, NoMemory>
     ensures { IfOk result (λ seats. map (λ seat. seat.items) seats ≡ replicate count []) }
@@ -264,17 +280,25 @@ fn empty_seats(alloc: Global, count: u32) -> Result<ListOf<Seat>, NoMemory>
     Ok(seats)
 }
 
-/// So many slots, which no query holds: nothing runs in them, and nothing gets rows.
-fn free_slots(alloc: Global, slots: u32) -> Result<(Manager, Scan, Distributor), NoMemory>
-    requires some { 1 ≤ slots }
-    requires few { slots ≤ 64 }
-    ensures lives { IfOk result (λ made. made.0 ≡ record { queries = []; slots = replicate slots Free; filters = 0 }) }
-    ensures scan { IfOk result (λ made. made.1 ≡ new_scan slots) }
-    ensures groups { IfOk result (λ made. made.2 ≡ replicate slots None) }
+/// All slots, which no query holds: nothing runs in them, nothing gets rows, and no seat has groups with it.
+fn free_slots(
+    alloc: Global,
+    hash_keys: RandomState,
+    settings: RunSettings,
+) -> Result<(Manager, Scan, SharedDistributor), NoMemory>
+    requires { AreWithin settings }
+    ensures lives { IfOk result (λ made.
+        made.0 ≡ record { queries = []; slots = replicate settings.slots Free; filters = 0 }) }
+    ensures scan { IfOk result (λ made. made.1 ≡ new_scan settings.slots) }
+    ensures groups { IfOk result (λ made. made.2 ≡ record {
+      attached = replicate settings.slots None;
+      out = replicate settings.seats None;
+    }) }
 {
+    let slots = settings.slots;
     let manager = Manager::new(alloc, slots, 0)?;
     let scan = Scan::new(alloc, slots)?;
-    let distributor = Distributor::new(alloc, slots)?;
+    let distributor = SharedDistributor::new(alloc, hash_keys, slots, settings.seats)?;
     Ok((manager, scan, distributor))
 }
 

@@ -1,5 +1,5 @@
 //! What the core keeps beside its state, for the workers that it is lent to.
-ghost use Rattle.std.specs.Prelude.{◌≡◌, ◌+◌, ◌%◌, true};
+ghost use Rattle.std.specs.Prelude.{◌≡◌, ◌↔◌, ◌+◌, ◌%◌, All, None, false, true};
 
 use crate::machine::Core;
 
@@ -11,6 +11,9 @@ pub struct Marks {
 
     /// How many batches were distributed, from 0 to 15 and round again.
     pub distributed: u32,
+
+    /// Whether a statement waits until all that is lent is home.
+    pub waiting: bool,
 }
 
 impl Core {
@@ -26,6 +29,28 @@ impl Core {
         ensures { result ≡ self.now.marks.closing }
     {
         self.marks.closing
+    }
+
+    /// Whether a statement waits from now on until all that is lent is home.
+    pub fn mark_waiting(&mut self, waiting: bool)
+        ensures { self.new
+            ≡ record self.old { marks = record self.old.marks { waiting = waiting } } }
+    {
+        self.marks.waiting = waiting;
+    }
+
+    /// Whether a statement waits until all that is lent is home.
+    pub fn is_waiting(&self) -> bool
+        ensures { result ≡ self.now.marks.waiting }
+    {
+        self.marks.waiting
+    }
+
+    /// Whether something is out with a seat beside its batch.
+    pub fn is_any_out(&self) -> bool
+        ensures { (result ≡ false) ↔ All (λ lending. lending ≡ None) self.now.out }
+    {
+        self.distributor.is_any_out()
     }
 
     /// Adds one to a number that goes from 0 to 15 and round again, and gives it.

@@ -25,7 +25,7 @@ use crate::machine::Core;
 use aggregations::Groups;
 use continuous_scan::Scan;
 use core_parts::{Queries, Seat};
-use distributor::Distributor;
+use distributor::SharedDistributor;
 use pipeline_manager::{Life, SlotState};
 use star_lists::ListOf;
 use star_plan::StarQuery;
@@ -53,7 +53,7 @@ impl Core {
         starts_follow_the_core();
         let slot = self.manager.slot_of(query).unwrap();
         let extent = self.manager.extent(query);
-        let length = self.store.facts().len();
+        let length = self.tables.store().facts().len();
         let snapshot = self.asked.asked_of(query).snapshot();
         let bound = self.asked.hand_on(query);
         let start = first_position(&self.scan, length);
@@ -100,7 +100,7 @@ impl Core {
         let slot = self.manager.slot_of(query);
         give_up(&mut self.seats, seat, query);
         self.asked.give_up(query);
-        detach_at(&mut self.distributor, slot);
+        drop_at(&mut self.distributor, slot);
         stop_at(&mut self.scan, slot);
         self.manager.abandon(query);
         self.asked.settle(&self.manager);
@@ -171,12 +171,14 @@ fn give_up(seats: &mut ListOf<Seat>, seat: u32, query: u64)
 }
 
 /// Nothing is attached at this slot any more, if there is one.
-fn detach_at(distributor: &mut Distributor, slot: Option<u32>)
-    requires { IfSome slot (λ slot. slot < length distributor.old) }
-    ensures { distributor.new ≡ option_map_or (λ slot. slice_set distributor.old slot None) slot distributor.old }
+fn drop_at(distributor: &mut SharedDistributor, slot: Option<u32>)
+    requires { IfSome slot (λ slot. slot < length distributor.old.attached) }
+    ensures attached { distributor.new.attached ≡
+        option_map_or (λ slot. slice_set distributor.old.attached slot None) slot distributor.old.attached }
+    ensures out { distributor.new.out ≡ distributor.old.out }
 {
     if let Some(slot) = slot {
-        distributor.detach(slot);
+        distributor.drop_at(slot);
     }
 }
 

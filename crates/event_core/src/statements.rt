@@ -1,5 +1,5 @@
 //! How a statement is submitted.
-ghost use Rattle.std.specs.Prelude.{◌≡◌, ◌<◌, ◌≤◌, [], ◌∷◌, ◌++◌, All, length, map, slice_index_or, slice_set, None, Some, true, IfOk, IsSome, OnOk, OnErr};
+ghost use Rattle.std.specs.Prelude.{◌≡◌, ◌≢◌, ◌<◌, ◌≤◌, [], ◌∷◌, ◌++◌, All, length, map, slice_index_or, slice_set, None, Some, true, IfOk, IsErrOf, IsSome, IsTrue, OnOk, OnErr};
 ghost use Rattle.std.specs.List.{range_with_len};
 ghost use Rattle.script_reader.specs.declared.statement.Statement.{Statement};
 ghost use Rattle.star_history.specs.History.{Change};
@@ -36,9 +36,10 @@ use star_history::accepted_histories_are_settled;
 use star_lists::ListOf;
 use star_plan::Schema;
 use star_statement::{
-    Applied, BlockForm, ChangeKind, ReadStatement, apply, block_form, outcomes_fit_the_tables,
+    Applied, ApplyFault, BlockForm, ChangeKind, ReadStatement, apply, block_form,
+    outcomes_fit_the_tables,
 };
-use star_store::Store;
+use star_store::Tables;
 use star_values::NoMemory;
 use std::alloc::Global;
 
@@ -48,34 +49,39 @@ impl Core {
         ensures { IfOk result (λ form.
             form ≡ form_of_text (tables_of (state_of self.now)).schema (meaning_of statement.now)) }
     {
-        block_form(self.alloc, &self.store, statement)
+        block_form(self.alloc, self.tables.store(), statement)
     }
 
-    /// A seat submits a statement. Where no memory is left, or no number for one statement more, nothing has changed.
+    /// A seat submits a statement. Where no memory is left, or no number for one statement more, or where the tables are lent
+    /// and the statement may change them, nothing has changed.
     pub(crate) fn submit(
         &mut self,
         seat: u32,
         statement: &mut ReadStatement<'_>,
-    ) -> Result<(), NoMemory>
+    ) -> Result<(), ApplyFault>
         requires { seat < length (state_of self.old).seats }
-        ensures ok { OnOk result (state_of self.new ≡ after_submitting seat statement.old (state_of self.old)) }
+        ensures ok { OnOk result
+            (state_of self.new ≡ after_submitting seat statement.old (state_of self.old)) }
         ensures err { OnErr result (self.new ≡ self.old) }
+        ensures busy { IsErrOf result ApplyFault.Busy → (beside_of self.old).lent ≢ [] }
         ensures beside { beside_of self.new ≡ beside_of self.old }
+        ensures statement { statement.new ≡ statement.old }
     {
         submissions_follow_the_core();
         a_declared_fact_table_finds_free_slots();
         let Some(number) = self.last_statement.checked_add(1) else {
-            return Err(NoMemory);
+            return Err(ApplyFault::Memory);
         };
         // All that a change of the tables needs is there before it is made: after it nothing may fail.
         make_room(&mut self.seats, seat, &mut self.asked)?;
         let all = make_filters(
             self.alloc,
-            &self.store,
+            &self.tables,
             self.settings.seats,
             &mut self.spares,
         )?;
-        match apply_to(self.alloc, &mut self.store, statement)? {
+        let are_lent = self.distributor.is_any_out();
+        match apply_to(self.alloc, &mut self.tables, are_lent, statement)? {
             Applied::Replied(reply) => {
                 stand(&mut self.seats, seat, number, Standing::Waits(reply));
                 self.last_statement = number;
@@ -90,7 +96,7 @@ impl Core {
                 filter_for(
                     kind,
                     all,
-                    self.store.schema(),
+                    self.tables.store().schema(),
                     &mut self.filters,
                     &mut self.manager,
                     &mut self.last_version,
@@ -101,7 +107,7 @@ impl Core {
             }
             Applied::Accepted { query, snapshot } => {
                 let asked = Asked::new(self.alloc, self.hash_keys, number, seat, query, snapshot)?;
-                let extent = self.store.facts().len();
+                let extent = self.tables.store().facts().len();
                 accept(&mut self.asked, &mut self.manager, asked, extent)?;
                 stand(&mut self.seats, seat, number, Standing::IsAsked);
                 self.last_statement = number;
@@ -151,16 +157,17 @@ fn reserve_at(seats: &mut ListOf<Seat>, seat: u32) -> Result<(), NoMemory>
 /// Where one is, no statement needs them: there are none, and the references stay.
 fn make_filters(
     alloc: Global,
-    store: &Store,
+    tables: &Tables,
     seats: u32,
     spares: &mut Spares,
 ) -> Result<Filters, NoMemory>
-    ensures all { store.now.schema.fact ≡ None → IfOk result (λ all. all ≡ first_filters (range_with_len 0 8)) }
-    ensures spares { store.now.schema.fact ≡ None →
+    ensures all { tables.now.schema.fact ≡ None →
+        IfOk result (λ all. all ≡ first_filters (range_with_len 0 8)) }
+    ensures spares { tables.now.schema.fact ≡ None →
         OnOk result (spares.new ≡ first_spares seats (first_filters (range_with_len 0 8)).versions) }
-    ensures declared { IsSome store.now.schema.fact → spares.new ≡ spares.old }
+    ensures declared { IsSome tables.now.schema.fact → spares.new ≡ spares.old }
 {
-    if store.schema().fact.is_some() {
+    if tables.store().schema().fact.is_some() {
         return Ok(Filters::new(alloc));
     }
     let all = Filters::of_all(alloc)?;
@@ -179,19 +186,24 @@ fn stand(seats: &mut ListOf<Seat>, seat: u32, number: u64, standing: Standing)
     seats.as_mut_slice()[seat as usize].submit(number, standing);
 }
 
-/// Does what a statement says to the tables, whose key numbers stay right.
+/// Does what a statement says to the tables, whose key numbers stay right, as far as they are not lent.
 fn apply_to(
     alloc: Global,
-    store: &mut Store,
+    tables: &mut Tables,
+    are_lent: bool,
     statement: &mut ReadStatement<'_>,
-) -> Result<Applied, NoMemory>
-    ensures follows { Follows store.old store.new result (outcome_of (plain store.old) statement.old) }
-    ensures keyed { IsKeyed store.new }
-    ensures settled { IsSettled (plain store.new) }
+) -> Result<Applied, ApplyFault>
+    ensures follows { Follows tables.old tables.new result
+        (outcome_of (plain tables.old) statement.old) }
+    ensures keyed { IsKeyed tables.new }
+    ensures settled { IsSettled (plain tables.new) }
+    ensures lent { IsTrue are_lent → tables.new ≡ tables.old }
+    ensures busy { IsErrOf result ApplyFault.Busy → IsTrue are_lent }
+    ensures statement { statement.new ≡ statement.old }
 {
-    let applied = apply(alloc, store, statement);
+    let applied = apply(alloc, tables, are_lent, statement);
     // This call is here for what it ensures of the tables.
-    store.facts();
+    tables.store().facts();
     applied
 }
 

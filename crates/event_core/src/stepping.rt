@@ -1,18 +1,19 @@
 //! One event after the other.
-ghost use Rattle.std.specs.Prelude.{◌≡◌, ◌<◌, ◌↔◌, ℕ, All, List, length, slice_get, take, IsTrue, IsErrOf, OnOk, OnErr, IfErr, IfSome};
+ghost use Rattle.std.specs.Prelude.{◌≡◌, ◌<◌, ◌↔◌, ℕ, All, List, [], length, slice_get, take, IsTrue, IsErrOf, OnOk, OnErr, IfErr, IfSome};
 ghost use Rattle.core_state.specs.Events.{IsEnabled};
 ghost use Rattle.core_state.specs.Sound.{IsSound};
+ghost use Rattle.core_state.specs.Submitting.{after_submitting};
 ghost use Rattle.core_parts.specs.Lent.{lent_to};
 ghost use Rattle.event_core.specs.Lent.{IsAtHome};
 ghost use Rattle.event_core.specs.Parts.{beside_of};
 ghost use Rattle.event_core.specs.Seen.{state_of};
-ghost use Rattle.core_state.specs.declared.event.Event.TheVariants.{Submit};
-ghost use Rattle.event_core.specs.Took.{IsRefused, MayWantMemory, Steps, Took, TookAll};
+ghost use Rattle.event_core.specs.Took.{IsRefused, MayWantMemory, Submits, Took, TookAll};
 
 use crate::laws_of_steps::every_core_is_sound;
 use crate::machine::Core;
 use core_state::Event;
-use star_statement::ReadStatement;
+use script_reader::Statement;
+use star_statement::{ApplyFault, ReadStatement};
 use star_values::NoMemory;
 
 /// Why an event was not taken.
@@ -20,6 +21,19 @@ use star_values::NoMemory;
 pub enum StepFault {
     /// It may not come now.
     NotEnabled,
+
+    /// No memory was left for it.
+    Memory,
+}
+
+/// Why the submission of a statement was not taken.
+#[derive(Clone, Copy, Debug, PartialEq, Eq)]
+pub enum SubmitFault {
+    /// It may not come now.
+    NotEnabled,
+
+    /// It may change the tables, which are lent: it is to come again once all that is lent is home.
+    Busy,
 
     /// No memory was left for it.
     Memory,
@@ -87,9 +101,7 @@ impl Core {
         ensures beside { beside_of self.new ≡ beside_of self.old }
     {
         match event {
-            Event::Submit { seat, statement } => {
-                self.submit(seat, &mut ReadStatement::unread(&statement))?
-            }
+            Event::Submit { seat, statement } => self.submit_at_home(seat, &statement)?,
             Event::Reserve { query, slot } => self.reserve(query, slot),
             Event::Build { query, dimension } => self.build(query, dimension),
             Event::Start { query } => self.start(query),
@@ -107,25 +119,43 @@ impl Core {
         Ok(())
     }
 
-    /// Takes the submission of a statement, as `step` does, whose block may have been read before.
+    /// Takes the submission of a statement that may come while no batch is lent.
+    fn submit_at_home(&mut self, seat: u32, statement: &Statement) -> Result<(), NoMemory>
+        requires seat { seat < length (state_of self.old).seats }
+        requires home { lent_to self.old.flights ≡ [] }
+        ensures ok { OnOk result
+            (state_of self.new ≡ after_submitting seat statement.now (state_of self.old)) }
+        ensures err { OnErr result (self.new ≡ self.old) }
+        ensures beside { beside_of self.new ≡ beside_of self.old }
+    {
+        match self.submit(seat, &mut ReadStatement::unread(statement)) {
+            Ok(()) => Ok(()),
+            Err(_) => Err(NoMemory),
+        }
+    }
+
+    /// Takes the submission of a statement, as `step` does, whose block may have been read before. While batches are lent it
+    /// takes a statement that leaves the tables as they are.
     pub fn submit_read(
         &mut self,
         seat: u32,
         statement: &mut ReadStatement<'_>,
-    ) -> Result<(), StepFault>
-        ensures { Steps (Submit seat statement.old) self.old self.new result }
+    ) -> Result<(), SubmitFault>
+        ensures submits { Submits seat statement.old self.old self.new result }
+        ensures statement { statement.new ≡ statement.old }
     {
         // It is called for what it ensures, here and behind the change.
         every_core_is_sound(self);
         if !self.has_seat(seat) {
-            return Err(StepFault::NotEnabled);
+            return Err(SubmitFault::NotEnabled);
         }
         match self.submit(seat, statement) {
             Ok(()) => {
                 every_core_is_sound(self);
                 Ok(())
             }
-            Err(NoMemory) => Err(StepFault::Memory),
+            Err(ApplyFault::Busy) => Err(SubmitFault::Busy),
+            Err(ApplyFault::Memory) => Err(SubmitFault::Memory),
         }
     }
 

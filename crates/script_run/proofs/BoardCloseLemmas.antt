@@ -6,7 +6,7 @@ use Rattle.std.proofs.Common.{filter}
 use Rattle.std.proofs.lemmas.Bool.{eqb-false}
 use Rattle.star_io.specs.Link.{ReadingSide, WritingSide}
 use Rattle.star_io.specs.declared.run_end.RunEnd.{RunEnd}
-use Rattle.core_state.specs.Rows.{SeatRow, Sight, empty_row, made_by, sight_of}
+use Rattle.core_state.specs.Rows.{Sight, made_by, sight_of}
 use Rattle.core_state.specs.Sent.{AreOfOthers}
 use Rattle.board_lock.specs.Seats.{view_of}
 use Rattle.board_lock.specs.Views.{AreUnmadeEmpty, Finds, list_in, row_in}
@@ -14,7 +14,7 @@ use Rattle.board_lock.specs.declared.seat.BoardLock.{BoardLock}
 use Rattle.board_lock.specs.declared.seat.BoardSeat.{BoardSeat}
 use Rattle.board_lock.specs.declared.view.Parted.{Parted}
 use Rattle.board_lock.specs.declared.view.View.{View}
-use Rattle.event_core.specs.Board.{core_entries, core_row, core_settings}
+use Rattle.event_core.specs.Board.{CoreRow, core_entries, core_row, core_settings, first_row}
 use Rattle.event_core.specs.Parts.{Parts}
 use Rattle.worker_gate.specs.Turns.{sight_in}
 use Rattle.script_run.specs.BoardRun.{AnswersBoard, AreJoined, HasJoined, HasRun, IsLeftBy}
@@ -81,7 +81,7 @@ own-all seat (entry ∷ entries) none = All-cons (λ (e : Entry). e.seat ≡ sea
 
 -- the row of a joined seat is as it was
 abbrev IsKept : Parts → Parted Parts → Type 0
-IsKept core parted = core_row core parted.number ≡ row_in core_row empty_row parted.last parted.number
+IsKept core parted = core_row core parted.number ≡ row_in core_row first_row parted.last parted.number
 
 -- none of them made an entry
 parted-none : (core : Parts) (from : ℕ) (joined : List (Parted Parts)) → AreJoined from joined → All (IsKept core) joined
@@ -89,16 +89,16 @@ parted-none : (core : Parts) (from : ℕ) (joined : List (Parted Parts)) → Are
 parted-none core from [] are kept k low high = absurd (omega arith)
 parted-none core from (parted ∷ joined) (number, made, are) kept k low high = dite (ℕ_discrete k from)
     (λ here. subst (λ n. made_by n (core_entries core) ≡ []) (number ∙ sym here)
-    (ap (λ (row : SeatRow). row.made) (All-head (IsKept core) parted joined kept) ∙ made))
+    (ap (λ (row : CoreRow). row.row.made) (All-head (IsKept core) parted joined kept) ∙ made))
     (λ apart. parted-none core (from + 1) joined are (All-tail (IsKept core) parted joined kept) k (omega arith) (omega arith))
 
 -- what the front's seat left, where all others were joined
 pub left-by : (board : BoardLock Parts) (others : ℕ) (old : View Parts) (seat : BoardSeat Parts) (core : Parts) → old.number ≡ 0
-    → HasJoined board others 0 old seat → Finds core_row empty_row core_entries core_settings (view_of seat) core
-    → AreUnmadeEmpty core_row empty_row (view_of seat).made core → IsLeftBy old core
+    → HasJoined board others 0 old seat → Finds core_row first_row core_entries core_settings (view_of seat) core
+    → AreUnmadeEmpty core_row first_row (view_of seat).made core → IsLeftBy old core
 left-by board others old seat core first has finds unmade = record {
-  row = subst (λ n. core_row core n ≡ row_in core_row empty_row (view_of seat).last n) has.first finds.own
-      ∙ (λ i. row_in core_row empty_row (has.last i) (sym first i));
+  row = subst (λ n. core_row core n ≡ row_in core_row first_row (view_of seat).last n) has.first finds.own
+      ∙ (λ i. row_in core_row first_row (has.last i) (sym first i));
   goes_on = (
     has.goes_on.0 ++ finds.goes_on.0,
     sym (append_assoc (list_in core_entries old.seen) has.goes_on.0 finds.goes_on.0)
@@ -112,18 +112,18 @@ left-by board others old seat core first has finds unmade = record {
         let count = has.count in let made = has.made in
         dite (dec_le k others)
         (λ low. parted-none core 1 (view_of seat).joined has.joined finds.joined k (omega arith) (omega arith))
-        (λ high. ap (λ (row : SeatRow). row.made) (unmade k (omega arith)))
+        (λ high. ap (λ (row : CoreRow). row.row.made) (unmade k (omega arith)))
 
 -- What the front sees.
 
 -- it sees in the core what its seat knew last
 pub front-sees : (view : View Parts) (core : Parts) → IsLeftBy view core → (sight_in view).row.made ≡ made_by 0 (sight_in view).seen
     → sight_of (state_of core) 0 ≡ sight_in view
-front-sees view core left made = λ i. record { row = left.row i; seen = entries i }
+front-sees view core left made = λ i. record { row = (left.row i).row; seen = entries i }
   where
     none : left.goes_on.0 ≡ []
     none = none-came 0 (sight_in view).seen left.goes_on.0
-        (ap (made_by 0) left.goes_on.1 ∙ ap (λ (row : SeatRow). row.made) left.row ∙ made)
+        (ap (made_by 0) left.goes_on.1 ∙ ap (λ (row : CoreRow). row.row.made) left.row ∙ made)
         (subst (All (λ (e : Entry). e.seat ≡ 0)) (sym left.goes_on.1) left.own)
 
     entries : core_entries core ≡ (sight_in view).seen

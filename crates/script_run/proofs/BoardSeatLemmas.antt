@@ -2,8 +2,10 @@
 use Rattle.script_run.proofs.Words.{◌++◌, ◌+◌, ◌<◌, ◌∙◌, ◌∷◌, ◌≡◌, ◌≤◌, [], ap, append-nil, append_assoc, arith, drop, empty_core, get_or, length, List, None, Option, refl, RunSettings, Seat, Some, State, state_of, subst, sym, take, ℕ}
 use mathlib.Core.List.{IsPrefix}
 use mathlib.Core.Logic.{dite}
-use native.Mathlib.Decide.{ℕ_discrete}
-use Rattle.std.proofs.lemmas.List.{get_or_append_left, get_or_push, length_push, take_at}
+use native.Mathlib.Decide.{ℕ_discrete, dec_le}
+use Rattle.std.proofs.Common.{replicate}
+use Rattle.std.proofs.lemmas.List.{get_or-replicate, get_or_append_left, get_or_past, get_or_push, length-replicate, length_push, take_at}
+use Rattle.std.specs.Option.{option_map}
 use Rattle.std.specs.Prelude.{IsSomeAnd}
 use Rattle.core_state.specs.Fronts.{Passes}
 use Rattle.core_state.specs.Rows.{SeatRow, Sight, empty_row, row_of, sight_of}
@@ -13,8 +15,9 @@ use Rattle.board_lock.specs.Views.{AreUnmadeEmpty, first_view, fixed_in, joined_
 use Rattle.board_lock.specs.declared.seat.BoardLock.{BoardLock}
 use Rattle.board_lock.specs.declared.seat.BoardSeat.{BoardSeat}
 use Rattle.board_lock.specs.declared.view.View.{View}
-use Rattle.event_core.specs.Board.{core_entries, core_row, core_settings}
-use Rattle.event_core.specs.Parts.{Parts}
+use Rattle.distributor.specs.Shared.{Lending}
+use Rattle.event_core.specs.Board.{CoreRow, core_entries, core_row, core_settings, first_row}
+use Rattle.event_core.specs.Parts.{Beside, Loan, Parts, beside_of, first_beside, loan_of}
 use Rattle.worker_gate.specs.Turns.{IsReady, IsSeated, sight_in}
 use Rattle.script_run.specs.BoardRun.{AreJoined, AreWorkers, HasJoined, IsAtStart, IsLeader, IsNewBoard, IsWorker, KnowsNew, KnowsSame, StaysLeader, StaysWorker}
 use Rattle.script_run.specs.Shared.{nothing}
@@ -30,9 +33,29 @@ new-row settings seat =
     λ (s : Seat). record { submitted = s.submitted; made = []; pending = s.pending; taken = s.taken; hand = None } in
     ap row (new-seats settings seat)
 
--- so it is in a core that is empty
-pub new-rows : (settings : RunSettings) (core : Parts) → state_of core ≡ empty_core settings → AreUnmadeEmpty core_row empty_row 0 core
-new-rows settings core empty k low = ap (λ (state : State). row_of state k) empty ∙ new-row settings k
+-- nothing is lent of a core that lent nothing to any seat
+none-at : (count seat : ℕ) → get_or (replicate {A = Option Lending} count None) seat None ≡ None
+none-at count seat = dite (dec_le count seat)
+    (λ past. get_or_past (replicate {A = Option Lending} count None) seat None
+    (let long = length-replicate {A = Option Lending} count None in omega arith))
+    (λ within. get_or-replicate {A = Option Lending} count seat None None (omega arith))
+
+new-loan : (settings : RunSettings) (core : Parts) → beside_of core ≡ first_beside settings.seats → (seat : ℕ)
+    → loan_of core seat ≡ None
+new-loan settings core beside seat =
+    ap (λ (lending : Option Lending). option_map (lent core) lending)
+    (ap (λ (b : Beside). get_or b.out seat None) beside ∙ none-at settings.seats seat)
+  where
+    lent : Parts → Lending → Loan
+    lent parts lending = record { slots = lending.slots; groups = lending.groups; tables = parts.tables }
+
+-- nothing stands for a seat in a core to which nothing was given
+pub new-rows : (settings : RunSettings) (core : Parts) → state_of core ≡ empty_core settings → beside_of core ≡ first_beside settings.seats
+    → AreUnmadeEmpty core_row first_row 0 core
+new-rows settings core empty beside k low = λ i. record { row = row i; loan = new-loan settings core beside k i }
+  where
+    row : row_of (state_of core) k ≡ empty_row
+    row = ap (λ (state : State). row_of state k) empty ∙ new-row settings k
 
 -- seat 0 sees nothing there
 new-sight : (settings : RunSettings) (core : Parts) → state_of core ≡ empty_core settings → sight_of (state_of core) 0 ≡ nothing
@@ -42,9 +65,10 @@ new-sight settings core empty =
 
 -- the board over such a core, and its first seat
 pub new-board : (settings : RunSettings) (core : Parts) (board : BoardLock Parts) (first : BoardSeat Parts)
-    → state_of core ≡ empty_core settings → IsOf board first → IsOutside first → view_of first ≡ first_view core
+    → state_of core ≡ empty_core settings → beside_of core ≡ first_beside settings.seats → IsOf board first → IsOutside first
+    → view_of first ≡ first_view core
     → board.seats ≡ settings.seats → IsNewBoard settings board first
-new-board settings core board first empty own outside is most = record {
+new-board settings core board first empty beside own outside is most = record {
   leader = record {
     own = own;
     outside = outside;
@@ -55,6 +79,7 @@ new-board settings core board first empty own outside is most = record {
   knows = subst (KnowsNew settings) (sym is) (record {
     settled = ap (λ (state : State). Some state.settings) empty;
     sight = new-sight settings core empty;
+    loan = new-loan settings core beside 0;
   });
   most = most;
 }
@@ -84,10 +109,11 @@ pub knows-new : (settings : RunSettings) (old new : View Parts) → KnowsSame ol
 knows-new settings old new same knows = record {
   settled = ap (fixed_in core_settings) same.last ∙ knows.settled;
   sight = seen ∙ knows.sight;
+  loan = (λ i. (row_in core_row first_row (same.last i) (same.number i)).loan) ∙ knows.loan;
 }
   where
     seen : sight_in new ≡ sight_in old
-    seen = λ i. record { row = row_in core_row empty_row (same.last i) (same.number i); seen = list_in core_entries (same.seen i) }
+    seen = λ i. record { row = (row_in core_row first_row (same.last i) (same.number i)).row; seen = list_in core_entries (same.seen i) }
 
 -- there is a seat for each number up to the workers'
 some-high : (o : Option RunSettings) (low high : ℕ) → low ≤ high → IsSomeAnd o (λ settings. high < settings.seats)
@@ -146,7 +172,7 @@ leader-starts settings board others first leader knows some = record {
     outside = leader.outside;
     seated = subst (λ n. IsSomeAnd (fixed_in core_settings (view_of first).last) (λ (settings : RunSettings). n < settings.seats))
         (sym leader.first) (seated-new settings (view_of first) 0 knows some);
-    hand = ap (λ (sight : Sight). sight.row.hand) knows.sight;
+    hand = record { hand = ap (λ (sight : Sight). sight.row.hand) knows.sight; loan = knows.loan };
   };
   first = leader.first;
   sight = knows.sight;
@@ -158,7 +184,7 @@ leader-starts settings board others first leader knows some = record {
 pub worker-made : (board : BoardLock Parts) (others : ℕ) (first seat : BoardSeat Parts) → IsLeader board others first
     → IsSomeAnd (fixed_in core_settings (view_of first).last) (λ (settings : RunSettings). others + 1 < settings.seats)
     → IsOf board seat → IsOutside seat → view_of seat ≡ new_view (view_of first)
-    → row_in core_row empty_row (view_of seat).last (view_of seat).number ≡ empty_row → IsWorker board (others + 1) seat
+    → row_in core_row first_row (view_of seat).last (view_of seat).number ≡ first_row → IsWorker board (others + 1) seat
 worker-made board others first seat leader seated own outside is empty = record {
   ready = record {
     own = own;
@@ -166,10 +192,10 @@ worker-made board others first seat leader seated own outside is empty = record 
     seated = subst IsSeated (sym is)
         (subst (λ n. IsSomeAnd (fixed_in core_settings (view_of first).last) (λ (settings : RunSettings). n < settings.seats))
         (sym leader.made) seated);
-    hand = ap (λ (row : SeatRow). row.hand) empty;
+    hand = record { hand = ap (λ (row : CoreRow). row.row.hand) empty; loan = ap (λ (row : CoreRow). row.loan) empty };
   };
   numbered = ap (λ (view : View Parts). view.number) is ∙ leader.made;
-  made = ap (λ (row : SeatRow). row.made) empty;
+  made = ap (λ (row : CoreRow). row.row.made) empty;
 }
 
 -- one by which a worker worked

@@ -36,6 +36,7 @@ mod SeatTurnLemmas
 mod SeatLetLemmas
 pub mod SeatFrontLemmas
 mod SeatReadLemmas
+mod SeatManyLemmas
 mod SeatRestLemmas
 mod SeatRunLemmas
 mod SeatEndLemmas

@@ -135,7 +135,7 @@ seat-unsent halt seat statement old new due Left taken taken' plays = (
 -- No reply is taken.
 
 -- these statements were sent, and nothing was written
-abbrev seat-sends : (seat : ℕ) (old new : Sight) (due still sent : List Sent) (statements : List Statement) (taken : Option (List ℕ))
+abbrev pub seat-sends : (seat : ℕ) (old new : Sight) (due still sent : List Sent) (statements : List Statement) (taken : Option (List ℕ))
     → statements ≡ statements_in sent ++ [] → Goes seat old due new still sent [] []
     → SeatPlaysBy (Ok false) seat old due statements ⊥ new taken taken
 seat-sends seat old new due still sent statements taken are goes = (

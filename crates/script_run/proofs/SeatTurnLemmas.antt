@@ -1,5 +1,5 @@
 -- A turn of a seat that gives statements to a core: what it finds, what it does, and what it leaves.
-use Rattle.script_run.proofs.Words.{◌++◌, ◌+◌, ◌<◌, ◌∙◌, ◌∷◌, ◌≡◌, ◌≢◌, [], after_submitting, after_taking, ap, append-nil, append_assoc, first_open, IfSome, IsRight, IsSound, length, List, Lives, next_ready, None, Option, Pending, Ready, ready_of, refl, RunSettings, Seat, seat_at, slice_get, Some, State, state_of, Statement, Submit, subst, sym, Took, ℕ, ⊎_elim}
+use Rattle.script_run.proofs.Words.{◌++◌, ◌+◌, ◌<◌, ◌∙◌, ◌∷◌, ◌≡◌, ◌≢◌, [], after_submitting, after_taking, ap, append-nil, append_assoc, first_open, IfSome, IsRight, IsSound, length, List, Lives, next_ready, None, Pending, Ready, ready_of, refl, RunSettings, Seat, seat_at, slice_get, Some, State, state_of, Statement, Submit, subst, sym, Took, ℕ, ⊎_elim}
 use Rattle.board_lock.specs.Seats.{IsOf, IsOutside, view_of}
 use Rattle.board_lock.specs.Small.{IsSameTeam}
 use Rattle.board_lock.specs.Views.{Keeps, entered, left}
@@ -9,21 +9,23 @@ use Rattle.board_lock.specs.declared.view.View.{View}
 use Rattle.core_state.specs.Events.{after_event}
 use Rattle.core_state.specs.Found.{held_by}
 use Rattle.core_state.specs.Fronts.{IsDue, Passes, SubmitsRow}
-use Rattle.core_state.specs.Rows.{AbandonsRow, IsMindful, SeatRow, Sight, empty_row, made_by, sight_of}
+use Rattle.core_state.specs.Rows.{AbandonsRow, IsMindful, SeatRow, Sight, made_by, sight_of}
 use Rattle.core_state.specs.Sent.{Given}
-use Rattle.core_state.specs.State.{Flight}
 use Rattle.core_state.proofs.FrontLemmas.{goes-passes, goes-submits, goes-then}
 use Rattle.core_state.proofs.MoverLemmas.{mindful-none}
 use Rattle.core_state.proofs.RowLemmas.{submits-mindful, submits-row, takes-mindful}
-use Rattle.event_core.specs.Board.{core_entries, core_row, core_settings}
-use Rattle.event_core.specs.Parts.{Parts}
-use Rattle.worker_gate.specs.Left.{MovesHand}
-use Rattle.worker_gate.specs.Turns.{IsOutWith, IsSeated, sight_in}
+use Rattle.event_core.specs.Board.{CoreRow, core_entries, core_row, core_settings, first_row}
+use Rattle.event_core.specs.Parts.{LeavesLoans, Parts, loan_of}
+use Rattle.worker_gate.specs.Hands.{HasNothing}
+use Rattle.worker_gate.specs.Left.{LeavesAllLoans, MovesHand}
+use Rattle.worker_gate.specs.Turns.{IsOutWith, IsSeated, own_row, sight_in}
 use Rattle.worker_gate.proofs.TurnLemmas.{FindsCore, seated-found}
 use Rattle.script_run.specs.Home.{Leaves, LetsGo}
-use Rattle.script_run.specs.SeatTurns.{Stays, Submitted, TakesNext, TellsAsked}
+use Rattle.script_run.specs.SeatTurns.{Stays, Submitted, TakesNext, TellsAsked, TellsGiven}
 use Rattle.script_run.specs.declared.seat_turn.Asked.{Asked}
 use Rattle.script_run.specs.declared.seat_turn.Asked.TheVariants.{Got, Nothing, NotYet, Looked}
+use Rattle.script_run.specs.declared.seat_turn.Given.{Given as HowGiven}
+use Rattle.script_run.specs.declared.seat_turn.Given.TheVariants as given
 use Rattle.script_run.proofs.OnLemmas.{due-none, passes-itself}
 use Rattle.script_run.proofs.TakenLemmas.{RowTells, TakesReply, WaitsForOpen, idle-next, took-first}
 
@@ -78,10 +80,10 @@ waits-moved seat old new moves waits none = waits (sym (ap (λ (row : SeatRow). 
 pub stays-found : (view : View Parts) (found : Parts) → FindsCore view found
     → Stays view.number (sight_in view) (sight_of (state_of found) view.number)
 stays-found view found finds = stays-passes view.number (sight_in view) (sight_of (state_of found) view.number) refl (record {
-  submitted = ap (λ (row : SeatRow). row.submitted) finds.own;
-  made = ap (λ (row : SeatRow). row.made) finds.own;
-  pending = ap (λ (row : SeatRow). row.pending) finds.own;
-  taken = ap (λ (row : SeatRow). row.taken) finds.own;
+  submitted = ap (λ (row : CoreRow). row.row.submitted) finds.own;
+  made = ap (λ (row : CoreRow). row.row.made) finds.own;
+  pending = ap (λ (row : CoreRow). row.row.pending) finds.own;
+  taken = ap (λ (row : CoreRow). row.row.taken) finds.own;
   since = finds.goes_on.0;
   seen = sym finds.goes_on.1;
 })
@@ -116,6 +118,12 @@ asked-behind Nothing seat old between new stays tells = (stays-then seat old bet
 asked-behind NotYet seat old between new stays tells = stays-then seat old between new stays tells
 asked-behind (Looked look) seat old between new stays tells = (stays-then seat old between new stays tells.0, tells.1)
 
+pub given-behind : (how : HowGiven) (statement : Statement) (seat : ℕ) (old between new : Sight) → Stays seat old between
+    → TellsGiven how seat statement between new → TellsGiven how seat statement old new
+given-behind given.Taken statement seat old between new stays tells = submitted-behind statement seat old between new stays tells
+given-behind given.Lost statement seat old between new stays tells = stays-then seat old between new stays tells
+given-behind given.Waits statement seat old between new stays tells = stays-then seat old between new stays tells
+
 -- What is let go.
 
 -- one part behind another
@@ -149,11 +157,11 @@ abbrev lets-found : (view : View Parts) (found : Parts) → FindsCore view found
 lets-found view found finds = record {
   since = finds.goes_on.0;
   seen = sym finds.goes_on.1;
-  made = ap (λ (row : SeatRow). row.made) finds.own;
+  made = ap (λ (row : CoreRow). row.row.made) finds.own;
   all_made = refl;
-  submitted = ap (λ (row : SeatRow). row.submitted) finds.own;
+  submitted = ap (λ (row : CoreRow). row.row.submitted) finds.own;
   more = [];
-  taken = ap (λ (row : SeatRow). row.taken) finds.own ∙ sym (append-nil (sight_in view).row.taken);
+  taken = ap (λ (row : CoreRow). row.row.taken) finds.own ∙ sym (append-nil (sight_in view).row.taken);
 }
 
 -- A turn.
@@ -210,28 +218,51 @@ turn-due old new core seat view is idle =
 -- a core that a seat found may be put back by it where steps of that seat alone have changed it
 abbrev pub KeepsBoard : Type 0
 KeepsBoard = (view : View Parts) (found core : Parts) → view.last ≡ Some found → IsMindful view.number (state_of found) (state_of core)
-    → Keeps core_row empty_row core_entries core_settings view core
+    → LeavesLoans view.number found core → Keeps core_row first_row core_entries core_settings view core
 
 pub turn-keeps : KeepsBoard → (old inside : View Parts) (found core : Parts) (seat : ℕ) → inside ≡ entered old found → seat ≡ old.number
-    → IsMindful seat (state_of found) (state_of core) → Keeps core_row empty_row core_entries core_settings inside core
-turn-keeps keeps old inside found core seat enters is mindful =
+    → IsMindful seat (state_of found) (state_of core) → LeavesLoans seat found core
+    → Keeps core_row first_row core_entries core_settings inside core
+turn-keeps keeps old inside found core seat enters is mindful loans =
+    let number : seat ≡ inside.number = is ∙ sym (ap (λ (view : View Parts). view.number) enters) in
     keeps inside found core (ap (λ (view : View Parts). view.last) enters)
-    (subst (λ n. IsMindful n (state_of found) (state_of core)) (is ∙ sym (ap (λ (view : View Parts). view.number) enters)) mindful)
+    (subst (λ n. IsMindful n (state_of found) (state_of core)) number mindful) (subst (λ n. LeavesLoans n found core) number loans)
 
 -- what is said of what it left is said of the seat
-pub turn-out : (board : BoardLock Parts) (IsHeld : Option Flight → Type 0) (old new : BoardSeat Parts) (found core : Parts) (seat : ℕ)
+pub turn-out : (board : BoardLock Parts) (IsHeld : CoreRow → Type 0) (old new : BoardSeat Parts) (found core : Parts) (seat : ℕ)
     → view_of new ≡ left (view_of old) core → IsOf board new → IsOutside new → IsSeated (view_of old) → FindsCore (view_of old) found
     → IsMindful seat (state_of found) (state_of core) → seat ≡ (view_of old).number
-    → IsHeld (held_by (state_of core).scan.flights seat) → IsOutWith board IsHeld new
+    → IsHeld (core_row core seat) → IsOutWith board IsHeld new
 turn-out board IsHeld old new found core seat view own outside seated finds mindful is held = record {
   own = own;
   outside = outside;
   seated = subst IsSeated (sym view)
       (subst (λ (settings : RunSettings). (view_of old).number < settings.seats) (sym mindful.settings)
       (seated-found (view_of old) found (view_of old).number seated finds refl));
-  hand = subst (λ (v : View Parts). IsHeld (sight_in v).row.hand) (sym view)
-      (subst (λ n. IsHeld (held_by (state_of core).scan.flights n)) is held);
+  hand = subst (λ (v : View Parts). IsHeld (own_row v)) (sym view) (subst (λ n. IsHeld (core_row core n)) is held);
 }
+
+-- a seat that had nothing has nothing where its hand and what it is lent are as they were
+pub nothing-stays : (seat : ℕ) (old new : Parts) → HasNothing (core_row old seat)
+    → held_by (state_of new).scan.flights seat ≡ held_by (state_of old).scan.flights seat → loan_of new seat ≡ loan_of old seat
+    → HasNothing (core_row new seat)
+nothing-stays seat old new has hand loan = record { hand = hand ∙ has.hand; loan = loan ∙ has.loan }
+
+-- where each has what it had, each but one has
+pub loans-but : (seat : ℕ) (old new : Parts) → LeavesAllLoans old new → LeavesLoans seat old new
+loans-but seat old new all other apart = all other
+
+-- one part behind another
+pub loans-then : (seat : ℕ) (old between new : Parts) → LeavesLoans seat old between → LeavesLoans seat between new
+    → LeavesLoans seat old new
+loans-then seat old between new first second other apart = second other apart ∙ first other apart
+
+pub all-loans-then : (old between new : Parts) → LeavesAllLoans old between → LeavesAllLoans between new → LeavesAllLoans old new
+all-loans-then old between new first second seat = second seat ∙ first seat
+
+-- where nothing has changed
+pub all-loans-same : (old new : Parts) → new ≡ old → LeavesAllLoans old new
+all-loans-same old new same seat = ap (λ (parts : Parts). loan_of parts seat) same
 
 -- What a seat does while it has the core.
 

@@ -3,7 +3,7 @@ use Rattle.std.specs.Prelude.{◌≡◌, ℕ, ◌+◌, ◌<◌, List, [], ◌∷
 use mathlib.Core.List.{IsPrefix}
 use Rattle.star_io.specs.Link.{ReadingSide, WritingSide}
 use Rattle.star_io.specs.declared.run_end.RunEnd.{RunEnd}
-use Rattle.core_state.specs.Rows.{empty_row, made_by, sight_of}
+use Rattle.core_state.specs.Rows.{made_by, sight_of}
 use Rattle.core_state.specs.declared.settings.RunSettings.{RunSettings}
 use Rattle.board_lock.specs.Seats.{IsOf, IsOutside, view_of}
 use Rattle.board_lock.specs.Views.{fixed_in, list_in, row_in}
@@ -11,10 +11,10 @@ use Rattle.board_lock.specs.declared.seat.BoardLock.{BoardLock}
 use Rattle.board_lock.specs.declared.seat.BoardSeat.{BoardSeat}
 use Rattle.board_lock.specs.declared.view.Parted.{Parted}
 use Rattle.board_lock.specs.declared.view.View.{View}
-use Rattle.event_core.specs.Board.{core_entries, core_row, core_settings}
+use Rattle.event_core.specs.Board.{core_entries, core_row, core_settings, first_row}
 use Rattle.event_core.specs.Parts.{Parts}
 use Rattle.event_core.specs.Seen.{state_of}
-use Rattle.worker_gate.specs.Turns.{IsReady, sight_in}
+use Rattle.worker_gate.specs.Turns.{IsReady, own_row, sight_in}
 use Rattle.script_run.specs.Run.{AnswersScript, CountsFaults}
 use Rattle.script_run.specs.Shared.{AnswersSent, TellsSent, UnlessWanting, nothing}
 use Rattle.script_run.specs.declared.board_run.Crew.{Crew}
@@ -55,10 +55,11 @@ pub record IsLeader (board : BoardLock Parts) (others : ℕ) (seat : BoardSeat P
 abbrev pub StaysLeader : BoardLock Parts → (old new : BoardSeat Parts) → Type 0
 StaysLeader board old new = (others : ℕ) → IsLeader board others old → IsLeader board others new
 
--- a seat knows a core of these settings to which nothing was given
+-- a seat knows a core of these settings to which nothing was given, and of which nothing is lent to it
 pub record KnowsNew (settings : RunSettings) (view : View Parts) : Type 0 where
   pub settled : fixed_in core_settings view.last ≡ Some settings
   pub sight : sight_in view ≡ nothing
+  pub loan : (own_row view).loan ≡ None
 
 -- a seat knows what it knew: its row, what it has seen, and the settings
 pub record KnowsSame (old new : View Parts) : Type 0 where
@@ -100,7 +101,7 @@ pub record HasRun (board : BoardLock Parts) (end : RunEnd) (old new : BoardSeat 
 -- these are seats that were joined, with the numbers from this one on, and made no entry
 abbrev pub AreJoined : (from : ℕ) → List (Parted Parts) → Type 0
 AreJoined from [] = Unit {0}
-AreJoined from (parted ∷ others) = (parted.number ≡ from) × ((row_in core_row empty_row parted.last parted.number).made ≡ [])
+AreJoined from (parted ∷ others) = (parted.number ≡ from) × ((row_in core_row first_row parted.last parted.number).row.made ≡ [])
     × AreJoined (from + 1) others
 
 -- the first seat of the board, which does not have the core, made so many others, of which only the first ones, so many, are not joined;
@@ -115,9 +116,9 @@ pub record HasJoined (board : BoardLock Parts) (others left : ℕ) (old : View P
   pub last : (view_of seat).last ≡ old.last
   pub goes_on : IsPrefix (list_in core_entries old.seen) (list_in core_entries (view_of seat).seen)
 
--- of a core that the front's seat left: the front's row is as the seat knows it, the entries begin with those that it has seen, and
+-- of a core that the front's seat left: what stands in it for the front is as the seat knows it, the entries begin with those that it has seen, and
 -- every entry is of the front
 pub record IsLeftBy (view : View Parts) (core : Parts) : Type 0 where
-  pub row : core_row core 0 ≡ (sight_in view).row
+  pub row : core_row core 0 ≡ own_row view
   pub goes_on : IsPrefix (sight_in view).seen (core_entries core)
   pub own : All (λ entry. entry.seat ≡ 0) (core_entries core)

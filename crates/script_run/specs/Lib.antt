@@ -15,4 +15,5 @@ pub mod Replied
 pub mod Pieces
 pub mod SeatTurns
 pub mod SeatFront
+pub mod SeatRun
 pub mod BoardRun

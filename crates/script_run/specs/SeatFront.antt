@@ -1,13 +1,13 @@
 -- What a seat of a board that gives statements to the core leaves of what it knows, in a reader and at a sink.
-use Rattle.std.specs.Prelude.{◌≡◌, ◌≢◌, ℕ, Bool, List, [], Option, None, Result, IfOk}
+use Rattle.std.specs.Prelude.{◌≡◌, ◌≢◌, ℕ, Bool, List, [], Option, Result, IfOk}
 use Rattle.std.specs.List.{list_any}
 use Rattle.script_reader.specs.Reading.{Reading, StaysFed}
 use Rattle.script_reader.specs.declared.statement.Statement.{Statement}
 use Rattle.core_state.specs.Fronts.{IsDue}
 use Rattle.core_state.specs.Rows.{Sight}
 use Rattle.core_state.specs.Sent.{Sent}
-use Rattle.core_state.specs.State.{Flight}
-use Rattle.worker_gate.specs.Hands.{HasDoneIf}
+use Rattle.event_core.specs.Board.{CoreRow}
+use Rattle.worker_gate.specs.Hands.{HasDoneIf, HasNothing}
 use Rattle.script_run.specs.Answer.{HasNoStatement}
 use Rattle.script_run.specs.Front.{LeavesSome, PlaysOn, Reads, UnlessHalted, halt_of}
 use Rattle.script_run.specs.Run.{is_refusal}
@@ -31,9 +31,9 @@ TellsTurned (turned.Goes next) seat old new = Stays seat old new
 TellsTurned (turned.Ends how) seat old new = TellsWaited how seat old new
 
 -- what is in the hand of the seat then: what the work is done for that is given back in the next turn, or nothing
-abbrev pub HasTurned : Turned → Option Flight → Type 0
-HasTurned (turned.Goes done) held = HasDoneIf done held
-HasTurned (turned.Ends how) held = held ≡ None
+abbrev pub HasTurned : Turned → CoreRow → Type 0
+HasTurned (turned.Goes done) row = HasDoneIf done row
+HasTurned (turned.Ends how) row = HasNothing row
 
 -- what a seat did with statements, whatever others did meanwhile, and whether some reply that was written is a refusal
 abbrev pub SeatPlaysBy : Result Bool Halt → (seat : ℕ) → (old : Sight) → (due : List Sent) → List Statement → (Left : Type 0) → (new : Sight)

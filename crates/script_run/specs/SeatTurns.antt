@@ -1,14 +1,17 @@
 -- What a turn of a seat that gives statements to a core and takes replies leaves of what the seat knows.
-use Rattle.std.specs.Prelude.{◌≡◌, ◌≢◌, ℕ, List, [], ◌∷◌, ◌++◌, Option, None}
+use Rattle.std.specs.Prelude.{◌≡◌, ◌≢◌, ℕ, List, [], ◌∷◌, ◌++◌, All}
 use Rattle.script_reader.specs.declared.statement.Statement.{Statement}
 use Rattle.reply_text.specs.declared.reply.Reply.{Reply}
 use Rattle.core_state.specs.Fronts.{Goes, IsDue}
 use Rattle.core_state.specs.Rows.{Sight}
-use Rattle.core_state.specs.Sent.{IsGiven, Sent, statement_in}
-use Rattle.core_state.specs.State.{Flight}
+use Rattle.core_state.specs.Sent.{IsGiven, Sent, statement_in, statements_in}
+use Rattle.event_core.specs.Board.{CoreRow}
 use Rattle.event_core.specs.Replies.{IsReplyOf}
 use Rattle.event_core.specs.declared.replies.Ready.{Ready}
+use Rattle.worker_gate.specs.Hands.{HasNothing}
 use Rattle.worker_gate.specs.Looks.{HasLooked}
+use Rattle.script_run.specs.declared.seat_turn.Given.{Given}
+use Rattle.script_run.specs.declared.seat_turn.Given.TheVariants as given
 use Rattle.script_run.specs.declared.seat_turn.Asked.{Asked}
 use Rattle.script_run.specs.declared.seat_turn.Asked.TheVariants.{Got, Nothing, NotYet, Looked}
 
@@ -20,6 +23,18 @@ Stays seat old new = (due : List Sent) → IsDue seat old due → Goes seat old 
 abbrev pub Submitted : (seat : ℕ) → Statement → (old new : Sight) → Type 0
 Submitted seat statement old new = (due : List Sent) → IsDue seat old due
     → (one : Sent) × (statement_in one ≡ statement) × IsGiven one × Goes seat old due new (due ++ one ∷ []) (one ∷ []) [] []
+
+-- a seat sent these statements, in this order
+abbrev pub SubmittedAll : (seat : ℕ) → List Statement → (old new : Sight) → Type 0
+SubmittedAll seat statements old new = (due : List Sent) → IsDue seat old due
+    → (sent : List Sent) × (statements_in sent ≡ statements) × All IsGiven sent
+    × Goes seat old due new (due ++ sent) sent [] []
+
+-- what a turn tells in which a seat gave a statement to the core: it sent it, or nothing
+abbrev pub TellsGiven : Given → (seat : ℕ) → Statement → (old new : Sight) → Type 0
+TellsGiven given.Taken seat statement old new = Submitted seat statement old new
+TellsGiven given.Lost seat statement old new = Stays seat old new
+TellsGiven given.Waits seat statement old new = Stays seat old new
 
 -- a seat took the reply to the first statement that it waited for
 pub record TookNext (seat : ℕ) (old : Sight) (due : List Sent) (new : Sight) (reply : Reply) : Type 0 where
@@ -40,6 +55,6 @@ TellsAsked NotYet seat old new = Stays seat old new
 TellsAsked (Looked look) seat old new = Stays seat old new × (new.row.pending ≢ [])
 
 -- what is in the hand of a seat behind such a turn: what it found to do, or nothing
-abbrev pub HasAsked : Asked → Option Flight → Type 0
-HasAsked (Looked look) held = HasLooked look held
-HasAsked other held = held ≡ None
+abbrev pub HasAsked : Asked → CoreRow → Type 0
+HasAsked (Looked look) row = HasLooked look row
+HasAsked other row = HasNothing row

@@ -23,7 +23,9 @@ use crate::reply::{is_refusal, text_of};
 use crate::waiting::is_wait;
 use core_driver::finish_all;
 use core_state::{Event, RunSettings, a_reply_that_may_be_taken_is_right, a_row_tells_the_reply};
-use event_core::{Core, StepFault, every_core_is_sound, taken_events_are_steps};
+use event_core::{
+    Core, StepFault, every_core_is_sound, idle_cores_lend_nothing, taken_events_are_steps,
+};
 use pipeline_manager::Life;
 use reply_text::Reply;
 use script_reader::Statement;
@@ -247,12 +249,15 @@ fn one_if_waiting(life: Option<Life>) -> u32
     }
 }
 
-/// Gives a statement to a core as that of the front. Where no memory was left for it, nothing has changed.
+/// Gives a statement to a core as that of the front, where no batch is in a hand. Where no memory was left for it, nothing has changed.
 fn submit(core: &mut Core, statement: Statement) -> Result<(), StepFault>
+    requires { AreIdle (state_of core.old) }
     ensures gives { OnOk result (Gives statement (state_of core.old) (state_of core.new)) }
     ensures err { OnErr result (core.new ≡ core.old) }
 {
+    // Both are called for what they ensure.
     every_core_is_sound(core);
+    idle_cores_lend_nothing(core);
     core.step(Event::Submit { seat: 0, statement })
 }
 

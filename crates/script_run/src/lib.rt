@@ -14,6 +14,7 @@ mod run;
 mod seat_ahead;
 mod seat_front;
 mod seat_rest;
+mod seat_run;
 mod seat_script;
 mod seat_turn;
 mod shared;

@@ -35,11 +35,23 @@ impl Pace {
         all || self.waiting >= self.most
     }
 
+    /// Whether so many replies more are as many as are waited for before the front goes on.
+    pub(crate) fn is_full_with(&self, more: usize) -> bool {
+        self.waiting.saturating_add(more as u64) >= self.most
+    }
+
     /// One reply more is waited for.
     pub(crate) fn give(&mut self)
         ensures { self.new.most ≡ self.old.most }
     {
-        self.waiting = self.waiting.saturating_add(1);
+        self.give_all(1);
+    }
+
+    /// So many replies more are waited for.
+    pub(crate) fn give_all(&mut self, more: usize)
+        ensures { self.new.most ≡ self.old.most }
+    {
+        self.waiting = self.waiting.saturating_add(more as u64);
     }
 
     /// A reply was taken.

@@ -13,7 +13,7 @@ use query_meaning::answer_alone;
 use reply_text::{Reply, print_reply};
 use script_reader::Statement;
 use star_plan::{Answer, StarQuery};
-use star_statement::{Applied, ReadStatement, apply};
+use star_statement::{Applied, ReadStatement, apply_alone};
 use star_store::Store;
 use star_values::{ByteText, NoMemory};
 use std::alloc::Global;
@@ -46,7 +46,7 @@ pub(crate) fn reply_to(
     ensures tables { OnOk result (plain store.new ≡ store_after (plain store.old) statement) }
     ensures wanted { OnErr result (plain store.new ≡ plain store.old) }
 {
-    let applied = apply(alloc, store, &mut ReadStatement::unread(&statement));
+    let applied = apply_alone(alloc, store, &mut ReadStatement::unread(&statement));
     drop(statement);
     match applied? {
         Applied::Replied(reply) | Applied::Changed { reply, .. } => Ok(reply),

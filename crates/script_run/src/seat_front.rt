@@ -1,5 +1,6 @@
 //! The front of a board: a seat that gives statements to the core and writes the replies, whatever
-//! other seats do meanwhile. Its turns with the core are in `seat_turn`.
+//! other seats do meanwhile. Its turns with the core are in `seat_turn`, and what it gives in one
+//! turn is in `seat_run`.
 ghost use Rattle.std.specs.Prelude.{◌≡◌, ◌≢◌, ◌<◌, ℕ, [], ◌∷◌, IsTrue, None, false, OnOk};
 ghost use Rattle.board_lock.specs.Seats.{IsSameSeat, view_of};
 ghost use Rattle.board_lock.specs.Small.{IsSameTeam};
@@ -7,7 +8,7 @@ ghost use Rattle.script_reader.specs.Reading.{StaysFed};
 ghost use Rattle.script_reader.specs.declared.statement.Statement.{Statement};
 ghost use Rattle.core_state.specs.Rows.{Sight};
 ghost use Rattle.worker_gate.specs.Looks.{HasLooked};
-ghost use Rattle.worker_gate.specs.Turns.{IsOutWith, IsReady, sight_in};
+ghost use Rattle.worker_gate.specs.Turns.{IsOutWith, IsReady, own_row, sight_in};
 ghost use Rattle.script_run.specs.Answer.{CountsHalt};
 ghost use Rattle.script_run.specs.SeatFront.{HasTurned, SeatPlays, SeatPlaysWhole};
 ghost use Rattle.script_run.specs.SeatFront.{TellsTurned, TellsWaited};
@@ -18,12 +19,13 @@ ghost use Rattle.script_run.specs.declared.seat_turn.Asked.TheVariants as asked;
 use crate::front::write_reply;
 use crate::halt::Halt;
 use crate::pace::Pace;
+use crate::seat_run::Behind;
 use crate::seat_turn::{Asked, ask_turn, submit_turn};
 use crate::waiting::is_wait;
 use board_lock::{BoardLock, BoardSeat};
 use event_core::{Core, Ready, Work};
 use reply_text::Reply;
-use script_reader::{Next, ScriptReader, Statement};
+use script_reader::{ScriptReader, Statement};
 use star_io::Sink;
 use std::alloc::Global;
 use std::sync::Wait;
@@ -215,8 +217,8 @@ impl SeatFront {
         write_reply(self.alloc, &Reply::Memory, sink)
     }
 
-    /// Gives the statements that are whole to the core, one after the other, and tells whether some
-    /// reply that was written meanwhile is a refusal.
+    /// Gives the statements that are whole to the core, in runs of those that are there at once,
+    /// and tells whether some reply that was written meanwhile is a refusal.
     pub(crate) fn play_whole<R: Wait, G: Gate, K: Sink>(
         &mut self,
         rt: &R,
@@ -238,11 +240,15 @@ impl SeatFront {
         ensures apart { K.reading_side sink.new ≡ K.reading_side sink.old }
     {
         let mut refused = false;
-        'statements: loop {
-            let Next::Got(statement) = reader.next_statement()? else {
-                return Ok(refused);
-            };
-            refused |= self.play(rt, board, gate, statement, sink)?;
+        'runs: loop {
+            let run = self.read_run(reader);
+            let behind = run.behind();
+            refused |= self.play_run(rt, board, gate, run, sink)?;
+            match behind {
+                Behind::More => {}
+                Behind::Nothing => return Ok(refused),
+                Behind::NoMemory => return Err(Halt::NoMemory),
+            }
         }
     }
 }
@@ -272,17 +278,17 @@ fn ask_and_work<R: Wait, G: Gate>(
     }
 }
 
-/// Outside of a turn: lets a batch that was taken in it pass its filters. Another turn follows,
+/// Outside of a turn: does the work of a batch that was taken or cut in it. Another turn follows,
 /// unless no memory was left.
 fn work_outside<G: Gate>(seat: &BoardSeat<Core>, look: Look, gate: &G) -> Turned
-    requires { HasLooked look (sight_in (view_of seat.now)).row.hand }
-    ensures hand { HasTurned result (sight_in (view_of seat.now)).row.hand }
+    requires { HasLooked look (own_row (view_of seat.now)) }
+    ensures hand { HasTurned result (own_row (view_of seat.now)) }
     ensures tells { (number : ℕ) (old new : Sight) →
         TellsAsked (asked.Looked look) number old new → TellsTurned result number old new }
     ensures not_yet { result ≢ Turned.Ends Waited.NotYet }
 {
     match look {
-        Look::Got(work) => Turned::Goes(Some(do_work(work, seat.number(), gate))),
+        Look::Got(carried) => Turned::Goes(Some(do_work(carried, seat.number(), gate))),
         Look::Did(_) => Turned::Goes(None),
         Look::Rest => Turned::Goes(None),
         Look::Closed => Turned::Goes(None),

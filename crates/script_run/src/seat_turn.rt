@@ -6,23 +6,41 @@ ghost use Rattle.board_lock.specs.Small.{IsSameTeam};
 ghost use Rattle.core_state.specs.Found.{held_by};
 ghost use Rattle.core_state.specs.Rows.{AbandonsRow, IsMindful, sight_of};
 ghost use Rattle.core_state.specs.Submitting.{next_ready, seat_at};
+ghost use Rattle.event_core.specs.Board.{core_row};
+ghost use Rattle.event_core.specs.Parts.{LeavesLoans};
 ghost use Rattle.event_core.specs.Replies.{first_open};
 ghost use Rattle.event_core.specs.Seen.{state_of};
-ghost use Rattle.worker_gate.specs.Hands.{HasDoneIf};
-ghost use Rattle.worker_gate.specs.Left.{MovesHand};
+ghost use Rattle.worker_gate.specs.Hands.{HasDoneIf, HasNothing};
+ghost use Rattle.worker_gate.specs.Left.{LeavesAllLoans, MovesHand};
 ghost use Rattle.worker_gate.specs.Turns.{IsOutWith, IsReady, sight_in};
 ghost use Rattle.script_run.specs.Home.{IsAtRest, Leaves, LeftClosing, LetsGo};
-ghost use Rattle.script_run.specs.SeatTurns.{HasAsked, Stays, Submitted, TellsAsked};
+ghost use Rattle.script_run.specs.SeatTurns.{HasAsked, Stays, Submitted, TellsAsked, TellsGiven};
 
 use crate::seat_ahead::read_ahead;
 use board_lock::{BoardLock, BoardSeat};
 use core_state::{Event, a_reply_that_may_be_taken_is_right, a_row_tells_the_reply};
-use event_core::{Core, Ready, Work, every_core_is_sound, own_steps_keep_a_board};
+use event_core::{
+    Core, Ready, SubmitFault, Work, every_core_is_sound, own_steps_keep_a_board,
+    what_is_beside_stays_lent,
+};
 use script_reader::Statement;
 use star_statement::ReadStatement;
 use std::alloc::Global;
 use std::sync::Wait;
 use worker_gate::{Look, Signal, give_if_done, signal_behind, signal_if_more, worker_look};
+
+/// What came of giving a statement to the core.
+#[derive(Clone, Copy, Debug, PartialEq, Eq)]
+pub(crate) enum Given {
+    /// It was submitted.
+    Taken,
+
+    /// There was no memory for it, and nothing has changed.
+    Lost,
+
+    /// It may change the tables, which are lent, and nothing has changed but a mark.
+    Waits,
+}
 
 /// What came of a turn in which a seat asked for its next reply.
 #[derive(Debug, Drop)]
@@ -62,7 +80,8 @@ pub(crate) fn submit_turn<R: Wait>(
     give_turn(rt, board, seat, &mut ahead)
 }
 
-/// Gives a statement to the core in a turn of the seat, and wakes one of those who rest.
+/// Gives a statement to the core in a turn of the seat, and wakes one of those who rest. Where it may
+/// change the tables, it waits until these are at home, and then tries again.
 fn give_turn<R: Wait>(
     rt: &R,
     board: &BoardLock<Core>,
@@ -78,28 +97,101 @@ fn give_turn<R: Wait>(
     ensures lost { (result ≡ false) → Stays (view_of seat.old).number
         (sight_in (view_of seat.old)) (sight_in (view_of seat.new)) }
 {
+    'tries: for _ in rt.forever() {
+        match try_turn(rt, board, seat, statement) {
+            Given::Taken => return true,
+            Given::Lost => return false,
+            Given::Waits => {}
+        }
+    }
+    unreachable!()
+}
+
+/// One turn in which a statement is given to the core. Where it has to wait, the seat rests behind
+/// the turn until it is woken.
+fn try_turn<R: Wait>(
+    rt: &R,
+    board: &BoardLock<Core>,
+    seat: &mut BoardSeat<Core>,
+    statement: &mut ReadStatement<'_>,
+) -> Given
+    requires { IsReady board.now None seat.old }
+    ensures ready { IsReady board.now None seat.new }
+    ensures same { IsSameSeat seat.old seat.new }
+    ensures team { IsSameTeam (view_of seat.old) (view_of seat.new) }
+    ensures tells { TellsGiven result (view_of seat.old).number statement.old
+        (sight_in (view_of seat.old)) (sight_in (view_of seat.new)) }
+    ensures statement { statement.new ≡ statement.old }
+{
     // It is called for what it ensures.
     own_steps_keep_a_board();
     let own = seat.number();
     let mut core = board.enter(rt, seat);
     let given = submit(&mut core, own, statement);
+    mark(&mut core, given);
+    let signal = signal_given(rt, board, &core, given);
     board.leave(seat, core);
-    board.ring(rt);
+    signal.give(rt, board);
     given
 }
 
-/// Gives a statement to a core as that of a seat. Answers whether there was memory for it.
-fn submit(core: &mut Core, seat: u32, statement: &mut ReadStatement<'_>) -> bool
+/// Gives a statement to a core as that of a seat.
+pub(crate) fn submit(core: &mut Core, seat: u32, statement: &mut ReadStatement<'_>) -> Given
     ensures mindful { IsMindful seat (state_of core.old) (state_of core.new) }
     ensures hand { held_by (state_of core.new).scan.flights seat
         ≡ held_by (state_of core.old).scan.flights seat }
-    ensures submits { IsTrue result → Submitted seat statement.old
+    ensures loans { LeavesAllLoans core.old core.new }
+    ensures tells { TellsGiven result seat statement.old
         (sight_of (state_of core.old) seat) (sight_of (state_of core.new) seat) }
-    ensures lost { (result ≡ false) → core.new ≡ core.old }
+    ensures statement { statement.new ≡ statement.old }
 {
+    // It is called for what it ensures.
+    what_is_beside_stays_lent();
     match core.submit_read(seat, statement) {
-        Ok(()) => true,
-        Err(_) => false,
+        Ok(()) => Given::Taken,
+        Err(SubmitFault::Busy) => Given::Waits,
+        Err(_) => Given::Lost,
+    }
+}
+
+/// Marks the core where a statement waits. The mark goes where nothing is out any more: all who wait
+/// were woken then, and who finds the tables lent once more marks the core again.
+fn mark(core: &mut Core, given: Given)
+    ensures state { state_of core.new ≡ state_of core.old }
+    ensures loans { LeavesAllLoans core.old core.new }
+{
+    match given {
+        Given::Waits => core.mark_waiting(true),
+        Given::Taken | Given::Lost => unmark_if_home(core),
+    }
+}
+
+/// Takes the mark away, if nothing is out.
+pub(crate) fn unmark_if_home(core: &mut Core)
+    ensures state { state_of core.new ≡ state_of core.old }
+    ensures loans { LeavesAllLoans core.old core.new }
+{
+    if !core.is_any_out() {
+        core.mark_waiting(false);
+    }
+}
+
+/// Whom a turn wakes in which a statement was given. Where it waits the seat rests: the bell's number
+/// is read in the turn, and whoever brings home the last of what is lent rings behind it.
+fn signal_given<R: Wait>(rt: &R, board: &BoardLock<Core>, core: &Core, given: Given) -> Signal {
+    match given {
+        Given::Waits => Signal::Rest(board.bell(rt)),
+        Given::Taken | Given::Lost => one_or_all(core),
+    }
+}
+
+/// Wakes one of those who rest, or all while some of them may wait for the tables, since else the one
+/// that is woken might be such a one, and leave what there is to do.
+pub(crate) fn one_or_all(core: &Core) -> Signal {
+    if core.is_waiting() {
+        Signal::All
+    } else {
+        Signal::One
     }
 }
 
@@ -134,11 +226,12 @@ pub(crate) fn ask_turn<R: Wait>(
 /// What a seat that asks for its next reply does with the core while it has its turn.
 fn give_and_ask(core: &mut Core, seat: u32, done: Option<Work>, patient: bool) -> Asked
     requires seat { seat < (state_of core.old).settings.seats }
-    requires hand { HasDoneIf done (held_by (state_of core.old).scan.flights seat) }
+    requires hand { HasDoneIf done (core_row core.old seat) }
     ensures tells { TellsAsked result seat
         (sight_of (state_of core.old) seat) (sight_of (state_of core.new) seat) }
     ensures mindful { IsMindful seat (state_of core.old) (state_of core.new) }
-    ensures hand { HasAsked result (held_by (state_of core.new).scan.flights seat) }
+    ensures others { LeavesLoans seat core.old core.new }
+    ensures hand { HasAsked result (core_row core.new seat) }
     ensures patient { IsTrue patient → result ≢ Asked.NotYet }
 {
     give_if_done(core, seat, done);
@@ -149,16 +242,18 @@ fn give_and_ask(core: &mut Core, seat: u32, done: Option<Work>, patient: bool) -
 /// work. Its hand is empty.
 fn ask(core: &mut Core, seat: u32, patient: bool) -> Asked
     requires seat { seat < (state_of core.old).settings.seats }
-    requires empty { held_by (state_of core.old).scan.flights seat ≡ None }
+    requires empty { HasNothing (core_row core.old seat) }
     ensures tells { TellsAsked result seat
         (sight_of (state_of core.old) seat) (sight_of (state_of core.new) seat) }
     ensures mindful { IsMindful seat (state_of core.old) (state_of core.new) }
-    ensures hand { HasAsked result (held_by (state_of core.new).scan.flights seat) }
+    ensures others { LeavesLoans seat core.old core.new }
+    ensures hand { HasAsked result (core_row core.new seat) }
     ensures patient { IsTrue patient → result ≢ Asked.NotYet }
 {
-    // Both are called for what they ensure.
+    // All three are called for what they ensure.
     a_row_tells_the_reply();
     every_core_is_sound(core);
+    what_is_beside_stays_lent();
     match core.take_reply(seat) {
         Some(ready) => Asked::Got(ready),
         None => wait_or_look(core, seat, patient),
@@ -168,12 +263,13 @@ fn ask(core: &mut Core, seat: u32, patient: bool) -> Asked
 /// What a seat does of which no reply may be taken. Its hand is empty.
 fn wait_or_look(core: &mut Core, seat: u32, patient: bool) -> Asked
     requires seat { seat < (state_of core.old).settings.seats }
-    requires empty { held_by (state_of core.old).scan.flights seat ≡ None }
+    requires empty { HasNothing (core_row core.old seat) }
     requires none { next_ready (state_of core.old) seat ≡ None }
     ensures tells { TellsAsked result seat
         (sight_of (state_of core.old) seat) (sight_of (state_of core.new) seat) }
     ensures moves { MovesHand seat (state_of core.old) (state_of core.new) }
-    ensures hand { HasAsked result (held_by (state_of core.new).scan.flights seat) }
+    ensures others { LeavesLoans seat core.old core.new }
+    ensures hand { HasAsked result (core_row core.new seat) }
     ensures patient { IsTrue patient → result ≢ Asked.NotYet }
 {
     // Both are called for what they ensure.
@@ -188,12 +284,13 @@ fn wait_or_look(core: &mut Core, seat: u32, patient: bool) -> Asked
 /// Looks for work, if the seat is patient. It waits for a reply, and its hand is empty.
 fn look_if_patient(core: &mut Core, seat: u32, patient: bool) -> Asked
     requires seat { seat < (state_of core.old).settings.seats }
-    requires empty { held_by (state_of core.old).scan.flights seat ≡ None }
+    requires empty { HasNothing (core_row core.old seat) }
     requires waits { (seat_at (state_of core.old) seat).pending ≢ [] }
     ensures tells { TellsAsked result seat
         (sight_of (state_of core.old) seat) (sight_of (state_of core.new) seat) }
     ensures moves { MovesHand seat (state_of core.old) (state_of core.new) }
-    ensures hand { HasAsked result (held_by (state_of core.new).scan.flights seat) }
+    ensures others { LeavesLoans seat core.old core.new }
+    ensures hand { HasAsked result (core_row core.new seat) }
     ensures patient { IsTrue patient → result ≢ Asked.NotYet }
 {
     if !patient {
@@ -225,8 +322,9 @@ pub(crate) fn let_go_turn<R: Wait>(rt: &R, board: &BoardLock<Core>, seat: &mut B
     let own = seat.number();
     let mut core = board.enter(rt, seat);
     drop_pending(&mut core, own);
+    let signal = one_or_all(&core);
     board.leave(seat, core);
-    board.ring(rt);
+    signal.give(rt, board);
 }
 
 /// Abandons what a seat waits for and may still be answered, and drops the replies that are there.
@@ -236,6 +334,7 @@ fn drop_pending(core: &mut Core, seat: u32)
         (sight_of (state_of core.old) seat) (sight_of (state_of core.new) seat) }
     ensures hand { held_by (state_of core.new).scan.flights seat
         ≡ held_by (state_of core.old).scan.flights seat }
+    ensures loans { LeavesAllLoans core.old core.new }
     ensures idle { (seat_at (state_of core.new) seat).pending ≡ [] }
 {
     abandon_pending(core, seat);
@@ -249,12 +348,14 @@ fn drop_ready(core: &mut Core, seat: u32)
         (sight_of (state_of core.old) seat) (sight_of (state_of core.new) seat) }
     ensures hand { held_by (state_of core.new).scan.flights seat
         ≡ held_by (state_of core.old).scan.flights seat }
+    ensures loans { LeavesAllLoans core.old core.new }
     ensures all { first_open (state_of core.old).lives (seat_at (state_of core.old) seat) ≡ None →
         (seat_at (state_of core.new) seat).pending ≡ [] }
 {
-    // Both are called for what they ensure.
+    // All three are called for what they ensure.
     a_reply_that_may_be_taken_is_right();
     every_core_is_sound(core);
+    what_is_beside_stays_lent();
     'replies: while let Some(reply) = core.take_reply(seat) {
         drop(reply);
     }
@@ -284,6 +385,7 @@ fn let_go(core: &mut Core, seat: u32)
     ensures mindful { IsMindful seat (state_of core.old) (state_of core.new) }
     ensures abandons { AbandonsRow
         (sight_of (state_of core.old) seat) (sight_of (state_of core.new) seat) }
+    ensures loans { LeavesAllLoans core.old core.new }
     ensures closing { core.new.marks.closing ≡ true }
 {
     abandon_pending(core, seat);
@@ -295,11 +397,13 @@ fn abandon_pending(core: &mut Core, seat: u32)
     ensures mindful { IsMindful seat (state_of core.old) (state_of core.new) }
     ensures abandons { AbandonsRow
         (sight_of (state_of core.old) seat) (sight_of (state_of core.new) seat) }
+    ensures loans { LeavesAllLoans core.old core.new }
     ensures closed { first_open (state_of core.new).lives (seat_at (state_of core.new) seat)
         ≡ None }
 {
-    // It is called for what it ensures.
+    // Both are called for what they ensure.
     every_core_is_sound(core);
+    what_is_beside_stays_lent();
     'queries: while let Some(query) = core.first_pending(seat) {
         // It may come, and wants no memory.
         let _ = core.step(Event::Abandon { query });

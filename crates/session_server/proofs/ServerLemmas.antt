@@ -5,7 +5,7 @@ use native.Mathlib.Decide.{ℕ_discrete}
 use Rattle.std.proofs.lemmas.List.{get_or_append_left, get_or_push, length_push}
 use Rattle.std.proofs.lemmas.List.Elements.{All-nil}
 use Rattle.core_state.specs.Fronts.{IsDue}
-use Rattle.core_state.specs.Rows.{Sight, empty_row}
+use Rattle.core_state.specs.Rows.{Sight}
 use Rattle.core_state.specs.Sent.{IsGiven}
 use Rattle.core_state.specs.declared.settings.RunSettings.{RunSettings}
 use Rattle.board_lock.specs.Seats.{IsOf, IsOutside, view_of}
@@ -13,7 +13,7 @@ use Rattle.board_lock.specs.Views.{list_in, new_view, row_in}
 use Rattle.board_lock.specs.declared.seat.BoardLock.{BoardLock}
 use Rattle.board_lock.specs.declared.seat.BoardSeat.{BoardSeat}
 use Rattle.board_lock.specs.declared.view.View.{View}
-use Rattle.event_core.specs.Board.{core_entries, core_row}
+use Rattle.event_core.specs.Board.{core_entries, core_row, first_row}
 use Rattle.event_core.specs.Parts.{Parts}
 use Rattle.worker_gate.specs.Turns.{sight_in}
 use Rattle.script_run.specs.BoardRun.{IsLeader, KnowsNew}
@@ -40,7 +40,7 @@ leader-rests settings board others first leader knows some = record {
 -- one that the first seat made
 pub seat-rests : (settings : RunSettings) (board : BoardLock Parts) (others : ℕ) (first seat : BoardSeat Parts) → IsLeader board others first
     → KnowsNew settings (view_of first) → others + 1 < settings.seats → IsOf board seat → IsOutside seat
-    → view_of seat ≡ new_view (view_of first) → row_in core_row empty_row (view_of seat).last (view_of seat).number ≡ empty_row
+    → view_of seat ≡ new_view (view_of first) → row_in core_row first_row (view_of seat).last (view_of seat).number ≡ first_row
     → IsAtRest board seat
 seat-rests settings board others first seat leader knows few own outside is empty = record {
   ready = (worker-made board others first seat leader (seated-new settings (view_of first) (others + 1) knows few) own outside is empty).ready;
@@ -51,7 +51,7 @@ seat-rests settings board others first seat leader knows few own outside is empt
     entries = ap (λ (view : View Parts). list_in core_entries view.seen) is ∙ ap (λ (sight : Sight). sight.seen) knows.sight
 
     sees : sight_in (view_of seat) ≡ nothing
-    sees = λ i. record { row = empty i; seen = entries i }
+    sees = λ i. record { row = (empty i).row; seen = entries i }
 
 -- Fronts at rest.
 

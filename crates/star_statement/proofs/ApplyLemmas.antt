@@ -60,7 +60,7 @@ follows_committed kind old new found (Err Memory) (Err none) is commits told = c
 
 -- a load or delete that is refused changes nothing, and is told so
 pub follows_reason : (old new : KeyedStore) (found : Result Change Refusal) (reason : Refusal) → found ≡ Err reason → new ≡ old
-    → Follows old new (Ok (Replied (reply.Refused reason))) (committed (plain old) found)
+    → Follows {E = NoMemory} old new (Ok (Replied (reply.Refused reason))) (committed (plain old) found)
 follows_reason old new found reason e same = rw e (refl, refl, ap plain same, tt)
 
 is_there : {A : Type 0} (o : Option A) → is_some o ≡ true → is_none o ≡ false

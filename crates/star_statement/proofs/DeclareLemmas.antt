@@ -2,6 +2,7 @@
 use Rattle.std.proofs.Common.{◌≡◌, ℕ, List, [], ◌∷◌, true, map, Some, None, Result, Ok, Err, refl, ap, sym}
 use Rattle.std.specs.Prelude.{All, IsOkAnd}
 use Rattle.std.proofs.lemmas.List.Elements.{All-cons, All-nil}
+use Rattle.star_values.specs.declared.no_memory.NoMemory.{NoMemory}
 use Rattle.star_values.specs.declared.refusal.Refusal.{Refusal}
 use Rattle.star_parser.specs.declared.ast.AstColumn.{AstColumn}
 use Rattle.star_parser.specs.Printed.{HaveNoTargets, IsShaped}
@@ -35,12 +36,12 @@ references_nothing_in s other table e is shaped = cc
 
 -- a refused declaration changes nothing, and is told so
 pub follows_refused : (change : TableDef → Change) (name : List ℕ) (old new : KeyedStore) (found : Result TableDef Refusal) (reason : Refusal)
-    → found ≡ Err reason → new ≡ old → Follows old new (Ok (Replied (reply.Refused reason))) (declared change name found)
+    → found ≡ Err reason → new ≡ old → Follows {E = NoMemory} old new (Ok (Replied (reply.Refused reason))) (declared change name found)
 follows_refused change name old new found reason e same = rw e (refl, refl, ap plain same, tt)
 
 -- a declaration that nothing refuses makes its change, and tells of which kind that is
 pub follows_declared : (kind : ChangeKind) (change : TableDef → Change) (name : List ℕ) (old new : KeyedStore) (found : Result TableDef Refusal)
     → ((table : TableDef) → kind_of_change (change table) ≡ kind) → IsOkAnd found (λ table. plain new ≡ after_change (plain old) (change table))
-    → Follows old new (Ok (Changed kind (reply.Table name))) (declared change name found)
+    → Follows {E = NoMemory} old new (Ok (Changed kind (reply.Table name))) (declared change name found)
 follows_declared kind change name old new (Ok table) is tables = (refl, ap Some (sym (is table)), tables, tt)
 follows_declared kind change name old new (Err reason) is tables = absurd tables

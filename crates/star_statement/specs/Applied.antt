@@ -36,11 +36,11 @@ IsAsked old new (Accepted query snapshot) = IsOver old.schema (query_of query) �
 
 -- at Ok the answer tells the outcome and the kind of its change, and the tables are those after it; at Err they are as
 -- they were
-abbrev pub Follows : KeyedStore → KeyedStore → Result Applied NoMemory → Outcome → Type 0
+abbrev pub Follows : {E : Type 0} → KeyedStore → KeyedStore → Result Applied E → Outcome → Type 0
 Follows old new (Ok applied) found =
     (told_by applied ≡ found.told) × (kind_by applied ≡ option_map kind_of_change found.change)
     × (plain new ≡ store_by (plain old) found) × IsAsked old new applied
-Follows old new (Err none) found = new ≡ old
+Follows old new (Err fault) found = new ≡ old
 
 -- what is answered to a load or delete of this kind that was carried out or refused: its commit, the reason, or that
 -- memory was wanted

@@ -1,6 +1,9 @@
 //! What applying a statement answers.
+ghost use Rattle.star_statement.specs.declared.applied.ApplyFault.TheVariants.{Memory};
+
 use reply_text::Reply;
 use star_plan::{StarQuery, Table};
+use star_values::NoMemory;
 
 /// Which kind of change a statement made.
 #[derive(Clone, Copy, Debug, PartialEq, Eq)]
@@ -30,4 +33,24 @@ pub enum Applied {
     /// It is a query that every check accepts, and its answer is still to be found: that over the commits up
     /// to the snapshot, which is the number of the last commit before the statement.
     Accepted { query: StarQuery, snapshot: u64 },
+}
+
+/// Why a statement was not applied. Nothing has changed.
+#[derive(Clone, Copy, Debug, PartialEq, Eq)]
+pub enum ApplyFault {
+    /// The tables are lent, and the statement may change them.
+    Busy,
+
+    /// No memory was left, or no number for one commit more.
+    Memory,
+}
+
+impl From<NoMemory> for ApplyFault {
+    ghost use Rattle.std.specs.Prelude.{◌≡◌};
+
+    ghost from_gives = { λ _ fault. fault ≡ Memory };
+
+    fn from(_none: NoMemory) -> ApplyFault {
+        ApplyFault::Memory
+    }
 }

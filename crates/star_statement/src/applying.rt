@@ -1,5 +1,5 @@
 //! What each statement does to the tables.
-ghost use Rattle.std.specs.Prelude.{◌≡◌, true};
+ghost use Rattle.std.specs.Prelude.{◌≡◌, true, IsErrOf, IsTrue};
 ghost use Rattle.script_reader.specs.declared.statement.Block.{Block};
 ghost use Rattle.star_parser.specs.Printed.{IsShaped};
 ghost use Rattle.star_parser.specs.Statement.{statement_of};
@@ -7,32 +7,54 @@ ghost use Rattle.star_schema.specs.Declaration.{declared_dimension, declared_fac
 ghost use Rattle.star_binder.specs.Fault.{is_delete, is_select};
 ghost use Rattle.star_binder.specs.Table.{declared_table, is_declaration};
 ghost use Rattle.star_history.specs.History.{DimensionDeclared, FactDeclared};
-ghost use Rattle.star_history.specs.Keyed.{plain};
+ghost use Rattle.star_history.specs.Keyed.{KeyedStore, plain};
 ghost use Rattle.star_store.specs.Loads.{load_change};
 ghost use Rattle.reply_text.specs.declared.reply.Reply.TheVariants as reply;
 ghost use Rattle.star_statement.specs.Applied.{Follows, TellsDone};
-ghost use Rattle.star_statement.specs.Outcome.{block_bytes, committed, declared, meaning_outcome, outcome_of};
+ghost use Rattle.star_statement.specs.Outcome.{Outcome, block_bytes, committed, declared, meaning_outcome, outcome_of};
 ghost use Rattle.star_statement.specs.Text.{is_dimension};
 ghost use Rattle.star_statement.specs.declared.applied.Applied.TheVariants.{Replied};
 
-use crate::applied::{Applied, ChangeKind};
+use crate::applied::{Applied, ApplyFault, ChangeKind};
 use crate::read_ahead::{ReadStatement, block_bytes};
 use crate::text::read_text;
 use reply_text::Reply;
 use star_binder::{bind, bind_delete, bind_table};
 use star_parser::Ast;
 use star_schema::find_table;
-use star_store::{Done, Store};
+use star_store::{Done, Store, Tables};
 use star_values::{NoMemory, Refusal, SmallText, StatementFault};
 use std::alloc::Global;
 
 /// Does what a statement says to the tables, and tells its reply, or the query that it asks.
 ///
 /// A declaration, load or delete that no check refuses makes its change. A refused statement, a query and a
-/// `wait` change nothing. Where memory is wanted, or there is no number for one commit more, nothing has
-/// changed.
+/// `wait` change nothing, and are answered whether the tables are lent or not. A declaration, load or delete is
+/// carried out or refused where they are not lent. Where memory is wanted, where there is no number for one commit
+/// more, or where there is another share of the tables, nothing has changed.
 #[tactic(auto, unfolding(crate::specs::Outcome::outcome_of))]
 pub fn apply(
+    alloc: Global,
+    tables: &mut Tables,
+    are_lent: bool,
+    statement: &mut ReadStatement<'_>,
+) -> Result<Applied, ApplyFault>
+    ensures follows { Follows tables.old tables.new result
+        (outcome_of (plain tables.old) statement.old) }
+    ensures lent { IsTrue are_lent → tables.new ≡ tables.old }
+    ensures busy { IsErrOf result ApplyFault.Busy → IsTrue are_lent }
+    ensures statement { statement.new ≡ statement.old }
+{
+    match read_text(alloc, statement.statement()) {
+        Ok(Ok(ast)) => follow_shared(alloc, tables, are_lent, &ast, statement),
+        Ok(Err(reason)) => Ok(refused(reason)),
+        Err(_) => Err(ApplyFault::Memory),
+    }
+}
+
+/// Does what a statement says to tables that no one else reads, as `apply` does.
+#[tactic(auto, unfolding(crate::specs::Outcome::outcome_of))]
+pub fn apply_alone(
     alloc: Global,
     store: &mut Store,
     statement: &mut ReadStatement<'_>,
@@ -45,6 +67,64 @@ pub fn apply(
     }
 }
 
+/// Does what a statement of this meaning says to tables of which there may be other shares.
+fn follow_shared(
+    alloc: Global,
+    tables: &mut Tables,
+    are_lent: bool,
+    ast: &Ast,
+    statement: &mut ReadStatement<'_>,
+) -> Result<Applied, ApplyFault>
+    requires shaped { IsShaped (statement_of ast.now) }
+    ensures follows { Follows tables.old tables.new result
+        (meaning_outcome (plain tables.old) statement.old.block (statement_of ast.now)) }
+    ensures lent { IsTrue are_lent → tables.new ≡ tables.old }
+    ensures busy { IsErrOf result ApplyFault.Busy → IsTrue are_lent }
+    ensures statement { statement.new ≡ statement.old }
+{
+    match ast {
+        Ast::Select { .. } => from_store(select(alloc, tables.store(), ast)),
+        Ast::Wait => Ok(Applied::Replied(Reply::Waited)),
+        _ => change(alloc, tables, are_lent, ast, statement),
+    }
+}
+
+/// Does what a statement of this meaning says to tables that are not lent.
+fn change(
+    alloc: Global,
+    tables: &mut Tables,
+    are_lent: bool,
+    ast: &Ast,
+    statement: &mut ReadStatement<'_>,
+) -> Result<Applied, ApplyFault>
+    requires shaped { IsShaped (statement_of ast.now) }
+    ensures follows { Follows tables.old tables.new result
+        (meaning_outcome (plain tables.old) statement.old.block (statement_of ast.now)) }
+    ensures lent { IsTrue are_lent → tables.new ≡ tables.old }
+    ensures busy { IsErrOf result ApplyFault.Busy → IsTrue are_lent }
+    ensures statement { statement.new ≡ statement.old }
+{
+    if are_lent {
+        return Err(ApplyFault::Busy);
+    }
+    match tables.alone() {
+        Some(store) => from_store(follow(alloc, store, ast, statement)),
+        None => Err(ApplyFault::Memory),
+    }
+}
+
+/// The answer of a call that wants nothing but memory.
+fn from_store(applied: Result<Applied, NoMemory>) -> Result<Applied, ApplyFault>
+    ensures follows { (old new : KeyedStore) (found : Outcome) →
+        Follows old new applied found → Follows old new result found }
+    ensures memory { ¬ (IsErrOf result ApplyFault.Busy) }
+{
+    match applied {
+        Ok(applied) => Ok(applied),
+        Err(_) => Err(ApplyFault::Memory),
+    }
+}
+
 /// Does what a statement of this meaning says.
 fn follow(
     alloc: Global,
@@ -53,8 +133,9 @@ fn follow(
     statement: &mut ReadStatement<'_>,
 ) -> Result<Applied, NoMemory>
     requires shaped { IsShaped (statement_of ast.now) }
-    ensures { Follows store.old store.new result
+    ensures follows { Follows store.old store.new result
         (meaning_outcome (plain store.old) statement.old.block (statement_of ast.now)) }
+    ensures statement { statement.new ≡ statement.old }
 {
     match ast {
         Ast::Dimension { name, .. } => declare_dimension(alloc, store, ast, name),
@@ -121,8 +202,9 @@ fn load(
     header: bool,
     statement: &mut ReadStatement<'_>,
 ) -> Result<Applied, NoMemory>
-    ensures { Follows store.old store.new result (committed (plain store.old)
+    ensures follows { Follows store.old store.new result (committed (plain store.old)
         (load_change (plain store.old) name.now header (block_bytes statement.old.block))) }
+    ensures statement { statement.new ≡ statement.old }
 {
     if store.schema().fact.is_none() {
         return Ok(refused(Refusal::OutOfOrder));
@@ -152,10 +234,10 @@ fn delete(alloc: Global, store: &mut Store, ast: &Ast) -> Result<Applied, NoMemo
 }
 
 /// The query of a select, with the last commit as its snapshot.
-fn select(alloc: Global, store: &mut Store, ast: &Ast) -> Result<Applied, NoMemory>
+fn select(alloc: Global, store: &Store, ast: &Ast) -> Result<Applied, NoMemory>
     requires { is_select (statement_of ast.now) ≡ true }
-    ensures { (block : Block) → Follows store.old store.new result
-        (meaning_outcome (plain store.old) block (statement_of ast.now)) }
+    ensures { (block : Block) → Follows store.now store.now result
+        (meaning_outcome (plain store.now) block (statement_of ast.now)) }
 {
     if store.schema().fact.is_none() {
         return Ok(refused(Refusal::OutOfOrder));

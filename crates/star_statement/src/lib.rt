@@ -10,8 +10,8 @@ mod laws_of_scripts;
 mod read_ahead;
 mod text;
 
-pub use applied::{Applied, ChangeKind};
-pub use applying::apply;
+pub use applied::{Applied, ApplyFault, ChangeKind};
+pub use applying::{apply, apply_alone};
 pub use csv_load::BlockForm;
 pub use laws::{
     outcomes_fit_the_tables, replies_agree_with_the_tables, replies_follow_from_the_tables,

@@ -3,4 +3,5 @@ pub mod Loads
 pub mod Deletes
 pub mod Done
 pub mod Fault
+pub mod Lends
 pub mod Parts

@@ -1,92 +1,76 @@
 -- What is found in the hand of a worker: after a batch is taken, and after it is given back.
-use Rattle.std.proofs.Common.{◌≡◌, ◌≢◌, ℕ, Bool, true, false, cond, eqb, eq-eqb, List, [], ◌∷◌, find, length, Option, Some, None, option_map, refl, sym, ap, ◌∙◌, subst}
+use Rattle.std.proofs.Common.{◌≡◌, ◌≢◌, ℕ, Bool, true, false, cond, eqb, eq-eqb, List, [], ◌∷◌, Option, Some, None, option_map, refl, sym, ap, ◌∙◌, subst}
 use Rattle.std.proofs.lemmas.Bool.{eqb-true, ne_eqb}
-use Rattle.std.proofs.lemmas.List.Elements.{All-head, All-tail, All-weaker}
-use Rattle.std.specs.Int.{bit_at}
+use Rattle.std.proofs.lemmas.List.Elements.{All-head, All-tail}
 use Rattle.std.specs.List.{cons_option, filter_map}
 use Rattle.std.specs.Option.{option_map_or}
-use Rattle.std.specs.Prelude.{All, AllPairs, IfSome, IsSome}
-use Rattle.bit_words.specs.Sets.{Has}
-use Rattle.batch_flow.specs.Rows.{Rows}
-use Rattle.core_parts.specs.InFlight.{passed_through}
-use Rattle.core_parts.specs.Passed.{AreUnpassed, done_through}
-use Rattle.core_parts.specs.Spares.{AreApart}
+use Rattle.std.specs.Prelude.{All, AllPairs, IfSome, IsSome, IsSomeAnd}
 use Rattle.core_state.specs.Cutting.{after_carry, after_give, given_back, tallies_after, with_flight}
 use Rattle.core_state.specs.Events.{MayCarry}
-use Rattle.core_state.specs.Flown.{IsSoundHand, IsSoundTask}
 use Rattle.core_state.specs.Found.{filters_left, flight_at, held_by, is_held_by}
 use Rattle.core_state.specs.Sound.{IsSound}
-use Rattle.core_state.specs.State.{FilterVersion, Flight, Hand, State}
-use Rattle.core_state.specs.Tables.{tables_of}
+use Rattle.core_state.specs.State.{Flight, Hand, State}
 use Rattle.core_state.proofs.FoundLemmas.{find-passes, some-at, some-of, some-passes}
 use Rattle.core_state.proofs.Words.{all_pairs_head, all_pairs_tail}
-use Rattle.event_core.specs.Lent.{IsDoneFor, IsWorkOf}
-use Rattle.event_core.specs.declared.work.Work.{Work}
-use Rattle.worker_gate.specs.Hands.{Holds, IsFresh}
+use Rattle.event_core.specs.Board.{CoreRow}
+use Rattle.event_core.specs.Parts.{Loan}
+use Rattle.worker_gate.specs.Hands.{Holds}
 
 -- What is said of a hand.
 
 -- what holds of the batch that is found in a hand, where one is
-pub holds-found : (IsSo : Flight → Hand → Type 0) (flights : List Flight) (worker : ℕ) → IsSome (held_by flights worker)
-    → IfSome (held_by flights worker) (λ flight. IfSome flight.hand (IsSo flight)) → Holds IsSo (held_by flights worker)
-holds-found IsSo flights worker some so =
+pub holds-found : (IsSo : Option Loan → Flight → Hand → Type 0) (row : CoreRow) (flights : List Flight) (worker : ℕ)
+    → row.row.hand ≡ held_by flights worker → IsSome (held_by flights worker)
+    → IfSome (held_by flights worker) (λ flight. IfSome flight.hand (IsSo row.loan flight)) → Holds IsSo row
+holds-found IsSo row flights worker own some so =
     let found = some-of (held_by flights worker) some in
     let hand = some-passes (λ (h : Hand). eqb h.worker worker) found.0.hand (find-passes (is_held_by worker) flights found.0 found.1) in
     record {
       flight = found.0;
       hand = hand.0;
-      has = found.1;
+      has = own ∙ found.1;
       is_in = hand.1;
-      is_so = some-at (IsSo found.0) found.0.hand hand.0 hand.1
-          (some-at (λ (f : Flight). IfSome f.hand (IsSo f)) (held_by flights worker) found.0 found.1 so);
+      is_so = some-at (IsSo row.loan found.0) found.0.hand hand.0 hand.1
+          (some-at (λ (f : Flight). IfSome f.hand (IsSo row.loan f)) (held_by flights worker) found.0 found.1 so);
     }
 
+-- the same where a batch is found there
+pub holds-there : (IsSo : Option Loan → Flight → Hand → Type 0) (row : CoreRow) (flights : List Flight) (worker : ℕ)
+    → row.row.hand ≡ held_by flights worker
+    → IsSomeAnd (held_by flights worker) (λ flight. IsSomeAnd flight.hand (IsSo row.loan flight)) → Holds IsSo row
+holds-there IsSo row flights worker own so = by_found (held_by flights worker) own so
+  where
+    by_hand : (flight : Flight) → row.row.hand ≡ Some flight → (hand : Option Hand) → flight.hand ≡ hand
+        → IsSomeAnd hand (IsSo row.loan flight) → Holds IsSo row
+    by_hand flight has None is never = absurd never
+    by_hand flight has (Some hand) is one = record { flight = flight; hand = hand; has = has; is_in = is; is_so = one }
+
+    by_found : (o : Option Flight) → row.row.hand ≡ o → IsSomeAnd o (λ flight. IsSomeAnd flight.hand (IsSo row.loan flight))
+        → Holds IsSo row
+    by_found None has never = absurd never
+    by_found (Some flight) has one = by_hand flight has flight.hand refl one
+
 -- and the other way round
-pub found-holds : (IsSo : Flight → Hand → Type 0) (held : Option Flight) → Holds IsSo held
-    → IfSome held (λ flight. IfSome flight.hand (IsSo flight))
-found-holds IsSo held holds =
-    subst (λ o. IfSome o (λ (f : Flight). IfSome f.hand (IsSo f))) (sym holds.has)
-    (subst (λ o. IfSome o (IsSo holds.flight)) (sym holds.is_in) holds.is_so)
+pub found-holds : (IsSo : Option Loan → Flight → Hand → Type 0) (row : CoreRow) → Holds IsSo row
+    → IfSome row.row.hand (λ flight. IfSome flight.hand (IsSo row.loan flight))
+found-holds IsSo row holds =
+    subst (λ o. IfSome o (λ (f : Flight). IfSome f.hand (IsSo row.loan f))) (sym holds.has)
+    (subst (λ o. IfSome o (IsSo row.loan holds.flight)) (sym holds.is_in) holds.is_so)
 
 -- something is in it
-pub some-held : (IsSo : Flight → Hand → Type 0) (held : Option Flight) → Holds IsSo held → IsSome held
-some-held IsSo held holds = subst IsSome (sym holds.has) refl
+pub some-held : (IsSo : Option Loan → Flight → Hand → Type 0) (row : CoreRow) → Holds IsSo row → IsSome row.row.hand
+some-held IsSo row holds = subst IsSome (sym holds.has) refl
 
 -- what holds more
-pub holds-weaker : (IsSo IsOther : Flight → Hand → Type 0) → ((flight : Flight) (hand : Hand) → IsSo flight hand → IsOther flight hand)
-    → (held : Option Flight) → Holds IsSo held → Holds IsOther held
-holds-weaker IsSo IsOther weaker held holds = record {
+pub holds-weaker : (IsSo IsOther : Option Loan → Flight → Hand → Type 0)
+    → ((loan : Option Loan) (flight : Flight) (hand : Hand) → IsSo loan flight hand → IsOther loan flight hand)
+    → (row : CoreRow) → Holds IsSo row → Holds IsOther row
+holds-weaker IsSo IsOther weaker row holds = record {
   flight = holds.flight;
   hand = holds.hand;
   has = holds.has;
   is_in = holds.is_in;
-  is_so = weaker holds.flight holds.hand holds.is_so;
-}
-
--- the batch of a work passed none of the filters of its versions where those in the hand are sound
-pub work-fresh : (work : Work) (state : State) (flight : Flight) (hand : Hand) → IsWorkOf work flight hand
-    → IsSoundHand (length state.seats) state.lives.filters (tables_of state) flight hand → IsFresh work
-work-fresh work state flight hand is sound = record {
-  unpassed = subst (AreUnpassed work.batch) (sym is.versions)
-      (subst (λ (rows : Rows). AreUnpassed rows hand.versions) (sym is.batch)
-      (All-weaker (λ (version : FilterVersion). IsSoundTask state.lives.filters (tables_of state) flight version.filter)
-      (λ (version : FilterVersion). ¬ (Has flight.rows.passed version.filter.dimension)) unpassed hand.versions sound.each));
-  apart = subst AreApart (sym is.versions) sound.apart;
-}
-  where
-    unpassed : (version : FilterVersion) → IsSoundTask state.lives.filters (tables_of state) flight version.filter
-        → ¬ (Has flight.rows.passed version.filter.dimension)
-    unpassed version task has =
-        let both : false ≡ true = sym task.not_passed ∙ eq-eqb (bit_at flight.rows.passed version.filter.dimension) 1 has in cc
-
--- a work whose batch passed its versions is done for each batch in a hand that it was the work of
-pub done-by : (work done : Work) → done.batch ≡ passed_through work.versions work.batch → done.versions ≡ work.versions
-    → done.tallies ≡ done_through work.versions work.batch → (flight : Flight) (hand : Hand) → IsWorkOf work flight hand
-    → IsDoneFor done flight hand
-done-by work done batch versions tallies flight hand is = record {
-  batch = batch ∙ ap (λ list. passed_through list work.batch) is.versions ∙ ap (passed_through hand.versions) is.batch;
-  versions = versions ∙ is.versions;
-  tallies = tallies ∙ ap (λ list. done_through list work.batch) is.versions ∙ ap (done_through hand.versions) is.batch;
+  is_so = weaker row.loan holds.flight holds.hand holds.is_so;
 }
 
 -- A batch that is taken.

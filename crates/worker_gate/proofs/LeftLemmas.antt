@@ -1,5 +1,5 @@
 -- What events that were taken leave of what seats know.
-use Rattle.std.proofs.Common.{◌≡◌, ◌≢◌, ℕ, ◌+◌, ◌++◌, List, [], get_or, length, Option, Some, None, refl, sym, ap, ◌∙◌, subst, arith, append-nil}
+use Rattle.std.proofs.Common.{◌≡◌, ℕ, ◌+◌, List, [], get_or, Option, Some, refl, sym, ap, ◌∙◌, subst, arith, append-nil}
 use Rattle.std.proofs.lemmas.List.Elements.{All-nil}
 use Rattle.std.proofs.lemmas.Option.{none-some}
 use Rattle.std.specs.Prelude.{IfSome}
@@ -14,13 +14,16 @@ use Rattle.core_state.specs.Submitting.{empty_seat, seat_at}
 use Rattle.core_state.specs.declared.event.Event.{Event}
 use Rattle.core_state.specs.declared.event.Event.TheVariants.{Submit, Take, Carry, Give, Abandon}
 use Rattle.core_state.proofs.WholeFrameLemmas.{Frame}
+use Rattle.event_core.specs.Board.{CoreRow, core_row}
 use Rattle.event_core.specs.Chosen.{kind_of}
 use Rattle.event_core.specs.Lent.{IsAtHome}
+use Rattle.event_core.specs.Parts.{LeavesLoans, Loan, Parts, loan_of}
+use Rattle.event_core.specs.Seen.{state_of}
 use Rattle.event_core.specs.Took.{IsOf, Took}
 use Rattle.event_core.specs.declared.choosing.EventKind.{EventKind}
 use Rattle.event_core.proofs.MadeLemmas.{makes-taken}
 use Rattle.event_core.proofs.TakenStepLemmas.{StepFor, taken-step}
-use Rattle.worker_gate.specs.Left.{LeavesRows, MovesHand}
+use Rattle.worker_gate.specs.Left.{LeavesAllLoans, LeavesRows, MovesHand}
 
 -- Events of kinds.
 
@@ -30,9 +33,10 @@ kind-leaves (Submit seat statement) kind is = absurd (none-some kind is)
 kind-leaves (Abandon query) kind is = absurd (none-some kind is)
 kind-leaves other kind is = tt
 
--- it passes no batch
+-- it passes no batch and submits no statement
 pub kind-home : (event : Event) (kind : EventKind) (lent : List ℕ) → kind_of event ≡ Some kind → IsAtHome event lent
 kind-home (Give worker) kind lent is = absurd (none-some kind is)
+kind-home (Submit seat statement) kind lent is = absurd (none-some kind is)
 kind-home other kind lent is = tt
 
 -- and it is the step of every seat, since it moves no row
@@ -108,6 +112,15 @@ pub leaves-kind : MovesOne → (event : Event) (kind : EventKind) (old new : Sta
 leaves-kind law event kind old new is sound took =
     leaves-taken law event old new (kind-leaves event kind is) sound took (λ seat. kind-moves event kind old seat is)
 
+-- it keeps a core sound
+abbrev pub StepsKeep : Type 0
+StepsKeep = (step : Step) (state : State) → MayStep state step → IsSound state → IsSound (after_step step state)
+
+pub took-sound : StepsKeep → (event : Event) (old new : State) → Took event old new → IsSound old → IsSound new
+took-sound keep event old new took sound =
+    let made : StepFor event old new = taken-step event old new took.enabled took.after in
+    subst IsSound (sym made.after) (keep made.step old made.may sound)
+
 -- One behind another.
 
 -- where nothing has changed
@@ -152,3 +165,29 @@ moves-mindful worker old new moves = record {
   own = All-nil (λ (entry : Entry). entry.seat ≡ worker);
   settings = moves.settings;
 }
+
+-- What is lent beside batches.
+
+-- where nothing has changed
+pub loans-same : (old new : Parts) → new ≡ old → LeavesAllLoans old new
+loans-same old new same seat = ap (λ (parts : Parts). loan_of parts seat) same
+
+-- one behind another
+pub loans-then : (old between new : Parts) → LeavesAllLoans old between → LeavesAllLoans between new → LeavesAllLoans old new
+loans-then old between new first second seat = second seat ∙ first seat
+
+-- what leaves all loans leaves those of others
+pub others-all : (worker : ℕ) (old new : Parts) → LeavesAllLoans old new → LeavesLoans worker old new
+others-all worker old new leaves other apart = leaves other
+
+pub others-then : (worker : ℕ) (old between new : Parts) → LeavesLoans worker old between → LeavesLoans worker between new
+    → LeavesLoans worker old new
+others-then worker old between new first second other apart = second other apart ∙ first other apart
+
+-- a row is what it was where its row and its loan are
+pub row-still : (seat : ℕ) (old new : Parts) → row_of (state_of new) seat ≡ row_of (state_of old) seat → loan_of new seat ≡ loan_of old seat
+    → core_row new seat ≡ core_row old seat
+row-still seat old new row loan = ap (λ r. with_loan r (loan_of new seat)) row ∙ ap (with_loan (row_of (state_of old) seat)) loan
+  where
+    with_loan : SeatRow → Option Loan → CoreRow
+    with_loan own lent = record { row = own; loan = lent }

@@ -4,7 +4,6 @@ use Rattle.std.proofs.lemmas.Bool.{eqb-false}
 use Rattle.std.proofs.lemmas.List.Elements.{All-cons, All-nil}
 use Rattle.std.specs.List.{cons_option}
 use Rattle.std.specs.Option.{option_map_or}
-use Rattle.std.specs.Prelude.{All}
 use Rattle.core_parts.specs.Flights.{flight_as, flights_as}
 use Rattle.core_parts.specs.InFlight as state
 use Rattle.core_parts.specs.Known.{Known, Reach}

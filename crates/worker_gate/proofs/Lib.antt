@@ -1,6 +1,9 @@
+pub mod WorkLemmas
 pub mod HandLemmas
 pub mod LentLemmas
 pub mod LeftLemmas
 pub mod ManagedLemmas
+pub mod HomeLemmas
 pub mod LookLemmas
+pub mod CutLemmas
 pub mod TurnLemmas

@@ -1,6 +1,6 @@
 -- What a look tells, by what it found.
 use Rattle.std.proofs.Common.{◌≡◌, ℕ, ◌<◌, Bool, true, false, cond, length, Option, Some, None, refl, sym, ap, ◌∙◌, subst, arith, ⊎_elim}
-use Rattle.std.specs.Prelude.{IfSome, IsSome, IsSomeAnd}
+use Rattle.std.specs.Prelude.{IfSome, IsSome, IsSomeAnd, IsTrue}
 use Rattle.core_parts.specs.Asked.{known_in}
 use Rattle.core_parts.specs.Known.{reaches_in}
 use Rattle.core_parts.specs.Lent.{lent_to}
@@ -13,20 +13,25 @@ use Rattle.core_state.specs.Sound.{IsSound}
 use Rattle.core_state.specs.State.{Flight, Hand, State}
 use Rattle.core_state.specs.Tables.{tables_of}
 use Rattle.core_state.specs.declared.event.Event.TheVariants.{Carry}
+use Rattle.event_core.specs.Board.{CoreRow, core_row}
 use Rattle.event_core.specs.Lent.{IsHome, IsWorkOf}
-use Rattle.event_core.specs.Parts.{Beside, Parts, beside_of}
+use Rattle.event_core.specs.Parts.{Beside, Parts, beside_of, loan_of}
 use Rattle.event_core.specs.Seen.{state_of}
 use Rattle.event_core.specs.Took.{Took}
+use Rattle.event_core.specs.declared.marks.Marks.{Marks}
 use Rattle.event_core.specs.declared.work.Work.{Work}
-use Rattle.worker_gate.specs.Hands.{HasWork, Holds}
-use Rattle.worker_gate.specs.Left.{LeavesRows}
+use Rattle.worker_gate.specs.Hands.{HasNothing, HasWork, Holds, IsCarriedOf}
+use Rattle.worker_gate.specs.Left.{LeavesAllLoans, LeavesRows}
 use Rattle.worker_gate.specs.Looks.{HasLooked, IsIdle, IsStuck, Takes, TellsLook}
 use Rattle.worker_gate.specs.Turns.{LooksLast}
+use Rattle.worker_gate.specs.declared.carried.Carried.{Carried}
+use Rattle.worker_gate.specs.declared.carried.Carried.TheVariants as carried
 use Rattle.worker_gate.specs.declared.looking.Look.{Look}
 use Rattle.worker_gate.specs.declared.looking.Look.TheVariants as look
-use Rattle.worker_gate.proofs.HandLemmas.{carried-held, holds-found, work-fresh}
+use Rattle.worker_gate.proofs.HandLemmas.{carried-held, holds-found}
 use Rattle.worker_gate.proofs.LentLemmas.{home-empty}
 use Rattle.worker_gate.proofs.ManagedLemmas.{marks-stay}
+use Rattle.worker_gate.proofs.WorkLemmas.{carried-fresh}
 
 -- A batch that is taken.
 
@@ -66,41 +71,46 @@ home-took worker batch old new took beside =
     subst (IsHome worker) (sym (ap (λ (b : Beside). b.lent) beside))
     (home-empty (known_in old.asked) (reaches_in old.lives.queries) old.flights worker took.enabled.empty)
 
--- what is in a hand is sound
+-- what is in the hands of a sound core is sound
 abbrev pub IsRight : Type 0
 IsRight = (state : State) (seat : ℕ) (flight : Flight) (hand : Hand) → IsSound state → (row_of state seat).hand ≡ Some flight
     → flight.hand ≡ Some hand → IsSoundBatch (frame_words state) (tables_of state) state.lives state.accepted flight
     × IsSoundHand (length state.seats) state.lives.filters (tables_of state) flight hand
 
--- the work of the batch that is in a hand is fresh
-has-work : IsRight → (work : Work) (worker : ℕ) (state : State) → IsSound state → Holds (IsWorkOf work) (held_by state.scan.flights worker)
-    → HasWork work (held_by state.scan.flights worker)
-has-work right work worker state sound holds = record {
+-- what is carried of the batch that is in a hand is fresh
+pub has-work : IsRight → (work : Carried) (worker : ℕ) (core : Parts) → IsSound (state_of core)
+    → Holds (IsCarriedOf work) (core_row core worker) → HasWork work (core_row core worker)
+has-work right work worker core sound holds = record {
   holds = holds;
-  fresh = work-fresh work state holds.flight holds.hand holds.is_so
-      (right state worker holds.flight holds.hand sound holds.has holds.is_in).1;
+  fresh = carried-fresh work (state_of core) (loan_of core worker) holds.flight holds.hand holds.is_so
+      (right (state_of core) worker holds.flight holds.hand sound holds.has holds.is_in).1;
 }
 
 -- a batch was taken, and then lent
 pub takes-by : IsRight → (work : Work) (worker batch : ℕ) (old between new : Parts) → Took (Carry worker batch) (state_of old) (state_of between)
     → beside_of between ≡ beside_of old → state_of new ≡ state_of between → new.marks ≡ between.marks
-    → IfSome (held_by (state_of between).scan.flights worker) (λ flight. IfSome flight.hand (IsWorkOf work flight)) → IsSound (state_of new)
-    → Takes work worker old new
-takes-by right work worker batch old between new took beside same marks is sound = record {
+    → IfSome (held_by (state_of between).scan.flights worker) (λ flight. IfSome flight.hand (IsWorkOf work (loan_of new worker) flight))
+    → (IsTrue between.marks.waiting → work.folding ≡ None) → IsSound (state_of new) → Takes work worker old new
+takes-by right work worker batch old between new took beside same marks is waits sound = record {
   batch = batch;
   took = subst (λ (state : State). Took (Carry worker batch) (state_of old) state) (sym same) took;
-  has = has-work right work worker (state_of new) sound
-      (subst (λ (state : State). Holds (IsWorkOf work) (held_by state.scan.flights worker)) (sym same)
-      (holds-found (IsWorkOf work) (state_of between).scan.flights worker (held-took worker batch (state_of old) (state_of between) took) is));
+  has = has-work right (carried.Written work) worker new sound
+      (holds-found (IsWorkOf work) (core_row new worker) (state_of between).scan.flights worker
+      (ap (λ (state : State). held_by state.scan.flights worker) same)
+      (held-took worker batch (state_of old) (state_of between) took) is);
+  waits = λ waiting. waits (subst (λ (m : Marks). IsTrue m.waiting) (sym (marks-stay old between beside)) waiting);
   marks = marks ∙ marks-stay old between beside;
 }
 
 -- Nothing is taken.
 
--- a hand stays empty where rows stay
-pub empty-still : (worker : ℕ) (old new : State) → LeavesRows old new → held_by old.scan.flights worker ≡ None
-    → held_by new.scan.flights worker ≡ None
-empty-still worker old new leaves empty = ap (λ (row : SeatRow). row.hand) (leaves.rows worker) ∙ empty
+-- a hand stays empty where rows and loans stay
+pub empty-still : (worker : ℕ) (old new : Parts) → LeavesRows (state_of old) (state_of new) → LeavesAllLoans old new
+    → HasNothing (core_row old worker) → HasNothing (core_row new worker)
+empty-still worker old new leaves loans empty = record {
+  hand = ap (λ (row : SeatRow). row.hand) (leaves.rows worker) ∙ empty.hand;
+  loan = loans worker ∙ empty.loan;
+}
 
 -- where there is nothing to do, the mark tells whether a worker rests or ends
 pub tells-idle : (closing : Bool) (worker : ℕ) (old new : Parts) → new ≡ old → IsIdle (state_of old) → closing ≡ new.marks.closing
@@ -108,9 +118,9 @@ pub tells-idle : (closing : Bool) (worker : ℕ) (old new : Parts) → new ≡ o
 tells-idle true worker old new same idle is = (same, (idle, sym (is ∙ ap (λ (parts : Parts). parts.marks.closing) same)))
 tells-idle false worker old new same idle is = (same, (idle, sym (is ∙ ap (λ (parts : Parts). parts.marks.closing) same)))
 
-pub looked-idle : (closing : Bool) (held : Option Flight) → held ≡ None → HasLooked (cond {A = Look} closing look.Closed look.Rest) held
-looked-idle true held none = none
-looked-idle false held none = none
+pub looked-idle : (closing : Bool) (row : CoreRow) → HasNothing row → HasLooked (cond {A = Look} closing look.Closed look.Rest) row
+looked-idle true row none = none
+looked-idle false row none = none
 
 -- how a worker ends where it is told to
 pub last-looked : (found : Look) (worker : ℕ) (old new : Parts) → TellsLook found worker old new → LooksLast found (Some new)

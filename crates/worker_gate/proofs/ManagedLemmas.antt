@@ -1,11 +1,10 @@
 -- What is made of a core by the events that a worker makes where no batch wants a filter.
-use Rattle.std.proofs.Common.{◌≡◌, ℕ, ◌+◌, ◌<◌, Bool, true, false, List, get_or, length, Option, Some, None, Result, Err, Ok, OnErr, OnOk, refl, sym, ap, ◌∙◌, subst, arith, eq-eqb}
+use Rattle.std.proofs.Common.{◌≡◌, ℕ, ◌+◌, ◌<◌, Bool, true, false, List, Option, Some, None, Result, Err, Ok, OnOk, refl, sym, ap, ◌∙◌, subst, arith, eq-eqb}
 use Rattle.std.proofs.lemmas.Bool.{ne_eqb}
 use Rattle.std.proofs.lemmas.List.{get_or-take, length-take}
 use Rattle.std.proofs.lemmas.Option.{none-some, same_Some}
 use Rattle.std.specs.List.{AllWithin}
 use Rattle.std.specs.Prelude.{◌↔◌, ◌%◌, All, IsErrOf, IsSome, take}
-use Rattle.core_parts.specs.Lent.{lent_to}
 use Rattle.core_state.specs.Events.{IsEnabled}
 use Rattle.core_state.specs.Found.{flight_at}
 use Rattle.core_state.specs.Sound.{IsSound}
@@ -14,7 +13,7 @@ use Rattle.core_state.specs.Tables.{tables_by, tables_of}
 use Rattle.core_state.specs.declared.event.Event.{Event}
 use Rattle.core_state.specs.declared.event.Event.TheVariants.{Clear, Distribute, Reorder, Submit}
 use Rattle.event_core.specs.Chosen.{IsOfKind, kind_of}
-use Rattle.event_core.specs.Parts.{Beside, Parts, beside_of}
+use Rattle.event_core.specs.Parts.{Beside, Parts, beside_of, loan_of}
 use Rattle.event_core.specs.Seen.{state_of}
 use Rattle.event_core.specs.Took.{MayWantMemory, Took}
 use Rattle.event_core.specs.declared.choosing.EventKind.{EventKind}
@@ -23,9 +22,9 @@ use Rattle.event_core.specs.declared.marks.Marks.{Marks}
 use Rattle.event_core.specs.declared.stepping.StepFault.{StepFault}
 use Rattle.event_core.specs.declared.stepping.StepFault.TheVariants.{Memory, NotEnabled}
 use Rattle.event_core.proofs.MadeLemmas.{makes-taken}
-use Rattle.worker_gate.specs.Left.{LeavesRows}
+use Rattle.worker_gate.specs.Left.{LeavesAllLoans, LeavesRows}
 use Rattle.worker_gate.specs.Managed.{IsFirstOf, IsToClear, Manages, OrdersIf, counted_by, is_sixteenth, managed_kinds}
-use Rattle.worker_gate.proofs.LeftLemmas.{MovesOne, kind-leaves, leaves-kind, leaves-same, leaves-taken, leaves-then}
+use Rattle.worker_gate.proofs.LeftLemmas.{MovesOne, leaves-kind, leaves-same, leaves-taken, leaves-then}
 
 -- Steps.
 
@@ -94,7 +93,7 @@ fact-distributed (Distribute batch) old new is sound took =
 fact-distributed other old new is sound took = absurd (let both : kind_of other ≡ Some kind.Distribute = is in cc)
 
 -- an order leaves the rows
-leaves-ordered : MovesOne → (test : Bool) (old new : State) → IsSound old → OrdersIf test old new → LeavesRows old new
+pub leaves-ordered : MovesOne → (test : Bool) (old new : State) → IsSound old → OrdersIf test old new → LeavesRows old new
 leaves-ordered law true old new sound took = leaves-taken law Reorder old new tt sound took (λ seat. tt)
 leaves-ordered law false old new sound same = leaves-same old new same
 
@@ -132,6 +131,10 @@ counted-up n old new count same =
 -- and nothing else has changed
 pub state-counted : (n : ℕ) (old new : Parts) → new ≡ record old { marks = record old.marks { distributed = n } } → state_of new ≡ state_of old
 state-counted n old new same = ap state_of same
+
+-- nor has what is lent
+pub loans-counted : (n : ℕ) (old new : Parts) → new ≡ record old { marks = record old.marks { distributed = n } } → LeavesAllLoans old new
+loans-counted n old new same seat = ap (λ (parts : Parts). loan_of parts seat) same
 
 -- One event, and what is behind it.
 

@@ -1,26 +1,24 @@
 -- A turn of a worker: what its seat finds, and what it leaves.
-use Rattle.std.proofs.Common.{◌≡◌, ℕ, ◌<◌, ◌++◌, [], Option, Some, None, refl, sym, ap, ◌∙◌, subst, append-nil, append_assoc}
+use Rattle.std.proofs.Common.{◌≡◌, ℕ, ◌<◌, ◌++◌, [], Some, refl, sym, ap, ◌∙◌, subst, append-nil, append_assoc}
 use Rattle.std.specs.Prelude.{IsSomeAnd}
 use Rattle.core_state.specs.Fronts.{Passes}
-use Rattle.core_state.specs.Found.{held_by}
-use Rattle.core_state.specs.Rows.{SeatRow, Sight, empty_row}
-use Rattle.core_state.specs.State.{Flight}
+use Rattle.core_state.specs.Rows.{SeatRow, Sight}
 use Rattle.core_state.specs.declared.settings.RunSettings.{RunSettings}
 use Rattle.board_lock.specs.Seats.{IsOf, IsOutside, IsSameSeat, view_of}
 use Rattle.board_lock.specs.Views.{Finds, entered, left}
 use Rattle.board_lock.specs.declared.seat.BoardLock.{BoardLock}
 use Rattle.board_lock.specs.declared.seat.BoardSeat.{BoardSeat}
 use Rattle.board_lock.specs.declared.view.View.{View}
-use Rattle.event_core.specs.Board.{core_entries, core_row, core_settings}
+use Rattle.event_core.specs.Board.{CoreRow, core_entries, core_row, core_settings, first_row}
 use Rattle.event_core.specs.Parts.{Parts}
 use Rattle.event_core.specs.Seen.{state_of}
 use Rattle.worker_gate.specs.Left.{MovesHand}
-use Rattle.worker_gate.specs.Turns.{IsOutWith, IsSeated, LooksLast, sight_in}
+use Rattle.worker_gate.specs.Turns.{IsOutWith, IsSeated, LooksLast, own_row, sight_in}
 use Rattle.worker_gate.specs.declared.looking.Look.{Look}
 
 -- the core is what the seat knew of it
 abbrev pub FindsCore : View Parts → Parts → Type 0
-FindsCore = Finds core_row empty_row core_entries core_settings
+FindsCore = Finds core_row first_row core_entries core_settings
 
 -- What is found.
 
@@ -31,12 +29,11 @@ seated-found view found worker seated finds is =
     subst (λ n. n < (state_of found).settings.seats) (sym is)
     (subst (λ o. IsSomeAnd o (λ (settings : RunSettings). view.number < settings.seats)) finds.settled seated)
 
--- what was in its hand is there
-pub hand-found : (IsHeld : Option Flight → Type 0) (view : View Parts) (found : Parts) (worker : ℕ) → IsHeld (sight_in view).row.hand
-    → FindsCore view found → worker ≡ view.number → IsHeld (held_by (state_of found).scan.flights worker)
+-- what was in its hand is there, and what was lent beside it
+pub hand-found : (IsHeld : CoreRow → Type 0) (view : View Parts) (found : Parts) (worker : ℕ) → IsHeld (own_row view)
+    → FindsCore view found → worker ≡ view.number → IsHeld (core_row found worker)
 hand-found IsHeld view found worker held finds is =
-    subst (λ n. IsHeld (held_by (state_of found).scan.flights n)) (sym is)
-    (subst (λ (row : SeatRow). IsHeld row.hand) (sym finds.own) held)
+    subst (λ n. IsHeld (core_row found n)) (sym is) (subst IsHeld (sym finds.own) held)
 
 -- What is left.
 
@@ -62,25 +59,24 @@ passes-left view found core worker finds moves is = record {
     moved : MovesHand view.number (state_of found) (state_of core)
     moved = subst (λ n. MovesHand n (state_of found) (state_of core)) is moves
 
-    same : core_row core view.number
-        ≡ record (sight_in view).row { hand = (core_row core view.number).hand }
-    same = moved.own ∙ ap (λ (row : SeatRow). record row { hand = (core_row core view.number).hand }) finds.own
+    same : (core_row core view.number).row
+        ≡ record (sight_in view).row { hand = (core_row core view.number).row.hand }
+    same = moved.own ∙ ap (λ (row : CoreRow). record row.row { hand = (core_row core view.number).row.hand }) finds.own
 
 -- a seat that took the core and left another
 pub view-left : (old taken new : View Parts) (found core : Parts) → taken ≡ entered old found → new ≡ left taken core → new ≡ left old core
 view-left old taken new found core enters leaves = leaves ∙ ap (λ (view : View Parts). left view core) enters
 
 -- what is said of what it left is said of the seat
-pub turn-out : (board : BoardLock Parts) (IsHeld : Option Flight → Type 0) (old new : BoardSeat Parts) (found core : Parts) (worker : ℕ)
+pub turn-out : (board : BoardLock Parts) (IsHeld : CoreRow → Type 0) (old new : BoardSeat Parts) (found core : Parts) (worker : ℕ)
     → view_of new ≡ left (view_of old) core → IsOf board new → IsOutside new → IsSeated (view_of old) → FindsCore (view_of old) found
     → MovesHand worker (state_of found) (state_of core) → worker ≡ (view_of old).number
-    → IsHeld (held_by (state_of core).scan.flights worker) → IsOutWith board IsHeld new
+    → IsHeld (core_row core worker) → IsOutWith board IsHeld new
 turn-out board IsHeld old new found core worker view own outside seated finds moves is held = record {
   own = own;
   outside = outside;
   seated = subst IsSeated (sym view) (seated-left (view_of old) found core worker seated finds moves);
-  hand = subst (λ (v : View Parts). IsHeld (sight_in v).row.hand) (sym view)
-      (subst (λ n. IsHeld (held_by (state_of core).scan.flights n)) is held);
+  hand = subst (λ (v : View Parts). IsHeld (own_row v)) (sym view) (subst (λ n. IsHeld (core_row core n)) is held);
 }
 
 pub turn-passes : (old new : BoardSeat Parts) (found core : Parts) (worker : ℕ) → view_of new ≡ left (view_of old) core
@@ -96,10 +92,10 @@ turn-last found old new core view last = subst (λ (v : View Parts). LooksLast f
 -- Seats.
 
 -- one that is what another is
-pub out-as : (IsHeld IsOther : Option Flight → Type 0) → ((held : Option Flight) → IsHeld held → IsOther held)
+pub out-as : (IsHeld IsOther : CoreRow → Type 0) → ((row : CoreRow) → IsHeld row → IsOther row)
     → (board : BoardLock Parts) (seat : BoardSeat Parts) → IsOutWith board IsHeld seat → IsOutWith board IsOther seat
 out-as IsHeld IsOther more board seat out =
-    record { own = out.own; outside = out.outside; seated = out.seated; hand = more (sight_in (view_of seat)).row.hand out.hand }
+    record { own = out.own; outside = out.outside; seated = out.seated; hand = more (own_row (view_of seat)) out.hand }
 
 pub same-seat : (seat : BoardSeat Parts) → IsSameSeat seat seat
 same-seat seat = (refl, refl, refl)

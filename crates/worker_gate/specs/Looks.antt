@@ -1,16 +1,20 @@
 -- What a worker finds to do.
-use Rattle.std.specs.Prelude.{◌≡◌, ℕ, true, false, All, Option, None}
+use Rattle.std.specs.Prelude.{◌≡◌, ◌<◌, ℕ, true, false, All, IsTrue, None}
 use Rattle.core_state.specs.Events.{IsWanting}
-use Rattle.core_state.specs.Found.{held_by}
-use Rattle.core_state.specs.State.{Flight, State}
-use Rattle.core_state.specs.declared.event.Event.TheVariants.{Carry}
+use Rattle.core_state.specs.State.{State}
+use Rattle.core_state.specs.declared.event.Event.TheVariants.{Carry, Cut}
+use Rattle.event_core.specs.Board.{CoreRow, core_row}
 use Rattle.event_core.specs.Parts.{Parts}
 use Rattle.event_core.specs.Seen.{state_of}
-use Rattle.event_core.specs.Took.{Took}
+use Rattle.event_core.specs.Took.{CutsAndCarries, Took}
 use Rattle.event_core.specs.declared.choosing.EventKind.{EventKind}
+use Rattle.event_core.specs.declared.choosing.EventKind.TheVariants as kind
+use Rattle.event_core.specs.declared.work.BlankWork.{BlankWork}
 use Rattle.event_core.specs.declared.work.Work.{Work}
-use Rattle.worker_gate.specs.Hands.{HasWork}
-use Rattle.worker_gate.specs.Managed.{IsToClear, Manages, NoneIsLeft}
+use Rattle.worker_gate.specs.Hands.{HasNothing, HasWork}
+use Rattle.worker_gate.specs.Managed.{IsFirstOf, IsToClear, Manages, NoneIsLeft, managed_kinds}
+use Rattle.worker_gate.specs.declared.carried.Carried.{Carried}
+use Rattle.worker_gate.specs.declared.carried.Carried.TheVariants as carried
 use Rattle.worker_gate.specs.declared.working.Taken.{Taken}
 use Rattle.worker_gate.specs.declared.working.Taken.TheVariants as taken
 use Rattle.worker_gate.specs.declared.looking.Look.{Look}
@@ -20,17 +24,25 @@ use Rattle.worker_gate.specs.declared.looking.Look.TheVariants as look
 abbrev pub NoneWants : State → Type 0
 NoneWants state = All (λ flight. IsWanting state.filters flight → ⊥) state.scan.flights
 
--- a worker carries a batch through all filters that it did not pass, and has it as its work
+-- a worker carries a batch through all filters that it did not pass, and has it as its work, with what it was lent beside
+-- it: nothing to fold with while a statement waits for the tables
 pub record Takes (work : Work) (worker : ℕ) (old new : Parts) : Type 0 where
   pub batch : ℕ
   pub took : Took (Carry worker batch) (state_of old) (state_of new)
-  pub has : HasWork work (held_by (state_of new).scan.flights worker)
+  pub has : HasWork (carried.Written work) (core_row new worker)
+  pub waits : IsTrue old.marks.waiting → work.folding ≡ None
   pub marks : new.marks ≡ old.marks
 
 -- what `take_work` tells
 abbrev pub TellsTaken : Taken → (worker : ℕ) → (old new : Parts) → Type 0
 TellsTaken (taken.Got work) worker old new = Takes work worker old new
 TellsTaken taken.Nothing worker old new = (new ≡ old) × NoneWants (state_of old)
+
+-- a worker of the core whose hand is empty finds no batch that wants a filter
+pub record IsToManage (worker : ℕ) (parts : Parts) : Type 0 where
+  pub seat : worker < (state_of parts).settings.seats
+  pub empty : HasNothing (core_row parts worker)
+  pub wants : NoneWants (state_of parts)
 
 -- there is nothing to do: no batch wants a filter, and no event is left to make
 pub record IsIdle (state : State) : Type 0 where
@@ -47,16 +59,29 @@ pub record MakesEvent (of_kind : EventKind) (old new : Parts) : Type 0 where
   pub wants : NoneWants (state_of old)
   pub manages : Manages of_kind old new
 
--- what `worker_look` tells: a work; that an event of a kind was made; that there is nothing to do, where the core is not
+-- no batch wants a filter, and the first event that may come cuts one: it was cut, and a worker carries it as it is cut
+pub record CutsFor (blank : BlankWork) (worker : ℕ) (old new : Parts) : Type 0 where
+  pub wants : NoneWants (state_of old)
+  pub first : IsFirstOf managed_kinds (state_of old) kind.Cut Cut
+  pub took : CutsAndCarries worker (state_of old) (state_of new)
+  pub has : HasWork (carried.Blank blank) (core_row new worker)
+  pub marks : new.marks ≡ old.marks
+
+-- how a worker came by what it carries: it took a batch, or cut one
+abbrev pub TellsGot : Carried → (worker : ℕ) → (old new : Parts) → Type 0
+TellsGot (carried.Written work) worker old new = Takes work worker old new
+TellsGot (carried.Blank blank) worker old new = CutsFor blank worker old new
+
+-- what `worker_look` tells: what the worker carries; that an event of a kind was made; that there is nothing to do, where the core is not
 -- marked closing and where it is; and that there was no memory to clear a filter
 abbrev pub TellsLook : Look → (worker : ℕ) → (old new : Parts) → Type 0
-TellsLook (look.Got work) worker old new = Takes work worker old new
+TellsLook (look.Got work) worker old new = TellsGot work worker old new
 TellsLook (look.Did of_kind) worker old new = MakesEvent of_kind old new
 TellsLook look.Rest worker old new = (new ≡ old) × (IsIdle (state_of old) × (old.marks.closing ≡ false))
 TellsLook look.Closed worker old new = (new ≡ old) × (IsIdle (state_of old) × (old.marks.closing ≡ true))
 TellsLook look.Memory worker old new = (new ≡ old) × IsStuck (state_of old)
 
--- what is in a worker's hand behind a look: the work that it got, or nothing
-abbrev pub HasLooked : Look → Option Flight → Type 0
-HasLooked (look.Got work) held = HasWork work held
-HasLooked other held = held ≡ None
+-- what is in a worker's hand behind a look: what it got, or nothing
+abbrev pub HasLooked : Look → CoreRow → Type 0
+HasLooked (look.Got work) row = HasWork work row
+HasLooked other row = HasNothing row

@@ -1,5 +1,5 @@
--- Which events a worker makes where no batch wants a filter, and what it makes of a core by them.
-use Rattle.std.specs.Prelude.{◌≡◌, ◌+◌, ◌%◌, ◌==◌, ℕ, Bool, true, false, List, [], ◌∷◌, All, slice_get, Some, take}
+-- Which events a worker makes where no batch wants a filter and where one comes home, and what it makes of a core by them.
+use Rattle.std.specs.Prelude.{◌≡◌, ◌+◌, ◌%◌, ◌==◌, ◌&&◌, ℕ, Bool, true, false, if◌then◌else◌, is_some, List, [], ◌∷◌, All, slice_get, Option, Some, take}
 use Rattle.core_state.specs.Events.{IsEnabled}
 use Rattle.core_state.specs.State.{State}
 use Rattle.core_state.specs.declared.event.Event.{Event}
@@ -7,10 +7,11 @@ use Rattle.core_state.specs.declared.event.Event.TheVariants.{Reorder}
 use Rattle.event_core.specs.Chosen.{IsOfKind, NoneMayCome}
 use Rattle.event_core.specs.Parts.{Parts}
 use Rattle.event_core.specs.Seen.{state_of}
-use Rattle.event_core.specs.Took.{Took}
+use Rattle.event_core.specs.Took.{CameHome, Took}
 use Rattle.event_core.specs.declared.choosing.EventKind.{EventKind}
 use Rattle.event_core.specs.declared.choosing.EventKind.TheVariants as kind
 use Rattle.event_core.specs.declared.marks.Marks.{Marks}
+use Rattle.event_core.specs.declared.work.Folding.{Folding}
 use Rattle.worker_gate.specs.declared.managing.Managed.{Managed}
 use Rattle.worker_gate.specs.declared.managing.Managed.TheVariants as managed
 
@@ -66,3 +67,19 @@ abbrev pub TellsManaged : Managed → (old new : Parts) → Type 0
 TellsManaged (managed.Did of_kind) old new = Manages of_kind old new
 TellsManaged managed.Idle old new = (new ≡ old) × NoneIsLeft (state_of old)
 TellsManaged managed.Memory old new = (new ≡ old) × IsToClear (state_of old)
+
+-- the marks behind a batch that came home: where it was folded outside its Distribute is counted
+abbrev pub counted_home : (is_folded : Bool) → Marks → Marks
+counted_home is_folded marks = if is_folded then counted_by kind.Distribute marks else marks
+
+-- whether the filters are ordered behind it: where its Distribute is a sixteenth
+abbrev pub is_sixteenth_home : (is_folded : Bool) → Marks → Bool
+is_sixteenth_home is_folded marks = is_folded && is_sixteenth kind.Distribute marks
+
+-- the batch of a worker came home, and where it was folded outside, so that it was distributed too, this was counted, and
+-- the filters were ordered behind each sixteenth
+pub record BringsHome (worker : ℕ) (folding : Option Folding) (old new : Parts) : Type 0 where
+  pub between : State
+  pub came : CameHome worker folding (state_of old) between
+  pub counted : new.marks ≡ counted_home (is_some folding) old.marks
+  pub orders : OrdersIf (is_sixteenth_home (is_some folding) old.marks) between (state_of new)

@@ -1,13 +1,12 @@
 -- What a worker's seat knows between two turns, and how a worker ends.
-use Rattle.std.specs.Prelude.{◌≡◌, ◌<◌, true, IsSomeAnd, Option, Some, None}
-use Rattle.core_state.specs.Rows.{Sight, empty_row}
-use Rattle.core_state.specs.State.{Flight}
+use Rattle.std.specs.Prelude.{◌≡◌, ◌<◌, true, IsSomeAnd, Option, None}
+use Rattle.core_state.specs.Rows.{Sight}
 use Rattle.board_lock.specs.Seats.{IsOf, IsOutside, view_of}
 use Rattle.board_lock.specs.Views.{fixed_in, list_in, row_in}
 use Rattle.board_lock.specs.declared.seat.BoardLock.{BoardLock}
 use Rattle.board_lock.specs.declared.seat.BoardSeat.{BoardSeat}
 use Rattle.board_lock.specs.declared.view.View.{View}
-use Rattle.event_core.specs.Board.{core_entries, core_row, core_settings}
+use Rattle.event_core.specs.Board.{CoreRow, core_entries, core_row, core_settings, first_row}
 use Rattle.event_core.specs.Parts.{Parts}
 use Rattle.event_core.specs.Seen.{state_of}
 use Rattle.event_core.specs.declared.work.Work.{Work}
@@ -20,10 +19,14 @@ use Rattle.worker_gate.specs.declared.looping.Turned.TheVariants as turned
 use Rattle.worker_gate.specs.declared.looping.WorkerEnd.{WorkerEnd}
 use Rattle.worker_gate.specs.declared.looping.WorkerEnd.TheVariants as end
 
--- what a seat knows between two turns: its row as it left it, and the entries that it has seen
+-- what a seat knows between two turns of itself: its row as it left it, and what it was lent beside its batch
+abbrev pub own_row : View Parts → CoreRow
+own_row view = row_in core_row first_row view.last view.number
+
+-- its row, and the entries that it has seen
 abbrev pub sight_in : View Parts → Sight
 sight_in view = record {
-  row = row_in core_row empty_row view.last view.number;
+  row = (own_row view).row;
   seen = list_in core_entries view.seen;
 }
 
@@ -31,12 +34,12 @@ sight_in view = record {
 abbrev pub IsSeated : View Parts → Type 0
 IsSeated view = IsSomeAnd (fixed_in core_settings view.last) (λ settings. view.number < settings.seats)
 
--- a seat of this board that does not have the core, and in whose hand it is so
-pub record IsOutWith (board : BoardLock Parts) (IsHeld : Option Flight → Type 0) (seat : BoardSeat Parts) : Type 0 where
+-- a seat of this board that does not have the core, and with whose row, hand and what is lent beside it, it is so
+pub record IsOutWith (board : BoardLock Parts) (IsHeld : CoreRow → Type 0) (seat : BoardSeat Parts) : Type 0 where
   pub own : IsOf board seat
   pub outside : IsOutside seat
   pub seated : IsSeated (view_of seat)
-  pub hand : IsHeld (sight_in (view_of seat)).row.hand
+  pub hand : IsHeld (own_row (view_of seat))
 
 -- a worker may take a turn by this seat of the board: a work that it has is done for what is in its hand, and else
 -- its hand is empty

@@ -1,7 +1,9 @@
-//! What a worker does: it takes a batch under the lock, lets it pass all filters that are left outside, and gives it back.
+//! What a worker does: it takes a batch under the lock, lets it pass all filters that are left and folds its rows outside, and
+//! gives it back. A batch that it cuts itself it carries at once, and writes its rows outside too.
 //! Where no batch wants a filter it makes one of the other events.
 #![tactic(auto)]
 
+mod carried;
 mod crossing;
 mod looking;
 mod looping;
@@ -11,6 +13,7 @@ mod passing;
 mod signal;
 mod working;
 
+pub use carried::Carried;
 pub use crossing::{boards_of_cores_may_be_shared, seats_of_cores_may_be_sent};
 pub use looking::{Look, is_more_to_do, worker_look};
 pub use looping::{WorkerEnd, give_if_done, worker_loop};

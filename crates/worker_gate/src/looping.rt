@@ -1,12 +1,13 @@
 //! The loop of a worker: turn after turn, until the core is marked closing and nothing is left to do.
-ghost use Rattle.std.specs.Prelude.{◌≡◌, ◌<◌, None};
+ghost use Rattle.std.specs.Prelude.{◌<◌, None};
 ghost use Rattle.board_lock.specs.Seats.{IsSameSeat, view_of};
 ghost use Rattle.core_state.specs.Fronts.{Passes};
-ghost use Rattle.core_state.specs.Found.{held_by};
+ghost use Rattle.event_core.specs.Board.{core_row};
+ghost use Rattle.event_core.specs.Parts.{LeavesLoans};
 ghost use Rattle.event_core.specs.Seen.{state_of};
-ghost use Rattle.worker_gate.specs.Hands.{HasDoneIf};
+ghost use Rattle.worker_gate.specs.Hands.{HasDoneIf, HasNothing};
 ghost use Rattle.worker_gate.specs.Left.{MovesHand};
-ghost use Rattle.worker_gate.specs.Looks.{HasLooked, TellsLook};
+ghost use Rattle.worker_gate.specs.Looks.{HasLooked};
 ghost use Rattle.worker_gate.specs.Turns.{EndsSo, GoesOn, IsOutWith, IsReady, LooksLast, sight_in};
 
 use crate::looking::{Look, worker_look};
@@ -39,8 +40,9 @@ enum Turned {
 
 /// Works at a core until it is marked closing and nothing is left to do, or no memory is left to clear a filter.
 ///
-/// In each turn of its seat the worker gives back what it had taken, and looks for more. Outside of its turns it lets
-/// batches pass filters, behind the gate, and where there is nothing to do it rests on the bell of the board.
+/// In each turn of its seat the worker gives back what it had taken, and looks for more. Outside of its turns it writes
+/// batches that it cut, lets batches pass filters, behind the gate, and folds them, and where there is nothing to do it rests on the bell of the
+/// board.
 pub fn worker_loop<G: Gate, R: Wait>(
     rt: &R,
     board: &BoardLock<Core>,
@@ -77,7 +79,7 @@ fn turn_and_work<G: Gate, R: Wait>(
     ensures passes { Passes (sight_in (view_of seat.old)) (sight_in (view_of seat.new)) }
 {
     match take_turn(rt, board, seat, done) {
-        Look::Got(work) => Turned::Goes(Some(do_work(work, seat.number(), gate))),
+        Look::Got(carried) => Turned::Goes(Some(do_work(carried, seat.number(), gate))),
         Look::Did(_) => Turned::Goes(None),
         Look::Rest => Turned::Goes(None),
         Look::Closed => Turned::Ends(WorkerEnd::Closed),
@@ -113,9 +115,10 @@ fn take_turn<R: Wait>(
 /// What a worker does with the core while it has its turn.
 fn give_and_look(core: &mut Core, worker: u32, done: Option<Work>) -> Look
     requires seat { worker < (state_of core.old).settings.seats }
-    requires hand { HasDoneIf done (held_by (state_of core.old).scan.flights worker) }
+    requires hand { HasDoneIf done (core_row core.old worker) }
     ensures moves { MovesHand worker (state_of core.old) (state_of core.new) }
-    ensures hand { HasLooked result (held_by (state_of core.new).scan.flights worker) }
+    ensures hand { HasLooked result (core_row core.new worker) }
+    ensures others { LeavesLoans worker core.old core.new }
     ensures last { LooksLast result (Some core.new) }
 {
     give_if_done(core, worker, done);
@@ -124,9 +127,10 @@ fn give_and_look(core: &mut Core, worker: u32, done: Option<Work>) -> Look
 
 /// Gives a work back, if there is one.
 pub fn give_if_done(core: &mut Core, worker: u32, done: Option<Work>)
-    requires { HasDoneIf done (held_by (state_of core.old).scan.flights worker) }
+    requires { HasDoneIf done (core_row core.old worker) }
     ensures moves { MovesHand worker (state_of core.old) (state_of core.new) }
-    ensures empty { held_by (state_of core.new).scan.flights worker ≡ None }
+    ensures empty { HasNothing (core_row core.new worker) }
+    ensures others { LeavesLoans worker core.old core.new }
 {
     match done {
         Some(work) => give_work(core, worker, work),

@@ -5,10 +5,11 @@ ghost use Rattle.event_core.specs.Lent.{IsAtHome};
 ghost use Rattle.event_core.specs.Parts.{beside_of};
 ghost use Rattle.event_core.specs.Seen.{state_of};
 ghost use Rattle.event_core.specs.Took.{MayWantMemory, Took};
+ghost use Rattle.worker_gate.specs.Left.{LeavesAllLoans};
 ghost use Rattle.std.specs.Prelude.{◌≡◌};
 
 use core_state::Event;
-use event_core::Core;
+use event_core::{Core, what_is_beside_stays_lent};
 
 /// Makes an event that may come. It finds memory, since it wants none.
 pub(crate) fn make(core: &mut Core, event: Event)
@@ -17,6 +18,9 @@ pub(crate) fn make(core: &mut Core, event: Event)
     requires home { IsAtHome event (lent_to core.old.flights) }
     ensures took { Took event (state_of core.old) (state_of core.new) }
     ensures beside { beside_of core.new ≡ beside_of core.old }
+    ensures loans { LeavesAllLoans core.old core.new }
 {
+    // It is called for what it ensures.
+    what_is_beside_stays_lent();
     let _ = core.step(event);
 }

@@ -1,14 +1,14 @@
 //! Which event a worker makes where no batch wants a filter.
-ghost use Rattle.std.specs.Prelude.{◌≡◌, All, IfSome, IsSome, None};
+ghost use Rattle.std.specs.Prelude.{◌≡◌, All, IfSome, IsSome, IsTrue, None};
 ghost use Rattle.core_state.specs.Tables.{tables_of};
 ghost use Rattle.event_core.specs.Chosen.{NoneMayCome};
 ghost use Rattle.event_core.specs.Seen.{state_of};
-ghost use Rattle.worker_gate.specs.Left.{LeavesRows};
-ghost use Rattle.worker_gate.specs.Managed.{IsFirstOf, NoneIsLeft, OrdersIf, TellsManaged, counted_by, is_sixteenth, managed_kinds};
+ghost use Rattle.worker_gate.specs.Left.{LeavesAllLoans, LeavesRows};
+ghost use Rattle.worker_gate.specs.Managed.{IsFirstOf, NoneIsLeft, OrdersIf, TellsManaged, counted_by, counted_home, is_sixteenth, is_sixteenth_home, managed_kinds};
 
 use crate::making::make;
 use core_state::{Event, a_step_moves_one_row};
-use event_core::{Core, EventKind, every_core_is_sound};
+use event_core::{Core, EventKind, every_core_is_sound, what_is_beside_stays_lent};
 
 /// These are asked for in turn: what a batch that is through and a slot whose query is over wait for comes first, and
 /// a batch is cut only where nothing else is left.
@@ -39,8 +39,8 @@ pub enum Managed {
 /// An event that may come, and its kind.
 #[derive(Drop)]
 pub(crate) struct Next {
-    kind: EventKind,
-    event: Event,
+    pub(crate) kind: EventKind,
+    pub(crate) event: Event,
 }
 
 /// Makes one event of the first kind of which one may come: Distribute, Finish, Clear, Release, Reserve, Build,
@@ -49,6 +49,7 @@ pub(crate) struct Next {
 pub fn manage_one(core: &mut Core) -> Managed
     ensures tells { TellsManaged result core.old core.new }
     ensures leaves { LeavesRows (state_of core.old) (state_of core.new) }
+    ensures loans { LeavesAllLoans core.old core.new }
 {
     match next_managed(core) {
         Some(next) => make_next(core, next),
@@ -78,14 +79,16 @@ fn next_of(core: &Core, kinds: &[EventKind]) -> Option<Next>
 }
 
 /// Makes an event that may come, and counts it.
-fn make_next(core: &mut Core, next: Next) -> Managed
+pub(crate) fn make_next(core: &mut Core, next: Next) -> Managed
     requires { IsFirstOf managed_kinds (state_of core.old) next.kind next.event }
     ensures tells { TellsManaged result core.old core.new }
     ensures leaves { LeavesRows (state_of core.old) (state_of core.new) }
+    ensures loans { LeavesAllLoans core.old core.new }
 {
-    // Both are called for what they ensure.
+    // All three are called for what they ensure.
     every_core_is_sound(core);
     a_step_moves_one_row();
+    what_is_beside_stays_lent();
     let Next { kind, event } = next;
     match core.step(event) {
         Ok(()) => {
@@ -101,10 +104,25 @@ fn count(core: &mut Core, kind: EventKind)
     requires { kind ≡ EventKind.Distribute → IsSome (tables_of (state_of core.old)).schema.fact }
     ensures counted { core.new.marks ≡ counted_by kind core.old.marks }
     ensures orders { OrdersIf (is_sixteenth kind core.old.marks) (state_of core.old) (state_of core.new) }
+    ensures loans { LeavesAllLoans core.old core.new }
 {
     match kind {
         EventKind::Distribute => count_distribute(core),
         _ => {}
+    }
+}
+
+/// Counts the Distribute of a batch that came home, where it was folded outside, and orders the
+/// filters if it is time.
+pub(crate) fn count_home(core: &mut Core, is_folded: bool)
+    requires { IsTrue is_folded → IsSome (tables_of (state_of core.old)).schema.fact }
+    ensures counted { core.new.marks ≡ counted_home is_folded core.old.marks }
+    ensures orders { OrdersIf (is_sixteenth_home is_folded core.old.marks)
+        (state_of core.old) (state_of core.new) }
+    ensures loans { LeavesAllLoans core.old core.new }
+{
+    if is_folded {
+        count_distribute(core);
     }
 }
 
@@ -113,6 +131,7 @@ fn count_distribute(core: &mut Core)
     requires { IsSome (tables_of (state_of core.old)).schema.fact }
     ensures counted { core.new.marks ≡ counted_by EventKind.Distribute core.old.marks }
     ensures orders { OrdersIf (is_sixteenth EventKind.Distribute core.old.marks) (state_of core.old) (state_of core.new) }
+    ensures loans { LeavesAllLoans core.old core.new }
 {
     if core.count_up() != 0 {
         return;

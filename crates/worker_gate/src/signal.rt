@@ -13,7 +13,8 @@ pub enum Signal {
     /// One of those who rest is woken: something is left to do, which any one who looks finds.
     One,
 
-    /// All who rest are woken: what some of them wait for may have come, or none finds memory.
+    /// All who rest are woken: what some of them wait for may have come, or none finds memory. So it is
+    /// where a statement waits for the tables, until it is taken.
     All,
 
     /// The seat rests while this is the bell's number.
@@ -22,6 +23,9 @@ pub enum Signal {
 
 /// The signal behind a look, decided in the turn of the look.
 pub fn signal_behind<R: Wait>(rt: &R, board: &BoardLock<Core>, core: &Core, look: &Look) -> Signal {
+    if is_all_home(core) {
+        return Signal::All;
+    }
     match look {
         Look::Got(_) => signal_if_more(board, core),
         Look::Did(kind) => signal_of(*kind),
@@ -34,13 +38,27 @@ pub fn signal_behind<R: Wait>(rt: &R, board: &BoardLock<Core>, core: &Core, look
 
 /// The signal of a seat that goes on to something else and looks again only behind that.
 pub fn signal_if_more(board: &BoardLock<Core>, core: &Core) -> Signal {
+    if is_all_home(core) {
+        return Signal::All;
+    }
     // Asked in this order, since the second question takes some time: while nobody rests, turns are
     // as short as without it.
     if board.has_resting() && is_more_to_do(core) {
-        Signal::One
+        signal_for_more(core.is_waiting())
     } else {
         Signal::Nobody
     }
+}
+
+/// Whom a seat wakes that leaves something to do: any one who looks. While a statement waits for the
+/// tables that one may be a seat that does not look, so all are woken.
+fn signal_for_more(waiting: bool) -> Signal {
+    if waiting { Signal::All } else { Signal::One }
+}
+
+/// Whether what a statement waits for is so: the tables are lent to nobody any more.
+fn is_all_home(core: &Core) -> bool {
+    core.is_waiting() && !core.is_any_out()
 }
 
 /// The signal behind an event: a Finish may bring a reply. Whoever made the event looks again.

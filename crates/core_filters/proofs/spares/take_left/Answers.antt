@@ -1,6 +1,6 @@
 use Rattle.std.proofs.Common.{◌≡◌, ◌++◌, ◌+◌, drop, option_map, ap, ◌∙◌, subst, sym, arith}
 use Rattle.std.specs.List.{All, cons_option}
-use Rattle.core_filters.specs.Filters.{left_of}
+use Rattle.core_filters.specs.Filters.{left_of, rows_or_none}
 use Rattle.core_filters.specs.Spares.{AreApart, IsKept, with_all_taken}
 use Rattle.core_filters.proofs.TakingLemmas.{first-holds, left-next, taken-one}
 use Rattle.core_filters.proofs.spares.take_left.Goals as goal
@@ -8,29 +8,29 @@ use Rattle.core_filters.proofs.spares.take_left.Goals as goal
 pub take_next-requires-clause-kept : goal.take_next-requires-clause-kept
 take_next-requires-clause-kept c =
     let versions = c.args.filters.now.versions in
-    let rows = c.args.batch.now in
+    let rows = rows_or_none (option_map (λ batch. batch.now) c.args.batch) in
     let order = c.args.order.now in
     let place = c.order.dimension-index in
     let low = c.order-test.true in
-    first-holds c.left-left.result (λ version. version.now) (IsKept c.args.seat c.order.spares)
+    first-holds c.left_to-left.result (λ version. version.now) (IsKept c.args.seat c.order.spares)
     (left_of versions rows (drop (place + 1) order))
     (subst (All (IsKept c.args.seat c.order.spares))
-    (left-next versions rows order place _ (option_map (λ version. version.now) c.left-left.result)
-    (omega arith) c.left-left.ensures)
+    (left-next versions rows order place _ (option_map (λ version. version.now) c.left_to-left.result)
+    (omega arith) c.left_to-left.ensures)
     c.order.invariant.kept)
 
 pub order-preserved : goal.order-preserved
 order-preserved c =
     let seat = c.args.seat in
     let versions = c.args.filters.now.versions in
-    let rows = c.args.batch.now in
+    let rows = rows_or_none (option_map (λ batch. batch.now) c.args.batch) in
     let order = c.args.order.now in
     let place = c.order.dimension-index in
     let low = c.order-test.true in
-    let one = option_map (λ version. version.now) c.left-left.result in
+    let one = option_map (λ version. version.now) c.left_to-left.result in
     let rest = left_of versions rows (drop (place + 1) order) in
     let first : left_of versions rows (drop place order) ≡ cons_option one rest =
-    left-next versions rows order place _ one (omega arith) c.left-left.ensures in
+    left-next versions rows order place _ one (omega arith) c.left_to-left.ensures in
     let before = c.order.invariant in
     let next =
     taken-one seat c.order.spares c.take_next.new.spares c.order.versions

@@ -1,7 +1,12 @@
 -- Without a statement nothing has changed.
 use Rattle.core_state.proofs.MoverLemmas.{mindful-none}
+use Rattle.std.proofs.Common.{refl}
 use Rattle.event_core.specs.Seen.{state_of}
+use Rattle.worker_gate.proofs.LeftLemmas.{loans-same}
 use Rattle.crate_tests.proofs.lent.give_next.Goals as goal
 
-pub returns-in-None : goal.returns-in-None
-returns-in-None c = record { mindful = mindful-none 0 (state_of c.args.core.now) }
+pub returns-in-None-clause-mindful : goal.returns-in-None-clause-mindful
+returns-in-None-clause-mindful c = mindful-none 0 (state_of c.args.core.now)
+
+pub returns-in-None-clause-loans : goal.returns-in-None-clause-loans
+returns-in-None-clause-loans c = loans-same c.args.core.now c.args.core.now refl

@@ -8,13 +8,16 @@ use Rattle.crate_tests.proofs.lent.make.Goals as goal
 pub step-requires : goal.step-requires
 step-requires c = record { home = kind-home c.args.event c.args.kind (lent_to c.args.core.now.flights) c.requires.kind }
 
-pub returns-in-Ok : goal.returns-in-Ok
-returns-in-Ok c =
-    record {
-      leaves = leaves-kind c.a_step_moves_one_row.ensures.one c.args.event c.args.kind (state_of c.args.core.now) (state_of c.step.new.self)
-          c.requires.kind c.every_core_is_sound.ensures c.in-Ok.ensures.taken;
-    }
+pub returns-in-Ok-clause-leaves : goal.returns-in-Ok-clause-leaves
+returns-in-Ok-clause-leaves c =
+    leaves-kind c.a_step_moves_one_row.ensures.one c.args.event c.args.kind (state_of c.args.core.now) (state_of c.step.new.self)
+    c.requires.kind c.every_core_is_sound.ensures c.in-Ok.ensures.taken
 
-pub returns-in-Err : goal.returns-in-Err
-returns-in-Err c =
-    record { leaves = leaves-same (state_of c.args.core.now) (state_of c.step.new.self) (ap state_of c.in-Err.ensures.err) }
+pub returns-in-Ok-clause-loans : goal.returns-in-Ok-clause-loans
+returns-in-Ok-clause-loans c = c.what_is_beside_stays_lent.ensures c.args.core.now c.step.new.self c.step.ensures.beside
+
+pub returns-in-Err-clause-leaves : goal.returns-in-Err-clause-leaves
+returns-in-Err-clause-leaves c = leaves-same (state_of c.args.core.now) (state_of c.step.new.self) (ap state_of c.in-Err.ensures.err)
+
+pub returns-in-Err-clause-loans : goal.returns-in-Err-clause-loans
+returns-in-Err-clause-loans c = c.what_is_beside_stays_lent.ensures c.args.core.now c.step.new.self c.step.ensures.beside

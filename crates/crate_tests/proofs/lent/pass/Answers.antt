@@ -7,7 +7,7 @@ use Rattle.event_core.specs.Seen.{state_of}
 use Rattle.crate_tests.proofs.lent.pass.Goals as goal
 
 pub do_behind-requires : goal.do_behind-requires
-do_behind-requires c = record { work = c.in-Got.ensures.tells.has }
+do_behind-requires c = c.in-Got.ensures.tells.has
 
 pub returns-in-Got-clause-seat : goal.returns-in-Got-clause-seat
 returns-in-Got-clause-seat c =

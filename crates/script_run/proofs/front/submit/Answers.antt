@@ -3,7 +3,7 @@ use Rattle.script_run.proofs.FrontPlayLemmas.{took-given}
 use Rattle.script_run.proofs.front.submit.Goals as goal
 
 pub step-requires : goal.step-requires
-step-requires c = record { home = tt }
+step-requires c = record { home = c.idle_cores_lend_nothing.ensures c.requires }
 
 pub returns-clause-gives : goal.returns-clause-gives
 returns-clause-gives c =

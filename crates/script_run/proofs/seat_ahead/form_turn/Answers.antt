@@ -12,7 +12,7 @@ leave-requires-clause-keeps g c =
     let number = (view_of c.args.seat.now).number in
     let state = state_of c.enter-core.result in
     turn-keeps c.own_steps_keep_a_board.ensures (view_of c.args.seat.now) (view_of c.enter-core.new.seat) c.enter-core.result
-    c.enter-core.result number c.enter-core.ensures.inside.1 refl (mindful-same number state state refl)
+    c.enter-core.result number c.enter-core.ensures.inside.1 refl (mindful-same number state state refl) (λ other apart. refl)
 
 pub returns-clause-ready : goal.returns-clause-ready
 returns-clause-ready g c =

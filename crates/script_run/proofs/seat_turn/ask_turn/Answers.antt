@@ -19,7 +19,7 @@ pub leave-requires-clause-keeps : goal.leave-requires-clause-keeps
 leave-requires-clause-keeps g c =
     turn-keeps c.own_steps_keep_a_board.ensures (view_of c.args.seat.now) (view_of c.enter-core.new.seat) c.enter-core.result
     c.give_and_ask-asked.new.core c.number-own.result c.enter-core.ensures.inside.1 c.number-own.ensures
-    c.give_and_ask-asked.ensures.mindful
+    c.give_and_ask-asked.ensures.mindful c.give_and_ask-asked.ensures.others
 
 pub returns-clause-out : goal.returns-clause-out
 returns-clause-out g c =

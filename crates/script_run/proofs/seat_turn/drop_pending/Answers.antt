@@ -2,7 +2,7 @@
 use Rattle.script_run.proofs.Words.{◌∙◌, state_of}
 use Rattle.core_state.specs.Rows.{sight_of}
 use Rattle.core_state.proofs.MoverLemmas.{mindful-then}
-use Rattle.script_run.proofs.SeatTurnLemmas.{lets-abandoned, lets-then}
+use Rattle.script_run.proofs.SeatTurnLemmas.{all-loans-then, lets-abandoned, lets-then}
 use Rattle.script_run.proofs.seat_turn.drop_pending.Goals as goal
 
 pub returns-clause-mindful : goal.returns-clause-mindful
@@ -22,3 +22,7 @@ returns-clause-hand c = c.drop_ready.ensures.hand ∙ c.abandon_pending.ensures.
 
 pub returns-clause-idle : goal.returns-clause-idle
 returns-clause-idle c = c.drop_ready.ensures.all c.abandon_pending.ensures.closed
+
+pub returns-clause-loans : goal.returns-clause-loans
+returns-clause-loans c =
+    all-loans-then c.args.core.now c.abandon_pending.new.core c.drop_ready.new.core c.abandon_pending.ensures.loans c.drop_ready.ensures.loans

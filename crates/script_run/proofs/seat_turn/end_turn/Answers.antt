@@ -4,13 +4,14 @@ use Rattle.board_lock.specs.Seats.{view_of}
 use Rattle.worker_gate.specs.Hands.{HasDoneIf}
 use Rattle.worker_gate.proofs.TurnLemmas.{hand-found, same-then, view-left}
 use Rattle.script_run.specs.Home.{LeftClosing}
-use Rattle.script_run.proofs.SeatTurnLemmas.{team-left, turn-keeps, turn-leaves, turn-out}
+use Rattle.script_run.proofs.SeatTurnLemmas.{loans-but, nothing-stays, team-left, turn-keeps, turn-leaves, turn-out}
 use Rattle.script_run.proofs.seat_turn.end_turn.Goals as goal
 
 pub leave-requires-clause-keeps : goal.leave-requires-clause-keeps
 leave-requires-clause-keeps g c =
     turn-keeps c.own_steps_keep_a_board.ensures (view_of c.args.seat.now) (view_of c.enter-core.new.seat) c.enter-core.result
     c.let_go.new.core c.number-own.result c.enter-core.ensures.inside.1 c.number-own.ensures c.let_go.ensures.mindful
+    (loans-but c.number-own.result c.enter-core.result c.let_go.new.core c.let_go.ensures.loans)
 
 pub returns-clause-ready : goal.returns-clause-ready
 returns-clause-ready g c =
@@ -19,9 +20,10 @@ returns-clause-ready g c =
     c.let_go.new.core c.enter-core.ensures.inside.1 c.leave.ensures.outside.1)
     (c.leave.ensures.same.0 ∙ c.enter-core.ensures.same.0 ∙ c.requires.own) c.leave.ensures.outside.0 c.requires.seated
     c.enter-core.ensures.finds c.let_go.ensures.mindful c.number-own.ensures
-    (c.let_go.ensures.abandons.hand
-    ∙ hand-found (HasDoneIf None) (view_of c.args.seat.now) c.enter-core.result c.number-own.result c.requires.hand
+    (nothing-stays c.number-own.result c.enter-core.result c.let_go.new.core
+    (hand-found (HasDoneIf None) (view_of c.args.seat.now) c.enter-core.result c.number-own.result c.requires.hand
     c.enter-core.ensures.finds c.number-own.ensures)
+    c.let_go.ensures.abandons.hand (c.let_go.ensures.loans c.number-own.result))
 
 pub returns-clause-same : goal.returns-clause-same
 returns-clause-same g c =

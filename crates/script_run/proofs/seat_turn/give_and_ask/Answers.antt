@@ -3,7 +3,7 @@ use Rattle.script_run.proofs.Words.{◌<◌, RunSettings, state_of, subst, sym}
 use Rattle.core_state.specs.Rows.{sight_of}
 use Rattle.core_state.proofs.MoverLemmas.{mindful-then}
 use Rattle.worker_gate.proofs.LeftLemmas.{moves-mindful}
-use Rattle.script_run.proofs.SeatTurnLemmas.{asked-behind, stays-moved}
+use Rattle.script_run.proofs.SeatTurnLemmas.{asked-behind, loans-then, stays-moved}
 use Rattle.script_run.proofs.seat_turn.give_and_ask.Goals as goal
 
 pub ask-requires : goal.ask-requires
@@ -23,3 +23,7 @@ returns-clause-mindful c =
     mindful-then c.args.seat (state_of c.args.core.now) (state_of c.give_if_done.new.core) (state_of c.ask.new.core)
     (moves-mindful c.args.seat (state_of c.args.core.now) (state_of c.give_if_done.new.core) c.give_if_done.ensures.moves)
     c.ask.ensures.mindful
+
+pub returns-clause-others : goal.returns-clause-others
+returns-clause-others c =
+    loans-then c.args.seat c.args.core.now c.give_if_done.new.core c.ask.new.core c.give_if_done.ensures.others c.ask.ensures.others

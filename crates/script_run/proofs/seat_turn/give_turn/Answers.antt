@@ -1,52 +1,70 @@
--- What the seat finds is what it knew, and what it leaves has the statement, or nothing has changed.
-use Rattle.script_run.proofs.Words.{◌∙◌, ap, None, state_of}
+-- One try behind another, of the same statement.
+use Rattle.script_run.proofs.Words.{◌∙◌, refl, ℕ, subst}
 use Rattle.board_lock.specs.Seats.{view_of}
-use Rattle.worker_gate.specs.Hands.{HasDoneIf}
-use Rattle.worker_gate.proofs.TurnLemmas.{hand-found, same-then, view-left}
+use Rattle.script_reader.specs.declared.statement.Statement.{Statement}
+use Rattle.worker_gate.specs.Turns.{sight_in}
+use Rattle.worker_gate.proofs.TurnLemmas.{same-seat, same-then}
 use Rattle.script_run.specs.SeatTurns.{Stays, Submitted}
-use Rattle.script_run.proofs.SeatTurnLemmas.{stays-same, stays-then, submitted-behind, team-left, turn-keeps, turn-out, turn-tells}
+use Rattle.script_run.proofs.SeatFrontLemmas.{by-number}
+use Rattle.script_run.proofs.SeatTurnLemmas.{stays-none, stays-then, submitted-behind, team-none, team-then}
 use Rattle.script_run.proofs.seat_turn.give_turn.Goals as goal
 
-pub leave-requires-clause-keeps : goal.leave-requires-clause-keeps
-leave-requires-clause-keeps g c =
-    turn-keeps c.own_steps_keep_a_board.ensures (view_of c.args.seat.now) (view_of c.enter-core.new.seat) c.enter-core.result
-    c.submit-given.new.core c.number-own.result c.enter-core.ensures.inside.1 c.number-own.ensures c.submit-given.ensures.mindful
+pub tries-init : goal.tries-init
+tries-init g c = record {
+  ready = c.requires;
+  same = same-seat c.args.seat.now;
+  team = team-none c.args.seat.now;
+  stays = stays-none (view_of c.args.seat.now).number (sight_in (view_of c.args.seat.now));
+  statement = refl;
+}
 
-pub returns-clause-ready : goal.returns-clause-ready
-returns-clause-ready g c =
-    turn-out c.args.board.now (HasDoneIf None) c.args.seat.now c.leave.new.seat c.enter-core.result c.submit-given.new.core
-    c.number-own.result
-    (view-left (view_of c.args.seat.now) (view_of c.enter-core.new.seat) (view_of c.leave.new.seat) c.enter-core.result
-    c.submit-given.new.core c.enter-core.ensures.inside.1 c.leave.ensures.outside.1)
-    (c.leave.ensures.same.0 ∙ c.enter-core.ensures.same.0 ∙ c.requires.own) c.leave.ensures.outside.0 c.requires.seated
-    c.enter-core.ensures.finds c.submit-given.ensures.mindful c.number-own.ensures
-    (c.submit-given.ensures.hand
-    ∙ hand-found (HasDoneIf None) (view_of c.args.seat.now) c.enter-core.result c.number-own.result c.requires.hand
-    c.enter-core.ensures.finds c.number-own.ensures)
+pub tries-preserved : goal.tries-preserved
+tries-preserved g c =
+    let old = view_of c.args.seat.now in
+    let mid = view_of c.tries.seat in
+    let new = view_of c.try_turn.new.seat in
+    record {
+      ready = c.in-Waits.ensures.ready;
+      same = same-then c.args.seat.now c.tries.seat c.try_turn.new.seat c.tries.invariant.same c.try_turn.ensures.same;
+      team = team-then c.args.seat.now c.tries.seat c.try_turn.new.seat c.tries.invariant.team c.try_turn.ensures.team;
+      stays = stays-then old.number (sight_in old) (sight_in mid) (sight_in new) c.tries.invariant.stays
+          (by-number (λ (number : ℕ). Stays number (sight_in mid) (sight_in new)) c.args.seat.now c.tries.seat
+          c.tries.invariant.same c.in-Waits.ensures.tells);
+      statement = c.in-Waits.ensures.statement ∙ c.tries.invariant.statement;
+    }
 
-pub returns-clause-same : goal.returns-clause-same
-returns-clause-same g c =
-    same-then c.args.seat.now c.enter-core.new.seat c.leave.new.seat c.enter-core.ensures.same c.leave.ensures.same
+pub returns-in-Taken-clause-same : goal.returns-in-Taken-clause-same
+returns-in-Taken-clause-same g c =
+    same-then c.args.seat.now c.tries.seat c.try_turn.new.seat c.tries.invariant.same c.try_turn.ensures.same
 
-pub returns-clause-team : goal.returns-clause-team
-returns-clause-team g c =
-    team-left c.args.seat.now c.leave.new.seat c.submit-given.new.core
-    (view-left (view_of c.args.seat.now) (view_of c.enter-core.new.seat) (view_of c.leave.new.seat) c.enter-core.result
-    c.submit-given.new.core c.enter-core.ensures.inside.1 c.leave.ensures.outside.1)
+pub returns-in-Taken-clause-team : goal.returns-in-Taken-clause-team
+returns-in-Taken-clause-team g c =
+    team-then c.args.seat.now c.tries.seat c.try_turn.new.seat c.tries.invariant.team c.try_turn.ensures.team
 
-pub returns-clause-submits : goal.returns-clause-submits
-returns-clause-submits g c = λ given.
-    turn-tells (λ seat old new. Submitted seat c.args.statement.now old new) (submitted-behind c.args.statement.now) c.args.seat.now
-    c.leave.new.seat c.enter-core.result c.submit-given.new.core c.number-own.result
-    (view-left (view_of c.args.seat.now) (view_of c.enter-core.new.seat) (view_of c.leave.new.seat) c.enter-core.result
-    c.submit-given.new.core c.enter-core.ensures.inside.1 c.leave.ensures.outside.1)
-    c.enter-core.ensures.finds c.number-own.ensures (c.submit-given.ensures.submits given)
+pub returns-in-Taken-clause-submits : goal.returns-in-Taken-clause-submits
+returns-in-Taken-clause-submits g c = λ given.
+    let old = view_of c.args.seat.now in
+    let mid = view_of c.tries.seat in
+    let new = view_of c.try_turn.new.seat in
+    submitted-behind c.args.statement.now old.number (sight_in old) (sight_in mid) (sight_in new) c.tries.invariant.stays
+    (by-number (λ (number : ℕ). Submitted number c.args.statement.now (sight_in mid) (sight_in new)) c.args.seat.now c.tries.seat
+    c.tries.invariant.same
+    (subst (λ (statement : Statement). Submitted mid.number statement (sight_in mid) (sight_in new)) c.tries.invariant.statement
+    c.in-Taken.ensures.tells))
 
-pub returns-clause-lost : goal.returns-clause-lost
-returns-clause-lost g c = λ wanting.
-    turn-tells Stays stays-then c.args.seat.now c.leave.new.seat c.enter-core.result c.submit-given.new.core c.number-own.result
-    (view-left (view_of c.args.seat.now) (view_of c.enter-core.new.seat) (view_of c.leave.new.seat) c.enter-core.result
-    c.submit-given.new.core c.enter-core.ensures.inside.1 c.leave.ensures.outside.1)
-    c.enter-core.ensures.finds c.number-own.ensures
-    (stays-same c.number-own.result (state_of c.enter-core.result) (state_of c.submit-given.new.core)
-    (ap state_of (c.submit-given.ensures.lost wanting)))
+pub returns-in-Lost-clause-same : goal.returns-in-Lost-clause-same
+returns-in-Lost-clause-same g c =
+    same-then c.args.seat.now c.tries.seat c.try_turn.new.seat c.tries.invariant.same c.try_turn.ensures.same
+
+pub returns-in-Lost-clause-team : goal.returns-in-Lost-clause-team
+returns-in-Lost-clause-team g c =
+    team-then c.args.seat.now c.tries.seat c.try_turn.new.seat c.tries.invariant.team c.try_turn.ensures.team
+
+pub returns-in-Lost-clause-lost : goal.returns-in-Lost-clause-lost
+returns-in-Lost-clause-lost g c = λ wanting.
+    let old = view_of c.args.seat.now in
+    let mid = view_of c.tries.seat in
+    let new = view_of c.try_turn.new.seat in
+    stays-then old.number (sight_in old) (sight_in mid) (sight_in new) c.tries.invariant.stays
+    (by-number (λ (number : ℕ). Stays number (sight_in mid) (sight_in new)) c.args.seat.now c.tries.seat c.tries.invariant.same
+    c.in-Lost.ensures.tells)

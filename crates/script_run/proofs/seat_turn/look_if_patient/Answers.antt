@@ -13,6 +13,9 @@ returns-then-not-patient-clause-moves c =
     moves-none c.args.seat (state_of c.args.core.now) (state_of c.args.core.now)
     (leaves-same (state_of c.args.core.now) (state_of c.args.core.now) refl)
 
+pub returns-then-not-patient-clause-others : goal.returns-then-not-patient-clause-others
+returns-then-not-patient-clause-others c = λ other apart. refl
+
 pub returns-clause-tells : goal.returns-clause-tells
 returns-clause-tells c = (
   stays-moved c.args.seat (state_of c.args.core.now) (state_of c.worker_look.new.core) c.worker_look.ensures.moves,

@@ -20,3 +20,6 @@ pub returns-in-None-clause-moves : goal.returns-in-None-clause-moves
 returns-in-None-clause-moves c =
     moves-none c.args.seat (state_of c.args.core.now) (state_of c.args.core.now)
     (leaves-same (state_of c.args.core.now) (state_of c.args.core.now) refl)
+
+pub returns-in-None-clause-others : goal.returns-in-None-clause-others
+returns-in-None-clause-others c = λ other apart. refl

@@ -14,22 +14,22 @@ use Rattle.star_statement.proofs.applying.load.Goals as goal
 pub find_table-requires : goal.find_table-requires
 find_table-requires c = rw c.schema-2.ensures.schema c.schema-2.ensures.settled.declared.limits
 
-pub returns-then-is_none : goal.returns-then-is_none
-returns-then-is_none c =
+pub returns-then-is_none-clause-follows : goal.returns-then-is_none-clause-follows
+returns-then-is_none-clause-follows c =
     let store = c.args.store.now in
     let none = ap not (rw c.schema.ensures.schema at c.if-is_none.ensures) in
     rw c.refused.ensures (follows_reason store store _ OutOfOrder (load_change-early (plain store) c.args.name.now c.args.header (block_bytes c.args.statement.now.block) none) refl)
 
-pub returns-in_default : goal.returns-in_default
-returns-in_default c =
+pub returns-in_default-clause-follows : goal.returns-in_default-clause-follows
+returns-in_default-clause-follows c =
     let store = c.args.store.now in
     let declared = ap not (rw c.schema.ensures.schema at c.if-is_none.ensures) in
     let unknown = rw c.schema-2.ensures.schema at (sym c.find_table.ensures ∙ c.in_default.is) in
     rw c.refused-in_default.ensures (follows_reason store store _ UnknownName
     (load_change-unknown (plain store) c.args.name.now c.args.header (block_bytes c.args.statement.now.block) declared unknown) refl)
 
-pub returns : goal.returns
-returns c =
+pub returns-clause-follows : goal.returns-clause-follows
+returns-clause-follows c =
     let store = c.args.store.now in
     let declared = ap not (rw c.schema.ensures.schema at c.if-is_none.ensures) in
     let named = rw c.schema-2.ensures.schema at (sym c.find_table.ensures ∙ c.in-Some.is) in

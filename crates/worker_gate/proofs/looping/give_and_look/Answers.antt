@@ -2,7 +2,7 @@
 use Rattle.std.proofs.Common.{◌<◌, subst, sym}
 use Rattle.core_state.specs.declared.settings.RunSettings.{RunSettings}
 use Rattle.event_core.specs.Seen.{state_of}
-use Rattle.worker_gate.proofs.LeftLemmas.{moves-then}
+use Rattle.worker_gate.proofs.LeftLemmas.{moves-then, others-then}
 use Rattle.worker_gate.proofs.LookLemmas.{last-looked}
 use Rattle.worker_gate.proofs.looping.give_and_look.Goals as goal
 
@@ -20,3 +20,8 @@ returns-clause-moves c =
 pub returns-clause-last : goal.returns-clause-last
 returns-clause-last c =
     last-looked c.worker_look.result c.args.worker c.give_if_done.new.core c.worker_look.new.core c.worker_look.ensures.tells
+
+pub returns-clause-others : goal.returns-clause-others
+returns-clause-others c =
+    others-then c.args.worker c.args.core.now c.give_if_done.new.core c.worker_look.new.core c.give_if_done.ensures.others
+    c.worker_look.ensures.others

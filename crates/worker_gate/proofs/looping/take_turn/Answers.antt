@@ -3,7 +3,7 @@ use Rattle.std.proofs.Common.{ap, subst, sym, ◌∙◌}
 use Rattle.core_state.specs.Rows.{IsMindful}
 use Rattle.board_lock.specs.Seats.{view_of}
 use Rattle.board_lock.specs.declared.view.View.{View}
-use Rattle.event_core.specs.Parts.{Parts}
+use Rattle.event_core.specs.Parts.{LeavesLoans, Parts}
 use Rattle.event_core.specs.Seen.{state_of}
 use Rattle.worker_gate.specs.Hands.{HasDoneIf}
 use Rattle.worker_gate.specs.Looks.{HasLooked}
@@ -27,6 +27,9 @@ leave-requires-clause-keeps g c =
     (c.number-worker.ensures ∙ sym (ap (λ (view : View Parts). view.number) c.enter-core.ensures.inside.1))
     (moves-mindful c.number-worker.result (state_of c.enter-core.result) (state_of c.give_and_look-look.new.core)
     c.give_and_look-look.ensures.moves))
+    (subst (λ n. LeavesLoans n c.enter-core.result c.give_and_look-look.new.core)
+    (c.number-worker.ensures ∙ sym (ap (λ (view : View Parts). view.number) c.enter-core.ensures.inside.1))
+    c.give_and_look-look.ensures.others)
 
 pub returns-clause-out : goal.returns-clause-out
 returns-clause-out g c =

@@ -6,7 +6,8 @@ use Rattle.core_state.specs.Tables.{tables_of}
 use Rattle.core_state.specs.declared.event.Event.TheVariants.{Reorder}
 use Rattle.event_core.specs.Seen.{state_of}
 use Rattle.event_core.specs.Took.{Took}
-use Rattle.worker_gate.proofs.ManagedLemmas.{counted-up, marks-stay, orders-more, orders-zero, state-counted}
+use Rattle.worker_gate.proofs.LeftLemmas.{loans-then}
+use Rattle.worker_gate.proofs.ManagedLemmas.{counted-up, loans-counted, marks-stay, orders-more, orders-zero, state-counted}
 use Rattle.worker_gate.proofs.managing.count_distribute.Goals as goal
 
 pub make-requires : goal.make-requires
@@ -37,3 +38,12 @@ returns-clause-orders c =
     c.if-count_up-ne0.false
     (subst (λ (state : State). Took Reorder state (state_of c.make.new.core))
     (state-counted c.count_up.result c.args.core.now c.count_up.new.self c.count_up.ensures.marks) c.make.ensures.took)
+
+pub returns-then-count_up-ne0-clause-loans : goal.returns-then-count_up-ne0-clause-loans
+returns-then-count_up-ne0-clause-loans c =
+    loans-counted c.count_up.result c.args.core.now c.count_up.new.self c.count_up.ensures.marks
+
+pub returns-clause-loans : goal.returns-clause-loans
+returns-clause-loans c =
+    loans-then c.args.core.now c.count_up.new.self c.make.new.core
+    (loans-counted c.count_up.result c.args.core.now c.count_up.new.self c.count_up.ensures.marks) c.make.ensures.loans

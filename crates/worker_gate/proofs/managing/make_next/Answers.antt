@@ -2,7 +2,7 @@
 use Rattle.std.proofs.Common.{ap, ◌∙◌, Some}
 use Rattle.core_parts.specs.Lent.{lent_to}
 use Rattle.event_core.specs.Seen.{state_of}
-use Rattle.worker_gate.proofs.LeftLemmas.{kind-home, leaves-same}
+use Rattle.worker_gate.proofs.LeftLemmas.{kind-home, leaves-same, loans-same, loans-then}
 use Rattle.worker_gate.proofs.ManagedLemmas.{fact-distributed, leaves-managed, manages-by, to-clear}
 use Rattle.worker_gate.proofs.managing.make_next.Goals as goal
 
@@ -34,3 +34,11 @@ returns-in-Err-clause-tells c = (
 
 pub returns-in-Err-clause-leaves : goal.returns-in-Err-clause-leaves
 returns-in-Err-clause-leaves c = leaves-same (state_of c.args.core.now) (state_of c.step.new.self) (ap state_of c.in-Err.ensures.err)
+
+pub returns-in-Ok-clause-loans : goal.returns-in-Ok-clause-loans
+returns-in-Ok-clause-loans c =
+    loans-then c.args.core.now c.step.new.self c.count.new.core
+    (c.what_is_beside_stays_lent.ensures c.args.core.now c.step.new.self c.step.ensures.beside) c.count.ensures.loans
+
+pub returns-in-Err-clause-loans : goal.returns-in-Err-clause-loans
+returns-in-Err-clause-loans c = loans-same c.args.core.now c.step.new.self c.in-Err.ensures.err

@@ -4,7 +4,7 @@ use Rattle.core_state.specs.State.{State}
 use Rattle.core_state.specs.declared.event.Event.TheVariants.{Carry}
 use Rattle.event_core.specs.Seen.{state_of}
 use Rattle.event_core.specs.Took.{Took}
-use Rattle.worker_gate.proofs.LeftLemmas.{moves-taken}
+use Rattle.worker_gate.proofs.LeftLemmas.{moves-taken, others-all, others-then}
 use Rattle.worker_gate.proofs.LookLemmas.{held-took, home-took, takes-by}
 use Rattle.worker_gate.proofs.working.carry_batch.Goals as goal
 
@@ -17,7 +17,8 @@ lend-requires c = record {
 pub returns-clause-takes : goal.returns-clause-takes
 returns-clause-takes c =
     takes-by c.a_work_stays_right.ensures c.lend.result c.args.worker c.args.batch c.args.core.now c.make.new.core c.lend.new.self
-    c.make.ensures.took c.make.ensures.beside c.lend.ensures.state c.lend.ensures.marks c.lend.ensures.work c.lend.ensures.sound
+    c.make.ensures.took c.make.ensures.beside c.lend.ensures.state c.lend.ensures.marks c.lend.ensures.work
+    c.lend.ensures.waiting c.lend.ensures.sound
 
 pub returns-clause-moves : goal.returns-clause-moves
 returns-clause-moves c =
@@ -25,3 +26,8 @@ returns-clause-moves c =
     c.args.worker tt c.every_core_is_sound.ensures
     (subst (λ (state : State). Took (Carry c.args.worker c.args.batch) (state_of c.args.core.now) state) (sym c.lend.ensures.state) c.make.ensures.took)
     refl
+
+pub returns-clause-others : goal.returns-clause-others
+returns-clause-others c =
+    others-then c.args.worker c.args.core.now c.make.new.core c.lend.new.self
+    (others-all c.args.worker c.args.core.now c.make.new.core c.make.ensures.loans) c.lend.ensures.others

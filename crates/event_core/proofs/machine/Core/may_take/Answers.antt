@@ -1,4 +1,4 @@
-use Rattle.event_core.proofs.Words.{◌∙◌, ap, Parts, refl, sym}
+use Rattle.event_core.proofs.Words.{◌∙◌, ap, Parts, sym}
 use Rattle.event_core.proofs.EnablingLemmas.{taken-wanting, untaken-batch, untaken-hand}
 use Rattle.event_core.proofs.machine.Core.may_take.Goals as goal
 

@@ -1,15 +1,13 @@
-use Rattle.event_core.proofs.Words.{◌∙◌, after_submitting, ap, lent_to, state_of, subst}
+use Rattle.event_core.proofs.Words.{lent_to, subst}
 use Rattle.core_state.specs.Events.{after_event}
 use Rattle.event_core.specs.Lent.{IsAtHome}
 use Rattle.event_core.proofs.TookLemmas.{took-build, took-distribute, took-done}
 use Rattle.event_core.proofs.machine.Core.take_enabled.Goals as goal
 
-pub returns-in_ok-submit-in-Submit-clause-taken : goal.returns-in_ok-submit-in-Submit-clause-taken
+pub returns-in_ok-submit_at_home-in-Submit-clause-taken : goal.returns-in_ok-submit_at_home-in-Submit-clause-taken
 unfolding after_event
-returns-in_ok-submit-in-Submit-clause-taken c =
-    took-done _ _ _ _ c.requires.enabled c.in-Submit.is
-    (c.in_ok-submit-in-Submit.ensures.ok
-    ∙ ap (λ statement. after_submitting c.in-Submit.seat statement (state_of c.args.self.now)) c.unread.ensures)
+returns-in_ok-submit_at_home-in-Submit-clause-taken c =
+    took-done _ _ _ _ c.requires.enabled c.in-Submit.is c.in_ok-submit_at_home-in-Submit.ensures.ok
 
 pub returns-in-Reserve-clause-taken : goal.returns-in-Reserve-clause-taken
 unfolding after_event

@@ -28,7 +28,7 @@ take_kept-groups-requires c = asked-rise _ c.self.invariant.0
 
 -- the parts before, and what is known of them
 abbrev before : (c : goal.After-ready_with) → Parts
-before c = parts_by c.self.inside.settings c.self.inside.store c.self.inside.log c.self.inside.seats c.self.inside.asked
+before c = parts_by c.self.inside.settings c.self.inside.tables c.self.inside.log c.self.inside.seats c.self.inside.asked
     c.self.inside.manager c.self.inside.filters c.self.inside.scan c.self.inside.distributor c.self.inside.flights
     c.self.inside.pool c.self.inside.cut c.self.inside.last_statement c.self.inside.last_batch c.self.inside.last_version
     c.self.inside.marks
@@ -71,6 +71,8 @@ invariant_of-self c = (
       (on-same c.self.inside.manager c.self.inside.manager refl) (ap (λ (asked : AskedQueries). asked.gone) c.take_kept-groups.ensures.left)
       (ap (λ (asked : AskedQueries). asked.handed) c.take_kept-groups.ensures.left) c.self.invariant.2),
   c.self.invariant.3,
+  c.self.invariant.4,
+  c.self.invariant.5,
 )
 
 pub returns-clause-ready : goal.returns-clause-ready

@@ -1,6 +1,6 @@
 use Rattle.script_run.proofs.Words.{◌<◌, ◌≢◌, [], err_from_is_err_and, Finishes, FrontParts, IsCounted, seat_at, state_of, subst, sym}
 use Rattle.script_run.specs.contracts.front.Front.{the_view}
-use Rattle.script_run.proofs.FrontCountLemmas.{calm-open, closed-counted, few-open, finishes-none, knows-finished, slots-some, some-open}
+use Rattle.script_run.proofs.FrontCountLemmas.{calm-open, few-open, finishes-none, knows-finished, slots-some}
 use Rattle.script_run.proofs.front.Front.finish_open.Goals as goal
 
 pub invariant_of-self : goal.invariant_of-self

@@ -10,8 +10,8 @@ use Rattle.script_run.proofs.SeatReadLemmas.{SeatPlaying}
 use Rattle.script_run.proofs.SharedWholeLemmas.{statements_left}
 use Rattle.script_run.proofs.seat_front.SeatFront.play_whole.Given as goal
 
-abbrev pub invariant-statements : goal.invariant-statements
-invariant-statements g l = record {
+abbrev pub invariant-runs : goal.invariant-runs
+invariant-runs g l = record {
   ready : IsReady l.board None l.self.seat;
   same : IsSameSeat l.initial.self.seat l.self.seat;
   team : IsSameTeam (view_of l.initial.self.seat) (view_of l.self.seat);
@@ -23,5 +23,5 @@ invariant-statements g l = record {
   apart : g.K.Sink.reading_side l.sink ≡ g.K.Sink.reading_side l.initial.sink;
 }
 
-abbrev pub decreases-statements : goal.decreases-statements
-decreases-statements g l = statements_left l.reader
+abbrev pub decreases-runs : goal.decreases-runs
+decreases-runs g l = statements_left l.reader

@@ -1,0 +1,298 @@
+-- Many statements that a seat sends in one turn, one behind another, and what was read of a run.
+use Rattle.script_run.proofs.Words.{◌++◌, ◌<◌, ◌||◌, ◌∙◌, ◌∷◌, ◌≡◌, ◌≢◌, ◌⊎◌, [], All-append, All-cons, All-nil, ap, append-nil, append_assoc, arith, Bool, drop, Err, false, Halt, inl, inr, length, length-append, List, map-append, None, Ok, Option, Reading, refl, Result, Some, Statement, statements_of, StaysFed, subst, sym, take, take-append-drop, TakesFirst, true, Wants, ℕ, ⊎_elim}
+use Rattle.star_store.proofs.AppendLemmas.{none_left}
+use Rattle.core_state.specs.Fronts.{Goes}
+use Rattle.core_state.specs.Rows.{Sight}
+use Rattle.core_state.specs.Sent.{IsGiven, statement_in, statements_in}
+use Rattle.core_state.proofs.FrontLemmas.{goes-then}
+use Rattle.script_reader.specs.Reading.{Answers}
+use Rattle.script_reader.specs.declared.reader.Next.{Next}
+use Rattle.script_reader.specs.declared.reader.Next.TheVariants.{Got}
+use Rattle.script_run.specs.Front.{Reads}
+use Rattle.script_run.specs.SeatFront.{SeatPlays}
+use Rattle.script_run.specs.SeatRun.{ReadsNext, StopsAt, alone_at, alone_in, behind_at}
+use Rattle.script_run.specs.SeatTurns.{Stays, Submitted, SubmittedAll}
+use Rattle.script_run.specs.declared.seat_run.Behind.{Behind}
+use Rattle.script_run.specs.declared.seat_run.Behind.TheVariants.{More, NoMemory as NoneLeft, Nothing}
+use Rattle.script_run.specs.declared.seat_run.RunEnd.{RunEnd}
+use Rattle.script_run.specs.declared.seat_run.RunEnd.TheVariants as ended
+use Rattle.script_run.proofs.OnLemmas.{halts-weaker}
+use Rattle.script_run.proofs.SeatFrontLemmas.{seat-behind, seat-err, seat-none, seat-ok, seat-sends}
+use Rattle.script_run.proofs.SharedReadLemmas.{reads-all, reads-done, reads-first, reads-itself, reads-then}
+use Rattle.script_run.proofs.SharedWholeLemmas.{statements_left}
+
+-- What was sent.
+
+-- nothing yet
+pub many-none : (seat : ℕ) (old new : Sight) → Stays seat old new → SubmittedAll seat [] old new
+many-none seat old new stays due waits =
+    ([], refl, All-nil IsGiven, subst (λ still. Goes seat old due new still [] [] []) (sym (append-nil due)) (stays due waits))
+
+-- some, and behind them others
+many-then : (seat : ℕ) (statements others : List Statement) (old between new : Sight) → SubmittedAll seat statements old between
+    → SubmittedAll seat others between new → SubmittedAll seat (statements ++ others) old new
+many-then seat statements others old between new first second due waits =
+    let before = first due waits in
+    let behind = second (due ++ before.0) before.3.waits in (
+      before.0 ++ behind.0,
+      map-append statement_in before.0 behind.0 ∙ ap (λ list. list ++ statements_in behind.0) before.1
+          ∙ ap (λ list. statements ++ list) behind.1,
+      All-append IsGiven before.0 behind.0 before.2 behind.2,
+      subst (λ still. Goes seat old due new still (before.0 ++ behind.0) [] []) (append_assoc due before.0 behind.0)
+          (goes-then seat old between new due (due ++ before.0) ((due ++ before.0) ++ behind.0) before.0 behind.0 [] [] [] [] before.3
+          behind.3),
+    )
+
+-- one
+many-one : (seat : ℕ) (statement : Statement) (old new : Sight) → Submitted seat statement old new
+    → SubmittedAll seat (statement ∷ []) old new
+many-one seat statement old new submitted due waits =
+    let sent = submitted due waits in (sent.0 ∷ [], ap (λ one. one ∷ []) sent.1, All-cons IsGiven sent.0 [] sent.2 (All-nil IsGiven), sent.3)
+
+-- one more
+pub many-more : (seat : ℕ) (statements : List Statement) (statement : Statement) (old between new : Sight)
+    → SubmittedAll seat statements old between → Submitted seat statement between new
+    → SubmittedAll seat (statements ++ statement ∷ []) old new
+many-more seat statements statement old between new first second =
+    many-then seat statements (statement ∷ []) old between new first (many-one seat statement between new second)
+
+-- what others did before and behind
+pub many-behind : (seat : ℕ) (statements : List Statement) (old between new : Sight) → Stays seat old between
+    → SubmittedAll seat statements between new → SubmittedAll seat statements old new
+many-behind seat statements old between new stays second =
+    many-then seat [] statements old between new (many-none seat old between stays) second
+
+pub many-stays : (seat : ℕ) (statements : List Statement) (old between new : Sight) → SubmittedAll seat statements old between
+    → Stays seat between new → SubmittedAll seat statements old new
+many-stays seat statements old between new first stays =
+    subst (λ list. SubmittedAll seat list old new) (append-nil statements)
+    (many-then seat statements [] old between new first (many-none seat between new stays))
+
+-- no reply was taken meanwhile
+pub seat-sent-all : (seat : ℕ) (statements : List Statement) (old new : Sight) (taken : Option (List ℕ))
+    → SubmittedAll seat statements old new → SeatPlays (Ok false) seat old statements new taken taken
+seat-sent-all seat statements old new taken submitted due waits =
+    let sent = submitted due waits in
+    seat-sends seat old new due (due ++ sent.0) sent.0 statements taken (sym sent.1 ∙ sym (append-nil (statements_in sent.0))) sent.3
+
+-- One part behind another.
+
+-- replies were written in both
+pub plays-ok : (refused some : Bool) (seat : ℕ) (old between new : Sight) (statements others : List Statement)
+    (taken0 taken taken' : Option (List ℕ)) → SeatPlays (Ok refused) seat old statements between taken0 taken
+    → SeatPlays (Ok some) seat between others new taken taken' → SeatPlays (Ok (refused || some)) seat old (statements ++ others) new taken0 taken'
+plays-ok refused some seat old between new statements others taken0 taken taken' first second due waits =
+    let before = first due waits in
+    seat-ok refused some seat old between new due statements others ⊥ ⊥ ⊥ taken0 taken taken' before
+    (second before.0.still before.0.goes.waits)
+
+-- they halt in the second
+pub plays-err : (refused : Bool) (halt : Halt) (seat : ℕ) (old between new : Sight) (statements others : List Statement)
+    (taken0 taken taken' : Option (List ℕ)) → SeatPlays (Ok refused) seat old statements between taken0 taken
+    → SeatPlays (Err halt) seat between others new taken taken' → SeatPlays (Err halt) seat old (statements ++ others) new taken0 taken'
+plays-err refused halt seat old between new statements others taken0 taken taken' first second due waits =
+    let before = first due waits in
+    seat-err refused halt seat old between new due statements others ⊥ ⊥ ⊥ taken0 taken taken' (λ never. never) before
+    (second before.0.still before.0.goes.waits)
+
+-- what is left is left with others behind it
+some-behind : (rest others : List Statement) → rest ≢ [] → (rest ++ others) ≢ []
+some-behind [] others some none = some refl
+some-behind (one ∷ rest) others some none = cc
+
+-- they halt before the second
+pub plays-short : (halt : Halt) (seat : ℕ) (old new : Sight) (statements others : List Statement) (taken taken' : Option (List ℕ))
+    → SeatPlays (Err halt) seat old statements new taken taken' → SeatPlays (Err halt) seat old (statements ++ others) new taken taken'
+plays-short halt seat old new statements others taken taken' first due waits =
+    let plays = first due waits in (
+      record {
+        sent = plays.0.sent;
+        said = plays.0.said;
+        still = plays.0.still;
+        replies = plays.0.replies;
+        rest = plays.0.rest ++ others;
+        are = ap (λ list. list ++ others) plays.0.are ∙ append_assoc (statements_in plays.0.sent) plays.0.rest others;
+        goes = plays.0.goes;
+        written = plays.0.written;
+        took = plays.0.took;
+        ends = halts-weaker halt plays.0.replies plays.0.written ((plays.0.still ≢ []) ⊎ ((plays.0.rest ≢ []) ⊎ ⊥))
+            ((plays.0.still ≢ []) ⊎ (((plays.0.rest ++ others) ≢ []) ⊎ ⊥))
+            (⊎_elim (λ waits. inl waits) (⊎_elim (λ some. inr (inl (some-behind plays.0.rest others some))) (λ never. absurd never)))
+            plays.0.ends;
+      },
+      tt,
+    )
+
+-- What was read.
+
+-- a statement that was put to those of a run, or is the one by itself
+pub reads-one : (ended : Option RunEnd) (statement : Statement) (waits waits' : Reading) (before after : List Statement)
+    → TakesFirst waits waits' statement → after ++ alone_at ended ≡ before ++ statement ∷ [] → behind_at ended ≡ More
+    → ReadsNext ended waits before waits' after
+reads-one ended statement waits waits' before after first are more = record {
+  read = statement ∷ [];
+  are = are;
+  reads = reads-first waits waits' statement first;
+  stops = subst (λ behind. StopsAt behind (statement ∷ []) waits') (sym more) (λ none. cc);
+}
+
+-- none is whole
+pub reads-nothing : (next : Next) (waits waits' : Reading) (before : List Statement) → ((statement : Statement) → next ≢ Got statement)
+    → Answers waits waits' next → StaysFed waits waits' → ReadsNext (Some ended.Last) waits before waits' before
+reads-nothing next waits waits' before never answers stays =
+    let done = reads-done waits waits' next never answers stays in record {
+      read = [];
+      are = refl;
+      reads = done.0;
+      stops = done.1;
+    }
+
+-- for one there was no memory
+pub reads-wanting : (waits waits' : Reading) (before : List Statement) → Wants waits waits' → StaysFed waits waits'
+    → ReadsNext (Some ended.NoMemory) waits before waits' before
+reads-wanting waits waits' before wants stays =
+    let same : Reads waits [] waits' = λ more last comes. sym (wants.1 more last comes) in record {
+      read = [];
+      are = refl;
+      reads = same;
+      stops = λ ends none. wants.0 (sym stays.1 ∙ ends) (reads-all waits waits' [] true same (λ e. (refl, refl)) ∙ none);
+    }
+
+-- what is known of where reading stopped is known of it behind what was read before
+stops-behind : (behind : Behind) (before read : List Statement) (waits : Reading) → StopsAt behind read waits
+    → StopsAt behind (before ++ read) waits
+stops-behind More [] read waits some = some
+stops-behind More (one ∷ before) read waits some = λ none. cc
+stops-behind Nothing before read waits none = none
+stops-behind NoneLeft before read waits left = left
+
+-- one statement behind others
+pub run-next : (ended : Option RunEnd) (first waits waits' : Reading) (before after : List Statement) → Reads first before waits
+    → StaysFed first waits → ReadsNext ended waits before waits' after
+    → Reads first (after ++ alone_at ended) waits' × StopsAt (behind_at ended) (after ++ alone_at ended) waits'
+run-next ended first waits waits' before after reads stays next = (
+  subst (λ list. Reads first list waits') (sym next.are) (reads-then first waits waits' before next.read reads stays next.reads),
+  subst (λ list. StopsAt (behind_at ended) list waits') (sym next.are)
+      (stops-behind (behind_at ended) before next.read waits' next.stops),
+)
+
+-- where the run goes on
+pub run-goes : (first waits waits' : Reading) (before after : List Statement) → Reads first before waits
+    → StaysFed first waits → ReadsNext None waits before waits' after → Reads first after waits'
+run-goes first waits waits' before after reads stays next =
+    subst (λ list. Reads first list waits') (append-nil after) (run-next None first waits waits' before after reads stays next).0
+
+-- fewer statements are left where some were read
+pub reads-fewer : (waits waits' : Reading) (statements : List Statement) → Reads waits statements waits' → StaysFed waits waits'
+    → statements ≢ [] → statements_left waits' < statements_left waits
+reads-fewer waits waits' [] reads stays some = absurd (some refl)
+reads-fewer waits waits' (one ∷ statements) reads stays some =
+    let all = ap length (reads [] waits.ended (λ e. (refl, e))) in
+    let long = length-append (one ∷ statements) (statements_of waits.ended (waits'.waiting ++ [])) in
+    subst (λ ended. length (statements_of ended (waits'.waiting ++ [])) < statements_left waits) (sym stays.1) (omega (arith, all, long))
+
+pub run-fewer : (waits waits' : Reading) (before after : List Statement) → ReadsNext None waits before waits' after
+    → StaysFed waits waits' → statements_left waits' < statements_left waits
+run-fewer waits waits' before after next stays = reads-fewer waits waits' next.read next.reads stays next.stops
+
+-- nothing was read yet
+pub run-starts : (waits : Reading) (statements : List Statement) → statements ≡ [] → Reads waits statements waits
+run-starts waits statements none = subst (λ list. Reads waits list waits) (sym none) (reads-itself waits)
+
+-- Statements of a list, one by one.
+
+-- those so far were given, and these are left
+pub record PlaysEach (seat : ℕ) (old : Sight) (all rest : List Statement) (now : Sight) (refused : Bool)
+    (taken0 taken : Option (List ℕ)) : Type 0 where
+  pub played : List Statement
+  pub are : all ≡ played ++ rest
+  pub plays : SeatPlays (Ok refused) seat old played now taken0 taken
+
+pub each-starts : (seat : ℕ) (sight : Sight) (all rest : List Statement) (taken : Option (List ℕ)) → rest ≡ all
+    → PlaysEach seat sight all rest sight false taken taken
+each-starts seat sight all rest taken is = record {
+  played = [];
+  are = sym is;
+  plays = λ due waits. seat-none seat sight due taken waits;
+}
+
+-- all but these are those so far and the next one
+each-one : (all played rest left : List Statement) (statement : Statement) → all ≡ played ++ rest → rest ≡ statement ∷ left
+    → all ≡ (played ++ statement ∷ []) ++ left
+each-one all played rest left statement are is =
+    are ∙ ap (λ list. played ++ list) is ∙ sym (append_assoc played (statement ∷ []) left)
+
+pub each-more : (refused some : Bool) (seat : ℕ) (old between new : Sight) (all rest left : List Statement) (statement : Statement)
+    (taken0 taken taken' : Option (List ℕ)) → PlaysEach seat old all rest between refused taken0 taken → rest ≡ statement ∷ left
+    → SeatPlays (Ok some) seat between (statement ∷ []) new taken taken' → PlaysEach seat old all left new (refused || some) taken0 taken'
+each-more refused some seat old between new all rest left statement taken0 taken taken' way is plays = record {
+  played = way.played ++ statement ∷ [];
+  are = each-one all way.played rest left statement way.are is;
+  plays = plays-ok refused some seat old between new way.played (statement ∷ []) taken0 taken taken' way.plays plays;
+}
+
+pub each-halts : (refused : Bool) (halt : Halt) (seat : ℕ) (old between new : Sight) (all rest left : List Statement) (statement : Statement)
+    (taken0 taken taken' : Option (List ℕ)) → PlaysEach seat old all rest between refused taken0 taken → rest ≡ statement ∷ left
+    → SeatPlays (Err halt) seat between (statement ∷ []) new taken taken' → SeatPlays (Err halt) seat old all new taken0 taken'
+each-halts refused halt seat old between new all rest left statement taken0 taken taken' way is plays =
+    subst (λ list. SeatPlays (Err halt) seat old list new taken0 taken') (sym (each-one all way.played rest left statement way.are is))
+    (plays-short halt seat old new (way.played ++ statement ∷ []) left taken0 taken'
+    (plays-err refused halt seat old between new way.played (statement ∷ []) taken0 taken taken' way.plays plays))
+
+pub each-done : (refused : Bool) (seat : ℕ) (old now : Sight) (all rest : List Statement) (n : ℕ) (taken0 taken : Option (List ℕ))
+    → PlaysEach seat old all rest now refused taken0 taken → n ≡ length rest → n ≡ 0 → SeatPlays (Ok refused) seat old all now taken0 taken
+each-done refused seat old now all rest n taken0 taken way long none =
+    subst (λ list. SeatPlays (Ok refused) seat old list now taken0 taken)
+    (sym (way.are ∙ ap (λ list. way.played ++ list) (none_left rest n long none) ∙ append-nil way.played)) way.plays
+
+-- no statement is there to be given
+pub plays-none : (seat : ℕ) (sight : Sight) (all : List Statement) (n : ℕ) (taken : Option (List ℕ)) → n ≡ length all → n ≡ 0
+    → SeatPlays (Ok false) seat sight all sight taken taken
+plays-none seat sight all n taken long none =
+    subst (λ list. SeatPlays (Ok false) seat sight list sight taken taken) (sym (none_left all n long none))
+    (λ due waits. seat-none seat sight due taken waits)
+
+-- Statements that were sent in one turn, and those behind them.
+
+-- the replies that were there
+pub many-replies : (result : Result Bool Halt) (seat : ℕ) (old between new : Sight) (statements : List Statement)
+    (taken taken' : Option (List ℕ)) → SubmittedAll seat statements old between → SeatPlays result seat between [] new taken taken'
+    → SeatPlays result seat old statements new taken taken'
+many-replies result seat old between new statements taken taken' sent plays =
+    subst (λ list. SeatPlays result seat old list new taken taken') (append-nil statements)
+    (seat-behind result seat old between new statements [] taken taken' (seat-sent-all seat statements old between taken sent) plays)
+
+-- those that were taken in the turn, and the others
+parted : (n : ℕ) (statements left : List Statement) → left ≡ drop n statements → take n statements ++ left ≡ statements
+parted n statements left is = ap (λ list. take n statements ++ list) is ∙ take-append-drop n statements
+
+pub plain-ok : (refused some : Bool) (n seat : ℕ) (old between new : Sight) (statements left : List Statement)
+    (taken0 taken taken' : Option (List ℕ)) → left ≡ drop n statements
+    → SeatPlays (Ok refused) seat old (take n statements) between taken0 taken → SeatPlays (Ok some) seat between left new taken taken'
+    → SeatPlays (Ok (refused || some)) seat old statements new taken0 taken'
+plain-ok refused some n seat old between new statements left taken0 taken taken' is first second =
+    subst (λ list. SeatPlays (Ok (refused || some)) seat old list new taken0 taken') (parted n statements left is)
+    (plays-ok refused some seat old between new (take n statements) left taken0 taken taken' first second)
+
+pub plain-err : (refused : Bool) (halt : Halt) (n seat : ℕ) (old between new : Sight) (statements left : List Statement)
+    (taken0 taken taken' : Option (List ℕ)) → left ≡ drop n statements
+    → SeatPlays (Ok refused) seat old (take n statements) between taken0 taken → SeatPlays (Err halt) seat between left new taken taken'
+    → SeatPlays (Err halt) seat old statements new taken0 taken'
+plain-err refused halt n seat old between new statements left taken0 taken taken' is first second =
+    subst (λ list. SeatPlays (Err halt) seat old list new taken0 taken') (parted n statements left is)
+    (plays-err refused halt seat old between new (take n statements) left taken0 taken taken' first second)
+
+pub plain-short : (halt : Halt) (n seat : ℕ) (old new : Sight) (statements : List Statement) (taken taken' : Option (List ℕ))
+    → SeatPlays (Err halt) seat old (take n statements) new taken taken' → SeatPlays (Err halt) seat old statements new taken taken'
+plain-short halt n seat old new statements taken taken' first =
+    subst (λ list. SeatPlays (Err halt) seat old list new taken taken') (take-append-drop n statements)
+    (plays-short halt seat old new (take n statements) (drop n statements) taken taken' first)
+
+-- Of a run.
+
+-- none is by itself
+pub not-alone : (plain : List Statement) (end : RunEnd) → ((statement : Statement) → end ≢ ended.Alone statement) → plain ++ alone_in end ≡ plain
+not-alone plain (ended.Alone statement) never = absurd (never statement refl)
+not-alone plain ended.Full never = append-nil plain
+not-alone plain ended.Last never = append-nil plain
+not-alone plain ended.NoMemory never = append-nil plain

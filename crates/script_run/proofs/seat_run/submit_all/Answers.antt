@@ -1,0 +1,64 @@
+-- One statement behind another, up to the first that is not taken.
+use Rattle.script_run.proofs.Words.{◌+◌, ◌<◌, ◌∙◌, ap, arith, get_or, length, refl, state_of, subst, sym, take}
+use Rattle.std.proofs.lemmas.List.{take_more}
+use Rattle.core_state.specs.Rows.{sight_of}
+use Rattle.core_state.proofs.MoverLemmas.{mindful-none, mindful-then}
+use Rattle.script_run.specs.SeatTurns.{Submitted, SubmittedAll}
+use Rattle.script_run.proofs.SeatManyLemmas.{many-more, many-none, many-stays}
+use Rattle.script_run.proofs.SeatTurnLemmas.{all-loans-then, stays-none}
+use Rattle.script_run.proofs.seat_run.submit_all.Goals as goal
+
+pub statements-init : goal.statements-init
+statements-init c = record {
+  mindful = mindful-none c.args.seat (state_of c.args.core.now);
+  hand = refl;
+  loans = λ seat. refl;
+  given = refl;
+  count = omega arith;
+  submits = many-none c.args.seat _ _ (stays-none c.args.seat (sight_of (state_of c.args.core.now) c.args.seat));
+}
+
+pub statements-preserved : goal.statements-preserved
+statements-preserved c =
+    let old = state_of c.args.core.now in
+    let mid = state_of c.statements.core in
+    let new = state_of c.submit_unread.new.core in
+    let given = c.statements.given in
+    let statements = c.args.statements.now in
+    let low = c.statements-test.true in
+    let same = c.statements.invariant.given in
+    let within : given < length statements = omega arith in
+    record {
+      mindful = mindful-then c.args.seat old mid new c.statements.invariant.mindful c.submit_unread.ensures.mindful;
+      hand = c.submit_unread.ensures.hand ∙ c.statements.invariant.hand;
+      loans = all-loans-then c.args.core.now c.statements.core c.submit_unread.new.core c.statements.invariant.loans
+          c.submit_unread.ensures.loans;
+      given = ap (λ n. n + 1) same;
+      count = omega arith;
+      submits = subst (λ list. SubmittedAll c.args.seat list (sight_of old c.args.seat) (sight_of new c.args.seat))
+          (sym (take_more statements given c.statement-item.result within)
+          ∙ ap (λ n. take n statements) (omega arith))
+          (many-more c.args.seat (take given statements) _ (sight_of old c.args.seat) (sight_of mid c.args.seat) (sight_of new c.args.seat)
+          c.statements.invariant.submits
+          (subst (λ statement. Submitted c.args.seat statement (sight_of mid c.args.seat) (sight_of new c.args.seat))
+          (c.statement-item.is ∙ ap (λ n. get_or statements n c.statement-item.result) (sym same))
+          (c.if-not-submit_unread.ensures.submits refl)));
+    }
+
+pub returns-then-not-submit_unread-clause-mindful : goal.returns-then-not-submit_unread-clause-mindful
+returns-then-not-submit_unread-clause-mindful c =
+    mindful-then c.args.seat (state_of c.args.core.now) (state_of c.statements.core) (state_of c.submit_unread.new.core)
+    c.statements.invariant.mindful c.submit_unread.ensures.mindful
+
+pub returns-then-not-submit_unread-clause-hand : goal.returns-then-not-submit_unread-clause-hand
+returns-then-not-submit_unread-clause-hand c = c.submit_unread.ensures.hand ∙ c.statements.invariant.hand
+
+pub returns-then-not-submit_unread-clause-loans : goal.returns-then-not-submit_unread-clause-loans
+returns-then-not-submit_unread-clause-loans c =
+    all-loans-then c.args.core.now c.statements.core c.submit_unread.new.core c.statements.invariant.loans c.submit_unread.ensures.loans
+
+pub returns-then-not-submit_unread-clause-submits : goal.returns-then-not-submit_unread-clause-submits
+returns-then-not-submit_unread-clause-submits c =
+    many-stays c.args.seat (take c.statements.given c.args.statements.now) (sight_of (state_of c.args.core.now) c.args.seat)
+    (sight_of (state_of c.statements.core) c.args.seat) (sight_of (state_of c.submit_unread.new.core) c.args.seat)
+    c.statements.invariant.submits (c.if-not-submit_unread.ensures.stays refl)

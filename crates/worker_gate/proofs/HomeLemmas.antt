@@ -1,0 +1,83 @@
+-- What becomes of a core where a batch comes home.
+use Rattle.std.proofs.Common.{◌≡◌, ℕ, Bool, true, false, Option, Some, None, refl, ap, ◌∙◌, subst}
+use Rattle.std.specs.Prelude.{IsSome, IsTrue, is_some}
+use Rattle.core_state.specs.Found.{held_by}
+use Rattle.core_state.specs.Rows.{SeatRow}
+use Rattle.core_state.specs.Sound.{IsSound}
+use Rattle.core_state.specs.State.{State}
+use Rattle.core_state.specs.Tables.{tables_of}
+use Rattle.core_state.specs.declared.event.Event.TheVariants.{Distribute, Give}
+use Rattle.event_core.specs.Board.{core_row}
+use Rattle.event_core.specs.Parts.{Parts, loan_of}
+use Rattle.event_core.specs.Seen.{state_of}
+use Rattle.event_core.specs.Took.{CameHome, Lands}
+use Rattle.event_core.specs.declared.choosing.EventKind.TheVariants as kind
+use Rattle.event_core.specs.declared.marks.Marks.{Marks}
+use Rattle.event_core.specs.declared.work.Folding.{Folding}
+use Rattle.worker_gate.specs.Hands.{HasNothing}
+use Rattle.worker_gate.specs.Left.{LeavesAllLoans, LeavesRows, MovesHand}
+use Rattle.worker_gate.specs.Managed.{BringsHome, OrdersIf, counted_home, is_sixteenth_home}
+use Rattle.worker_gate.proofs.HandLemmas.{given-empty}
+use Rattle.worker_gate.proofs.LeftLemmas.{MovesOne, StepsKeep, leaves-kind, leaves-same, leaves-then, moves-none, moves-taken, moves-then, took-sound}
+use Rattle.worker_gate.proofs.ManagedLemmas.{fact-distributed, leaves-ordered}
+
+-- the core is sound between the two events
+between-sound : StepsKeep → (worker : ℕ) (folding : Option Folding) (old new : State) → IsSound old → (home : CameHome worker folding old new)
+    → IsSound home.between
+between-sound keep worker folding old new sound home = took-sound keep (Give worker) old home.between home.gave sound
+
+-- a batch that lands leaves the rows
+leaves-landed : MovesOne → (folding : Option Folding) (old new : State) → IsSound old → Lands folding old new → LeavesRows old new
+leaves-landed law None old new sound same = leaves-same old new same
+leaves-landed law (Some folding) old new sound landed =
+    leaves-kind law (Distribute landed.0) kind.Distribute old new refl sound landed.1
+
+-- where it was folded outside it is one of a fact table
+fact-landed : (folding : Option Folding) (old new : State) → IsSound old → Lands folding old new → IsTrue (is_some folding)
+    → IsSome (tables_of new).schema.fact
+fact-landed None old new sound same folded = absurd (let both : false ≡ true = folded in cc)
+fact-landed (Some folding) old new sound landed folded = fact-distributed (Distribute landed.0) old new refl sound landed.1
+
+-- so the filters may be ordered behind it
+pub fact-home : StepsKeep → (worker : ℕ) (folding : Option Folding) (old new : State) → IsSound old → CameHome worker folding old new
+    → IsTrue (is_some folding) → IsSome (tables_of new).schema.fact
+fact-home keep worker folding old new sound home =
+    fact-landed folding home.between new (between-sound keep worker folding old new sound home) home.landed
+
+-- a batch that comes home, and what is behind it, moves the hand of its worker
+pub moves-home : MovesOne → StepsKeep → (worker : ℕ) (folding : Option Folding) (test : Bool) (old between new : State) → IsSound old
+    → IsSound between → CameHome worker folding old between → OrdersIf test between new → MovesHand worker old new
+moves-home law keep worker folding test old between new sound sound' home orders =
+    moves-then worker old home.between new (moves-taken law (Give worker) old home.between worker tt sound home.gave refl)
+    (moves-none worker home.between new (leaves-then home.between between new
+    (leaves-landed law folding home.between between (between-sound keep worker folding old between sound home) home.landed)
+    (leaves-ordered law test between new sound' orders)))
+
+-- its worker has nothing then
+pub empty-home : MovesOne → StepsKeep → (worker : ℕ) (folding : Option Folding) (test : Bool) (old between new : Parts)
+    → IsSome (held_by (state_of old).scan.flights worker) → IsSound (state_of old) → IsSound (state_of between)
+    → CameHome worker folding (state_of old) (state_of between) → OrdersIf test (state_of between) (state_of new)
+    → loan_of between worker ≡ None → LeavesAllLoans between new → HasNothing (core_row new worker)
+empty-home law keep worker folding test old between new some sound sound' home orders none loans = record {
+  hand = ap (λ (row : SeatRow). row.hand) (leaves.rows worker)
+      ∙ ap (λ (state : State). held_by state.scan.flights worker) home.after ∙ given-empty worker (state_of old) some sound;
+  loan = loans worker ∙ none;
+}
+  where
+    leaves : LeavesRows home.between (state_of new)
+    leaves = leaves-then home.between (state_of between) (state_of new)
+        (leaves-landed law folding home.between (state_of between)
+        (between-sound keep worker folding (state_of old) (state_of between) sound home) home.landed)
+        (leaves-ordered law test (state_of between) (state_of new) sound' orders)
+
+-- and what was made of the core
+pub brings-by : (worker : ℕ) (folding : Option Folding) (old between new : Parts)
+    → CameHome worker folding (state_of old) (state_of between) → between.marks ≡ old.marks
+    → new.marks ≡ counted_home (is_some folding) between.marks
+    → OrdersIf (is_sixteenth_home (is_some folding) between.marks) (state_of between) (state_of new) → BringsHome worker folding old new
+brings-by worker folding old between new home marks counted orders = record {
+  between = state_of between;
+  came = home;
+  counted = counted ∙ ap (counted_home (is_some folding)) marks;
+  orders = subst (λ (m : Marks). OrdersIf (is_sixteenth_home (is_some folding) m) (state_of between) (state_of new)) marks orders;
+}
