@@ -8,7 +8,7 @@ use Rattle.std.proofs.lemmas.Bool.{cases_eq, cases_lt}
 use Rattle.std.proofs.lemmas.Bool.Decides.{nat_tests}
 use Rattle.std.proofs.lemmas.List.{drop-append-le, get_or-set_other, get_or-set_same, length-append, length-drop, length-set, length-take, take-append-le, take_all}
 use Rattle.std.proofs.lemmas.Option.{slice_get-get_or}
-use Rattle.batch_flow.specs.declared.batch.TheConstants.{ROWS_IN_A_BLOCK}
+use Rattle.fact_versions.specs.declared.blocks.TheConstants.{VERSIONS_IN_A_BLOCK}
 use Rattle.star_lists.proofs.PlaceLemmas.{refill-all}
 use Rattle.fact_versions.specs.Blocks.{AreBlocks, AreCounted, AreSeen, block_of, is_end, versions_in, with_end_by, with_version}
 use Rattle.fact_versions.specs.Ends.{with_end}
@@ -41,39 +41,39 @@ block-more (v ∷ versions) version =
     ap (λ block. with_version block v) (block-more versions version) ∙ turned (block_of versions) version v
 
 -- a block that is full stays as it is
-before_more : (versions : List Version) (version : Version) (number : ℕ) → number * ROWS_IN_A_BLOCK + ROWS_IN_A_BLOCK ≤ length versions
+before_more : (versions : List Version) (version : Version) (number : ℕ) → number * VERSIONS_IN_A_BLOCK + VERSIONS_IN_A_BLOCK ≤ length versions
     → versions_in number (versions ++ version ∷ []) ≡ versions_in number versions
 before_more versions version number full =
-    let left = length-drop (number * ROWS_IN_A_BLOCK) versions in
-    ap (take ROWS_IN_A_BLOCK) (drop-append-le (number * ROWS_IN_A_BLOCK) versions (version ∷ []) (omega arith))
-    ∙ take-append-le ROWS_IN_A_BLOCK (drop (number * ROWS_IN_A_BLOCK) versions) (version ∷ []) (omega arith)
+    let left = length-drop (number * VERSIONS_IN_A_BLOCK) versions in
+    ap (take VERSIONS_IN_A_BLOCK) (drop-append-le (number * VERSIONS_IN_A_BLOCK) versions (version ∷ []) (omega arith))
+    ∙ take-append-le VERSIONS_IN_A_BLOCK (drop (number * VERSIONS_IN_A_BLOCK) versions) (version ∷ []) (omega arith)
 
 -- and one that is not has one version more
-last_more : (versions : List Version) (version : Version) (number : ℕ) → number * ROWS_IN_A_BLOCK ≤ length versions
-    → length versions < number * ROWS_IN_A_BLOCK + ROWS_IN_A_BLOCK
+last_more : (versions : List Version) (version : Version) (number : ℕ) → number * VERSIONS_IN_A_BLOCK ≤ length versions
+    → length versions < number * VERSIONS_IN_A_BLOCK + VERSIONS_IN_A_BLOCK
     → versions_in number (versions ++ version ∷ []) ≡ versions_in number versions ++ version ∷ []
 last_more versions version number within last =
-    let rest : List Version = drop (number * ROWS_IN_A_BLOCK) versions in
-    let left : length rest ≡ length versions - number * ROWS_IN_A_BLOCK = length-drop (number * ROWS_IN_A_BLOCK) versions in
+    let rest : List Version = drop (number * VERSIONS_IN_A_BLOCK) versions in
+    let left : length rest ≡ length versions - number * VERSIONS_IN_A_BLOCK = length-drop (number * VERSIONS_IN_A_BLOCK) versions in
     let more : length (rest ++ version ∷ []) ≡ length rest + 1 = length-append rest (version ∷ []) in
-    ap (take ROWS_IN_A_BLOCK) (drop-append-le (number * ROWS_IN_A_BLOCK) versions (version ∷ []) within)
-    ∙ take_all ROWS_IN_A_BLOCK (rest ++ version ∷ []) (omega arith)
-    ∙ ap (λ front. front ++ version ∷ []) (sym (take_all ROWS_IN_A_BLOCK rest (omega arith)))
+    ap (take VERSIONS_IN_A_BLOCK) (drop-append-le (number * VERSIONS_IN_A_BLOCK) versions (version ∷ []) within)
+    ∙ take_all VERSIONS_IN_A_BLOCK (rest ++ version ∷ []) (omega arith)
+    ∙ ap (λ front. front ++ version ∷ []) (sym (take_all VERSIONS_IN_A_BLOCK rest (omega arith)))
 
 -- blocks of which the last has one version more
 one_more : (versions : List Version) (version : Version) (old new : List Block) → AreBlocks versions old
     → AreCounted (length versions + 1) (length new)
-    → ((number : ℕ) (otherwise : Block) → number < length versions / ROWS_IN_A_BLOCK → get_or new number otherwise ≡ get_or old number otherwise)
-    → ((otherwise : Block) → get_or new (length versions / ROWS_IN_A_BLOCK) otherwise
-    ≡ with_version (block_of (versions_in (length versions / ROWS_IN_A_BLOCK) versions)) version)
+    → ((number : ℕ) (otherwise : Block) → number < length versions / VERSIONS_IN_A_BLOCK → get_or new number otherwise ≡ get_or old number otherwise)
+    → ((otherwise : Block) → get_or new (length versions / VERSIONS_IN_A_BLOCK) otherwise
+    ≡ with_version (block_of (versions_in (length versions / VERSIONS_IN_A_BLOCK) versions)) version)
     → AreBlocks (versions ++ version ∷ []) new
 one_more versions version old new kept counted same last = record {
   counted = subst (λ n. AreCounted n (length new)) (sym (length-append versions (version ∷ []))) counted;
-  each = λ number otherwise low. by number otherwise (let most = counted.last in omega arith) (cases_eq number (length versions / ROWS_IN_A_BLOCK));
+  each = λ number otherwise low. by number otherwise (let most = counted.last in omega arith) (cases_eq number (length versions / VERSIONS_IN_A_BLOCK));
 }
   where
-    by : (number : ℕ) (otherwise : Block) → number * ROWS_IN_A_BLOCK ≤ length versions
-        → (number ≡ length versions / ROWS_IN_A_BLOCK) ⊎ (number ≢ length versions / ROWS_IN_A_BLOCK)
+    by : (number : ℕ) (otherwise : Block) → number * VERSIONS_IN_A_BLOCK ≤ length versions
+        → (number ≡ length versions / VERSIONS_IN_A_BLOCK) ⊎ (number ≢ length versions / VERSIONS_IN_A_BLOCK)
         → get_or new number otherwise ≡ block_of (versions_in number (versions ++ version ∷ []))
     by number otherwise low (inl here) =
         ap (λ n. get_or new n otherwise) here ∙ last otherwise
@@ -86,16 +86,16 @@ one_more versions version old new kept counted same last = record {
 
 -- a version that begins a block
 pub pushed_blocks : (versions : List Version) (version : Version) (old new : List Block) (block : Block)
-    → length versions % ROWS_IN_A_BLOCK ≡ 0 → new ≡ old ++ block ∷ [] → block ≡ record { begin = version.begin; ended = is_end version.end }
+    → length versions % VERSIONS_IN_A_BLOCK ≡ 0 → new ≡ old ++ block ∷ [] → block ≡ record { begin = version.begin; ended = is_end version.end }
     → AreBlocks versions old → AreBlocks (versions ++ version ∷ []) new
 pushed_blocks versions version old new block full put is kept =
     let few = kept.counted.few in
     let most = kept.counted.last in
-    let all : length versions / ROWS_IN_A_BLOCK ≡ length old = omega arith in
-    let whole : length versions / ROWS_IN_A_BLOCK * ROWS_IN_A_BLOCK ≡ length versions = omega arith in
+    let all : length versions / VERSIONS_IN_A_BLOCK ≡ length old = omega arith in
+    let whole : length versions / VERSIONS_IN_A_BLOCK * VERSIONS_IN_A_BLOCK ≡ length versions = omega arith in
     let long : length new ≡ length old + 1 = ap length put ∙ length-append old (block ∷ []) in
-    let none : versions_in (length versions / ROWS_IN_A_BLOCK) versions ≡ [] =
-    ap (λ n. take ROWS_IN_A_BLOCK (drop n versions)) whole ∙ ap (take ROWS_IN_A_BLOCK) (drop-length versions) ∙ take_all ROWS_IN_A_BLOCK [] (omega arith) in
+    let none : versions_in (length versions / VERSIONS_IN_A_BLOCK) versions ≡ [] =
+    ap (λ n. take VERSIONS_IN_A_BLOCK (drop n versions)) whole ∙ ap (take VERSIONS_IN_A_BLOCK) (drop-length versions) ∙ take_all VERSIONS_IN_A_BLOCK [] (omega arith) in
     let first : block ≡ with_version (block_of []) version =
     is ∙ same_block _ _ _ _ (let least : version.begin ≡ max 0 version.begin = omega arith in least) refl in
     one_more versions version old new kept (record { few = omega arith; last = omega arith })
@@ -105,22 +105,22 @@ pushed_blocks versions version old new block full put is kept =
 
 -- a version that comes into the last block
 pub noted_blocks : (versions : List Version) (version : Version) (before : ℕ) (old new : List Block) (block read : Block)
-    → length versions ≡ before → before % ROWS_IN_A_BLOCK ≢ 0 → new ≡ set old (before / ROWS_IN_A_BLOCK) block
-    → block ≡ with_version (get_or old (before / ROWS_IN_A_BLOCK) read) version
+    → length versions ≡ before → before % VERSIONS_IN_A_BLOCK ≢ 0 → new ≡ set old (before / VERSIONS_IN_A_BLOCK) block
+    → block ≡ with_version (get_or old (before / VERSIONS_IN_A_BLOCK) read) version
     → AreBlocks versions old → AreBlocks (versions ++ version ∷ []) new
 noted_blocks versions version before old new block read all some put is kept =
     let few = kept.counted.few in
     let most = kept.counted.last in
-    let rest : 0 < before % ROWS_IN_A_BLOCK = omega arith in
-    let within : before / ROWS_IN_A_BLOCK < length old = omega arith in
-    let long : length new ≡ length old = ap length put ∙ length-set old (before / ROWS_IN_A_BLOCK) block in
-    let place : length versions / ROWS_IN_A_BLOCK ≡ before / ROWS_IN_A_BLOCK = ap (λ n. n / ROWS_IN_A_BLOCK) all in
+    let rest : 0 < before % VERSIONS_IN_A_BLOCK = omega arith in
+    let within : before / VERSIONS_IN_A_BLOCK < length old = omega arith in
+    let long : length new ≡ length old = ap length put ∙ length-set old (before / VERSIONS_IN_A_BLOCK) block in
+    let place : length versions / VERSIONS_IN_A_BLOCK ≡ before / VERSIONS_IN_A_BLOCK = ap (λ n. n / VERSIONS_IN_A_BLOCK) all in
     one_more versions version old new kept (record { few = omega arith; last = omega arith })
     (λ number otherwise low. ap (λ blocks. get_or blocks number otherwise) put
-    ∙ get_or-set_other old (before / ROWS_IN_A_BLOCK) number block otherwise (λ same. omega arith))
-    (λ otherwise. ap (λ n. get_or new n otherwise) place ∙ ap (λ blocks. get_or blocks (before / ROWS_IN_A_BLOCK) otherwise) put
-    ∙ get_or-set_same old (before / ROWS_IN_A_BLOCK) block otherwise within ∙ is
-    ∙ ap (λ b. with_version b version) (kept.each (before / ROWS_IN_A_BLOCK) read within)
+    ∙ get_or-set_other old (before / VERSIONS_IN_A_BLOCK) number block otherwise (λ same. omega arith))
+    (λ otherwise. ap (λ n. get_or new n otherwise) place ∙ ap (λ blocks. get_or blocks (before / VERSIONS_IN_A_BLOCK) otherwise) put
+    ∙ get_or-set_same old (before / VERSIONS_IN_A_BLOCK) block otherwise within ∙ is
+    ∙ ap (λ b. with_version b version) (kept.each (before / VERSIONS_IN_A_BLOCK) read within)
     ∙ ap (λ n. with_version (block_of (versions_in n versions)) version) (sym place))
 
 -- blocks that were lent to be written over, as one of them was
@@ -149,73 +149,73 @@ block-with_end (version ∷ versions) (suc position) commit within live =
 
 -- the block of a version that is ended has that version ended
 own_block : (versions : List Version) (number place commit : ℕ)
-    → versions_in number (with_end versions (number * ROWS_IN_A_BLOCK + place) commit) ≡ with_end (versions_in number versions) place commit
+    → versions_in number (with_end versions (number * VERSIONS_IN_A_BLOCK + place) commit) ≡ with_end (versions_in number versions) place commit
 own_block versions number place commit =
-    ap (take ROWS_IN_A_BLOCK) (drop-with_end (number * ROWS_IN_A_BLOCK) versions place commit)
-    ∙ take-with_end ROWS_IN_A_BLOCK (drop (number * ROWS_IN_A_BLOCK) versions) place commit
+    ap (take VERSIONS_IN_A_BLOCK) (drop-with_end (number * VERSIONS_IN_A_BLOCK) versions place commit)
+    ∙ take-with_end VERSIONS_IN_A_BLOCK (drop (number * VERSIONS_IN_A_BLOCK) versions) place commit
 
 -- and every other block stays as it is
-other_block : (versions : List Version) (number position commit : ℕ) → number ≢ position / ROWS_IN_A_BLOCK
+other_block : (versions : List Version) (number position commit : ℕ) → number ≢ position / VERSIONS_IN_A_BLOCK
     → versions_in number (with_end versions position commit) ≡ versions_in number versions
-other_block versions number position commit apart = by (cases_lt position (number * ROWS_IN_A_BLOCK))
+other_block versions number position commit apart = by (cases_lt position (number * VERSIONS_IN_A_BLOCK))
   where
-    by : (position < number * ROWS_IN_A_BLOCK) ⊎ (number * ROWS_IN_A_BLOCK ≤ position)
+    by : (position < number * VERSIONS_IN_A_BLOCK) ⊎ (number * VERSIONS_IN_A_BLOCK ≤ position)
         → versions_in number (with_end versions position commit) ≡ versions_in number versions
-    by (inl before) = ap (take ROWS_IN_A_BLOCK) (drop-with_end_before (number * ROWS_IN_A_BLOCK) versions position commit before)
+    by (inl before) = ap (take VERSIONS_IN_A_BLOCK) (drop-with_end_before (number * VERSIONS_IN_A_BLOCK) versions position commit before)
     by (inr behind) =
-        let whole : position ≡ number * ROWS_IN_A_BLOCK + (position - number * ROWS_IN_A_BLOCK) = omega arith in
-        let past : ROWS_IN_A_BLOCK ≤ position - number * ROWS_IN_A_BLOCK = omega arith in
-        let short = length-take ROWS_IN_A_BLOCK (drop (number * ROWS_IN_A_BLOCK) versions) in
+        let whole : position ≡ number * VERSIONS_IN_A_BLOCK + (position - number * VERSIONS_IN_A_BLOCK) = omega arith in
+        let past : VERSIONS_IN_A_BLOCK ≤ position - number * VERSIONS_IN_A_BLOCK = omega arith in
+        let short = length-take VERSIONS_IN_A_BLOCK (drop (number * VERSIONS_IN_A_BLOCK) versions) in
         ap (λ p. versions_in number (with_end versions p commit)) whole
-        ∙ own_block versions number (position - number * ROWS_IN_A_BLOCK) commit
-        ∙ past-with_end (versions_in number versions) (position - number * ROWS_IN_A_BLOCK) commit (omega arith)
+        ∙ own_block versions number (position - number * VERSIONS_IN_A_BLOCK) commit
+        ∙ past-with_end (versions_in number versions) (position - number * VERSIONS_IN_A_BLOCK) commit (omega arith)
 
 -- a version that is ended, in its block
 pub ended_blocks : (versions : List Version) (position commit : ℕ) (old new : List Block) (block read : Block)
     → position < length versions → IfSome (slice_get versions position) (λ version. version.end ≡ 0)
-    → new ≡ set old (position / ROWS_IN_A_BLOCK) block
-    → block ≡ with_end_by (get_or old (position / ROWS_IN_A_BLOCK) read) commit
+    → new ≡ set old (position / VERSIONS_IN_A_BLOCK) block
+    → block ≡ with_end_by (get_or old (position / VERSIONS_IN_A_BLOCK) read) commit
     → AreBlocks versions old → AreBlocks (with_end versions position commit) new
 ended_blocks versions position commit old new block read inside live put is kept =
     let few = kept.counted.few in
-    let within : position / ROWS_IN_A_BLOCK < length old = omega arith in
+    let within : position / VERSIONS_IN_A_BLOCK < length old = omega arith in
     subst (AreBlocks (with_end versions position commit)) (sym put) (record {
       counted =
-          subst (λ n. AreCounted n (length (set old (position / ROWS_IN_A_BLOCK) block))) (sym (length-with_end versions position commit))
-          (subst (AreCounted (length versions)) (sym (length-set old (position / ROWS_IN_A_BLOCK) block)) kept.counted);
+          subst (λ n. AreCounted n (length (set old (position / VERSIONS_IN_A_BLOCK) block))) (sym (length-with_end versions position commit))
+          (subst (AreCounted (length versions)) (sym (length-set old (position / VERSIONS_IN_A_BLOCK) block)) kept.counted);
       each = λ number otherwise low.
-          by within number otherwise (let long = length-set old (position / ROWS_IN_A_BLOCK) block in omega arith)
-          (cases_eq number (position / ROWS_IN_A_BLOCK));
+          by within number otherwise (let long = length-set old (position / VERSIONS_IN_A_BLOCK) block in omega arith)
+          (cases_eq number (position / VERSIONS_IN_A_BLOCK));
     })
   where
-    own : block_of (with_end (versions_in (position / ROWS_IN_A_BLOCK) versions) (position % ROWS_IN_A_BLOCK) commit)
-        ≡ with_end_by (block_of (versions_in (position / ROWS_IN_A_BLOCK) versions)) commit
+    own : block_of (with_end (versions_in (position / VERSIONS_IN_A_BLOCK) versions) (position % VERSIONS_IN_A_BLOCK) commit)
+        ≡ with_end_by (block_of (versions_in (position / VERSIONS_IN_A_BLOCK) versions)) commit
     own =
-        let rest : position % ROWS_IN_A_BLOCK < ROWS_IN_A_BLOCK = omega arith in
-        let whole : position / ROWS_IN_A_BLOCK * ROWS_IN_A_BLOCK + position % ROWS_IN_A_BLOCK ≡ position = omega arith in
-        block-with_end (versions_in (position / ROWS_IN_A_BLOCK) versions) (position % ROWS_IN_A_BLOCK) commit
-        (inside_part versions (position / ROWS_IN_A_BLOCK * ROWS_IN_A_BLOCK) ROWS_IN_A_BLOCK (position % ROWS_IN_A_BLOCK) rest (omega arith))
+        let rest : position % VERSIONS_IN_A_BLOCK < VERSIONS_IN_A_BLOCK = omega arith in
+        let whole : position / VERSIONS_IN_A_BLOCK * VERSIONS_IN_A_BLOCK + position % VERSIONS_IN_A_BLOCK ≡ position = omega arith in
+        block-with_end (versions_in (position / VERSIONS_IN_A_BLOCK) versions) (position % VERSIONS_IN_A_BLOCK) commit
+        (inside_part versions (position / VERSIONS_IN_A_BLOCK * VERSIONS_IN_A_BLOCK) VERSIONS_IN_A_BLOCK (position % VERSIONS_IN_A_BLOCK) rest (omega arith))
         (λ version. ap (λ (v : Version). v.end)
-        (get_or-part versions (position / ROWS_IN_A_BLOCK * ROWS_IN_A_BLOCK) ROWS_IN_A_BLOCK (position % ROWS_IN_A_BLOCK) version rest
+        (get_or-part versions (position / VERSIONS_IN_A_BLOCK * VERSIONS_IN_A_BLOCK) VERSIONS_IN_A_BLOCK (position % VERSIONS_IN_A_BLOCK) version rest
         ∙ ap (λ p. get_or versions p version) whole) ∙ fresh version)
       where
         fresh : (otherwise : Version) → (get_or versions position otherwise).end ≡ 0
         fresh otherwise =
             subst (λ (found : Option Version). IfSome found (λ version. version.end ≡ 0)) (slice_get-get_or versions position otherwise inside) live
 
-    by : position / ROWS_IN_A_BLOCK < length old → (number : ℕ) (otherwise : Block) → number < length old
-        → (number ≡ position / ROWS_IN_A_BLOCK) ⊎ (number ≢ position / ROWS_IN_A_BLOCK)
-        → get_or (set old (position / ROWS_IN_A_BLOCK) block) number otherwise ≡ block_of (versions_in number (with_end versions position commit))
+    by : position / VERSIONS_IN_A_BLOCK < length old → (number : ℕ) (otherwise : Block) → number < length old
+        → (number ≡ position / VERSIONS_IN_A_BLOCK) ⊎ (number ≢ position / VERSIONS_IN_A_BLOCK)
+        → get_or (set old (position / VERSIONS_IN_A_BLOCK) block) number otherwise ≡ block_of (versions_in number (with_end versions position commit))
     by within number otherwise low (inl here) =
-        let whole : position / ROWS_IN_A_BLOCK * ROWS_IN_A_BLOCK + position % ROWS_IN_A_BLOCK ≡ position = omega arith in
-        ap (λ n. get_or (set old (position / ROWS_IN_A_BLOCK) block) n otherwise) here
-        ∙ get_or-set_same old (position / ROWS_IN_A_BLOCK) block otherwise within ∙ is
-        ∙ ap (λ b. with_end_by b commit) (kept.each (position / ROWS_IN_A_BLOCK) read within) ∙ sym own
-        ∙ ap block_of (sym (own_block versions (position / ROWS_IN_A_BLOCK) (position % ROWS_IN_A_BLOCK) commit))
-        ∙ ap (λ p. block_of (versions_in (position / ROWS_IN_A_BLOCK) (with_end versions p commit))) whole
+        let whole : position / VERSIONS_IN_A_BLOCK * VERSIONS_IN_A_BLOCK + position % VERSIONS_IN_A_BLOCK ≡ position = omega arith in
+        ap (λ n. get_or (set old (position / VERSIONS_IN_A_BLOCK) block) n otherwise) here
+        ∙ get_or-set_same old (position / VERSIONS_IN_A_BLOCK) block otherwise within ∙ is
+        ∙ ap (λ b. with_end_by b commit) (kept.each (position / VERSIONS_IN_A_BLOCK) read within) ∙ sym own
+        ∙ ap block_of (sym (own_block versions (position / VERSIONS_IN_A_BLOCK) (position % VERSIONS_IN_A_BLOCK) commit))
+        ∙ ap (λ p. block_of (versions_in (position / VERSIONS_IN_A_BLOCK) (with_end versions p commit))) whole
         ∙ ap (λ n. block_of (versions_in n (with_end versions position commit))) (sym here)
     by within number otherwise low (inr apart) =
-        get_or-set_other old (position / ROWS_IN_A_BLOCK) number block otherwise apart ∙ kept.each number otherwise low
+        get_or-set_other old (position / VERSIONS_IN_A_BLOCK) number block otherwise apart ∙ kept.each number otherwise low
         ∙ ap block_of (sym (other_block versions number position commit apart))
 
 no_end : (end : ℕ) → is_end end ≡ false → end ≡ 0
@@ -238,23 +238,23 @@ told (version ∷ versions) (suc place) otherwise within =
 
 -- a version of a block that is seen is seen
 seen_in_block : (versions : List Version) (blocks : List Block) (number place commit : ℕ) (otherwise : Version) (block : Block) → AreBlocks versions blocks
-    → number < length blocks → place < ROWS_IN_A_BLOCK → number * ROWS_IN_A_BLOCK + place < length versions
+    → number < length blocks → place < VERSIONS_IN_A_BLOCK → number * VERSIONS_IN_A_BLOCK + place < length versions
     → ((get_or blocks number block).begin ≤ commit) × ((get_or blocks number block).ended ≡ false)
-    → ((get_or versions (number * ROWS_IN_A_BLOCK + place) otherwise).begin ≤ commit)
-    × ((get_or versions (number * ROWS_IN_A_BLOCK + place) otherwise).end ≡ 0)
+    → ((get_or versions (number * VERSIONS_IN_A_BLOCK + place) otherwise).begin ≤ commit)
+    × ((get_or versions (number * VERSIONS_IN_A_BLOCK + place) otherwise).end ≡ 0)
 seen_in_block versions blocks number place commit otherwise block kept inside low within seen =
-    let own = told (versions_in number versions) place otherwise (inside_part versions (number * ROWS_IN_A_BLOCK) ROWS_IN_A_BLOCK place low within) in
+    let own = told (versions_in number versions) place otherwise (inside_part versions (number * VERSIONS_IN_A_BLOCK) VERSIONS_IN_A_BLOCK place low within) in
     let most = ap (λ (b : Block). b.begin) (kept.each number block inside) in
-    let version = ap (λ (v : Version). v.begin) (get_or-part versions (number * ROWS_IN_A_BLOCK) ROWS_IN_A_BLOCK place otherwise low) in (
+    let version = ap (λ (v : Version). v.begin) (get_or-part versions (number * VERSIONS_IN_A_BLOCK) VERSIONS_IN_A_BLOCK place otherwise low) in (
       (let less = own.0 in let least = seen.0 in omega arith),
-      sym (ap (λ (v : Version). v.end) (get_or-part versions (number * ROWS_IN_A_BLOCK) ROWS_IN_A_BLOCK place otherwise low))
+      sym (ap (λ (v : Version). v.end) (get_or-part versions (number * VERSIONS_IN_A_BLOCK) VERSIONS_IN_A_BLOCK place otherwise low))
           ∙ own.1 (sym (ap (λ (b : Block). b.ended) (kept.each number block inside)) ∙ seen.1),
     )
 
 -- versions of blocks that are seen are seen
 seen_by_blocks : (versions : List Version) (blocks : List Block) (first end commit : ℕ) → first < end → end ≤ length versions
     → AreBlocks versions blocks
-    → AreSeen commit (slice_range blocks (first / ROWS_IN_A_BLOCK) ((end - 1) / ROWS_IN_A_BLOCK + 1))
+    → AreSeen commit (slice_range blocks (first / VERSIONS_IN_A_BLOCK) ((end - 1) / VERSIONS_IN_A_BLOCK + 1))
     → All (λ version. (version.begin ≤ commit) × (version.end ≡ 0)) (take (end - first) (drop first versions))
 seen_by_blocks versions blocks first end commit some inside kept seen place otherwise low =
     let part = length-part versions first (end - first) (omega arith) in
@@ -265,27 +265,27 @@ seen_by_blocks versions blocks first end commit some inside kept seen place othe
         → ((get_or versions position otherwise).begin ≤ commit) × ((get_or versions position otherwise).end ≡ 0)
     at position low high =
         let few = kept.counted.few in
-        let rest : position % ROWS_IN_A_BLOCK < ROWS_IN_A_BLOCK = omega arith in
-        let whole : position / ROWS_IN_A_BLOCK * ROWS_IN_A_BLOCK + position % ROWS_IN_A_BLOCK ≡ position = omega arith in
-        let from : first / ROWS_IN_A_BLOCK ≤ position / ROWS_IN_A_BLOCK = omega arith in
-        let to : position / ROWS_IN_A_BLOCK ≤ (end - 1) / ROWS_IN_A_BLOCK = omega arith in
-        let back : first / ROWS_IN_A_BLOCK + (position / ROWS_IN_A_BLOCK - first / ROWS_IN_A_BLOCK) ≡ position / ROWS_IN_A_BLOCK = omega arith in
+        let rest : position % VERSIONS_IN_A_BLOCK < VERSIONS_IN_A_BLOCK = omega arith in
+        let whole : position / VERSIONS_IN_A_BLOCK * VERSIONS_IN_A_BLOCK + position % VERSIONS_IN_A_BLOCK ≡ position = omega arith in
+        let from : first / VERSIONS_IN_A_BLOCK ≤ position / VERSIONS_IN_A_BLOCK = omega arith in
+        let to : position / VERSIONS_IN_A_BLOCK ≤ (end - 1) / VERSIONS_IN_A_BLOCK = omega arith in
+        let back : first / VERSIONS_IN_A_BLOCK + (position / VERSIONS_IN_A_BLOCK - first / VERSIONS_IN_A_BLOCK) ≡ position / VERSIONS_IN_A_BLOCK = omega arith in
         let here =
-        get_or-part blocks (first / ROWS_IN_A_BLOCK) ((end - 1) / ROWS_IN_A_BLOCK + 1 - first / ROWS_IN_A_BLOCK)
-        (position / ROWS_IN_A_BLOCK - first / ROWS_IN_A_BLOCK) (record { begin = 0; ended = false }) (omega arith)
+        get_or-part blocks (first / VERSIONS_IN_A_BLOCK) ((end - 1) / VERSIONS_IN_A_BLOCK + 1 - first / VERSIONS_IN_A_BLOCK)
+        (position / VERSIONS_IN_A_BLOCK - first / VERSIONS_IN_A_BLOCK) (record { begin = 0; ended = false }) (omega arith)
         ∙ ap (λ n. get_or blocks n (record { begin = 0; ended = false })) back in
         subst (λ p. ((get_or versions p otherwise).begin ≤ commit) × ((get_or versions p otherwise).end ≡ 0)) whole
-        (seen_in_block versions blocks (position / ROWS_IN_A_BLOCK) (position % ROWS_IN_A_BLOCK) commit otherwise (record { begin = 0; ended = false }) kept
+        (seen_in_block versions blocks (position / VERSIONS_IN_A_BLOCK) (position % VERSIONS_IN_A_BLOCK) commit otherwise (record { begin = 0; ended = false }) kept
         (omega arith) rest (omega arith)
         (subst (λ (b : Block). (b.begin ≤ commit) × (b.ended ≡ false)) here
-        (seen (position / ROWS_IN_A_BLOCK - first / ROWS_IN_A_BLOCK) (record { begin = 0; ended = false })
-        (inside_part blocks (first / ROWS_IN_A_BLOCK) ((end - 1) / ROWS_IN_A_BLOCK + 1 - first / ROWS_IN_A_BLOCK)
-        (position / ROWS_IN_A_BLOCK - first / ROWS_IN_A_BLOCK) (omega arith) (omega arith)))))
+        (seen (position / VERSIONS_IN_A_BLOCK - first / VERSIONS_IN_A_BLOCK) (record { begin = 0; ended = false })
+        (inside_part blocks (first / VERSIONS_IN_A_BLOCK) ((end - 1) / VERSIONS_IN_A_BLOCK + 1 - first / VERSIONS_IN_A_BLOCK)
+        (position / VERSIONS_IN_A_BLOCK - first / VERSIONS_IN_A_BLOCK) (omega arith) (omega arith)))))
 
 -- the same by an answer, of versions of which there may be none
 pub seen_if_answered : (versions now : List Version) (blocks : List Block) (first end commit : ℕ) (answer : Bool) → versions ≡ now → end ≤ length now
     → AreBlocks versions blocks
-    → (first < end → IsTrue answer ↔ AreSeen commit (slice_range blocks (first / ROWS_IN_A_BLOCK) ((end - 1) / ROWS_IN_A_BLOCK + 1)))
+    → (first < end → IsTrue answer ↔ AreSeen commit (slice_range blocks (first / VERSIONS_IN_A_BLOCK) ((end - 1) / VERSIONS_IN_A_BLOCK + 1)))
     → IsTrue answer → All (λ version. (version.begin ≤ commit) × (version.end ≡ 0)) (take (end - first) (drop first now))
 seen_if_answered versions now blocks first end commit answer same inside kept tells is = by (cases_lt first end)
   where

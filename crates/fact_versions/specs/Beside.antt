@@ -1,6 +1,6 @@
 -- What is kept beside versions, so that a scan need not read them.
 use Rattle.std.specs.Prelude.{ℕ, ℤ, ◌+◌, ◌*◌, ◌≤◌, List, length, map}
-use Rattle.batch_flow.specs.declared.batch.TheConstants.{ROWS_IN_A_BLOCK}
+use Rattle.fact_versions.specs.declared.blocks.TheConstants.{VERSIONS_IN_A_BLOCK}
 use Rattle.star_lists.specs.Roomy.{Roomy}
 use Rattle.star_values.specs.declared.value.Value.{Value}
 use Rattle.value_columns.specs.First.{AreIntegerColumns}
@@ -25,4 +25,4 @@ pub record AreBeside (versions : List Version) (integers : List (List ℤ)) (key
 pub record HaveRoomFor (more : ℕ) (versions : Roomy Version) (keys : List (Roomy ℕ)) (blocks : Roomy Block) : Type 0 where
   pub of_versions : more ≤ versions.room
   pub of_keys : HaveRoom more keys
-  pub of_blocks : length versions.items + more ≤ (length blocks.items + blocks.room) * ROWS_IN_A_BLOCK
+  pub of_blocks : length versions.items + more ≤ (length blocks.items + blocks.room) * VERSIONS_IN_A_BLOCK

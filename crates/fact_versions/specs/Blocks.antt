@@ -1,6 +1,6 @@
 -- What is known of versions by blocks.
 use Rattle.std.specs.Prelude.{◌≡◌, ℕ, ◌+◌, ◌*◌, ◌<◌, ◌≤◌, Bool, false, ◌||◌, not, ◌==◌, max, List, [], ◌∷◌, length, take, drop, All, slice_index_or}
-use Rattle.batch_flow.specs.declared.batch.TheConstants.{ROWS_IN_A_BLOCK}
+use Rattle.fact_versions.specs.declared.blocks.TheConstants.{VERSIONS_IN_A_BLOCK}
 use Rattle.fact_versions.specs.declared.version.Version.{Version}
 use Rattle.fact_versions.specs.declared.blocks.Block.{Block}
 
@@ -23,12 +23,12 @@ block_of (version ∷ versions) = with_version (block_of versions) version
 
 -- the versions of a block, from 0
 abbrev pub versions_in : (number : ℕ) → List Version → List Version
-versions_in number versions = take ROWS_IN_A_BLOCK (drop (number * ROWS_IN_A_BLOCK) versions)
+versions_in number versions = take VERSIONS_IN_A_BLOCK (drop (number * VERSIONS_IN_A_BLOCK) versions)
 
 -- so many blocks have room for so many versions, and no block is left empty
 pub record AreCounted (versions blocks : ℕ) : Type 0 where
-  pub few : versions ≤ blocks * ROWS_IN_A_BLOCK
-  pub last : blocks * ROWS_IN_A_BLOCK < versions + ROWS_IN_A_BLOCK
+  pub few : versions ≤ blocks * VERSIONS_IN_A_BLOCK
+  pub last : blocks * VERSIONS_IN_A_BLOCK < versions + VERSIONS_IN_A_BLOCK
 
 -- blocks are those of versions, each of its own
 pub record AreBlocks (versions : List Version) (blocks : List Block) : Type 0 where

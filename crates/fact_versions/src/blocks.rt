@@ -6,10 +6,12 @@ ghost use Rattle.fact_versions.specs.Ends.{with_end};
 ghost use Rattle.fact_versions.specs.declared.version.Version as version_of;
 
 use crate::version::Version;
-use batch_flow::ROWS_IN_A_BLOCK;
 use star_lists::ListWithRoom;
 use star_values::NoMemory;
 use std::alloc::Global;
+
+/// How many versions are told of together, by the commits that loaded and deleted them.
+pub(crate) const VERSIONS_IN_A_BLOCK: usize = 256;
 
 /// What is known of the versions of a block together.
 #[derive(Clone, Copy, Debug)]
@@ -21,7 +23,7 @@ pub(crate) struct Block {
     pub(crate) ended: bool,
 }
 
-/// For each `ROWS_IN_A_BLOCK` versions a block, the last of which may have fewer.
+/// For each `VERSIONS_IN_A_BLOCK` versions a block, the last of which may have fewer.
 #[derive(Debug, Drop)]
 pub(crate) struct Blocks {
     pub(crate) blocks: ListWithRoom<Block>,
@@ -41,31 +43,31 @@ impl Blocks {
     /// Makes room for the blocks of this many more versions.
     pub(crate) fn reserve(&mut self, more: usize) -> Result<(), NoMemory>
         ensures items { self.new.blocks.items ≡ self.old.blocks.items }
-        ensures enough { OnOk result (more < self.new.blocks.room * ROWS_IN_A_BLOCK) }
+        ensures enough { OnOk result (more < self.new.blocks.room * VERSIONS_IN_A_BLOCK) }
         ensures grows { self.old.blocks.room ≤ self.new.blocks.room }
     {
-        self.blocks.reserve(more / ROWS_IN_A_BLOCK + 1)
+        self.blocks.reserve(more / VERSIONS_IN_A_BLOCK + 1)
     }
 
     /// Notes a version that comes behind so many others, into room that was reserved.
     pub(crate) fn append(&mut self, before: usize, version: &Version)
         requires counted { AreCounted before (length self.old.blocks.items) }
         requires room { before
-            < (length self.old.blocks.items + self.old.blocks.room) * ROWS_IN_A_BLOCK }
+            < (length self.old.blocks.items + self.old.blocks.room) * VERSIONS_IN_A_BLOCK }
         ensures whole { (versions : List version_of.Version) → length versions ≡ before →
             AreBlocks versions self.old.blocks.items
             → AreBlocks (versions ++ version.now ∷ []) self.new.blocks.items }
         ensures room { length self.new.blocks.items + self.new.blocks.room
             ≡ length self.old.blocks.items + self.old.blocks.room }
     {
-        if before % ROWS_IN_A_BLOCK == 0 {
+        if before % VERSIONS_IN_A_BLOCK == 0 {
             self.blocks.push_reserved(Block {
                 begin: version.begin,
                 ended: version.end != 0,
             });
         } else {
             note(
-                &mut self.blocks.as_mut_slice()[before / ROWS_IN_A_BLOCK],
+                &mut self.blocks.as_mut_slice()[before / VERSIONS_IN_A_BLOCK],
                 version,
             );
         }
@@ -73,7 +75,7 @@ impl Blocks {
 
     /// Notes that a commit deletes the version at a position, from 0.
     pub(crate) fn end_at(&mut self, position: usize, commit: u64)
-        requires { position < length self.old.blocks.items * ROWS_IN_A_BLOCK }
+        requires { position < length self.old.blocks.items * VERSIONS_IN_A_BLOCK }
         ensures whole { (versions : List version_of.Version) → position < length versions →
             IfSome (slice_get versions position) (λ version. version.end ≡ 0)
             → AreBlocks versions self.old.blocks.items
@@ -82,7 +84,7 @@ impl Blocks {
         ensures room { self.new.blocks.room ≡ self.old.blocks.room }
     {
         note_end(
-            &mut self.blocks.as_mut_slice()[position / ROWS_IN_A_BLOCK],
+            &mut self.blocks.as_mut_slice()[position / VERSIONS_IN_A_BLOCK],
             commit,
         );
     }
@@ -91,17 +93,17 @@ impl Blocks {
     /// to be seen from a commit on. It is so where there are none.
     pub(crate) fn are_all_seen(&self, first: usize, end: usize, commit: u64) -> bool
         requires order { first ≤ end }
-        requires within { end ≤ length self.now.blocks.items * ROWS_IN_A_BLOCK }
+        requires within { end ≤ length self.now.blocks.items * VERSIONS_IN_A_BLOCK }
         ensures none { first ≡ end → IsTrue result }
         ensures some { first < end → IsTrue result ↔ AreSeen commit
-            (slice_range self.now.blocks.items (first / ROWS_IN_A_BLOCK)
-            ((end - 1) / ROWS_IN_A_BLOCK + 1)) }
+            (slice_range self.now.blocks.items (first / VERSIONS_IN_A_BLOCK)
+            ((end - 1) / VERSIONS_IN_A_BLOCK + 1)) }
     {
         if first == end {
             return true;
         }
         are_seen(
-            &self.blocks.as_slice()[first / ROWS_IN_A_BLOCK..(end - 1) / ROWS_IN_A_BLOCK + 1],
+            &self.blocks.as_slice()[first / VERSIONS_IN_A_BLOCK..(end - 1) / VERSIONS_IN_A_BLOCK + 1],
             commit,
         )
     }

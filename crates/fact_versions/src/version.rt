@@ -1,9 +1,8 @@
 //! One version of a fact row. The list of all of them is in `fact_versions`.
-use batch_flow::KEYS_IN_A_ROW;
 use star_values::Row;
 
 /// How many key numbers a version keeps, one for each dimension that a fact table may reference.
-pub const KEYS_IN_A_VERSION: usize = KEYS_IN_A_ROW;
+pub const KEYS_IN_A_VERSION: usize = 8;
 
 /// How many versions a fact table may have, ended ones included.
 pub const MAX_VERSIONS: usize = 1_048_576;
