@@ -27,6 +27,19 @@ abbrev pub is_load : written.Statement → Bool
 is_load (written.Load name header) = true
 is_load other = false
 
+-- a statement that may change the tables: a declaration, a load or a delete
+abbrev pub is_change : written.Statement → Bool
+is_change (written.Dimension name columns) = true
+is_change (written.Fact name columns) = true
+is_change (written.Load name header) = true
+is_change (written.Delete name condition) = true
+is_change other = false
+
+-- a text that means such a statement; one that is refused changes nothing
+abbrev pub may_change_tables : Result written.Statement Refusal → Bool
+may_change_tables (Ok meaning) = is_change meaning
+may_change_tables (Err reason) = false
+
 -- a dot line ended the block
 abbrev pub is_closed : Block → Bool
 is_closed Absent = false

@@ -1,5 +1,5 @@
 //! What each statement does to the tables.
-ghost use Rattle.std.specs.Prelude.{◌≡◌, true, IsErrOf, IsTrue};
+ghost use Rattle.std.specs.Prelude.{◌≡◌, false, true, IsErr, IsErrOf, IsTrue};
 ghost use Rattle.script_reader.specs.declared.statement.Block.{Block};
 ghost use Rattle.star_parser.specs.Printed.{IsShaped};
 ghost use Rattle.star_parser.specs.Statement.{statement_of};
@@ -12,7 +12,7 @@ ghost use Rattle.star_store.specs.Loads.{load_change};
 ghost use Rattle.reply_text.specs.declared.reply.Reply.TheVariants as reply;
 ghost use Rattle.star_statement.specs.Applied.{Follows, TellsDone};
 ghost use Rattle.star_statement.specs.Outcome.{Outcome, block_bytes, committed, declared, meaning_outcome, outcome_of};
-ghost use Rattle.star_statement.specs.Text.{is_dimension};
+ghost use Rattle.star_statement.specs.Text.{is_change, is_dimension, may_change_tables, meaning_of};
 ghost use Rattle.star_statement.specs.declared.applied.Applied.TheVariants.{Replied};
 
 use crate::applied::{Applied, ApplyFault, ChangeKind};
@@ -30,8 +30,9 @@ use std::alloc::Global;
 ///
 /// A declaration, load or delete that no check refuses makes its change. A refused statement, a query and a
 /// `wait` change nothing, and are answered whether the tables are lent or not. A declaration, load or delete is
-/// carried out or refused where they are not lent. Where memory is wanted, where there is no number for one commit
-/// more, or where there is another share of the tables, nothing has changed.
+/// carried out or refused where they are not lent, and where they are it is busy and gets no answer. Where memory is
+/// wanted, where there is no number for one commit more, or where there is another share of the tables, nothing has
+/// changed.
 #[tactic(auto, unfolding(crate::specs::Outcome::outcome_of))]
 pub fn apply(
     alloc: Global,
@@ -42,7 +43,10 @@ pub fn apply(
     ensures follows { Follows tables.old tables.new result
         (outcome_of (plain tables.old) statement.old) }
     ensures lent { IsTrue are_lent → tables.new ≡ tables.old }
-    ensures busy { IsErrOf result ApplyFault.Busy → IsTrue are_lent }
+    ensures busy { IsErrOf result ApplyFault.Busy →
+        IsTrue are_lent × IsTrue (may_change_tables (meaning_of statement.old)) }
+    ensures waits { IsTrue are_lent → IsTrue (may_change_tables (meaning_of statement.old)) →
+        IsErr result }
     ensures statement { statement.new ≡ statement.old }
 {
     match read_text(alloc, statement.statement()) {
@@ -79,31 +83,14 @@ fn follow_shared(
     ensures follows { Follows tables.old tables.new result
         (meaning_outcome (plain tables.old) statement.old.block (statement_of ast.now)) }
     ensures lent { IsTrue are_lent → tables.new ≡ tables.old }
-    ensures busy { IsErrOf result ApplyFault.Busy → IsTrue are_lent }
+    ensures busy { IsErrOf result ApplyFault.Busy →
+        IsTrue are_lent × IsTrue (is_change (statement_of ast.now)) }
+    ensures waits { IsTrue are_lent → IsTrue (is_change (statement_of ast.now)) → IsErr result }
     ensures statement { statement.new ≡ statement.old }
 {
-    match ast {
-        Ast::Select { .. } => from_store(select(alloc, tables.store(), ast)),
-        Ast::Wait => Ok(Applied::Replied(Reply::Waited)),
-        _ => change(alloc, tables, are_lent, ast, statement),
+    if !is_change(ast) {
+        return from_store(answer(alloc, tables.store(), ast));
     }
-}
-
-/// Does what a statement of this meaning says to tables that are not lent.
-fn change(
-    alloc: Global,
-    tables: &mut Tables,
-    are_lent: bool,
-    ast: &Ast,
-    statement: &mut ReadStatement<'_>,
-) -> Result<Applied, ApplyFault>
-    requires shaped { IsShaped (statement_of ast.now) }
-    ensures follows { Follows tables.old tables.new result
-        (meaning_outcome (plain tables.old) statement.old.block (statement_of ast.now)) }
-    ensures lent { IsTrue are_lent → tables.new ≡ tables.old }
-    ensures busy { IsErrOf result ApplyFault.Busy → IsTrue are_lent }
-    ensures statement { statement.new ≡ statement.old }
-{
     if are_lent {
         return Err(ApplyFault::Busy);
     }
@@ -111,6 +98,16 @@ fn change(
         Some(store) => from_store(follow(alloc, store, ast, statement)),
         None => Err(ApplyFault::Memory),
     }
+}
+
+/// Whether a statement of this meaning may change the tables.
+fn is_change(ast: &Ast) -> bool
+    ensures { result ≡ is_change (statement_of ast.now) }
+{
+    matches!(
+        ast,
+        Ast::Dimension { .. } | Ast::Fact { .. } | Ast::Load { .. } | Ast::Delete { .. }
+    )
 }
 
 /// The answer of a call that wants nothing but memory.
@@ -142,8 +139,20 @@ fn follow(
         Ast::Fact { name, .. } => declare_fact(alloc, store, ast, name),
         Ast::Load { name, header } => load(store, name, *header, statement),
         Ast::Delete { .. } => delete(alloc, store, ast),
+        Ast::Select { .. } | Ast::Wait => answer(alloc, store, ast),
+    }
+}
+
+/// What is told of a statement that leaves the tables as they are: a select or a `wait`.
+fn answer(alloc: Global, store: &Store, ast: &Ast) -> Result<Applied, NoMemory>
+    requires shaped { IsShaped (statement_of ast.now) }
+    requires asks { is_change (statement_of ast.now) ≡ false }
+    ensures { (block : Block) → Follows store.now store.now result
+        (meaning_outcome (plain store.now) block (statement_of ast.now)) }
+{
+    match ast {
         Ast::Select { .. } => select(alloc, store, ast),
-        Ast::Wait => Ok(Applied::Replied(Reply::Waited)),
+        _ => Ok(Applied::Replied(Reply::Waited)),
     }
 }
 
