@@ -1,5 +1,5 @@
 //! The queries in the order of their submission, found by their numbers, which rise.
-ghost use Rattle.std.specs.Prelude.{◌≡◌, ℕ, ◌<◌, ◌≤◌, length, map, take, find, option_map, slice_index_or, MatchOption, All, false, true, nat_lt, ◌==◌, slice_get, Some};
+ghost use Rattle.std.specs.Prelude.{◌≡◌, ℕ, ◌<◌, ◌≤◌, length, map, take, find, option_map, slice_index_or, MatchOption, All, false, true, nat_lt, ◌==◌, slice_get, Some, IfSome};
 ghost use Rattle.std.specs.List.{list_any};
 ghost use Rattle.std.specs.List.Sorted.{IsPartitionPoint};
 ghost use Rattle.pipeline_manager.specs.Lives.{is_waiting, query_in, life_in, extent_in};
@@ -74,6 +74,36 @@ pub(crate) fn set_life(queries: &mut ListOf<QueryLife>, query: u64, life: Life)
 
 /// The place of the query with this number.
 fn place_of(queries: &[QueryLife], query: u64) -> Option<usize>
+    requires { AreRising queries.now }
+    ensures { MatchOption result (All (λ entry. entry.query ≡ query → ⊥) queries.now)
+        (λ place. (place < length queries.now) × ((d : QueryLife) → (slice_index_or queries.now place d).query ≡ query)) }
+{
+    match place_by_first(queries, query) {
+        Some(place) => Some(place),
+        None => place_by_search(queries, query),
+    }
+}
+
+/// The place of the query with this number, where each query in front of it has the number behind the one before, as those
+/// of a burst have; else it may answer `None`.
+fn place_by_first(queries: &[QueryLife], query: u64) -> Option<usize>
+    ensures { IfSome result (λ place. (place < length queries.now)
+        × ((d : QueryLife) → (slice_index_or queries.now place d).query ≡ query)) }
+{
+    let first = queries.first()?.query;
+    if query < first {
+        return None;
+    }
+    let place = (query - first) as usize;
+    if place < queries.len() && queries[place].query == query {
+        Some(place)
+    } else {
+        None
+    }
+}
+
+/// The place of the query with this number, which is searched for.
+fn place_by_search(queries: &[QueryLife], query: u64) -> Option<usize>
     requires { AreRising queries.now }
     ensures { MatchOption result (All (λ entry. entry.query ≡ query → ⊥) queries.now)
         (λ place. (place < length queries.now) × ((d : QueryLife) → (slice_index_or queries.now place d).query ≡ query)) }

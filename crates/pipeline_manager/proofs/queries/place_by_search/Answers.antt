@@ -2,8 +2,8 @@ use Rattle.std.proofs.Common.{ap, ◌∙◌, arith}
 use Rattle.std.proofs.lemmas.List.{get_or_default}
 use Rattle.star_lists.proofs.RisingLemmas.{missing_past}
 use Rattle.pipeline_manager.specs.declared.life.QueryLife.{QueryLife}
-use Rattle.pipeline_manager.proofs.queries.place_of.Goals as goal
-use Rattle.pipeline_manager.proofs.queries.place_of.Goals.{else-place-queries-via-then-place-queries+else-queries-place, else-place-queries-via-else-place-queries}
+use Rattle.pipeline_manager.proofs.queries.place_by_search.Goals as goal
+use Rattle.pipeline_manager.proofs.queries.place_by_search.Goals.{else-place-queries-via-then-place-queries+else-queries-place, else-place-queries-via-else-place-queries}
 
 pub returns-else-place-queries : goal.returns-else-place-queries
 returns-else-place-queries c =
