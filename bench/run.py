@@ -5,6 +5,7 @@
     python3 bench/run.py                               ./cjoin over 1,000,000 sales, bursts of 1, 4, 16 and 64 queries
     python3 bench/run.py --rows 100000 --queries 1,64  smaller
     python3 bench/run.py --svg docs/speed.svg          writes the picture, too
+    python3 bench/run.py --workers 0,1,2,3             what workers bring, by the clock, and what they take of processors
     python3 bench/run.py --program FILE                the same of another program
 
 Each figure is seconds of processor time for one burst, on all processors together: the least of some runs of a script
@@ -14,7 +15,11 @@ little part in the difference. A peer, which takes longer, runs once, is asked i
 by the hundredths of a second of the process that answers. The answers of all are compared with those of the first shared
 lap, and the table is written to the standard output. A peer gets the same tables, the same rows and the same queries,
 with an index over each key of a dimension. Its server, where it has one, is started for the run alone, listens on a
-socket in a new folder and nowhere else, and is ended behind it. Python's standard library is all this needs.
+socket in a new folder and nowhere else, and is ended behind it.
+
+What workers bring is measured of bursts alone: the time of a script with 32 of them less that of one with 2, by the least of
+some runs of each. The runs with so many workers take turns with those of the others, so that what else the machine does
+falls on all alike. Python's standard library is all this needs.
 """
 
 import argparse
@@ -28,11 +33,13 @@ import shutil
 import subprocess
 import sys
 import tempfile
+import time
 
 import burst
 
 TOP = os.path.dirname(os.path.dirname(os.path.abspath(__file__)))
 PROGRAM = os.path.join(TOP, "cjoin")
+COLORS = ("#1f6fb2", "#c8641e", "#3a8a4d", "#8a3a7d")
 
 
 def seconds_of_children():
@@ -247,6 +254,79 @@ def measured(party, load, queries, repetitions, wanted, loads):
     return max(0.0, min(all_of_it) - loads) / times, wanted
 
 
+class Workers:
+    """So many workers beside the one who reads, in batches of so many rows: the least times of scripts with few and with many
+    bursts."""
+
+    FEW, MANY = 2, 32
+
+    def __init__(self, program, workers, batch):
+        self.words = [program, "--workers", str(workers), "--batch", str(batch)]
+        self.least = {}
+
+    def measure(self, load, queries):
+        """Runs both scripts once more, and tells what was written."""
+        told = []
+        for times in (self.FEW, self.MANY):
+            text, start = load.script(queries, times), time.monotonic()
+            written, used = run(self.words, text)
+            clock = time.monotonic() - start
+            before = self.least.get((queries, times), (clock, used))
+            self.least[queries, times] = min(before[0], clock), min(before[1], used)
+            told.append(written)
+        return told
+
+    def burst(self, queries):
+        """The seconds of a burst, by the clock and of processors."""
+        few, many = self.least[queries, self.FEW], self.least[queries, self.MANY]
+        return tuple((long - short) / (self.MANY - self.FEW) for short, long in zip(few, many))
+
+
+def measure_workers(program, load, counts, workers, batch, repetitions):
+    """For each number of queries and of workers the seconds of a burst, by the clock and of processors."""
+    parties, figures = [Workers(program, number, batch) for number in workers], {}
+    for count in counts:
+        wanted = None
+        for _ in range(repetitions):
+            for party in parties:
+                told = party.measure(load, count)
+                wanted = wanted or told
+                if told != wanted:
+                    sys.exit(f"{' '.join(party.words)} replies otherwise over {load.rows} rows and {count} queries")
+        for number, party in zip(workers, parties):
+            figures[count, number] = party.burst(count)
+    return figures
+
+
+def table_of_workers(counts, workers, figures):
+    """The figures as a table of Markdown, in milliseconds, and against those of the first number of workers."""
+    lines = ["| queries | workers | by the clock | times as fast | of processors | times as much |", "|" + "---|" * 6]
+    for count in counts:
+        first = figures[count, workers[0]]
+        for number in workers:
+            clock, used = figures[count, number]
+            shares = f"{first[0] / clock:.1f} | {used * 1000:.0f} | {used / first[1]:.2f}"
+            lines.append(f"| {count} | {number} | {clock * 1000:.0f} | {shares} |")
+    return "\n".join(lines)
+
+
+def picture_of_workers(rows, counts, workers, figures):
+    """How many times as fast bursts are with more workers, by the clock: a line for each number of queries."""
+    lines = {
+        f"{count} {'query' if count == 1 else 'queries'}": [
+            figures[count, workers[0]][0] / figures[count, number][0] for number in workers
+        ]
+        for count in counts
+    }
+    return drawn(
+        f"Bursts over {rows:,} sales, times as fast by the clock",
+        "Times as fast by the clock against the number of workers, for bursts of queries",
+        "workers beside the one who reads",
+        workers,
+        lines,
+    )
+
+
 def table(counts, figures):
     """The figures as a table of Markdown: a line for each number of queries."""
     head = "| queries at once | " + " | ".join(figures) + " | shared / alone |"
@@ -258,20 +338,17 @@ def table(counts, figures):
     return "\n".join(lines)
 
 
-def picture(rows, counts, figures):
-    """The shared lap and each query alone as lines, seconds against the number of queries, which doubles from place to place."""
+def drawn(title, label, below, places, lines):
+    """Lines over places, as a picture: the text above it, what it shows in words, and what stands below."""
     left, right, low, high = 64, 530, 328, 46
-    shown = dict(list(figures.items())[:2])
-    most = max(1.0, max(value for own in shown.values() for value in own))
-    across = lambda place: left + (right - left) * (place / max(1, len(counts) - 1))
+    most = max(1.0, max(value for own in lines.values() for value in own))
+    across = lambda place: left + (right - left) * (place / max(1, len(places) - 1))
     down = lambda value: low - (low - high) * value / most
     out = [
         '<svg xmlns="http://www.w3.org/2000/svg" viewBox="0 0 700 380" width="700" height="380" font-family="sans-serif"'
-        ' font-size="13" role="img" aria-label="Seconds of processor time against the number of queries, for a shared lap'
-        ' and for each query alone">',
+        f' font-size="13" role="img" aria-label="{label}">',
         '<rect width="700" height="380" fill="#ffffff"/>',
-        f'<text x="{left}" y="24" font-size="15" fill="#222222">A burst of n queries over {rows:,} sales, seconds of'
-        " processor time</text>",
+        f'<text x="{left}" y="24" font-size="15" fill="#222222">{title}</text>',
     ]
     for step in range(5):
         value = most * step / 4
@@ -279,14 +356,28 @@ def picture(rows, counts, figures):
             f'<line x1="{left}" y1="{down(value):.1f}" x2="{right}" y2="{down(value):.1f}" stroke="#dddddd"/>'
             f'<text x="{left - 10}" y="{down(value) + 4:.1f}" text-anchor="end" fill="#444444">{value:.2f}</text>'
         )
-    for place, count in enumerate(counts):
+    for place, count in enumerate(places):
         out.append(f'<text x="{across(place):.1f}" y="348" text-anchor="middle" fill="#444444">{count}</text>')
-    for (name, own), color in zip(shown.items(), ("#1f6fb2", "#c8641e")):
+    free = low + 20
+    for (name, own), color in sorted(zip(lines.items(), COLORS), key=lambda line: line[0][1][-1]):
         points = " ".join(f"{across(place):.1f},{down(value):.1f}" for place, value in enumerate(own))
+        # names stand apart, also where lines end at one height
+        free = min(down(own[-1]) + 4, free - 16)
         out.append(f'<polyline points="{points}" fill="none" stroke="{color}" stroke-width="2"/>')
-        out.append(f'<text x="{right + 10}" y="{down(own[-1]) + 4:.1f}" fill="{color}">{name}</text>')
-    out.append(f'<text x="{(left + right) / 2}" y="370" text-anchor="middle" fill="#444444">queries at once</text>')
+        out.append(f'<text x="{right + 10}" y="{free:.1f}" fill="{color}">{name}</text>')
+    out.append(f'<text x="{(left + right) / 2}" y="370" text-anchor="middle" fill="#444444">{below}</text>')
     return "\n".join(out + ["</svg>"]) + "\n"
+
+
+def picture(rows, counts, figures):
+    """The shared lap and each query alone as lines, seconds against the number of queries, which doubles from place to place."""
+    return drawn(
+        f"A burst of n queries over {rows:,} sales, seconds of processor time",
+        "Seconds of processor time against the number of queries, for a shared lap and for each query alone",
+        "queries at once",
+        counts,
+        dict(list(figures.items())[:2]),
+    )
 
 
 def parties(program, peers):
@@ -295,17 +386,9 @@ def parties(program, peers):
     return own + [peer() for peer in (Sqlite, Postgres) if peers and peer.is_there()]
 
 
-def main():
-    reader = argparse.ArgumentParser(description="Measures bursts of star queries, shared and private.")
-    reader.add_argument("--rows", type=int, default=1_000_000)
-    reader.add_argument("--queries", default="1,4,16,64")
-    reader.add_argument("--repetitions", type=int, default=3, help="runs of this program for a figure")
-    reader.add_argument("--no-peers", action="store_true", help="measure this program alone")
-    reader.add_argument("--svg", help="where the picture is written")
-    reader.add_argument("--program", default=PROGRAM, help="what is measured")
-    words = reader.parse_args()
-    counts = [int(count) for count in words.queries.split(",")]
-    asked, load = parties(words.program, not words.no_peers), Burst(words.rows)
+def burst_figures(words, counts, load):
+    """The table of bursts of so many queries, and its picture."""
+    asked = parties(words.program, not words.no_peers)
     figures = {party.name: [] for party in asked}
     for count in counts:
         wanted = None
@@ -314,10 +397,36 @@ def main():
             seconds, wanted = measured(party, load, count, runs, wanted, party.loading(load, runs))
             figures[party.name].append(seconds)
             print(f"{party.name}: {count} queries, {seconds:.3f} s", file=sys.stderr)
-    print(table(counts, figures))
+    return table(counts, figures), picture(words.rows, counts, figures)
+
+
+def worker_figures(words, counts, load):
+    """The table of what workers bring, and its picture."""
+    workers = [int(number) for number in words.workers.split(",")]
+    figures = measure_workers(words.program, load, counts, workers, words.batch, words.repetitions)
+    told = table_of_workers(counts, workers, figures)
+    return told, picture_of_workers(words.rows, counts, workers, figures)
+
+
+def main():
+    reader = argparse.ArgumentParser(description="Measures bursts of star queries, shared and private.")
+    reader.add_argument("--rows", type=int, default=1_000_000)
+    reader.add_argument("--queries", help="1,4,16,64 where none are told, and with --workers 1,16,64")
+    reader.add_argument("--repetitions", type=int, default=3, help="runs of this program for a figure")
+    reader.add_argument("--no-peers", action="store_true", help="measure this program alone")
+    reader.add_argument("--workers", help="numbers of workers: what they bring is measured")
+    reader.add_argument("--batch", type=int, default=1024, help="rows of a batch, with --workers")
+    reader.add_argument("--svg", help="where the picture is written")
+    reader.add_argument("--program", default=PROGRAM, help="what is measured")
+    words = reader.parse_args()
+    told = words.queries or ("1,16,64" if words.workers else "1,4,16,64")
+    counts = [int(count) for count in told.split(",")]
+    figures = worker_figures if words.workers else burst_figures
+    shown, picture_shown = figures(words, counts, Burst(words.rows))
+    print(shown)
     if words.svg:
         with open(words.svg, "w") as file:
-            file.write(picture(words.rows, counts, figures))
+            file.write(picture_shown)
 
 
 if __name__ == "__main__":
