@@ -1,4 +1,4 @@
--- What is kept of rows by groups, what one row more makes of it, how it lies in memory, and what it ends as.
+-- What is kept of rows by groups, what one row more makes of it, how it lies, and what it ends as.
 pub mod Grouped
 pub mod Folding
 pub mod Partial

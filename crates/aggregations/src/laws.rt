@@ -45,33 +45,36 @@ pub fn one_row_more_is_folded()
 
 /// Groups without their rows are those of no rows.
 pub fn groups_without_rows_are_those_of_none()
-    ensures { (query : Query) (rows : List Joined) → without_rows (grouped_of query rows) ≡ grouped_of query [] }
+    ensures { (query : Query) (rows : List Joined) →
+        without_rows (grouped_of query rows) ≡ grouped_of query [] }
 {}
 
-/// The same by key numbers: where the query names the dimensions of its places, the row is the version
-/// joined with the rows at its key numbers.
+/// The same by key numbers: where the query names the dimensions of its places, the row is the
+/// version joined with the rows at its key numbers.
 pub fn values_by_key_fold_the_same()
-    ensures { (query : Query) (dims : List (Roomy DimensionRow)) (version : Version) (rows : List Joined) →
-        NamesItsPlaces query → with_row (value_by_key dims version) (grouped_of query rows)
+    ensures { (query : Query) (dims : List (Roomy DimensionRow)) (version : Version)
+        (rows : List Joined) → NamesItsPlaces query →
+        with_row (value_by_key dims version) (grouped_of query rows)
         ≡ grouped_of query (rows ++ joined_by_keys (rows_of_all dims) query version ∷ []) }
 {
     one_row_more_is_folded();
     values_by_key_are_those_of_joined_rows();
 }
 
-/// Parts of rows may be taken in any order, and two of them at once. So a part stands for its rows: their
-/// values, one after another, make the same of a tally.
+/// Parts of rows may be taken in any order, and two of them at once. So a part stands for its rows:
+/// their values, one after another, make the same of a tally.
 pub fn parts_may_come_in_any_order()
     ensures commute { PartsCommute }
     ensures add { PartsAdd }
     ensures values { (values : List Value) (tally : Tally) →
-        fold (λ before value. with_value value before) tally values ≡ with_part (part_of_all values) tally }
+        fold (λ before value. with_value value before) tally values
+        ≡ with_part (part_of_all values) tally }
 {
     the_least_of_values_ignores_their_order();
 }
 
-/// Rows may be folded apart, by groups of no rows of the same query, and be taken in later: rows whose groups are there
-/// change no order, so it does not matter when.
+/// Rows may be folded apart, by groups of no rows of the same query, and be taken in later: rows
+/// whose groups are there change no order, so it does not matter when.
 pub fn rows_may_be_folded_apart()
     ensures absorbed { (rows : List (Place → Value)) (other groups : Grouped) → AreOfItems groups →
         other ≡ with_all rows (without_rows groups) → absorbed other groups ≡ with_all rows groups }
@@ -99,11 +102,13 @@ pub fn codes_are_of_one_key()
 
 /// The groups of rows, ended in the ascending order of their keys, are the answer.
 pub(crate) fn groups_in_order_end_as_the_answer()
-    ensures { (query : Query) (rows : List Joined) (keys : List (List Value)) (tallies : List Tally) (order : List NumberedKey) →
+    ensures { (query : Query) (rows : List Joined) (keys : List (List Value))
+        (tallies : List Tally) (order : List NumberedKey) →
         groups_in (length query.items) keys tallies ≡ (grouped_of query rows).groups →
         IsDistinct (eq_by_cmp row_cmp) keys → IsPermutation (numbered_from 0 keys) order →
         IsSortedByKey (λ entry. entry.key) row_cmp order →
-        answer_from (each_of (λ entry. group_end (length rows == 0) query.groups query.items (group_at (length query.items) tallies entry)) order)
+        answer_from (each_of (λ entry. group_end (length rows == 0) query.groups query.items
+        (group_at (length query.items) tallies entry)) order)
         ≡ answer_of query rows }
 {
     answers_overflow_by_whole_sums();

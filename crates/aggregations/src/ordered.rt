@@ -39,7 +39,8 @@ fn sort(entries: &mut Vec<NumberedKey>) -> Result<(), NoMemory>
 /// The keys with their numbers, in ascending order.
 pub(crate) fn in_order(alloc: Global, keys: GroupKeys) -> Result<Vec<NumberedKey>, NoMemory>
     ensures sorted { IfOk result (λ order. IsSortedByKey (λ entry. entry.key) row_cmp order.items) }
-    ensures reordered { IfOk result (λ order. IsPermutation (numbered_from 0 keys.keys) order.items) }
+    ensures reordered { IfOk result (λ order.
+        IsPermutation (numbered_from 0 keys.keys) order.items) }
 {
     let mut order = numbered(alloc, keys)?;
     sort(&mut order)?;

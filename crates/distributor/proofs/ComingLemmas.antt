@@ -13,7 +13,7 @@ use Rattle.aggregations.specs.Absorbing.{first_of, with_all, without_rows}
 use Rattle.aggregations.specs.Folding.{has_key, key_by, no_rows}
 use Rattle.aggregations.specs.Grouped.{AreOfItems, Group, Grouped, tally_of}
 use Rattle.aggregations.specs.Taken.{HasFirst, HasKeysOf, HasNoText, HaveNoTexts, with_keys_of}
-use Rattle.distributor.specs.Adding.{with_slot_keys}
+use Rattle.distributor.specs.Adding.{HaveSamePlaces, with_slot_keys}
 use Rattle.distributor.specs.Apart.{HasLanded, HasMoved, HasSettled, IsApart, IsPair, IsPart, LeavesOthers, MayFoldApart, MayLand, count_in}
 use Rattle.distributor.proofs.OwnLemmas.{comes, grown-all, grown-same, keys_of_made, made, made_folded, both, stays}
 
@@ -287,6 +287,19 @@ pub rows-given : (home own : Option Grouped) (other : Grouped) → own ≡ Some 
 rows-given None own other is given = ([], tt)
 rows-given (Some home) own other is given =
     subst (λ (o : Option Grouped). IfSome o (λ its. (rows : List (Place → cell.Value)) × (its ≡ with_all rows (without_rows home)))) is given
+
+-- what came back is by the places of what is at home
+pub places-given : (is_lost : Bool) (count : ℕ) (home out own : Option Grouped) → is_lost ≡ false → MayLand is_lost count home out own
+    → HaveSamePlaces own home
+places-given is_lost count home out own found may =
+    subst (λ (o : Option Grouped). HaveSamePlaces o home)
+    (sym (may.rows.1.folded ∙ ap (λ t. cond t None (option_map (with_all may.rows.0) out)) found)) (by may.rows.0 home out may.part)
+  where
+    by : (rows : List (Place → cell.Value)) (home out : Option Grouped) → IsPart home out → HaveSamePlaces (option_map (with_all rows) out) home
+    by rows home None part = tt
+    by rows None (Some out) part = tt
+    by rows (Some home) (Some out) part =
+        (grown-all rows out).places ∙ ap (λ (g : Grouped). g.places) part.folded ∙ (grown-all part.rows (without_rows home)).places
 
 -- an answer that is no error
 pub on_not_err : {T E : Type 0} (r : Result T E) (b : Bool) (P : Type 0) → b ≡ is_err r → b ≡ false → OnOk r P → P

@@ -2,8 +2,13 @@ use Rattle.std.proofs.Common.{rules, ◌≡◌, Bool, get_or, subst, sym}
 use Rattle.std.specs.Prelude.{None, IsSome}
 use Rattle.distributor.specs.Adding.{with_slot_keys}
 use Rattle.distributor.specs.Apart.{HasLanded, HasSettled, MayLand}
-use Rattle.distributor.proofs.ComingLemmas.{at-set, landed-settled, on_not_err, settle-rows}
+use Rattle.distributor.proofs.ComingLemmas.{at-set, landed-settled, on_not_err, places-given, settle-rows}
 use Rattle.distributor.proofs.landing.spoils_slot.Goals as goal
+
+pub add_groups_at-requires-clause-places : goal.add_groups_at-requires-clause-places
+add_groups_at-requires-clause-places c =
+    places-given c.args.is_lost c.args.from (get_or c.args.home.now c.args.slot None) (get_or c.args.out.now.value c.args.slot None)
+    (get_or c.args.own.now c.args.slot None) c.if-is_lost.false c.requires.may
 
 pub settle-requires-clause-rows : goal.settle-requires-clause-rows
 settle-requires-clause-rows c =
