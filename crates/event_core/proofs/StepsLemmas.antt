@@ -2,6 +2,7 @@
 use Rattle.event_core.proofs.Words.{◌<◌, ◌≡◌, after_submitting, ap, length, Parts, refl, state_of, Statement, subst, sym}
 use Rattle.std.proofs.Common.{Bool, false, Err, Ok, inl, ℕ}
 use Rattle.std.specs.Prelude.{◌↔◌, ◌≢◌, [], IsTrue}
+use Rattle.star_statement.specs.Text.{may_change_tables, meaning_of}
 use Rattle.core_state.specs.Events.{after_event}
 use Rattle.core_state.specs.Sound.{IsSound}
 use Rattle.event_core.specs.Parts.{beside_of}
@@ -48,12 +49,13 @@ submits-wanting seat statement old new there same sound = record {
 
 -- batches are lent, and it may change the tables
 pub submits-busy : (seat : ℕ) (statement : Statement) (old new : Parts) → seat < length (state_of old).seats → new ≡ old
-    → IsSound (state_of old) → (beside_of old).lent ≢ [] → Submits seat statement old new (Err Busy)
-submits-busy seat statement old new there same sound lent = record {
+    → IsSound (state_of old) → ((beside_of old).lent ≢ []) × IsTrue (may_change_tables (meaning_of statement))
+    → Submits seat statement old new (Err Busy)
+submits-busy seat statement old new there same sound waits = record {
   disabled = (λ refused. cc refused, λ never. absurd (never there));
   taken = tt;
   err = same;
-  busy = λ _. lent;
+  busy = λ _. waits;
   beside = ap beside_of same;
   sound = subst (λ (parts : Parts). IsSound (state_of parts)) (sym same) sound;
 }

@@ -1,6 +1,7 @@
 -- What a core has become where it took an event.
-use Rattle.std.specs.Prelude.{◌≡◌, ◌≢◌, ◌↔◌, ◌⊎◌, List, [], ◌∷◌, ℕ, All, IsErrOf, OnErr, OnOk, Option, None, Some, Result}
+use Rattle.std.specs.Prelude.{◌≡◌, ◌≢◌, ◌↔◌, ◌⊎◌, List, [], ◌∷◌, ℕ, All, IsErrOf, IsTrue, OnErr, OnOk, Option, None, Some, Result}
 use Rattle.script_reader.specs.declared.statement.Statement.{Statement}
+use Rattle.star_statement.specs.Text.{may_change_tables, meaning_of}
 use Rattle.core_state.specs.Cutting.{after_give}
 use Rattle.core_state.specs.Events.{AreFed, IsEnabled, after_event, after_want}
 use Rattle.core_state.specs.Sound.{IsSound}
@@ -72,13 +73,14 @@ IsRefused NotEnabled state event = IsEnabled state event → ⊥
 IsRefused Memory state event = IsEnabled state event × MayWantMemory event
 
 -- what a call leaves that takes the submission of a statement, as far as it does so, and what it tells. Where batches are
--- lent it may tell that the statement has to wait until they are home
+-- lent it may tell a statement that may change the tables to wait until they are home
 pub record Submits (seat : ℕ) (statement : Statement) (old new : Parts) (result : Result (Unit {0}) SubmitFault) : Type 0 where
   pub disabled : IsErrOf result submit.NotEnabled
       ↔ (IsEnabled (state_of old) (Submit seat statement) → ⊥)
   pub taken : OnOk result (Took (Submit seat statement) (state_of old) (state_of new))
   pub err : OnErr result (new ≡ old)
-  pub busy : IsErrOf result submit.Busy → (beside_of old).lent ≢ []
+  pub busy : IsErrOf result submit.Busy →
+      ((beside_of old).lent ≢ []) × IsTrue (may_change_tables (meaning_of statement))
   pub beside : beside_of new ≡ beside_of old
   pub sound : IsSound (state_of new)
 

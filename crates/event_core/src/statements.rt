@@ -10,7 +10,7 @@ ghost use Rattle.star_statement.specs.Applied.{Follows};
 ghost use Rattle.star_statement.specs.Form.{form_of_text};
 ghost use Rattle.star_statement.specs.Kinds.{kind_of_change};
 ghost use Rattle.star_statement.specs.Outcome.{outcome_of};
-ghost use Rattle.star_statement.specs.Text.{meaning_of};
+ghost use Rattle.star_statement.specs.Text.{may_change_tables, meaning_of};
 ghost use Rattle.star_statement.specs.declared.applied.ChangeKind.TheVariants.{DeclaresFact};
 ghost use Rattle.pipeline_manager.specs.Changes.{after_submit};
 ghost use Rattle.pipeline_manager.specs.Conditions.{IsNew};
@@ -63,7 +63,8 @@ impl Core {
         ensures ok { OnOk result
             (state_of self.new ≡ after_submitting seat statement.old (state_of self.old)) }
         ensures err { OnErr result (self.new ≡ self.old) }
-        ensures busy { IsErrOf result ApplyFault.Busy → (beside_of self.old).lent ≢ [] }
+        ensures busy { IsErrOf result ApplyFault.Busy → ((beside_of self.old).lent ≢ [])
+            × IsTrue (may_change_tables (meaning_of statement.old)) }
         ensures beside { beside_of self.new ≡ beside_of self.old }
         ensures statement { statement.new ≡ statement.old }
     {
@@ -198,7 +199,8 @@ fn apply_to(
     ensures keyed { IsKeyed tables.new }
     ensures settled { IsSettled (plain tables.new) }
     ensures lent { IsTrue are_lent → tables.new ≡ tables.old }
-    ensures busy { IsErrOf result ApplyFault.Busy → IsTrue are_lent }
+    ensures busy { IsErrOf result ApplyFault.Busy →
+        IsTrue are_lent × IsTrue (may_change_tables (meaning_of statement.old)) }
     ensures statement { statement.new ≡ statement.old }
 {
     let applied = apply(alloc, tables, are_lent, statement);

@@ -436,5 +436,8 @@ pub returns-in_err-reply-clause-busy : goal.returns-in_err-reply-clause-busy
 returns-in_err-reply-clause-busy c = λ busy.
     let failed = err_from_is_err_and c.from_residual-in_err-reply.result c.from_residual-in_err-reply.ensures.1 in
     let one : failed.0 ≡ Busy = cc (busy, failed.1) in
-    lent-somewhere (the_view c.self.inside) c.args.self.now c.is_any_out-are_lent.result c.self.view_is c.self.invariant.4
-    c.is_any_out-are_lent.ensures (c.apply_to.ensures.busy (c.in_err-reply.was ∙ ap Err (sym failed.2 ∙ one)))
+    let waits = c.apply_to.ensures.busy (c.in_err-reply.was ∙ ap Err (sym failed.2 ∙ one)) in (
+      lent-somewhere (the_view c.self.inside) c.args.self.now c.is_any_out-are_lent.result c.self.view_is c.self.invariant.4
+          c.is_any_out-are_lent.ensures waits.0,
+      waits.1,
+    )
