@@ -1,11 +1,13 @@
 -- What a turn of a seat that gives statements to a core and takes replies leaves of what the seat knows.
-use Rattle.std.specs.Prelude.{◌≡◌, ◌≢◌, ℕ, List, [], ◌∷◌, ◌++◌, All}
+use Rattle.std.specs.Prelude.{◌≡◌, ◌≢◌, ℕ, false, List, [], ◌∷◌, ◌++◌, All, IsSomeAnd}
 use Rattle.script_reader.specs.declared.statement.Statement.{Statement}
 use Rattle.reply_text.specs.declared.reply.Reply.{Reply}
 use Rattle.core_state.specs.Fronts.{Goes, IsDue}
 use Rattle.core_state.specs.Rows.{Sight}
 use Rattle.core_state.specs.Sent.{IsGiven, Sent, statement_in, statements_in}
+use Rattle.board_lock.specs.declared.view.View.{View}
 use Rattle.event_core.specs.Board.{CoreRow}
+use Rattle.event_core.specs.Parts.{Parts}
 use Rattle.event_core.specs.Replies.{IsReplyOf}
 use Rattle.event_core.specs.declared.replies.Ready.{Ready}
 use Rattle.worker_gate.specs.Hands.{HasNothing}
@@ -35,6 +37,10 @@ abbrev pub TellsGiven : Given → (seat : ℕ) → Statement → (old new : Sigh
 TellsGiven given.Taken seat statement old new = Submitted seat statement old new
 TellsGiven given.Lost seat statement old new = Stays seat old new
 TellsGiven given.Waits seat statement old new = Stays seat old new
+
+-- the core that a seat left last tells of no statement that waits for the tables
+abbrev pub LeftUnmarked : View Parts → Type 0
+LeftUnmarked view = IsSomeAnd view.last (λ core. core.marks.waiting ≡ false)
 
 -- a seat took the reply to the first statement that it waited for
 pub record TookNext (seat : ℕ) (old : Sight) (due : List Sent) (new : Sight) (reply : Reply) : Type 0 where

@@ -258,8 +258,8 @@ fn submit_all_turn<R: Wait>(
     let own = seat.number();
     let mut core = board.enter(rt, seat);
     let given = submit_all(&mut core, own, statements);
-    unmark_if_home(&mut core);
     let signal = one_or_all(&core);
+    unmark_if_home(&mut core);
     board.leave(seat, core);
     signal.give(rt, board);
     given

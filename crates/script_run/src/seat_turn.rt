@@ -14,7 +14,8 @@ ghost use Rattle.worker_gate.specs.Hands.{HasDoneIf, HasNothing};
 ghost use Rattle.worker_gate.specs.Left.{LeavesAllLoans, MovesHand};
 ghost use Rattle.worker_gate.specs.Turns.{IsOutWith, IsReady, sight_in};
 ghost use Rattle.script_run.specs.Home.{IsAtRest, Leaves, LeftClosing, LetsGo};
-ghost use Rattle.script_run.specs.SeatTurns.{HasAsked, Stays, Submitted, TellsAsked, TellsGiven};
+ghost use Rattle.script_run.specs.SeatTurns.{HasAsked, LeftUnmarked, Stays, Submitted};
+ghost use Rattle.script_run.specs.SeatTurns.{TellsAsked, TellsGiven};
 
 use crate::seat_ahead::read_ahead;
 use board_lock::{BoardLock, BoardSeat};
@@ -75,6 +76,7 @@ pub(crate) fn submit_turn<R: Wait>(
         (sight_in (view_of seat.old)) (sight_in (view_of seat.new)) }
     ensures lost { (result ≡ false) → Stays (view_of seat.old).number
         (sight_in (view_of seat.old)) (sight_in (view_of seat.new)) }
+    ensures unmarked { (result ≡ false) → LeftUnmarked (view_of seat.new) }
 {
     let mut ahead = read_ahead(rt, board, seat, alloc, &statement);
     give_turn(rt, board, seat, &mut ahead)
@@ -96,6 +98,7 @@ fn give_turn<R: Wait>(
         (sight_in (view_of seat.old)) (sight_in (view_of seat.new)) }
     ensures lost { (result ≡ false) → Stays (view_of seat.old).number
         (sight_in (view_of seat.old)) (sight_in (view_of seat.new)) }
+    ensures unmarked { (result ≡ false) → LeftUnmarked (view_of seat.new) }
 {
     'tries: for _ in rt.forever() {
         match try_turn(rt, board, seat, statement) {
@@ -121,6 +124,7 @@ fn try_turn<R: Wait>(
     ensures team { IsSameTeam (view_of seat.old) (view_of seat.new) }
     ensures tells { TellsGiven result (view_of seat.old).number statement.old
         (sight_in (view_of seat.old)) (sight_in (view_of seat.new)) }
+    ensures unmarked { result ≡ Given.Lost → LeftUnmarked (view_of seat.new) }
     ensures statement { statement.new ≡ statement.old }
 {
     // It is called for what it ensures.
@@ -128,8 +132,9 @@ fn try_turn<R: Wait>(
     let own = seat.number();
     let mut core = board.enter(rt, seat);
     let given = submit(&mut core, own, statement);
-    mark(&mut core, given);
+    // Decided while the mark stands: where it goes, whoever else waits by it is woken.
     let signal = signal_given(rt, board, &core, given);
+    mark(&mut core, given);
     board.leave(seat, core);
     signal.give(rt, board);
     given
@@ -154,15 +159,18 @@ pub(crate) fn submit(core: &mut Core, seat: u32, statement: &mut ReadStatement<'
     }
 }
 
-/// Marks the core where a statement waits. The mark goes where nothing is out any more: all who wait
-/// were woken then, and who finds the tables lent once more marks the core again.
+/// Marks the core where a statement waits. The mark goes where a statement finds no memory, since it
+/// may be the one that waited, and where nothing is out any more. All who wait are woken then, and
+/// who finds the tables lent marks the core again, so no mark stays with nobody waiting.
 fn mark(core: &mut Core, given: Given)
     ensures state { state_of core.new ≡ state_of core.old }
     ensures loans { LeavesAllLoans core.old core.new }
+    ensures lost { given ≡ Given.Lost → core.new.marks.waiting ≡ false }
 {
     match given {
         Given::Waits => core.mark_waiting(true),
-        Given::Taken | Given::Lost => unmark_if_home(core),
+        Given::Taken => unmark_if_home(core),
+        Given::Lost => core.mark_waiting(false),
     }
 }
 
@@ -186,7 +194,8 @@ fn signal_given<R: Wait>(rt: &R, board: &BoardLock<Core>, core: &Core, given: Gi
 }
 
 /// Wakes one of those who rest, or all while some of them may wait for the tables, since else the one
-/// that is woken might be such a one, and leave what there is to do.
+/// that is woken might be such a one, and leave what there is to do. It is asked before a turn takes
+/// the mark away, so that all of them look again.
 pub(crate) fn one_or_all(core: &Core) -> Signal {
     if core.is_waiting() {
         Signal::All

@@ -6,7 +6,7 @@ use Rattle.core_state.specs.Rows.{IsMindful, sight_of}
 use Rattle.core_state.specs.State.{State}
 use Rattle.worker_gate.specs.Hands.{HasDoneIf}
 use Rattle.worker_gate.proofs.TurnLemmas.{hand-found, same-then, view-left}
-use Rattle.script_run.specs.SeatTurns.{TellsGiven}
+use Rattle.script_run.specs.SeatTurns.{LeftUnmarked, TellsGiven}
 use Rattle.script_run.proofs.SeatTurnLemmas.{given-behind, nothing-stays, team-left, turn-keeps, turn-out, turn-tells}
 use Rattle.script_run.proofs.seat_turn.try_turn.Goals as goal
 
@@ -54,3 +54,9 @@ returns-clause-tells g c =
     (subst (λ (state : State). TellsGiven c.submit-given.result c.number-own.result c.args.statement.now
     (sight_of (state_of c.enter-core.result) c.number-own.result) (sight_of state c.number-own.result))
     (sym c.mark.ensures.state) c.submit-given.ensures.tells)
+
+pub returns-clause-unmarked : goal.returns-clause-unmarked
+returns-clause-unmarked g c = λ lost.
+    subst LeftUnmarked
+    (sym (view-left (view_of c.args.seat.now) (view_of c.enter-core.new.seat) (view_of c.leave.new.seat) c.enter-core.result
+    c.mark.new.core c.enter-core.ensures.inside.1 c.leave.ensures.outside.1)) (c.mark.ensures.lost lost)
