@@ -1,6 +1,6 @@
 -- A batch that is cut, and that a worker carries as it is cut.
-use Rattle.std.proofs.Common.{◌≡◌, ℕ, Some, refl, ap, ◌∙◌, subst, arith}
-use Rattle.std.specs.Prelude.{IsSomeAnd}
+use Rattle.std.proofs.Common.{◌≡◌, ℕ, Bool, true, false, Some, None, refl, ap, ◌∙◌, subst, arith}
+use Rattle.std.specs.Prelude.{IsSomeAnd, IsTrue}
 use Rattle.core_state.specs.Found.{held_by}
 use Rattle.core_state.specs.Sound.{IsSound}
 use Rattle.core_state.specs.State.{State}
@@ -48,18 +48,24 @@ moves-cut law keep worker old new sound cuts =
     (moves-taken law (Carry worker cuts.batch) cuts.between new worker tt (took-sound keep Cut old cuts.between cuts.cut sound)
     cuts.carried refl)
 
+-- a call that carries nothing while a mark is set found it unset, where it carries something
+unset : {X : Type 0} (carried : X) (mark : Bool) → (IsTrue mark → Some carried ≡ None) → mark ≡ false
+unset carried true none = absurd (let never : Some carried ≡ None = none refl in cc)
+unset carried false none = refl
+
 -- the worker carries it
 pub cuts-for : IsRight → (blank : BlankWork) (worker : ℕ) (old new : Parts) → IsToManage worker old
     → IsFirstOf managed_kinds (state_of old) kind.Cut Cut → CutsAndCarries worker (state_of old) (state_of new)
     → IsSomeAnd (held_by (state_of new).scan.flights worker)
     (λ flight. IsSomeAnd flight.hand (IsBlankWorkOf blank (loan_of new worker) flight))
-    → new.marks ≡ old.marks → IsSound (state_of new) → CutsFor blank worker old new
-cuts-for right blank worker old new manages first cuts is marks sound = record {
+    → (IsTrue old.marks.waiting → Some blank ≡ None) → new.marks ≡ old.marks → IsSound (state_of new) → CutsFor blank worker old new
+cuts-for right blank worker old new manages first cuts is waiting marks sound = record {
   wants = manages.wants;
   first = first;
   took = cuts;
   has = has-work right (carried.Blank blank) worker new sound
       (holds-there (IsBlankWorkOf blank) (core_row new worker) (state_of new).scan.flights worker refl is);
+  waits = unset blank old.marks.waiting waiting;
   marks = marks;
 }
 

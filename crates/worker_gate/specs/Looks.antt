@@ -59,12 +59,14 @@ pub record MakesEvent (of_kind : EventKind) (old new : Parts) : Type 0 where
   pub wants : NoneWants (state_of old)
   pub manages : Manages of_kind old new
 
--- no batch wants a filter, and the first event that may come cuts one: it was cut, and a worker carries it as it is cut
+-- no batch wants a filter, and the first event that may come cuts one: it was cut, and a worker carries it as it is cut, which
+-- none does while a statement waits for the tables
 pub record CutsFor (blank : BlankWork) (worker : ℕ) (old new : Parts) : Type 0 where
   pub wants : NoneWants (state_of old)
   pub first : IsFirstOf managed_kinds (state_of old) kind.Cut Cut
   pub took : CutsAndCarries worker (state_of old) (state_of new)
   pub has : HasWork (carried.Blank blank) (core_row new worker)
+  pub waits : old.marks.waiting ≡ false
   pub marks : new.marks ≡ old.marks
 
 -- how a worker came by what it carries: it took a batch, or cut one

@@ -9,7 +9,8 @@ use Rattle.worker_gate.proofs.looking.cut_next.Goals as goal
 pub returns-in-Some-clause-tells : goal.returns-in-Some-clause-tells
 returns-in-Some-clause-tells c =
     cuts-for c.a_work_stays_right.ensures c.in-Some.blank c.args.worker c.args.core.now c.cut_for.new.self c.requires.manages
-    c.requires.first c.in-Some.ensures.carries c.in-Some.ensures.work c.cut_for.ensures.marks c.cut_for.ensures.sound
+    c.requires.first c.in-Some.ensures.carries c.in-Some.ensures.work c.in-Some.ensures.waiting c.cut_for.ensures.marks
+    c.cut_for.ensures.sound
 
 pub returns-in-Some-clause-moves : goal.returns-in-Some-clause-moves
 returns-in-Some-clause-moves c =
