@@ -10,7 +10,6 @@ use Rattle.std.specs.Prelude.{IsSomeAnd}
 use Rattle.core_state.specs.Fronts.{Passes}
 use Rattle.core_state.specs.Rows.{SeatRow, Sight, empty_row, row_of, sight_of}
 use Rattle.board_lock.specs.Seats.{IsOf, IsOutside, IsSameSeat, view_of}
-use Rattle.board_lock.specs.Small.{IsSameTeam}
 use Rattle.board_lock.specs.Views.{AreUnmadeEmpty, first_view, fixed_in, joined_view, list_in, new_view, row_in, split_view}
 use Rattle.board_lock.specs.declared.seat.BoardLock.{BoardLock}
 use Rattle.board_lock.specs.declared.seat.BoardSeat.{BoardSeat}
@@ -20,6 +19,7 @@ use Rattle.event_core.specs.Board.{CoreRow, core_entries, core_row, core_setting
 use Rattle.event_core.specs.Parts.{Beside, Loan, Parts, beside_of, first_beside, loan_of}
 use Rattle.worker_gate.specs.Turns.{IsReady, IsSeated, sight_in}
 use Rattle.script_run.specs.BoardRun.{AreJoined, AreWorkers, HasJoined, IsAtStart, IsLeader, IsNewBoard, IsWorker, KnowsNew, KnowsSame, StaysLeader, StaysWorker}
+use Rattle.script_run.specs.SeatTurns.{StaysReady}
 use Rattle.script_run.specs.Shared.{nothing}
 use Rattle.script_run.proofs.AloneLemmas.{new-seats}
 use Rattle.script_run.proofs.SeatFrontLemmas.{same-number}
@@ -147,14 +147,13 @@ leader-split board others old new leader same outside is = record {
 }
 
 -- it took turns
-pub leader-stays : (board : BoardLock Parts) (old new : BoardSeat Parts) → IsReady board None new → IsSameSeat old new
-    → IsSameTeam (view_of old) (view_of new) → StaysLeader board old new
-leader-stays board old new ready same team = λ others leader. record {
-  own = ready.own;
-  outside = ready.outside;
-  first = same-number old new same ∙ leader.first;
-  made = team.0 ∙ leader.made;
-  unjoined = team.1 ∙ leader.unjoined;
+pub leader-stays : (board : BoardLock Parts) (old new : BoardSeat Parts) → StaysReady board old new → StaysLeader board old new
+leader-stays board old new seat = λ others leader. record {
+  own = seat.out.own;
+  outside = seat.out.outside;
+  first = same-number old new seat.same ∙ leader.first;
+  made = seat.team.0 ∙ leader.made;
+  unjoined = seat.team.1 ∙ leader.unjoined;
 }
 
 -- the same seat of as many

@@ -37,6 +37,7 @@ mod SeatLetLemmas
 pub mod SeatFrontLemmas
 mod SeatReadLemmas
 mod SeatManyLemmas
+mod SeatPlaysLemmas
 mod SeatRestLemmas
 mod SeatRunLemmas
 mod SeatEndLemmas

@@ -1,21 +1,22 @@
 -- What a seat of a board does by its turns, one part behind another, and what was written of its replies.
-use Rattle.script_run.proofs.Words.{◌++◌, ◌||◌, ◌∙◌, ◌∷◌, ◌≡◌, ◌≢◌, ◌⊎◌, [], ap, append-nil, append_assoc, Appends, Appends-nil, AppendsFront, arith, Bool, Err, false, Halt, IfOk, inl, inr, is_refusal, IsReplyOf, length, length-append, List, list_any, Memory, NoMemory, None, Ok, OnOk, Option, Ready, refl, Reply, Result, Some, Statement, subst, sym, take, text_of, true, ℕ}
+use Rattle.script_run.proofs.Words.{◌++◌, ◌||◌, ◌∙◌, ◌∷◌, ◌≡◌, ◌≢◌, ◌⊎◌, [], ap, append-nil, Appends, Appends-nil, AppendsFront, Bool, Err, false, Halt, IfOk, inr, is_refusal, List, list_any, Memory, NoMemory, None, Ok, OnOk, Option, refl, Reply, Result, Some, Statement, subst, sym, take, text_of, true, ℕ}
 use Rattle.std.specs.Prelude.{OnErr}
 use Rattle.std.proofs.lemmas.List.Folds.{list_any-append}
 use Rattle.board_lock.specs.Seats.{IsSameSeat, view_of}
 use Rattle.board_lock.specs.declared.seat.BoardSeat.{BoardSeat}
 use Rattle.core_state.specs.Fronts.{Goes, IsDue}
 use Rattle.core_state.specs.Rows.{Sight}
-use Rattle.core_state.specs.Sent.{Lost, Sent, pendings_of, statements_in}
+use Rattle.core_state.specs.Sent.{Lost, Sent, statements_in}
 use Rattle.core_state.proofs.FrontLemmas.{goes-lost}
 use Rattle.event_core.specs.Parts.{Parts}
+use Rattle.worker_gate.specs.Turns.{sight_in}
 use Rattle.script_run.specs.Front.{EndsSo, PlaysOn}
 use Rattle.script_run.specs.SeatFront.{SeatPlays, SeatPlaysBy, TellsWaited}
-use Rattle.script_run.specs.SeatTurns.{Stays, Submitted, TakesNext, TookNext}
+use Rattle.script_run.specs.SeatTurns.{Stays, Submitted, TellsTried, TookNext}
 use Rattle.script_run.specs.declared.seat_front.Waited.{Waited}
 use Rattle.script_run.specs.declared.seat_front.Waited.TheVariants as waited
-use Rattle.script_run.proofs.OnLemmas.{Eases, eases-none, eases-some, halts-proper, halts-weaker, on-then, still-none, text-one, within-reply}
-use Rattle.script_run.proofs.SeatTurnLemmas.{stays-none, stays-then, takes-behind}
+use Rattle.script_run.proofs.OnLemmas.{Eases, eases-none, eases-some, halts-proper, on-then, still-none, text-one, within-reply}
+use Rattle.script_run.proofs.SeatTurnLemmas.{stays-none, stays-then, submitted-behind, takes-behind}
 use Rattle.script_run.proofs.WholeLemmas.{or_false}
 
 -- Seats.
@@ -27,6 +28,19 @@ same-number old new same = new.numbered.1 ∙ same.2 ∙ sym old.numbered.1
 -- so what is said by the number of the one is said by that of the other
 pub by-number : (Is : ℕ → Type 0) (old new : BoardSeat Parts) → IsSameSeat old new → Is (view_of new).number → Is (view_of old).number
 by-number Is old new same is = subst Is (same-number old new same) is
+
+-- what is told behind a turn in which a seat sent nothing
+pub tried-behind : (taken : Bool) (statement : Statement) (old between new : BoardSeat Parts) → IsSameSeat old between
+    → Stays (view_of old).number (sight_in (view_of old)) (sight_in (view_of between)) → TellsTried taken statement between new
+    → TellsTried taken statement old new
+tried-behind true statement old between new same stays tells =
+    submitted-behind statement (view_of old).number (sight_in (view_of old)) (sight_in (view_of between)) (sight_in (view_of new)) stays
+    (by-number (λ (number : ℕ). Submitted number statement (sight_in (view_of between)) (sight_in (view_of new))) old between same tells)
+tried-behind false statement old between new same stays tells = (
+  stays-then (view_of old).number (sight_in (view_of old)) (sight_in (view_of between)) (sight_in (view_of new)) stays
+      (by-number (λ (number : ℕ). Stays number (sight_in (view_of between)) (sight_in (view_of new))) old between same tells.0),
+  tells.1,
+)
 
 -- what a seat is told that stayed before
 pub waited-behind : (how : Waited) (seat : ℕ) (old between new : Sight) → Stays seat old between → TellsWaited how seat between new
@@ -105,32 +119,6 @@ abbrev pub seat-left : (refused : Bool) (seat : ℕ) (old new : Sight) (due : Li
     → SeatPlaysBy (Err NoMemory) seat old due statements Left' new taken taken'
 seat-left refused seat old new due statements Left Left' taken taken' left plays =
     seat-wants refused seat old new due statements Left Left' taken taken' plays (inr (inr left))
-
--- a statement that is not sent is left
-pub is-unsent : (rest : List Statement) (statement : Statement) → (rest ++ statement ∷ []) ≢ []
-is-unsent rest statement none = let long = length-append rest (statement ∷ []) in let short = ap length none in omega arith
-
--- the replies halt before a statement is sent
-abbrev pub seat-unsent : (halt : Halt) (seat : ℕ) (statement : Statement) (old new : Sight) (due : List Sent) (Left : Type 0)
-    (taken taken' : Option (List ℕ)) → SeatPlaysBy (Err halt) seat old due [] Left new taken taken'
-    → SeatPlaysBy (Err halt) seat old due (statement ∷ []) ⊥ new taken taken'
-seat-unsent halt seat statement old new due Left taken taken' plays = (
-  record {
-    sent = plays.0.sent;
-    said = plays.0.said;
-    still = plays.0.still;
-    replies = plays.0.replies;
-    rest = plays.0.rest ++ statement ∷ [];
-    are = ap (λ list. list ++ statement ∷ []) plays.0.are ∙ append_assoc (statements_in plays.0.sent) plays.0.rest (statement ∷ []);
-    goes = plays.0.goes;
-    written = plays.0.written;
-    took = plays.0.took;
-    ends = halts-weaker halt plays.0.replies plays.0.written ((plays.0.still ≢ []) ⊎ ((plays.0.rest ≢ []) ⊎ Left))
-        ((plays.0.still ≢ []) ⊎ (((plays.0.rest ++ statement ∷ []) ≢ []) ⊎ ⊥)) (λ left. inr (inl (is-unsent plays.0.rest statement)))
-        plays.0.ends;
-  },
-  tt,
-)
 
 -- No reply is taken.
 
@@ -220,45 +208,6 @@ seat-took-err halt seat old new due reply taken taken' takes took = (
       (λ Left. halts-proper halt (reply ∷ []) (take took.0 (text_of reply)) Left (within-reply reply took.0 took.1)),
   tt,
 )
-
--- The replies, one after the other.
-
--- one more was taken and written
-pub replies-more : (refused told : Bool) (ready : Ready) (reply : Reply) (seat : ℕ) (old between new : Sight)
-    (taken0 taken taken' : Option (List ℕ)) → SeatPlays (Ok refused) seat old [] between taken0 taken → TakesNext ready seat between new
-    → IsReplyOf ready reply → Appends taken taken' (text_of reply) → told ≡ is_refusal reply
-    → SeatPlays (Ok (refused || told)) seat old [] new taken0 taken'
-replies-more refused told ready reply seat old between new taken0 taken taken' plays takes is wrote is_told due waits =
-    let first = plays due waits in
-    seat-ok refused told seat old between new due [] [] ⊥ ⊥ ⊥ taken0 taken taken' first
-    (seat-took-ok told seat between new first.0.still reply taken taken' (takes first.0.still reply first.0.goes.waits is) wrote is_told)
-
--- one more was taken, and not all of it written
-pub replies-halt : (refused : Bool) (halt : Halt) (ready : Ready) (reply : Reply) (seat : ℕ) (old between new : Sight)
-    (taken0 taken taken' : Option (List ℕ)) → SeatPlays (Ok refused) seat old [] between taken0 taken → TakesNext ready seat between new
-    → IsReplyOf ready reply → AppendsFront taken taken' (text_of reply) → SeatPlays (Err halt) seat old [] new taken0 taken'
-replies-halt refused halt ready reply seat old between new taken0 taken taken' plays takes is wrote due waits =
-    let first = plays due waits in
-    seat-err refused halt seat old between new due [] [] ⊥ ⊥ ⊥ taken0 taken taken' (λ never. never) first
-    (seat-took-err halt seat between new first.0.still reply taken taken' (takes first.0.still reply first.0.goes.waits is) wrote)
-
--- no more was taken
-pub replies-stay : (refused : Bool) (seat : ℕ) (old between new : Sight) (taken0 taken : Option (List ℕ))
-    → SeatPlays (Ok refused) seat old [] between taken0 taken → Stays seat between new → SeatPlays (Ok refused) seat old [] new taken0 taken
-replies-stay refused seat old between new taken0 taken plays stays due waits =
-    let first = plays due waits in
-    subst (λ some. SeatPlaysBy (Ok some) seat old due [] ⊥ new taken0 taken) (or_false refused)
-    (seat-ok refused false seat old between new due [] [] ⊥ ⊥ ⊥ taken0 taken taken first
-    (seat-stays seat between new first.0.still taken first.0.goes.waits stays))
-
--- nor was there memory for one that is waited for
-pub replies-want : (refused : Bool) (seat : ℕ) (old between new : Sight) (taken0 taken : Option (List ℕ))
-    → SeatPlays (Ok refused) seat old [] between taken0 taken → Stays seat between new × (new.row.pending ≢ [])
-    → SeatPlays (Err NoMemory) seat old [] new taken0 taken
-replies-want refused seat old between new taken0 taken plays tells due waits =
-    let all = replies-stay refused seat old between new taken0 taken plays tells.0 due waits in
-    seat-wants refused seat old new due [] ⊥ ⊥ taken0 taken all
-    (inl (λ none. tells.1 (all.0.goes.waits.pending ∙ ap (pendings_of new.seen) none)))
 
 -- A statement for which no memory was left.
 

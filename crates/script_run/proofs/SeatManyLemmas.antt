@@ -1,6 +1,5 @@
 -- Many statements that a seat sends in one turn, one behind another, and what was read of a run.
-use Rattle.script_run.proofs.Words.{◌++◌, ◌<◌, ◌||◌, ◌∙◌, ◌∷◌, ◌≡◌, ◌≢◌, ◌⊎◌, [], All-append, All-cons, All-nil, ap, append-nil, append_assoc, arith, Bool, drop, Err, false, Halt, inl, inr, length, length-append, List, map-append, None, Ok, Option, Reading, refl, Result, Some, Statement, statements_of, StaysFed, subst, sym, take, take-append-drop, TakesFirst, true, Wants, ℕ, ⊎_elim}
-use Rattle.star_store.proofs.AppendLemmas.{none_left}
+use Rattle.script_run.proofs.Words.{◌++◌, ◌<◌, ◌∙◌, ◌∷◌, ◌≡◌, ◌≢◌, [], All-append, All-cons, All-nil, ap, append-nil, append_assoc, arith, false, length, length-append, List, map-append, None, Ok, Option, Reading, refl, Some, Statement, statements_of, StaysFed, subst, sym, TakesFirst, true, Wants, ℕ}
 use Rattle.core_state.specs.Fronts.{Goes}
 use Rattle.core_state.specs.Rows.{Sight}
 use Rattle.core_state.specs.Sent.{IsGiven, statement_in, statements_in}
@@ -16,8 +15,7 @@ use Rattle.script_run.specs.declared.seat_run.Behind.{Behind}
 use Rattle.script_run.specs.declared.seat_run.Behind.TheVariants.{More, NoMemory as NoneLeft, Nothing}
 use Rattle.script_run.specs.declared.seat_run.RunEnd.{RunEnd}
 use Rattle.script_run.specs.declared.seat_run.RunEnd.TheVariants as ended
-use Rattle.script_run.proofs.OnLemmas.{halts-weaker}
-use Rattle.script_run.proofs.SeatFrontLemmas.{seat-behind, seat-err, seat-none, seat-ok, seat-sends}
+use Rattle.script_run.proofs.SeatFrontLemmas.{seat-sends}
 use Rattle.script_run.proofs.SharedReadLemmas.{reads-all, reads-done, reads-first, reads-itself, reads-then}
 use Rattle.script_run.proofs.SharedWholeLemmas.{statements_left}
 
@@ -74,54 +72,6 @@ pub seat-sent-all : (seat : ℕ) (statements : List Statement) (old new : Sight)
 seat-sent-all seat statements old new taken submitted due waits =
     let sent = submitted due waits in
     seat-sends seat old new due (due ++ sent.0) sent.0 statements taken (sym sent.1 ∙ sym (append-nil (statements_in sent.0))) sent.3
-
--- One part behind another.
-
--- replies were written in both
-pub plays-ok : (refused some : Bool) (seat : ℕ) (old between new : Sight) (statements others : List Statement)
-    (taken0 taken taken' : Option (List ℕ)) → SeatPlays (Ok refused) seat old statements between taken0 taken
-    → SeatPlays (Ok some) seat between others new taken taken' → SeatPlays (Ok (refused || some)) seat old (statements ++ others) new taken0 taken'
-plays-ok refused some seat old between new statements others taken0 taken taken' first second due waits =
-    let before = first due waits in
-    seat-ok refused some seat old between new due statements others ⊥ ⊥ ⊥ taken0 taken taken' before
-    (second before.0.still before.0.goes.waits)
-
--- they halt in the second
-pub plays-err : (refused : Bool) (halt : Halt) (seat : ℕ) (old between new : Sight) (statements others : List Statement)
-    (taken0 taken taken' : Option (List ℕ)) → SeatPlays (Ok refused) seat old statements between taken0 taken
-    → SeatPlays (Err halt) seat between others new taken taken' → SeatPlays (Err halt) seat old (statements ++ others) new taken0 taken'
-plays-err refused halt seat old between new statements others taken0 taken taken' first second due waits =
-    let before = first due waits in
-    seat-err refused halt seat old between new due statements others ⊥ ⊥ ⊥ taken0 taken taken' (λ never. never) before
-    (second before.0.still before.0.goes.waits)
-
--- what is left is left with others behind it
-some-behind : (rest others : List Statement) → rest ≢ [] → (rest ++ others) ≢ []
-some-behind [] others some none = some refl
-some-behind (one ∷ rest) others some none = cc
-
--- they halt before the second
-pub plays-short : (halt : Halt) (seat : ℕ) (old new : Sight) (statements others : List Statement) (taken taken' : Option (List ℕ))
-    → SeatPlays (Err halt) seat old statements new taken taken' → SeatPlays (Err halt) seat old (statements ++ others) new taken taken'
-plays-short halt seat old new statements others taken taken' first due waits =
-    let plays = first due waits in (
-      record {
-        sent = plays.0.sent;
-        said = plays.0.said;
-        still = plays.0.still;
-        replies = plays.0.replies;
-        rest = plays.0.rest ++ others;
-        are = ap (λ list. list ++ others) plays.0.are ∙ append_assoc (statements_in plays.0.sent) plays.0.rest others;
-        goes = plays.0.goes;
-        written = plays.0.written;
-        took = plays.0.took;
-        ends = halts-weaker halt plays.0.replies plays.0.written ((plays.0.still ≢ []) ⊎ ((plays.0.rest ≢ []) ⊎ ⊥))
-            ((plays.0.still ≢ []) ⊎ (((plays.0.rest ++ others) ≢ []) ⊎ ⊥))
-            (⊎_elim (λ waits. inl waits) (⊎_elim (λ some. inr (inl (some-behind plays.0.rest others some))) (λ never. absurd never)))
-            plays.0.ends;
-      },
-      tt,
-    )
 
 -- What was read.
 
@@ -198,95 +148,6 @@ run-fewer waits waits' before after next stays = reads-fewer waits waits' next.r
 -- nothing was read yet
 pub run-starts : (waits : Reading) (statements : List Statement) → statements ≡ [] → Reads waits statements waits
 run-starts waits statements none = subst (λ list. Reads waits list waits) (sym none) (reads-itself waits)
-
--- Statements of a list, one by one.
-
--- those so far were given, and these are left
-pub record PlaysEach (seat : ℕ) (old : Sight) (all rest : List Statement) (now : Sight) (refused : Bool)
-    (taken0 taken : Option (List ℕ)) : Type 0 where
-  pub played : List Statement
-  pub are : all ≡ played ++ rest
-  pub plays : SeatPlays (Ok refused) seat old played now taken0 taken
-
-pub each-starts : (seat : ℕ) (sight : Sight) (all rest : List Statement) (taken : Option (List ℕ)) → rest ≡ all
-    → PlaysEach seat sight all rest sight false taken taken
-each-starts seat sight all rest taken is = record {
-  played = [];
-  are = sym is;
-  plays = λ due waits. seat-none seat sight due taken waits;
-}
-
--- all but these are those so far and the next one
-each-one : (all played rest left : List Statement) (statement : Statement) → all ≡ played ++ rest → rest ≡ statement ∷ left
-    → all ≡ (played ++ statement ∷ []) ++ left
-each-one all played rest left statement are is =
-    are ∙ ap (λ list. played ++ list) is ∙ sym (append_assoc played (statement ∷ []) left)
-
-pub each-more : (refused some : Bool) (seat : ℕ) (old between new : Sight) (all rest left : List Statement) (statement : Statement)
-    (taken0 taken taken' : Option (List ℕ)) → PlaysEach seat old all rest between refused taken0 taken → rest ≡ statement ∷ left
-    → SeatPlays (Ok some) seat between (statement ∷ []) new taken taken' → PlaysEach seat old all left new (refused || some) taken0 taken'
-each-more refused some seat old between new all rest left statement taken0 taken taken' way is plays = record {
-  played = way.played ++ statement ∷ [];
-  are = each-one all way.played rest left statement way.are is;
-  plays = plays-ok refused some seat old between new way.played (statement ∷ []) taken0 taken taken' way.plays plays;
-}
-
-pub each-halts : (refused : Bool) (halt : Halt) (seat : ℕ) (old between new : Sight) (all rest left : List Statement) (statement : Statement)
-    (taken0 taken taken' : Option (List ℕ)) → PlaysEach seat old all rest between refused taken0 taken → rest ≡ statement ∷ left
-    → SeatPlays (Err halt) seat between (statement ∷ []) new taken taken' → SeatPlays (Err halt) seat old all new taken0 taken'
-each-halts refused halt seat old between new all rest left statement taken0 taken taken' way is plays =
-    subst (λ list. SeatPlays (Err halt) seat old list new taken0 taken') (sym (each-one all way.played rest left statement way.are is))
-    (plays-short halt seat old new (way.played ++ statement ∷ []) left taken0 taken'
-    (plays-err refused halt seat old between new way.played (statement ∷ []) taken0 taken taken' way.plays plays))
-
-pub each-done : (refused : Bool) (seat : ℕ) (old now : Sight) (all rest : List Statement) (n : ℕ) (taken0 taken : Option (List ℕ))
-    → PlaysEach seat old all rest now refused taken0 taken → n ≡ length rest → n ≡ 0 → SeatPlays (Ok refused) seat old all now taken0 taken
-each-done refused seat old now all rest n taken0 taken way long none =
-    subst (λ list. SeatPlays (Ok refused) seat old list now taken0 taken)
-    (sym (way.are ∙ ap (λ list. way.played ++ list) (none_left rest n long none) ∙ append-nil way.played)) way.plays
-
--- no statement is there to be given
-pub plays-none : (seat : ℕ) (sight : Sight) (all : List Statement) (n : ℕ) (taken : Option (List ℕ)) → n ≡ length all → n ≡ 0
-    → SeatPlays (Ok false) seat sight all sight taken taken
-plays-none seat sight all n taken long none =
-    subst (λ list. SeatPlays (Ok false) seat sight list sight taken taken) (sym (none_left all n long none))
-    (λ due waits. seat-none seat sight due taken waits)
-
--- Statements that were sent in one turn, and those behind them.
-
--- the replies that were there
-pub many-replies : (result : Result Bool Halt) (seat : ℕ) (old between new : Sight) (statements : List Statement)
-    (taken taken' : Option (List ℕ)) → SubmittedAll seat statements old between → SeatPlays result seat between [] new taken taken'
-    → SeatPlays result seat old statements new taken taken'
-many-replies result seat old between new statements taken taken' sent plays =
-    subst (λ list. SeatPlays result seat old list new taken taken') (append-nil statements)
-    (seat-behind result seat old between new statements [] taken taken' (seat-sent-all seat statements old between taken sent) plays)
-
--- those that were taken in the turn, and the others
-parted : (n : ℕ) (statements left : List Statement) → left ≡ drop n statements → take n statements ++ left ≡ statements
-parted n statements left is = ap (λ list. take n statements ++ list) is ∙ take-append-drop n statements
-
-pub plain-ok : (refused some : Bool) (n seat : ℕ) (old between new : Sight) (statements left : List Statement)
-    (taken0 taken taken' : Option (List ℕ)) → left ≡ drop n statements
-    → SeatPlays (Ok refused) seat old (take n statements) between taken0 taken → SeatPlays (Ok some) seat between left new taken taken'
-    → SeatPlays (Ok (refused || some)) seat old statements new taken0 taken'
-plain-ok refused some n seat old between new statements left taken0 taken taken' is first second =
-    subst (λ list. SeatPlays (Ok (refused || some)) seat old list new taken0 taken') (parted n statements left is)
-    (plays-ok refused some seat old between new (take n statements) left taken0 taken taken' first second)
-
-pub plain-err : (refused : Bool) (halt : Halt) (n seat : ℕ) (old between new : Sight) (statements left : List Statement)
-    (taken0 taken taken' : Option (List ℕ)) → left ≡ drop n statements
-    → SeatPlays (Ok refused) seat old (take n statements) between taken0 taken → SeatPlays (Err halt) seat between left new taken taken'
-    → SeatPlays (Err halt) seat old statements new taken0 taken'
-plain-err refused halt n seat old between new statements left taken0 taken taken' is first second =
-    subst (λ list. SeatPlays (Err halt) seat old list new taken0 taken') (parted n statements left is)
-    (plays-err refused halt seat old between new (take n statements) left taken0 taken taken' first second)
-
-pub plain-short : (halt : Halt) (n seat : ℕ) (old new : Sight) (statements : List Statement) (taken taken' : Option (List ℕ))
-    → SeatPlays (Err halt) seat old (take n statements) new taken taken' → SeatPlays (Err halt) seat old statements new taken taken'
-plain-short halt n seat old new statements taken taken' first =
-    subst (λ list. SeatPlays (Err halt) seat old list new taken taken') (take-append-drop n statements)
-    (plays-short halt seat old new (take n statements) (drop n statements) taken taken' first)
 
 -- Of a run.
 

@@ -1,7 +1,6 @@
 -- A turn of a seat that gives statements to a core: what it finds, what it does, and what it leaves.
 use Rattle.script_run.proofs.Words.{◌++◌, ◌+◌, ◌<◌, ◌∙◌, ◌∷◌, ◌≡◌, ◌≢◌, [], after_submitting, after_taking, ap, append-nil, append_assoc, first_open, IfSome, IsRight, IsSound, length, List, Lives, next_ready, None, Pending, Ready, ready_of, refl, RunSettings, Seat, seat_at, slice_get, Some, State, state_of, Statement, Submit, subst, sym, Took, ℕ, ⊎_elim}
-use Rattle.board_lock.specs.Seats.{IsOf, IsOutside, view_of}
-use Rattle.board_lock.specs.Small.{IsSameTeam}
+use Rattle.board_lock.specs.Seats.{IsOf, IsOutside, IsSameSeat, view_of}
 use Rattle.board_lock.specs.Views.{Keeps, entered, left}
 use Rattle.board_lock.specs.declared.seat.BoardLock.{BoardLock}
 use Rattle.board_lock.specs.declared.seat.BoardSeat.{BoardSeat}
@@ -12,16 +11,16 @@ use Rattle.core_state.specs.Fronts.{IsDue, Passes, SubmitsRow}
 use Rattle.core_state.specs.Rows.{AbandonsRow, IsMindful, SeatRow, Sight, made_by, sight_of}
 use Rattle.core_state.specs.Sent.{Given}
 use Rattle.core_state.proofs.FrontLemmas.{goes-passes, goes-submits, goes-then}
-use Rattle.core_state.proofs.MoverLemmas.{mindful-none}
+use Rattle.core_state.proofs.MoverLemmas.{mindful-none, mindful-then}
 use Rattle.core_state.proofs.RowLemmas.{submits-mindful, submits-row, takes-mindful}
 use Rattle.event_core.specs.Board.{CoreRow, core_entries, core_row, core_settings, first_row}
 use Rattle.event_core.specs.Parts.{LeavesLoans, Parts, loan_of}
-use Rattle.worker_gate.specs.Hands.{HasNothing}
+use Rattle.worker_gate.specs.Hands.{HasDoneIf, HasNothing}
 use Rattle.worker_gate.specs.Left.{LeavesAllLoans, MovesHand}
-use Rattle.worker_gate.specs.Turns.{IsOutWith, IsSeated, own_row, sight_in}
-use Rattle.worker_gate.proofs.TurnLemmas.{FindsCore, seated-found}
+use Rattle.worker_gate.specs.Turns.{IsOutWith, IsReady, IsSeated, own_row, sight_in}
+use Rattle.worker_gate.proofs.TurnLemmas.{FindsCore, hand-found, same-seat, same-then, seated-found, view-left}
 use Rattle.script_run.specs.Home.{Leaves, LetsGo}
-use Rattle.script_run.specs.SeatTurns.{Stays, Submitted, TakesNext, TellsAsked, TellsGiven}
+use Rattle.script_run.specs.SeatTurns.{KeepsHand, Stays, StaysOut, StaysReady, Submitted, TakesNext, TellsAsked, TellsGiven}
 use Rattle.script_run.specs.declared.seat_turn.Asked.{Asked}
 use Rattle.script_run.specs.declared.seat_turn.Asked.TheVariants.{Got, Nothing, NotYet, Looked}
 use Rattle.script_run.specs.declared.seat_turn.Given.{Given as HowGiven}
@@ -31,16 +30,18 @@ use Rattle.script_run.proofs.TakenLemmas.{RowTells, TakesReply, WaitsForOpen, id
 
 -- Seats.
 
--- the seats that were made and joined stay where nothing happens, one part behind another, and in a turn
-pub team-none : (seat : BoardSeat Parts) → IsSameTeam (view_of seat) (view_of seat)
-team-none seat = (refl, refl)
+-- a seat stays what it is where nothing happens, and one part behind another
+pub out-none : (board : BoardLock Parts) (IsHeld : CoreRow → Type 0) (seat : BoardSeat Parts) → IsOutWith board IsHeld seat
+    → StaysOut board IsHeld seat seat
+out-none board IsHeld seat out = record { out = out; same = same-seat seat; team = (refl, refl) }
 
-pub team-then : (old between new : BoardSeat Parts) → IsSameTeam (view_of old) (view_of between)
-    → IsSameTeam (view_of between) (view_of new) → IsSameTeam (view_of old) (view_of new)
-team-then old between new first second = (second.0 ∙ first.0, second.1 ∙ first.1)
-
-pub team-left : (old new : BoardSeat Parts) (core : Parts) → view_of new ≡ left (view_of old) core → IsSameTeam (view_of old) (view_of new)
-team-left old new core view = (ap (λ (v : View Parts). v.made) view, ap (λ (v : View Parts). v.joined) view)
+pub out-then : (board : BoardLock Parts) (IsOther IsHeld : CoreRow → Type 0) (old between new : BoardSeat Parts)
+    → StaysOut board IsOther old between → StaysOut board IsHeld between new → StaysOut board IsHeld old new
+out-then board IsOther IsHeld old between new first second = record {
+  out = second.out;
+  same = same-then old between new first.same second.same;
+  team = (second.team.0 ∙ first.team.0, second.team.1 ∙ first.team.1);
+}
 
 -- What stays.
 
@@ -228,6 +229,11 @@ turn-keeps keeps old inside found core seat enters is mindful loans =
     keeps inside found core (ap (λ (view : View Parts). view.last) enters)
     (subst (λ n. IsMindful n (state_of found) (state_of core)) number mindful) (subst (λ n. LeavesLoans n found core) number loans)
 
+pub turn-keeps-hand : KeepsBoard → (old inside : View Parts) (found core : Parts) (seat : ℕ) → inside ≡ entered old found → seat ≡ old.number
+    → KeepsHand seat found core → Keeps core_row first_row core_entries core_settings inside core
+turn-keeps-hand keeps old inside found core seat enters is kept =
+    turn-keeps keeps old inside found core seat enters is kept.mindful (λ other apart. kept.loans other)
+
 -- what is said of what it left is said of the seat
 pub turn-out : (board : BoardLock Parts) (IsHeld : CoreRow → Type 0) (old new : BoardSeat Parts) (found core : Parts) (seat : ℕ)
     → view_of new ≡ left (view_of old) core → IsOf board new → IsOutside new → IsSeated (view_of old) → FindsCore (view_of old) found
@@ -248,6 +254,29 @@ pub nothing-stays : (seat : ℕ) (old new : Parts) → HasNothing (core_row old 
     → HasNothing (core_row new seat)
 nothing-stays seat old new has hand loan = record { hand = hand ∙ has.hand; loan = loan ∙ has.loan }
 
+-- a seat stays what it is in a turn of it
+pub turn-stays : (board : BoardLock Parts) (IsOther IsHeld : CoreRow → Type 0) (old inside new : BoardSeat Parts) (found core : Parts)
+    (seat : ℕ) → IsOutWith board IsOther old → view_of inside ≡ entered (view_of old) found → view_of new ≡ left (view_of inside) core
+    → IsSameSeat old inside → IsSameSeat inside new → IsOutside new → FindsCore (view_of old) found
+    → IsMindful seat (state_of found) (state_of core) → seat ≡ (view_of old).number → IsHeld (core_row core seat)
+    → StaysOut board IsHeld old new
+turn-stays board IsOther IsHeld old inside new found core seat ready enters leaves first second outside finds mindful is held =
+    let view = view-left (view_of old) (view_of inside) (view_of new) found core enters leaves in record {
+      out = turn-out board IsHeld old new found core seat view (second.0 ∙ first.0 ∙ ready.own) outside ready.seated finds mindful is held;
+      same = same-then old inside new first second;
+      team = (ap (λ (v : View Parts). v.made) view, ap (λ (v : View Parts). v.joined) view);
+    }
+
+-- and may take another one where it had nothing, and its hand and what it is lent are as they were
+pub turn-stays-ready : (board : BoardLock Parts) (old inside new : BoardSeat Parts) (found core : Parts) (seat : ℕ)
+    → IsReady board None old → view_of inside ≡ entered (view_of old) found → view_of new ≡ left (view_of inside) core
+    → IsSameSeat old inside → IsSameSeat inside new → IsOutside new → FindsCore (view_of old) found
+    → KeepsHand seat found core → seat ≡ (view_of old).number → StaysReady board old new
+turn-stays-ready board old inside new found core seat ready enters leaves first second outside finds keeps is =
+    turn-stays board (HasDoneIf None) (HasDoneIf None) old inside new found core seat ready enters leaves first second outside finds
+    keeps.mindful is
+    (nothing-stays seat found core (hand-found (HasDoneIf None) (view_of old) found seat ready.hand finds is) keeps.hand (keeps.loans seat))
+
 -- where each has what it had, each but one has
 pub loans-but : (seat : ℕ) (old new : Parts) → LeavesAllLoans old new → LeavesLoans seat old new
 loans-but seat old new all other apart = all other
@@ -263,6 +292,29 @@ all-loans-then old between new first second seat = second seat ∙ first seat
 -- where nothing has changed
 pub all-loans-same : (old new : Parts) → new ≡ old → LeavesAllLoans old new
 all-loans-same old new same seat = ap (λ (parts : Parts). loan_of parts seat) same
+
+-- a hand is kept where nothing has changed, one part behind another, and where the state and what is lent stays
+pub keeps-same : (seat : ℕ) (old new : Parts) → new ≡ old → KeepsHand seat old new
+keeps-same seat old new same = record {
+  mindful = subst (IsMindful seat (state_of old)) (sym (ap state_of same)) (mindful-none seat (state_of old));
+  hand = ap (λ (parts : Parts). held_by (state_of parts).scan.flights seat) same;
+  loans = all-loans-same old new same;
+}
+
+pub keeps-then : (seat : ℕ) (old between new : Parts) → KeepsHand seat old between → KeepsHand seat between new → KeepsHand seat old new
+keeps-then seat old between new first second = record {
+  mindful = mindful-then seat (state_of old) (state_of between) (state_of new) first.mindful second.mindful;
+  hand = second.hand ∙ first.hand;
+  loans = all-loans-then old between new first.loans second.loans;
+}
+
+pub keeps-marked : (seat : ℕ) (old between new : Parts) → KeepsHand seat old between → state_of new ≡ state_of between
+    → LeavesAllLoans between new → KeepsHand seat old new
+keeps-marked seat old between new first same loans = record {
+  mindful = subst (IsMindful seat (state_of old)) (sym same) first.mindful;
+  hand = ap (λ (state : State). held_by state.scan.flights seat) same ∙ first.hand;
+  loans = all-loans-then old between new first.loans loans;
+}
 
 -- What a seat does while it has the core.
 
@@ -292,10 +344,6 @@ submitted-took seat statement old new took due waits = (
   goes-submits seat (sight_of old seat) (sight_of new seat) due (old.numbers.statement + 1) statement waits refl
       (row-submitted seat statement old new took),
 )
-
--- where nothing has changed no row has
-pub mindful-same : (seat : ℕ) (old new : State) → new ≡ old → IsMindful seat old new
-mindful-same seat old new same = subst (IsMindful seat old) (sym same) (mindful-none seat old)
 
 -- a reply was taken: it is that to the first statement that the seat waited for
 pub takes-next : RowTells → (seat : ℕ) (old new : State) (ready : Ready) → IsSound old → Some (ready_of ready) ≡ next_ready old seat

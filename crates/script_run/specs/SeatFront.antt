@@ -1,17 +1,23 @@
 -- What a seat of a board that gives statements to the core leaves of what it knows, in a reader and at a sink.
-use Rattle.std.specs.Prelude.{◌≡◌, ◌≢◌, ℕ, Bool, List, [], Option, Result, IfOk}
+use Rattle.std.specs.Prelude.{◌≡◌, ◌≢◌, ℕ, Bool, List, [], ◌++◌, Option, Result, IfOk}
 use Rattle.std.specs.List.{list_any}
+use Rattle.star_io.specs.Link.{WritingSide}
 use Rattle.script_reader.specs.Reading.{Reading, StaysFed}
 use Rattle.script_reader.specs.declared.statement.Statement.{Statement}
 use Rattle.core_state.specs.Fronts.{IsDue}
 use Rattle.core_state.specs.Rows.{Sight}
 use Rattle.core_state.specs.Sent.{Sent}
+use Rattle.board_lock.specs.Seats.{view_of}
+use Rattle.board_lock.specs.declared.seat.BoardLock.{BoardLock}
+use Rattle.board_lock.specs.declared.seat.BoardSeat.{BoardSeat}
 use Rattle.event_core.specs.Board.{CoreRow}
+use Rattle.event_core.specs.Parts.{Parts}
 use Rattle.worker_gate.specs.Hands.{HasDoneIf, HasNothing}
-use Rattle.script_run.specs.Answer.{HasNoStatement}
+use Rattle.worker_gate.specs.Turns.{sight_in}
+use Rattle.script_run.specs.Answer.{CountsHalt, HasNoStatement}
 use Rattle.script_run.specs.Front.{LeavesSome, PlaysOn, Reads, UnlessHalted, halt_of}
 use Rattle.script_run.specs.Run.{is_refusal}
-use Rattle.script_run.specs.SeatTurns.{Stays, TakesNext}
+use Rattle.script_run.specs.SeatTurns.{Stays, StaysReady, TakesNext}
 use Rattle.script_run.specs.declared.halt.Halt.{Halt}
 use Rattle.script_run.specs.declared.seat_front.Turned.{Turned}
 use Rattle.script_run.specs.declared.seat_front.Turned.TheVariants as turned
@@ -46,6 +52,20 @@ SeatPlaysBy result seat old due statements Left new taken taken' =
 abbrev pub SeatPlays : Result Bool Halt → (seat : ℕ) → (old : Sight) → List Statement → (new : Sight) → (taken taken' : Option (List ℕ)) → Type 0
 SeatPlays result seat old statements new taken taken' = (due : List Sent) → IsDue seat old due
     → SeatPlaysBy result seat old due statements ⊥ new taken taken'
+
+-- a seat did this with statements and may take another turn, and one write failed where that is why it halted, and else none
+pub record PlaysAt (board : BoardLock Parts) (result : Result Bool Halt) (old new : BoardSeat Parts) (statements : List Statement)
+    (to to' : WritingSide) : Type 0 where
+  pub seat : StaysReady board old new
+  pub plays : SeatPlays result (view_of old).number (sight_in (view_of old)) statements (sight_in (view_of new)) to.taken to'.taken
+  pub faults : CountsHalt result to to'
+
+-- so it is of the first ones of a list, and the others are left
+pub record PlaysFirst (board : BoardLock Parts) (result : Result Bool Halt) (old new : BoardSeat Parts) (all rest : List Statement)
+    (to to' : WritingSide) : Type 0 where
+  pub first : List Statement
+  pub are : all ≡ first ++ rest
+  pub plays : PlaysAt board result old new first to to'
 
 -- the statements that are whole were read and given to the core by a seat: all of them, or those before the replies halted
 pub record SeatReads (halted : Option Halt) (seat : ℕ) (old : Sight) (due : List Sent) (waits : Reading) (new : Sight) (waits' : Reading)

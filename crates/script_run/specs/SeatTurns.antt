@@ -1,21 +1,46 @@
 -- What a turn of a seat that gives statements to a core and takes replies leaves of what the seat knows.
-use Rattle.std.specs.Prelude.{◌≡◌, ◌≢◌, ℕ, false, List, [], ◌∷◌, ◌++◌, All, IsSomeAnd}
+use Rattle.std.specs.Prelude.{◌≡◌, ◌≢◌, ℕ, Bool, false, true, List, [], ◌∷◌, ◌++◌, All, IsSomeAnd, None}
 use Rattle.script_reader.specs.declared.statement.Statement.{Statement}
 use Rattle.reply_text.specs.declared.reply.Reply.{Reply}
+use Rattle.core_state.specs.Found.{held_by}
 use Rattle.core_state.specs.Fronts.{Goes, IsDue}
-use Rattle.core_state.specs.Rows.{Sight}
+use Rattle.core_state.specs.Rows.{IsMindful, Sight, sight_of}
 use Rattle.core_state.specs.Sent.{IsGiven, Sent, statement_in, statements_in}
+use Rattle.board_lock.specs.Seats.{IsSameSeat, view_of}
+use Rattle.board_lock.specs.Small.{IsSameTeam}
+use Rattle.board_lock.specs.declared.seat.BoardLock.{BoardLock}
+use Rattle.board_lock.specs.declared.seat.BoardSeat.{BoardSeat}
 use Rattle.board_lock.specs.declared.view.View.{View}
-use Rattle.event_core.specs.Board.{CoreRow}
-use Rattle.event_core.specs.Parts.{Parts}
+use Rattle.event_core.specs.Board.{CoreRow, core_row}
+use Rattle.event_core.specs.Parts.{LeavesLoans, Parts}
 use Rattle.event_core.specs.Replies.{IsReplyOf}
+use Rattle.event_core.specs.Seen.{state_of}
 use Rattle.event_core.specs.declared.replies.Ready.{Ready}
-use Rattle.worker_gate.specs.Hands.{HasNothing}
+use Rattle.worker_gate.specs.Hands.{HasDoneIf, HasNothing}
 use Rattle.worker_gate.specs.Looks.{HasLooked}
+use Rattle.worker_gate.specs.Left.{LeavesAllLoans}
+use Rattle.worker_gate.specs.Turns.{IsOutWith, sight_in}
 use Rattle.script_run.specs.declared.seat_turn.Given.{Given}
 use Rattle.script_run.specs.declared.seat_turn.Given.TheVariants as given
 use Rattle.script_run.specs.declared.seat_turn.Asked.{Asked}
 use Rattle.script_run.specs.declared.seat_turn.Asked.TheVariants.{Got, Nothing, NotYet, Looked}
+
+-- behind turns of it a seat does not have the core, it is so with its row, its hand and what is lent beside it, and it is the same seat
+-- of the same team
+pub record StaysOut (board : BoardLock Parts) (IsHeld : CoreRow → Type 0) (old new : BoardSeat Parts) : Type 0 where
+  pub out : IsOutWith board IsHeld new
+  pub same : IsSameSeat old new
+  pub team : IsSameTeam (view_of old) (view_of new)
+
+-- it may take another turn
+abbrev pub StaysReady : BoardLock Parts → (old new : BoardSeat Parts) → Type 0
+StaysReady board old new = StaysOut board (HasDoneIf None) old new
+
+-- only steps of a seat changed the core, and what is in its hand stays there, and lent what is lent
+pub record KeepsHand (seat : ℕ) (old new : Parts) : Type 0 where
+  pub mindful : IsMindful seat (state_of old) (state_of new)
+  pub hand : held_by (state_of new).scan.flights seat ≡ held_by (state_of old).scan.flights seat
+  pub loans : LeavesAllLoans old new
 
 -- a seat sent nothing and took nothing, whatever others did
 abbrev pub Stays : (seat : ℕ) → (old new : Sight) → Type 0
@@ -42,6 +67,12 @@ TellsGiven given.Waits seat statement old new = Stays seat old new
 abbrev pub LeftUnmarked : View Parts → Type 0
 LeftUnmarked view = IsSomeAnd view.last (λ core. core.marks.waiting ≡ false)
 
+-- what is told of a statement that a seat tried to give until it was taken, or there was no memory for it
+abbrev pub TellsTried : (taken : Bool) → Statement → (old new : BoardSeat Parts) → Type 0
+TellsTried true statement old new = Submitted (view_of old).number statement (sight_in (view_of old)) (sight_in (view_of new))
+TellsTried false statement old new =
+    Stays (view_of old).number (sight_in (view_of old)) (sight_in (view_of new)) × LeftUnmarked (view_of new)
+
 -- a seat took the reply to the first statement that it waited for
 pub record TookNext (seat : ℕ) (old : Sight) (due : List Sent) (new : Sight) (reply : Reply) : Type 0 where
   pub first : Sent
@@ -64,3 +95,10 @@ TellsAsked (Looked look) seat old new = Stays seat old new × (new.row.pending �
 abbrev pub HasAsked : Asked → CoreRow → Type 0
 HasAsked (Looked look) row = HasLooked look row
 HasAsked other row = HasNothing row
+
+-- what a seat does with the core where it asks for its next reply
+pub record AsksCore (asked : Asked) (seat : ℕ) (old new : Parts) : Type 0 where
+  pub tells : TellsAsked asked seat (sight_of (state_of old) seat) (sight_of (state_of new) seat)
+  pub mindful : IsMindful seat (state_of old) (state_of new)
+  pub others : LeavesLoans seat old new
+  pub hand : HasAsked asked (core_row new seat)

@@ -1,9 +1,8 @@
 //! Large blocks, which a seat reads before it has the turn in which they are loaded.
 ghost use Rattle.std.specs.Prelude.{◌≡◌, None};
-ghost use Rattle.board_lock.specs.Seats.{IsSameSeat, view_of};
-ghost use Rattle.board_lock.specs.Small.{IsSameTeam};
+ghost use Rattle.board_lock.specs.Seats.{view_of};
 ghost use Rattle.worker_gate.specs.Turns.{IsReady, sight_in};
-ghost use Rattle.script_run.specs.SeatTurns.{Stays};
+ghost use Rattle.script_run.specs.SeatTurns.{Stays, StaysReady};
 
 use board_lock::{BoardLock, BoardSeat};
 use event_core::{Core, own_steps_keep_a_board};
@@ -25,9 +24,7 @@ pub(crate) fn read_ahead<'a, R: Wait>(
     statement: &'a Statement,
 ) -> ReadStatement<'a>
     requires { IsReady board.now None seat.old }
-    ensures ready { IsReady board.now None seat.new }
-    ensures same { IsSameSeat seat.old seat.new }
-    ensures team { IsSameTeam (view_of seat.old) (view_of seat.new) }
+    ensures seat { StaysReady board.now seat.old seat.new }
     ensures stays { Stays (view_of seat.old).number
         (sight_in (view_of seat.old)) (sight_in (view_of seat.new)) }
     ensures statement { result ≡ statement.now }
@@ -57,9 +54,7 @@ fn form_turn<R: Wait>(
     statement: &Statement,
 ) -> Option<BlockForm>
     requires { IsReady board.now None seat.old }
-    ensures ready { IsReady board.now None seat.new }
-    ensures same { IsSameSeat seat.old seat.new }
-    ensures team { IsSameTeam (view_of seat.old) (view_of seat.new) }
+    ensures seat { StaysReady board.now seat.old seat.new }
     ensures stays { Stays (view_of seat.old).number
         (sight_in (view_of seat.old)) (sight_in (view_of seat.new)) }
 {

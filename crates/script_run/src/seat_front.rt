@@ -2,17 +2,16 @@
 //! other seats do meanwhile. Its turns with the core are in `seat_turn`, and what it gives in one
 //! turn is in `seat_run`.
 ghost use Rattle.std.specs.Prelude.{◌≡◌, ◌≢◌, ◌<◌, ℕ, [], ◌∷◌, IsTrue, None, false, OnOk};
-ghost use Rattle.board_lock.specs.Seats.{IsSameSeat, view_of};
-ghost use Rattle.board_lock.specs.Small.{IsSameTeam};
+ghost use Rattle.board_lock.specs.Seats.{view_of};
 ghost use Rattle.script_reader.specs.Reading.{StaysFed};
 ghost use Rattle.script_reader.specs.declared.statement.Statement.{Statement};
 ghost use Rattle.core_state.specs.Rows.{Sight};
 ghost use Rattle.worker_gate.specs.Looks.{HasLooked};
-ghost use Rattle.worker_gate.specs.Turns.{IsOutWith, IsReady, own_row, sight_in};
+ghost use Rattle.worker_gate.specs.Turns.{IsReady, own_row, sight_in};
 ghost use Rattle.script_run.specs.Answer.{CountsHalt};
-ghost use Rattle.script_run.specs.SeatFront.{HasTurned, SeatPlays, SeatPlaysWhole};
+ghost use Rattle.script_run.specs.SeatFront.{HasTurned, PlaysAt, SeatPlaysWhole};
 ghost use Rattle.script_run.specs.SeatFront.{TellsTurned, TellsWaited};
-ghost use Rattle.script_run.specs.SeatTurns.{TellsAsked};
+ghost use Rattle.script_run.specs.SeatTurns.{StaysOut, StaysReady, TellsAsked};
 ghost use Rattle.script_run.specs.Waiting.{is_wait as means_to_wait};
 ghost use Rattle.script_run.specs.declared.seat_turn.Asked.TheVariants as asked;
 
@@ -97,9 +96,7 @@ impl SeatFront {
         patient: bool,
     ) -> Waited
         requires { IsReady board.now None self.old.seat }
-        ensures ready { IsReady board.now None self.new.seat }
-        ensures same { IsSameSeat self.old.seat self.new.seat }
-        ensures team { IsSameTeam (view_of self.old.seat) (view_of self.new.seat) }
+        ensures seat { StaysReady board.now self.old.seat self.new.seat }
         ensures tells { TellsWaited result (view_of self.old.seat).number
             (sight_in (view_of self.old.seat)) (sight_in (view_of self.new.seat)) }
         ensures patient { IsTrue patient → result ≢ Waited.NotYet }
@@ -126,15 +123,10 @@ impl SeatFront {
         sink: &mut K,
     ) -> Result<bool, Halt>
         requires { IsReady board.now None self.old.seat }
-        ensures ready { IsReady board.now None self.new.seat }
-        ensures same { IsSameSeat self.old.seat self.new.seat }
-        ensures team { IsSameTeam (view_of self.old.seat) (view_of self.new.seat) }
-        ensures plays { SeatPlays result (view_of self.old.seat).number
-            (sight_in (view_of self.old.seat)) [] (sight_in (view_of self.new.seat))
-            (K.writing sink.old).taken (K.writing sink.new).taken }
+        ensures plays { PlaysAt board.now result self.old.seat self.new.seat []
+            (K.writing sink.old) (K.writing sink.new) }
         ensures all { IsTrue all →
             OnOk result ((sight_in (view_of self.new.seat)).row.pending ≡ []) }
-        ensures faults { CountsHalt result (K.writing sink.old) (K.writing sink.new) }
         ensures apart { K.reading_side sink.new ≡ K.reading_side sink.old }
     {
         let mut refused = false;
@@ -168,13 +160,8 @@ impl SeatFront {
         sink: &mut K,
     ) -> Result<bool, Halt>
         requires { IsReady board.now None self.old.seat }
-        ensures ready { IsReady board.now None self.new.seat }
-        ensures same { IsSameSeat self.old.seat self.new.seat }
-        ensures team { IsSameTeam (view_of self.old.seat) (view_of self.new.seat) }
-        ensures plays { SeatPlays result (view_of self.old.seat).number
-            (sight_in (view_of self.old.seat)) (statement ∷ []) (sight_in (view_of self.new.seat))
-            (K.writing sink.old).taken (K.writing sink.new).taken }
-        ensures faults { CountsHalt result (K.writing sink.old) (K.writing sink.new) }
+        ensures plays { PlaysAt board.now result self.old.seat self.new.seat (statement ∷ [])
+            (K.writing sink.old) (K.writing sink.new) }
         ensures apart { K.reading_side sink.new ≡ K.reading_side sink.old }
     {
         let waits = self.waits_at(&statement);
@@ -204,13 +191,9 @@ impl SeatFront {
         sink: &mut K,
     ) -> Result<bool, Halt>
         requires { IsReady board.now None self.old.seat }
-        ensures ready { IsReady board.now None self.new.seat }
-        ensures same { IsSameSeat self.old.seat self.new.seat }
-        ensures team { IsSameTeam (view_of self.old.seat) (view_of self.new.seat) }
-        ensures plays { (statement : Statement) → SeatPlays result (view_of self.old.seat).number
-            (sight_in (view_of self.old.seat)) (statement ∷ []) (sight_in (view_of self.new.seat))
-            (K.writing sink.old).taken (K.writing sink.new).taken }
-        ensures faults { CountsHalt result (K.writing sink.old) (K.writing sink.new) }
+        ensures plays { (statement : Statement) →
+            PlaysAt board.now result self.old.seat self.new.seat (statement ∷ [])
+            (K.writing sink.old) (K.writing sink.new) }
         ensures apart { K.reading_side sink.new ≡ K.reading_side sink.old }
     {
         self.write_replies(rt, board, gate, true, sink)?;
@@ -228,9 +211,7 @@ impl SeatFront {
         sink: &mut K,
     ) -> Result<bool, Halt>
         requires { IsReady board.now None self.old.seat }
-        ensures ready { IsReady board.now None self.new.seat }
-        ensures same { IsSameSeat self.old.seat self.new.seat }
-        ensures team { IsSameTeam (view_of self.old.seat) (view_of self.new.seat) }
+        ensures seat { StaysReady board.now self.old.seat self.new.seat }
         ensures plays { SeatPlaysWhole result (view_of self.old.seat).number
             (sight_in (view_of self.old.seat)) reader.old
             (sight_in (view_of self.new.seat)) reader.new
@@ -263,9 +244,7 @@ fn ask_and_work<R: Wait, G: Gate>(
     patient: bool,
 ) -> Turned
     requires { IsReady board.now done seat.old }
-    ensures out { IsOutWith board.now (HasTurned result) seat.new }
-    ensures same { IsSameSeat seat.old seat.new }
-    ensures team { IsSameTeam (view_of seat.old) (view_of seat.new) }
+    ensures seat { StaysOut board.now (HasTurned result) seat.old seat.new }
     ensures tells { TellsTurned result (view_of seat.old).number
         (sight_in (view_of seat.old)) (sight_in (view_of seat.new)) }
     ensures patient { IsTrue patient → result ≢ Turned.Ends Waited.NotYet }

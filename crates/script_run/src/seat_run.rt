@@ -1,19 +1,16 @@
 //! Statements that are there at once. They are given to the core in one turn, so that no worker
 //! begins between them, and their queries begin their laps at one place.
 ghost use Rattle.std.specs.Prelude.{◌≡◌, ◌≤◌, ◌∷◌, ◌++◌, [], IsTrue, None, drop, false, length, take};
-ghost use Rattle.board_lock.specs.Seats.{IsSameSeat, view_of};
-ghost use Rattle.board_lock.specs.Small.{IsSameTeam};
-ghost use Rattle.core_state.specs.Found.{held_by};
-ghost use Rattle.core_state.specs.Rows.{IsMindful, sight_of};
+ghost use Rattle.board_lock.specs.Seats.{view_of};
+ghost use Rattle.core_state.specs.Rows.{sight_of};
 ghost use Rattle.event_core.specs.Seen.{state_of};
 ghost use Rattle.script_reader.specs.Reading.{StaysFed};
-ghost use Rattle.worker_gate.specs.Left.{LeavesAllLoans};
 ghost use Rattle.worker_gate.specs.Turns.{IsReady, sight_in};
-ghost use Rattle.script_run.specs.Answer.{CountsHalt};
-ghost use Rattle.script_run.specs.SeatFront.{SeatPlays};
+ghost use Rattle.script_run.specs.SeatFront.{PlaysAt, PlaysFirst};
 ghost use Rattle.script_run.specs.SeatRun.{ReadsNext, ReadsRun, alone_at, behind_at, behind_end};
 ghost use Rattle.script_run.specs.SeatRun.{statements_in_run};
-ghost use Rattle.script_run.specs.SeatTurns.{Stays, Submitted, SubmittedAll};
+ghost use Rattle.script_run.specs.SeatTurns.{KeepsHand, Stays, StaysReady, Submitted};
+ghost use Rattle.script_run.specs.SeatTurns.{SubmittedAll};
 
 use crate::halt::Halt;
 use crate::seat_front::SeatFront;
@@ -148,14 +145,8 @@ impl SeatFront {
         sink: &mut K,
     ) -> Result<bool, Halt>
         requires { IsReady board.now None self.old.seat }
-        ensures ready { IsReady board.now None self.new.seat }
-        ensures same { IsSameSeat self.old.seat self.new.seat }
-        ensures team { IsSameTeam (view_of self.old.seat) (view_of self.new.seat) }
-        ensures plays { SeatPlays result (view_of self.old.seat).number
-            (sight_in (view_of self.old.seat)) (statements_in_run run)
-            (sight_in (view_of self.new.seat))
-            (K.writing sink.old).taken (K.writing sink.new).taken }
-        ensures faults { CountsHalt result (K.writing sink.old) (K.writing sink.new) }
+        ensures plays { PlaysAt board.now result self.old.seat self.new.seat (statements_in_run run)
+            (K.writing sink.old) (K.writing sink.new) }
         ensures apart { K.reading_side sink.new ≡ K.reading_side sink.old }
     {
         let Run { plain, end } = run;
@@ -179,14 +170,35 @@ impl SeatFront {
         sink: &mut K,
     ) -> Result<bool, Halt>
         requires { IsReady board.now None self.old.seat }
-        ensures ready { IsReady board.now None self.new.seat }
-        ensures same { IsSameSeat self.old.seat self.new.seat }
-        ensures team { IsSameTeam (view_of self.old.seat) (view_of self.new.seat) }
-        ensures plays { SeatPlays result (view_of self.old.seat).number
-            (sight_in (view_of self.old.seat)) statements.items
-            (sight_in (view_of self.new.seat))
-            (K.writing sink.old).taken (K.writing sink.new).taken }
-        ensures faults { CountsHalt result (K.writing sink.old) (K.writing sink.new) }
+        ensures plays { PlaysAt board.now result self.old.seat self.new.seat statements.items
+            (K.writing sink.old) (K.writing sink.new) }
+        ensures apart { K.reading_side sink.new ≡ K.reading_side sink.old }
+    {
+        let first = self.play_first(rt, board, gate, &mut statements, sink);
+        // The list falls at one exit alone, which is much less to prove than two.
+        match first {
+            Ok(refused) => {
+                let more = self.play_each(rt, board, gate, statements, sink)?;
+                Ok(refused | more)
+            }
+            Err(halt) => Err(halt),
+        }
+    }
+
+    /// Gives the first statements of a list to the core in one turn, up to the first that is not
+    /// taken, and writes the replies that are there. The others are left.
+    fn play_first<R: Wait, G: Gate, K: Sink>(
+        &mut self,
+        rt: &R,
+        board: &BoardLock<Core>,
+        gate: &G,
+        statements: &mut Vec<Statement>,
+        sink: &mut K,
+    ) -> Result<bool, Halt>
+        requires { IsReady board.now None self.old.seat }
+        ensures plays { PlaysFirst board.now result self.old.seat self.new.seat
+            statements.old.items statements.new.items
+            (K.writing sink.old) (K.writing sink.new) }
         ensures apart { K.reading_side sink.new ≡ K.reading_side sink.old }
     {
         if statements.is_empty() {
@@ -194,11 +206,8 @@ impl SeatFront {
         }
         let given = submit_all_turn(rt, board, &mut self.seat, statements.as_slice());
         self.pace.give_all(given);
-        drop_first(&mut statements, given);
-        let mut refused = self.write_replies(rt, board, gate, false, sink)?;
-        let more = self.play_each(rt, board, gate, statements, sink)?;
-        refused |= more;
-        Ok(refused)
+        drop_first(statements, given);
+        self.write_replies(rt, board, gate, false, sink)
     }
 
     /// Gives statements to the core one by one, and writes the replies that are there.
@@ -211,14 +220,8 @@ impl SeatFront {
         sink: &mut K,
     ) -> Result<bool, Halt>
         requires { IsReady board.now None self.old.seat }
-        ensures ready { IsReady board.now None self.new.seat }
-        ensures same { IsSameSeat self.old.seat self.new.seat }
-        ensures team { IsSameTeam (view_of self.old.seat) (view_of self.new.seat) }
-        ensures plays { SeatPlays result (view_of self.old.seat).number
-            (sight_in (view_of self.old.seat)) statements.items
-            (sight_in (view_of self.new.seat))
-            (K.writing sink.old).taken (K.writing sink.new).taken }
-        ensures faults { CountsHalt result (K.writing sink.old) (K.writing sink.new) }
+        ensures plays { PlaysAt board.now result self.old.seat self.new.seat statements.items
+            (K.writing sink.old) (K.writing sink.new) }
         ensures apart { K.reading_side sink.new ≡ K.reading_side sink.old }
     {
         let mut refused = false;
@@ -246,9 +249,7 @@ fn submit_all_turn<R: Wait>(
     statements: &[Statement],
 ) -> usize
     requires { IsReady board.now None seat.old }
-    ensures ready { IsReady board.now None seat.new }
-    ensures same { IsSameSeat seat.old seat.new }
-    ensures team { IsSameTeam (view_of seat.old) (view_of seat.new) }
+    ensures seat { StaysReady board.now seat.old seat.new }
     ensures count { result ≤ length statements.now }
     ensures submits { SubmittedAll (view_of seat.old).number (take result statements.now)
         (sight_in (view_of seat.old)) (sight_in (view_of seat.new)) }
@@ -268,10 +269,7 @@ fn submit_all_turn<R: Wait>(
 /// Gives statements to a core as those of a seat, up to the first that is not taken. Tells how many
 /// were taken.
 fn submit_all(core: &mut Core, seat: u32, statements: &[Statement]) -> usize
-    ensures mindful { IsMindful seat (state_of core.old) (state_of core.new) }
-    ensures hand { held_by (state_of core.new).scan.flights seat
-        ≡ held_by (state_of core.old).scan.flights seat }
-    ensures loans { LeavesAllLoans core.old core.new }
+    ensures keeps { KeepsHand seat core.old core.new }
     ensures count { result ≤ length statements.now }
     ensures submits { SubmittedAll seat (take result statements.now)
         (sight_of (state_of core.old) seat) (sight_of (state_of core.new) seat) }
@@ -289,10 +287,7 @@ fn submit_all(core: &mut Core, seat: u32, statements: &[Statement]) -> usize
 /// Gives a statement to a core as that of a seat. Tells whether it was taken, and else nothing has
 /// changed.
 fn submit_unread(core: &mut Core, seat: u32, statement: &Statement) -> bool
-    ensures mindful { IsMindful seat (state_of core.old) (state_of core.new) }
-    ensures hand { held_by (state_of core.new).scan.flights seat
-        ≡ held_by (state_of core.old).scan.flights seat }
-    ensures loans { LeavesAllLoans core.old core.new }
+    ensures keeps { KeepsHand seat core.old core.new }
     ensures submits { IsTrue result → Submitted seat statement.now
         (sight_of (state_of core.old) seat) (sight_of (state_of core.new) seat) }
     ensures stays { (result ≡ false) → Stays seat

@@ -1,14 +1,14 @@
 //! A run of a script by a seat of a board, whatever other seats do meanwhile. How the seat gives
 //! statements to the core and writes the replies is in `seat_front`.
 ghost use Rattle.std.specs.Prelude.{◌≡◌, List, None};
-ghost use Rattle.board_lock.specs.Seats.{IsSameSeat, view_of};
-ghost use Rattle.board_lock.specs.Small.{IsSameTeam};
+ghost use Rattle.board_lock.specs.Seats.{view_of};
 ghost use Rattle.core_state.specs.Fronts.{IsDue};
 ghost use Rattle.core_state.specs.Rows.{made_by};
 ghost use Rattle.core_state.specs.Sent.{Sent};
 ghost use Rattle.script_reader.specs.Reading.{no_reading};
 ghost use Rattle.worker_gate.specs.Turns.{IsReady, sight_in};
 ghost use Rattle.script_run.specs.Run.{CountsFaults};
+ghost use Rattle.script_run.specs.SeatTurns.{StaysReady};
 ghost use Rattle.script_run.specs.Shared.{AnswersSent, nothing};
 
 use crate::piece::{Piece, read_piece};
@@ -37,9 +37,7 @@ impl SeatFront {
         requires ready { IsReady board.now None self.old.seat }
         requires first { (view_of self.old.seat).number ≡ 0 }
         requires nothing { sight_in (view_of self.old.seat) ≡ nothing }
-        ensures ready { IsReady board.now None self.new.seat }
-        ensures same { IsSameSeat self.old.seat self.new.seat }
-        ensures team { IsSameTeam (view_of self.old.seat) (view_of self.new.seat) }
+        ensures seat { StaysReady board.now self.old.seat self.new.seat }
         ensures answers { AnswersSent result (sight_in (view_of self.new.seat))
             (S.reading source.old) (S.reading source.new)
             (K.writing sink.old) (K.writing sink.new) }
@@ -71,9 +69,7 @@ impl SeatFront {
         requires first { (view_of self.old.seat).number ≡ 0 }
         requires nothing { sight_in (view_of self.old.seat) ≡ nothing }
         requires reader { reader.old ≡ no_reading }
-        ensures ready { IsReady board.now None self.new.seat }
-        ensures same { IsSameSeat self.old.seat self.new.seat }
-        ensures team { IsSameTeam (view_of self.old.seat) (view_of self.new.seat) }
+        ensures seat { StaysReady board.now self.old.seat self.new.seat }
         ensures answers { AnswersSent result (sight_in (view_of self.new.seat))
             (S.reading source.old) (S.reading source.new)
             (K.writing sink.old) (K.writing sink.new) }

@@ -2,20 +2,18 @@
 //! its next reply, or lets go what it still waits for.
 ghost use Rattle.std.specs.Prelude.{◌≡◌, ◌≢◌, ◌<◌, [], IsTrue, None, false, true};
 ghost use Rattle.board_lock.specs.Seats.{IsSameSeat, view_of};
-ghost use Rattle.board_lock.specs.Small.{IsSameTeam};
-ghost use Rattle.core_state.specs.Found.{held_by};
-ghost use Rattle.core_state.specs.Rows.{AbandonsRow, IsMindful, sight_of};
+ghost use Rattle.core_state.specs.Rows.{AbandonsRow, sight_of};
 ghost use Rattle.core_state.specs.Submitting.{next_ready, seat_at};
 ghost use Rattle.event_core.specs.Board.{core_row};
-ghost use Rattle.event_core.specs.Parts.{LeavesLoans};
 ghost use Rattle.event_core.specs.Replies.{first_open};
 ghost use Rattle.event_core.specs.Seen.{state_of};
 ghost use Rattle.worker_gate.specs.Hands.{HasDoneIf, HasNothing};
-ghost use Rattle.worker_gate.specs.Left.{LeavesAllLoans, MovesHand};
-ghost use Rattle.worker_gate.specs.Turns.{IsOutWith, IsReady, sight_in};
+ghost use Rattle.worker_gate.specs.Left.{LeavesAllLoans};
+ghost use Rattle.worker_gate.specs.Turns.{IsReady, sight_in};
 ghost use Rattle.script_run.specs.Home.{IsAtRest, Leaves, LeftClosing, LetsGo};
-ghost use Rattle.script_run.specs.SeatTurns.{HasAsked, LeftUnmarked, Stays, Submitted};
-ghost use Rattle.script_run.specs.SeatTurns.{TellsAsked, TellsGiven};
+ghost use Rattle.script_run.specs.SeatTurns.{AsksCore, HasAsked, KeepsHand, LeftUnmarked};
+ghost use Rattle.script_run.specs.SeatTurns.{StaysOut, StaysReady, TellsAsked, TellsGiven};
+ghost use Rattle.script_run.specs.SeatTurns.{TellsTried};
 
 use crate::seat_ahead::read_ahead;
 use board_lock::{BoardLock, BoardSeat};
@@ -69,14 +67,8 @@ pub(crate) fn submit_turn<R: Wait>(
     statement: Statement,
 ) -> bool
     requires { IsReady board.now None seat.old }
-    ensures ready { IsReady board.now None seat.new }
-    ensures same { IsSameSeat seat.old seat.new }
-    ensures team { IsSameTeam (view_of seat.old) (view_of seat.new) }
-    ensures submits { IsTrue result → Submitted (view_of seat.old).number statement
-        (sight_in (view_of seat.old)) (sight_in (view_of seat.new)) }
-    ensures lost { (result ≡ false) → Stays (view_of seat.old).number
-        (sight_in (view_of seat.old)) (sight_in (view_of seat.new)) }
-    ensures unmarked { (result ≡ false) → LeftUnmarked (view_of seat.new) }
+    ensures seat { StaysReady board.now seat.old seat.new }
+    ensures tells { TellsTried result statement seat.old seat.new }
 {
     let mut ahead = read_ahead(rt, board, seat, alloc, &statement);
     give_turn(rt, board, seat, &mut ahead)
@@ -91,14 +83,8 @@ fn give_turn<R: Wait>(
     statement: &mut ReadStatement<'_>,
 ) -> bool
     requires { IsReady board.now None seat.old }
-    ensures ready { IsReady board.now None seat.new }
-    ensures same { IsSameSeat seat.old seat.new }
-    ensures team { IsSameTeam (view_of seat.old) (view_of seat.new) }
-    ensures submits { IsTrue result → Submitted (view_of seat.old).number statement.old
-        (sight_in (view_of seat.old)) (sight_in (view_of seat.new)) }
-    ensures lost { (result ≡ false) → Stays (view_of seat.old).number
-        (sight_in (view_of seat.old)) (sight_in (view_of seat.new)) }
-    ensures unmarked { (result ≡ false) → LeftUnmarked (view_of seat.new) }
+    ensures seat { StaysReady board.now seat.old seat.new }
+    ensures tells { TellsTried result statement.old seat.old seat.new }
 {
     'tries: for _ in rt.forever() {
         match try_turn(rt, board, seat, statement) {
@@ -119,9 +105,7 @@ fn try_turn<R: Wait>(
     statement: &mut ReadStatement<'_>,
 ) -> Given
     requires { IsReady board.now None seat.old }
-    ensures ready { IsReady board.now None seat.new }
-    ensures same { IsSameSeat seat.old seat.new }
-    ensures team { IsSameTeam (view_of seat.old) (view_of seat.new) }
+    ensures seat { StaysReady board.now seat.old seat.new }
     ensures tells { TellsGiven result (view_of seat.old).number statement.old
         (sight_in (view_of seat.old)) (sight_in (view_of seat.new)) }
     ensures unmarked { result ≡ Given.Lost → LeftUnmarked (view_of seat.new) }
@@ -142,10 +126,7 @@ fn try_turn<R: Wait>(
 
 /// Gives a statement to a core as that of a seat.
 pub(crate) fn submit(core: &mut Core, seat: u32, statement: &mut ReadStatement<'_>) -> Given
-    ensures mindful { IsMindful seat (state_of core.old) (state_of core.new) }
-    ensures hand { held_by (state_of core.new).scan.flights seat
-        ≡ held_by (state_of core.old).scan.flights seat }
-    ensures loans { LeavesAllLoans core.old core.new }
+    ensures keeps { KeepsHand seat core.old core.new }
     ensures tells { TellsGiven result seat statement.old
         (sight_of (state_of core.old) seat) (sight_of (state_of core.new) seat) }
     ensures statement { statement.new ≡ statement.old }
@@ -214,9 +195,7 @@ pub(crate) fn ask_turn<R: Wait>(
     patient: bool,
 ) -> Asked
     requires { IsReady board.now done seat.old }
-    ensures out { IsOutWith board.now (HasAsked result) seat.new }
-    ensures same { IsSameSeat seat.old seat.new }
-    ensures team { IsSameTeam (view_of seat.old) (view_of seat.new) }
+    ensures seat { StaysOut board.now (HasAsked result) seat.old seat.new }
     ensures asks { TellsAsked result (view_of seat.old).number
         (sight_in (view_of seat.old)) (sight_in (view_of seat.new)) }
     ensures patient { IsTrue patient → result ≢ Asked.NotYet }
@@ -236,11 +215,7 @@ pub(crate) fn ask_turn<R: Wait>(
 fn give_and_ask(core: &mut Core, seat: u32, done: Option<Work>, patient: bool) -> Asked
     requires seat { seat < (state_of core.old).settings.seats }
     requires hand { HasDoneIf done (core_row core.old seat) }
-    ensures tells { TellsAsked result seat
-        (sight_of (state_of core.old) seat) (sight_of (state_of core.new) seat) }
-    ensures mindful { IsMindful seat (state_of core.old) (state_of core.new) }
-    ensures others { LeavesLoans seat core.old core.new }
-    ensures hand { HasAsked result (core_row core.new seat) }
+    ensures asks { AsksCore result seat core.old core.new }
     ensures patient { IsTrue patient → result ≢ Asked.NotYet }
 {
     give_if_done(core, seat, done);
@@ -252,11 +227,7 @@ fn give_and_ask(core: &mut Core, seat: u32, done: Option<Work>, patient: bool) -
 fn ask(core: &mut Core, seat: u32, patient: bool) -> Asked
     requires seat { seat < (state_of core.old).settings.seats }
     requires empty { HasNothing (core_row core.old seat) }
-    ensures tells { TellsAsked result seat
-        (sight_of (state_of core.old) seat) (sight_of (state_of core.new) seat) }
-    ensures mindful { IsMindful seat (state_of core.old) (state_of core.new) }
-    ensures others { LeavesLoans seat core.old core.new }
-    ensures hand { HasAsked result (core_row core.new seat) }
+    ensures asks { AsksCore result seat core.old core.new }
     ensures patient { IsTrue patient → result ≢ Asked.NotYet }
 {
     // All three are called for what they ensure.
@@ -274,11 +245,7 @@ fn wait_or_look(core: &mut Core, seat: u32, patient: bool) -> Asked
     requires seat { seat < (state_of core.old).settings.seats }
     requires empty { HasNothing (core_row core.old seat) }
     requires none { next_ready (state_of core.old) seat ≡ None }
-    ensures tells { TellsAsked result seat
-        (sight_of (state_of core.old) seat) (sight_of (state_of core.new) seat) }
-    ensures moves { MovesHand seat (state_of core.old) (state_of core.new) }
-    ensures others { LeavesLoans seat core.old core.new }
-    ensures hand { HasAsked result (core_row core.new seat) }
+    ensures asks { AsksCore result seat core.old core.new }
     ensures patient { IsTrue patient → result ≢ Asked.NotYet }
 {
     // Both are called for what they ensure.
@@ -295,11 +262,7 @@ fn look_if_patient(core: &mut Core, seat: u32, patient: bool) -> Asked
     requires seat { seat < (state_of core.old).settings.seats }
     requires empty { HasNothing (core_row core.old seat) }
     requires waits { (seat_at (state_of core.old) seat).pending ≢ [] }
-    ensures tells { TellsAsked result seat
-        (sight_of (state_of core.old) seat) (sight_of (state_of core.new) seat) }
-    ensures moves { MovesHand seat (state_of core.old) (state_of core.new) }
-    ensures others { LeavesLoans seat core.old core.new }
-    ensures hand { HasAsked result (core_row core.new seat) }
+    ensures asks { AsksCore result seat core.old core.new }
     ensures patient { IsTrue patient → result ≢ Asked.NotYet }
 {
     if !patient {
@@ -338,12 +301,9 @@ pub(crate) fn let_go_turn<R: Wait>(rt: &R, board: &BoardLock<Core>, seat: &mut B
 
 /// Abandons what a seat waits for and may still be answered, and drops the replies that are there.
 fn drop_pending(core: &mut Core, seat: u32)
-    ensures mindful { IsMindful seat (state_of core.old) (state_of core.new) }
+    ensures keeps { KeepsHand seat core.old core.new }
     ensures lets_go { LetsGo seat
         (sight_of (state_of core.old) seat) (sight_of (state_of core.new) seat) }
-    ensures hand { held_by (state_of core.new).scan.flights seat
-        ≡ held_by (state_of core.old).scan.flights seat }
-    ensures loans { LeavesAllLoans core.old core.new }
     ensures idle { (seat_at (state_of core.new) seat).pending ≡ [] }
 {
     abandon_pending(core, seat);
@@ -352,12 +312,9 @@ fn drop_pending(core: &mut Core, seat: u32)
 
 /// Takes the replies that a seat may take, and drops them.
 fn drop_ready(core: &mut Core, seat: u32)
-    ensures mindful { IsMindful seat (state_of core.old) (state_of core.new) }
+    ensures keeps { KeepsHand seat core.old core.new }
     ensures lets_go { LetsGo seat
         (sight_of (state_of core.old) seat) (sight_of (state_of core.new) seat) }
-    ensures hand { held_by (state_of core.new).scan.flights seat
-        ≡ held_by (state_of core.old).scan.flights seat }
-    ensures loans { LeavesAllLoans core.old core.new }
     ensures all { first_open (state_of core.old).lives (seat_at (state_of core.old) seat) ≡ None →
         (seat_at (state_of core.new) seat).pending ≡ [] }
 {
@@ -373,9 +330,7 @@ fn drop_ready(core: &mut Core, seat: u32)
 /// Lets go what the seat still waits for, marks the core closing, and wakes all who rest.
 pub(crate) fn end_turn<R: Wait>(rt: &R, board: &BoardLock<Core>, seat: &mut BoardSeat<Core>)
     requires { IsReady board.now None seat.old }
-    ensures ready { IsReady board.now None seat.new }
-    ensures same { IsSameSeat seat.old seat.new }
-    ensures team { IsSameTeam (view_of seat.old) (view_of seat.new) }
+    ensures seat { StaysReady board.now seat.old seat.new }
     ensures leaves { Leaves (view_of seat.old).number
         (sight_in (view_of seat.old)) (sight_in (view_of seat.new)) }
     ensures closing { LeftClosing (view_of seat.new) }
@@ -391,10 +346,9 @@ pub(crate) fn end_turn<R: Wait>(rt: &R, board: &BoardLock<Core>, seat: &mut Boar
 
 /// Abandons what a seat waits for and may still be answered, and marks the core closing.
 fn let_go(core: &mut Core, seat: u32)
-    ensures mindful { IsMindful seat (state_of core.old) (state_of core.new) }
+    ensures keeps { KeepsHand seat core.old core.new }
     ensures abandons { AbandonsRow
         (sight_of (state_of core.old) seat) (sight_of (state_of core.new) seat) }
-    ensures loans { LeavesAllLoans core.old core.new }
     ensures closing { core.new.marks.closing ≡ true }
 {
     abandon_pending(core, seat);
@@ -403,10 +357,9 @@ fn let_go(core: &mut Core, seat: u32)
 
 /// Abandons each query that a seat waits for and that may still be answered.
 fn abandon_pending(core: &mut Core, seat: u32)
-    ensures mindful { IsMindful seat (state_of core.old) (state_of core.new) }
+    ensures keeps { KeepsHand seat core.old core.new }
     ensures abandons { AbandonsRow
         (sight_of (state_of core.old) seat) (sight_of (state_of core.new) seat) }
-    ensures loans { LeavesAllLoans core.old core.new }
     ensures closed { first_open (state_of core.new).lives (seat_at (state_of core.new) seat)
         ≡ None }
 {

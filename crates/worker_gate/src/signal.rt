@@ -14,7 +14,7 @@ pub enum Signal {
     One,
 
     /// All who rest are woken: what some of them wait for may have come, or none finds memory. So it is
-    /// where a statement waits for the tables, until it is taken.
+    /// where a statement waits for the tables, until it is taken or finds none itself.
     All,
 
     /// The seat rests while this is the bell's number.

@@ -7,8 +7,7 @@ run-requires g c = record { ready = c.requires.ready; first = c.requires.first; 
 
 pub returns-clause-run : goal.returns-clause-run
 returns-clause-run g c = record {
-  leader = leader-stays c.args.board.now c.args.front.now.seat c.run.new.self.seat c.run.ensures.ready c.run.ensures.same
-      c.run.ensures.team;
+  leader = leader-stays c.args.board.now c.args.front.now.seat c.run.new.self.seat c.run.ensures.seat;
   answers = c.run.ensures.answers;
   made = c.run.ensures.made;
   faults = c.run.ensures.faults;

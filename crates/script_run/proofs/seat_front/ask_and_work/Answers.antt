@@ -3,12 +3,16 @@ use Rattle.board_lock.specs.Seats.{view_of}
 use Rattle.worker_gate.specs.Turns.{sight_in}
 use Rattle.script_run.proofs.seat_front.ask_and_work.Goals as goal
 
-pub returns-in-Looked-clause-out : goal.returns-in-Looked-clause-out
-returns-in-Looked-clause-out g c = record {
-  own = c.in-Looked.ensures.out.own;
-  outside = c.in-Looked.ensures.out.outside;
-  seated = c.in-Looked.ensures.out.seated;
-  hand = c.work_outside.ensures.hand;
+pub returns-in-Looked-clause-seat : goal.returns-in-Looked-clause-seat
+returns-in-Looked-clause-seat g c = record {
+  out = record {
+    own = c.in-Looked.ensures.seat.out.own;
+    outside = c.in-Looked.ensures.seat.out.outside;
+    seated = c.in-Looked.ensures.seat.out.seated;
+    hand = c.work_outside.ensures.hand;
+  };
+  same = c.in-Looked.ensures.seat.same;
+  team = c.in-Looked.ensures.seat.team;
 }
 
 pub returns-in-Looked-clause-tells : goal.returns-in-Looked-clause-tells

@@ -2,17 +2,14 @@
 use Rattle.script_run.proofs.Words.{◌+◌, ◌<◌, ◌∙◌, ap, arith, get_or, length, refl, state_of, subst, sym, take}
 use Rattle.std.proofs.lemmas.List.{take_more}
 use Rattle.core_state.specs.Rows.{sight_of}
-use Rattle.core_state.proofs.MoverLemmas.{mindful-none, mindful-then}
 use Rattle.script_run.specs.SeatTurns.{Submitted, SubmittedAll}
 use Rattle.script_run.proofs.SeatManyLemmas.{many-more, many-none, many-stays}
-use Rattle.script_run.proofs.SeatTurnLemmas.{all-loans-then, stays-none}
+use Rattle.script_run.proofs.SeatTurnLemmas.{keeps-same, keeps-then, stays-none}
 use Rattle.script_run.proofs.seat_run.submit_all.Goals as goal
 
 pub statements-init : goal.statements-init
 statements-init c = record {
-  mindful = mindful-none c.args.seat (state_of c.args.core.now);
-  hand = refl;
-  loans = λ seat. refl;
+  keeps = keeps-same c.args.seat c.args.core.now c.args.core.now refl;
   given = refl;
   count = omega arith;
   submits = many-none c.args.seat _ _ (stays-none c.args.seat (sight_of (state_of c.args.core.now) c.args.seat));
@@ -29,10 +26,8 @@ statements-preserved c =
     let same = c.statements.invariant.given in
     let within : given < length statements = omega arith in
     record {
-      mindful = mindful-then c.args.seat old mid new c.statements.invariant.mindful c.submit_unread.ensures.mindful;
-      hand = c.submit_unread.ensures.hand ∙ c.statements.invariant.hand;
-      loans = all-loans-then c.args.core.now c.statements.core c.submit_unread.new.core c.statements.invariant.loans
-          c.submit_unread.ensures.loans;
+      keeps = keeps-then c.args.seat c.args.core.now c.statements.core c.submit_unread.new.core c.statements.invariant.keeps
+          c.submit_unread.ensures.keeps;
       given = ap (λ n. n + 1) same;
       count = omega arith;
       submits = subst (λ list. SubmittedAll c.args.seat list (sight_of old c.args.seat) (sight_of new c.args.seat))
@@ -45,17 +40,10 @@ statements-preserved c =
           (c.if-not-submit_unread.ensures.submits refl)));
     }
 
-pub returns-then-not-submit_unread-clause-mindful : goal.returns-then-not-submit_unread-clause-mindful
-returns-then-not-submit_unread-clause-mindful c =
-    mindful-then c.args.seat (state_of c.args.core.now) (state_of c.statements.core) (state_of c.submit_unread.new.core)
-    c.statements.invariant.mindful c.submit_unread.ensures.mindful
-
-pub returns-then-not-submit_unread-clause-hand : goal.returns-then-not-submit_unread-clause-hand
-returns-then-not-submit_unread-clause-hand c = c.submit_unread.ensures.hand ∙ c.statements.invariant.hand
-
-pub returns-then-not-submit_unread-clause-loans : goal.returns-then-not-submit_unread-clause-loans
-returns-then-not-submit_unread-clause-loans c =
-    all-loans-then c.args.core.now c.statements.core c.submit_unread.new.core c.statements.invariant.loans c.submit_unread.ensures.loans
+pub returns-then-not-submit_unread-clause-keeps : goal.returns-then-not-submit_unread-clause-keeps
+returns-then-not-submit_unread-clause-keeps c =
+    keeps-then c.args.seat c.args.core.now c.statements.core c.submit_unread.new.core c.statements.invariant.keeps
+    c.submit_unread.ensures.keeps
 
 pub returns-then-not-submit_unread-clause-submits : goal.returns-then-not-submit_unread-clause-submits
 returns-then-not-submit_unread-clause-submits c =

@@ -1,16 +1,12 @@
 -- The statements so far were submitted.
 use Rattle.script_run.proofs.Words.{◌≡◌, ◌≤◌, length, state_of, take}
-use Rattle.core_state.specs.Found.{held_by}
-use Rattle.core_state.specs.Rows.{IsMindful, sight_of}
-use Rattle.worker_gate.specs.Left.{LeavesAllLoans}
-use Rattle.script_run.specs.SeatTurns.{SubmittedAll}
+use Rattle.core_state.specs.Rows.{sight_of}
+use Rattle.script_run.specs.SeatTurns.{KeepsHand, SubmittedAll}
 use Rattle.script_run.proofs.seat_run.submit_all.Given as goal
 
 abbrev pub invariant-statements : goal.invariant-statements
 invariant-statements l = record {
-  mindful : IsMindful l.seat (state_of l.fn.core) (state_of l.core);
-  hand : held_by (state_of l.core).scan.flights l.seat ≡ held_by (state_of l.fn.core).scan.flights l.seat;
-  loans : LeavesAllLoans l.fn.core l.core;
+  keeps : KeepsHand l.seat l.fn.core l.core;
   given : l.given ≡ l.statement-index;
   count : l.given ≤ length l.statements;
   submits : SubmittedAll l.seat (take l.given l.statements) (sight_of (state_of l.fn.core) l.seat) (sight_of (state_of l.core) l.seat);

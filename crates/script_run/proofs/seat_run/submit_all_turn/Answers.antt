@@ -1,48 +1,28 @@
 -- What the seat finds is what it knew, and what it leaves has the statements that were taken.
-use Rattle.script_run.proofs.Words.{◌∙◌, ap, None, state_of, subst, sym, take}
+use Rattle.script_run.proofs.Words.{state_of, subst, sym, take}
 use Rattle.board_lock.specs.Seats.{view_of}
-use Rattle.core_state.specs.Found.{held_by}
-use Rattle.core_state.specs.Rows.{IsMindful, sight_of}
+use Rattle.core_state.specs.Rows.{sight_of}
 use Rattle.core_state.specs.State.{State}
-use Rattle.worker_gate.specs.Hands.{HasDoneIf}
-use Rattle.worker_gate.proofs.TurnLemmas.{hand-found, same-then, view-left}
+use Rattle.worker_gate.proofs.TurnLemmas.{view-left}
 use Rattle.script_run.specs.SeatTurns.{SubmittedAll}
 use Rattle.script_run.proofs.SeatManyLemmas.{many-behind}
-use Rattle.script_run.proofs.SeatTurnLemmas.{nothing-stays, team-left, turn-keeps, turn-out, turn-tells}
+use Rattle.script_run.proofs.SeatTurnLemmas.{keeps-marked, turn-keeps-hand, turn-stays-ready, turn-tells}
 use Rattle.script_run.proofs.seat_run.submit_all_turn.Goals as goal
 
 pub leave-requires-clause-keeps : goal.leave-requires-clause-keeps
 leave-requires-clause-keeps g c =
-    turn-keeps c.own_steps_keep_a_board.ensures (view_of c.args.seat.now) (view_of c.enter-core.new.seat) c.enter-core.result
+    turn-keeps-hand c.own_steps_keep_a_board.ensures (view_of c.args.seat.now) (view_of c.enter-core.new.seat) c.enter-core.result
     c.unmark_if_home.new.core c.number-own.result c.enter-core.ensures.inside.1 c.number-own.ensures
-    (subst (IsMindful c.number-own.result (state_of c.enter-core.result)) (sym c.unmark_if_home.ensures.state) c.submit_all-given.ensures.mindful)
-    (λ other apart. c.unmark_if_home.ensures.loans other ∙ c.submit_all-given.ensures.loans other)
+    (keeps-marked c.number-own.result c.enter-core.result c.submit_all-given.new.core c.unmark_if_home.new.core
+    c.submit_all-given.ensures.keeps c.unmark_if_home.ensures.state c.unmark_if_home.ensures.loans)
 
-pub returns-clause-ready : goal.returns-clause-ready
-returns-clause-ready g c =
-    turn-out c.args.board.now (HasDoneIf None) c.args.seat.now c.leave.new.seat c.enter-core.result c.unmark_if_home.new.core
-    c.number-own.result
-    (view-left (view_of c.args.seat.now) (view_of c.enter-core.new.seat) (view_of c.leave.new.seat) c.enter-core.result
-    c.unmark_if_home.new.core c.enter-core.ensures.inside.1 c.leave.ensures.outside.1)
-    (c.leave.ensures.same.0 ∙ c.enter-core.ensures.same.0 ∙ c.requires.own) c.leave.ensures.outside.0 c.requires.seated
-    c.enter-core.ensures.finds
-    (subst (IsMindful c.number-own.result (state_of c.enter-core.result)) (sym c.unmark_if_home.ensures.state) c.submit_all-given.ensures.mindful)
-    c.number-own.ensures
-    (nothing-stays c.number-own.result c.enter-core.result c.unmark_if_home.new.core
-    (hand-found (HasDoneIf None) (view_of c.args.seat.now) c.enter-core.result c.number-own.result c.requires.hand
-    c.enter-core.ensures.finds c.number-own.ensures)
-    (ap (λ (state : State). held_by state.scan.flights c.number-own.result) c.unmark_if_home.ensures.state ∙ c.submit_all-given.ensures.hand)
-    (c.unmark_if_home.ensures.loans c.number-own.result ∙ c.submit_all-given.ensures.loans c.number-own.result))
-
-pub returns-clause-same : goal.returns-clause-same
-returns-clause-same g c =
-    same-then c.args.seat.now c.enter-core.new.seat c.leave.new.seat c.enter-core.ensures.same c.leave.ensures.same
-
-pub returns-clause-team : goal.returns-clause-team
-returns-clause-team g c =
-    team-left c.args.seat.now c.leave.new.seat c.unmark_if_home.new.core
-    (view-left (view_of c.args.seat.now) (view_of c.enter-core.new.seat) (view_of c.leave.new.seat) c.enter-core.result
-    c.unmark_if_home.new.core c.enter-core.ensures.inside.1 c.leave.ensures.outside.1)
+pub returns-clause-seat : goal.returns-clause-seat
+returns-clause-seat g c =
+    turn-stays-ready c.args.board.now c.args.seat.now c.enter-core.new.seat c.leave.new.seat c.enter-core.result c.unmark_if_home.new.core
+    c.number-own.result c.requires c.enter-core.ensures.inside.1 c.leave.ensures.outside.1 c.enter-core.ensures.same c.leave.ensures.same
+    c.leave.ensures.outside.0 c.enter-core.ensures.finds
+    (keeps-marked c.number-own.result c.enter-core.result c.submit_all-given.new.core c.unmark_if_home.new.core
+    c.submit_all-given.ensures.keeps c.unmark_if_home.ensures.state c.unmark_if_home.ensures.loans) c.number-own.ensures
 
 pub returns-clause-submits : goal.returns-clause-submits
 returns-clause-submits g c =

@@ -26,14 +26,13 @@ queries-preserved c = record {
       (c.what_is_beside_stays_lent.ensures c.queries.core c.step.new.self c.step.ensures.beside);
 }
 
-pub returns-clause-mindful : goal.returns-clause-mindful
-returns-clause-mindful c = c.queries.invariant.letting.mindful
+pub returns-clause-keeps : goal.returns-clause-keeps
+returns-clause-keeps c =
+    let letting = c.queries.invariant.letting in
+    record { mindful = letting.mindful; hand = letting.abandons.hand; loans = c.queries.invariant.loans }
 
 pub returns-clause-abandons : goal.returns-clause-abandons
 returns-clause-abandons c = c.queries.invariant.letting.abandons
-
-pub returns-clause-loans : goal.returns-clause-loans
-returns-clause-loans c = c.queries.invariant.loans
 
 pub returns-clause-closed : goal.returns-clause-closed
 returns-clause-closed c = sym c.in_default.ensures

@@ -24,28 +24,23 @@ replies-preserved c = record {
       (c.what_is_beside_stays_lent.ensures c.replies.core c.take_reply.new.self c.in-Some.ensures.beside);
 }
 
-pub returns-clause-mindful : goal.returns-clause-mindful
-returns-clause-mindful c =
-    (dropped c.args.seat (state_of c.args.core.now) (state_of c.replies.core) (state_of c.take_reply.new.self)
-    c.replies.invariant.dropping
-    (ap state_of (c.in_default.ensures.none refl))).mindful
+pub returns-clause-keeps : goal.returns-clause-keeps
+returns-clause-keeps c =
+    let none = c.in_default.ensures.none refl in
+    let all = dropped c.args.seat (state_of c.args.core.now) (state_of c.replies.core) (state_of c.take_reply.new.self)
+    c.replies.invariant.dropping (ap state_of none) in
+    record {
+      mindful = all.mindful;
+      hand = all.hand;
+      loans = all-loans-then c.args.core.now c.replies.core c.take_reply.new.self c.replies.invariant.loans
+          (all-loans-same c.replies.core c.take_reply.new.self none);
+    }
 
 pub returns-clause-lets_go : goal.returns-clause-lets_go
 returns-clause-lets_go c =
     (dropped c.args.seat (state_of c.args.core.now) (state_of c.replies.core) (state_of c.take_reply.new.self)
     c.replies.invariant.dropping
     (ap state_of (c.in_default.ensures.none refl))).lets
-
-pub returns-clause-hand : goal.returns-clause-hand
-returns-clause-hand c =
-    (dropped c.args.seat (state_of c.args.core.now) (state_of c.replies.core) (state_of c.take_reply.new.self)
-    c.replies.invariant.dropping
-    (ap state_of (c.in_default.ensures.none refl))).hand
-
-pub returns-clause-loans : goal.returns-clause-loans
-returns-clause-loans c =
-    all-loans-then c.args.core.now c.replies.core c.take_reply.new.self c.replies.invariant.loans
-    (all-loans-same c.replies.core c.take_reply.new.self (c.in_default.ensures.none refl))
 
 pub returns-clause-all : goal.returns-clause-all
 returns-clause-all c =

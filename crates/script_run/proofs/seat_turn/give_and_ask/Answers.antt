@@ -12,18 +12,17 @@ ask-requires c = record {
   empty = c.give_if_done.ensures.empty;
 }
 
-pub returns-clause-tells : goal.returns-clause-tells
-returns-clause-tells c =
-    asked-behind c.ask.result c.args.seat (sight_of (state_of c.args.core.now) c.args.seat)
-    (sight_of (state_of c.give_if_done.new.core) c.args.seat) (sight_of (state_of c.ask.new.core) c.args.seat)
-    (stays-moved c.args.seat (state_of c.args.core.now) (state_of c.give_if_done.new.core) c.give_if_done.ensures.moves) c.ask.ensures.tells
-
-pub returns-clause-mindful : goal.returns-clause-mindful
-returns-clause-mindful c =
-    mindful-then c.args.seat (state_of c.args.core.now) (state_of c.give_if_done.new.core) (state_of c.ask.new.core)
-    (moves-mindful c.args.seat (state_of c.args.core.now) (state_of c.give_if_done.new.core) c.give_if_done.ensures.moves)
-    c.ask.ensures.mindful
-
-pub returns-clause-others : goal.returns-clause-others
-returns-clause-others c =
-    loans-then c.args.seat c.args.core.now c.give_if_done.new.core c.ask.new.core c.give_if_done.ensures.others c.ask.ensures.others
+pub returns-clause-asks : goal.returns-clause-asks
+returns-clause-asks c =
+    let old = state_of c.args.core.now in
+    let mid = state_of c.give_if_done.new.core in
+    let new = state_of c.ask.new.core in
+    record {
+      tells = asked-behind c.ask.result c.args.seat (sight_of old c.args.seat) (sight_of mid c.args.seat) (sight_of new c.args.seat)
+          (stays-moved c.args.seat old mid c.give_if_done.ensures.moves) c.ask.ensures.asks.tells;
+      mindful = mindful-then c.args.seat old mid new (moves-mindful c.args.seat old mid c.give_if_done.ensures.moves)
+          c.ask.ensures.asks.mindful;
+      others = loans-then c.args.seat c.args.core.now c.give_if_done.new.core c.ask.new.core c.give_if_done.ensures.others
+          c.ask.ensures.asks.others;
+      hand = c.ask.ensures.asks.hand;
+    }

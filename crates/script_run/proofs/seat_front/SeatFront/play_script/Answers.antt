@@ -1,20 +1,18 @@
 -- Every read and write was as the run tells it, whatever other seats did meanwhile.
-use Rattle.script_run.proofs.Words.{◌∙◌, Err, Ok, refl}
+use Rattle.script_run.proofs.Words.{◌∙◌, Err, None, Ok, refl}
 use Rattle.board_lock.specs.Seats.{view_of}
+use Rattle.worker_gate.specs.Hands.{HasDoneIf}
 use Rattle.worker_gate.specs.Turns.{sight_in}
-use Rattle.worker_gate.proofs.TurnLemmas.{same-seat, same-then}
 use Rattle.script_run.proofs.SeatDoneLemmas.{ended-sent, fault-sent, limit-sent}
 use Rattle.script_run.proofs.SeatEndLemmas.{halted-sent, last-sent, unfed-sent}
 use Rattle.script_run.proofs.SeatFrontLemmas.{same-number}
 use Rattle.script_run.proofs.SeatRunLemmas.{fed-by, none-by, rest-zero, starts-by, waits-by, waits-rest, waits-whole, whole-by, whole-zero}
-use Rattle.script_run.proofs.SeatTurnLemmas.{team-none, team-then}
+use Rattle.script_run.proofs.SeatTurnLemmas.{out-none, out-then}
 use Rattle.script_run.proofs.seat_front.SeatFront.play_script.Goals as goal
 
 pub pieces-init : goal.pieces-init
 pieces-init g c = record {
-  ready = c.requires.ready;
-  same = same-seat c.args.self.now.seat;
-  team = team-none c.args.self.now.seat;
+  seat = out-none c.args.board.now (HasDoneIf None) c.args.self.now.seat c.requires.ready;
   number = c.requires.first;
   run = starts-by _ _ _ _ c.requires.nothing c.requires.reader;
   ended = refl;
@@ -23,13 +21,10 @@ pieces-init g c = record {
   apart = refl;
 }
 
-pub returns-in-Err-clause-same : goal.returns-in-Err-clause-same
-returns-in-Err-clause-same g c =
-    same-then c.args.self.now.seat c.pieces.self.seat c.play_whole.new.self.seat c.pieces.invariant.same c.play_whole.ensures.same
-
-pub returns-in-Err-clause-team : goal.returns-in-Err-clause-team
-returns-in-Err-clause-team g c =
-    team-then c.args.self.now.seat c.pieces.self.seat c.play_whole.new.self.seat c.pieces.invariant.team c.play_whole.ensures.team
+pub returns-in-Err-clause-seat : goal.returns-in-Err-clause-seat
+returns-in-Err-clause-seat g c =
+    out-then c.args.board.now (HasDoneIf None) (HasDoneIf None) c.args.self.now.seat c.pieces.self.seat c.play_whole.new.self.seat
+    c.pieces.invariant.seat c.play_whole.ensures.seat
 
 pub returns-in-Err-clause-answers : goal.returns-in-Err-clause-answers
 returns-in-Err-clause-answers g c =
@@ -48,10 +43,9 @@ pieces-preserved g c =
     let run = whole-by _ _ _ _ _ _ _ _ _ _ _ c.pieces.invariant.run plays c.in-Ok.ensures.stays in
     let takes = c.in-Fed.ensures.takes in
     record {
-      ready = c.play_whole.ensures.ready;
-      same = same-then c.args.self.now.seat c.pieces.self.seat c.play_whole.new.self.seat c.pieces.invariant.same c.play_whole.ensures.same;
-      team = team-then c.args.self.now.seat c.pieces.self.seat c.play_whole.new.self.seat c.pieces.invariant.team c.play_whole.ensures.team;
-      number = same-number c.pieces.self.seat c.play_whole.new.self.seat c.play_whole.ensures.same ∙ c.pieces.invariant.number;
+      seat = out-then c.args.board.now (HasDoneIf None) (HasDoneIf None) c.args.self.now.seat c.pieces.self.seat c.play_whole.new.self.seat
+          c.pieces.invariant.seat c.play_whole.ensures.seat;
+      number = same-number c.pieces.self.seat c.play_whole.new.self.seat c.play_whole.ensures.seat.same ∙ c.pieces.invariant.number;
       run = fed-by _ _ _ _ _ _ _ _ _ takes.0 run takes.1 takes.2.0 takes.2.2;
       ended = c.in-Fed.ensures.end ∙ c.pieces.invariant.ended;
       unread = c.in-Fed.ensures.faults ∙ c.pieces.invariant.unread;
@@ -59,23 +53,18 @@ pieces-preserved g c =
       apart = c.play_whole.ensures.apart ∙ c.pieces.invariant.apart;
     }
 
-pub returns-in-Fault-clause-same : goal.returns-in-Fault-clause-same
-returns-in-Fault-clause-same g c =
-    same-then c.args.self.now.seat c.play_whole.new.self.seat c.write_replies-written.new.self.seat
-    (same-then c.args.self.now.seat c.pieces.self.seat c.play_whole.new.self.seat c.pieces.invariant.same c.play_whole.ensures.same)
-    c.write_replies-written.ensures.same
-
-pub returns-in-Fault-clause-team : goal.returns-in-Fault-clause-team
-returns-in-Fault-clause-team g c =
-    team-then c.args.self.now.seat c.play_whole.new.self.seat c.write_replies-written.new.self.seat
-    (team-then c.args.self.now.seat c.pieces.self.seat c.play_whole.new.self.seat c.pieces.invariant.team c.play_whole.ensures.team)
-    c.write_replies-written.ensures.team
+pub returns-in-Fault-clause-seat : goal.returns-in-Fault-clause-seat
+returns-in-Fault-clause-seat g c =
+    out-then c.args.board.now (HasDoneIf None) (HasDoneIf None) c.args.self.now.seat c.play_whole.new.self.seat c.write_replies-written.new.self.seat
+    (out-then c.args.board.now (HasDoneIf None) (HasDoneIf None) c.args.self.now.seat c.pieces.self.seat c.play_whole.new.self.seat
+    c.pieces.invariant.seat c.play_whole.ensures.seat)
+    c.write_replies-written.ensures.plays.seat
 
 pub returns-in-Fault-clause-answers : goal.returns-in-Fault-clause-answers
 returns-in-Fault-clause-answers g c =
-    let zero = same-number c.pieces.self.seat c.play_whole.new.self.seat c.play_whole.ensures.same ∙ c.pieces.invariant.number in
+    let zero = same-number c.pieces.self.seat c.play_whole.new.self.seat c.play_whole.ensures.seat.same ∙ c.pieces.invariant.number in
     let plays = whole-zero (Ok c.in-Ok.some) _ _ _ _ _ _ _ c.pieces.invariant.number c.in-Ok.ensures.plays in
-    let rest = rest-zero c.write_replies-written.result _ _ _ _ _ zero c.write_replies-written.ensures.plays in
+    let rest = rest-zero c.write_replies-written.result _ _ _ _ _ zero c.write_replies-written.ensures.plays.plays in
     let run = whole-by _ _ _ _ _ _ _ _ _ _ _ c.pieces.invariant.run plays c.in-Ok.ensures.stays in
     let none = none-by _ _ _ _ _ _ _ _ _ _ _ c.pieces.invariant.run plays in
     let takes = c.in-Fault.ensures.takes in
@@ -84,29 +73,24 @@ returns-in-Fault-clause-answers g c =
 
 pub returns-in-Fault-clause-due : goal.returns-in-Fault-clause-due
 returns-in-Fault-clause-due g c =
-    let zero = same-number c.pieces.self.seat c.play_whole.new.self.seat c.play_whole.ensures.same ∙ c.pieces.invariant.number in
+    let zero = same-number c.pieces.self.seat c.play_whole.new.self.seat c.play_whole.ensures.seat.same ∙ c.pieces.invariant.number in
     let plays = whole-zero (Ok c.in-Ok.some) _ _ _ _ _ _ _ c.pieces.invariant.number c.in-Ok.ensures.plays in
-    let rest = rest-zero c.write_replies-written.result _ _ _ _ _ zero c.write_replies-written.ensures.plays in
+    let rest = rest-zero c.write_replies-written.result _ _ _ _ _ zero c.write_replies-written.ensures.plays.plays in
     waits-rest c.write_replies-written.result _ _ _ _
     (waits-by _ _ _ _ _ _ _ (whole-by _ _ _ _ _ _ _ _ _ _ _ c.pieces.invariant.run plays c.in-Ok.ensures.stays)) rest
 
-pub returns-in-Limit-clause-same : goal.returns-in-Limit-clause-same
-returns-in-Limit-clause-same g c =
-    same-then c.args.self.now.seat c.play_whole.new.self.seat c.write_replies-written-in-Limit.new.self.seat
-    (same-then c.args.self.now.seat c.pieces.self.seat c.play_whole.new.self.seat c.pieces.invariant.same c.play_whole.ensures.same)
-    c.write_replies-written-in-Limit.ensures.same
-
-pub returns-in-Limit-clause-team : goal.returns-in-Limit-clause-team
-returns-in-Limit-clause-team g c =
-    team-then c.args.self.now.seat c.play_whole.new.self.seat c.write_replies-written-in-Limit.new.self.seat
-    (team-then c.args.self.now.seat c.pieces.self.seat c.play_whole.new.self.seat c.pieces.invariant.team c.play_whole.ensures.team)
-    c.write_replies-written-in-Limit.ensures.team
+pub returns-in-Limit-clause-seat : goal.returns-in-Limit-clause-seat
+returns-in-Limit-clause-seat g c =
+    out-then c.args.board.now (HasDoneIf None) (HasDoneIf None) c.args.self.now.seat c.play_whole.new.self.seat c.write_replies-written-in-Limit.new.self.seat
+    (out-then c.args.board.now (HasDoneIf None) (HasDoneIf None) c.args.self.now.seat c.pieces.self.seat c.play_whole.new.self.seat
+    c.pieces.invariant.seat c.play_whole.ensures.seat)
+    c.write_replies-written-in-Limit.ensures.plays.seat
 
 pub returns-in-Limit-clause-answers : goal.returns-in-Limit-clause-answers
 returns-in-Limit-clause-answers g c =
-    let zero = same-number c.pieces.self.seat c.play_whole.new.self.seat c.play_whole.ensures.same ∙ c.pieces.invariant.number in
+    let zero = same-number c.pieces.self.seat c.play_whole.new.self.seat c.play_whole.ensures.seat.same ∙ c.pieces.invariant.number in
     let plays = whole-zero (Ok c.in-Ok.some) _ _ _ _ _ _ _ c.pieces.invariant.number c.in-Ok.ensures.plays in
-    let rest = rest-zero c.write_replies-written-in-Limit.result _ _ _ _ _ zero c.write_replies-written-in-Limit.ensures.plays in
+    let rest = rest-zero c.write_replies-written-in-Limit.result _ _ _ _ _ zero c.write_replies-written-in-Limit.ensures.plays.plays in
     let run = whole-by _ _ _ _ _ _ _ _ _ _ _ c.pieces.invariant.run plays c.in-Ok.ensures.stays in
     let none = none-by _ _ _ _ _ _ _ _ _ _ _ c.pieces.invariant.run plays in
     let takes = c.in-Limit.ensures.takes in
@@ -116,19 +100,16 @@ returns-in-Limit-clause-answers g c =
 
 pub returns-in-Limit-clause-due : goal.returns-in-Limit-clause-due
 returns-in-Limit-clause-due g c =
-    let zero = same-number c.pieces.self.seat c.play_whole.new.self.seat c.play_whole.ensures.same ∙ c.pieces.invariant.number in
+    let zero = same-number c.pieces.self.seat c.play_whole.new.self.seat c.play_whole.ensures.seat.same ∙ c.pieces.invariant.number in
     let plays = whole-zero (Ok c.in-Ok.some) _ _ _ _ _ _ _ c.pieces.invariant.number c.in-Ok.ensures.plays in
-    let rest = rest-zero c.write_replies-written-in-Limit.result _ _ _ _ _ zero c.write_replies-written-in-Limit.ensures.plays in
+    let rest = rest-zero c.write_replies-written-in-Limit.result _ _ _ _ _ zero c.write_replies-written-in-Limit.ensures.plays.plays in
     waits-rest c.write_replies-written-in-Limit.result _ _ _ _
     (waits-by _ _ _ _ _ _ _ (whole-by _ _ _ _ _ _ _ _ _ _ _ c.pieces.invariant.run plays c.in-Ok.ensures.stays)) rest
 
-pub returns-in-NoMemory-clause-same : goal.returns-in-NoMemory-clause-same
-returns-in-NoMemory-clause-same g c =
-    same-then c.args.self.now.seat c.pieces.self.seat c.play_whole.new.self.seat c.pieces.invariant.same c.play_whole.ensures.same
-
-pub returns-in-NoMemory-clause-team : goal.returns-in-NoMemory-clause-team
-returns-in-NoMemory-clause-team g c =
-    team-then c.args.self.now.seat c.pieces.self.seat c.play_whole.new.self.seat c.pieces.invariant.team c.play_whole.ensures.team
+pub returns-in-NoMemory-clause-seat : goal.returns-in-NoMemory-clause-seat
+returns-in-NoMemory-clause-seat g c =
+    out-then c.args.board.now (HasDoneIf None) (HasDoneIf None) c.args.self.now.seat c.pieces.self.seat c.play_whole.new.self.seat
+    c.pieces.invariant.seat c.play_whole.ensures.seat
 
 pub returns-in-NoMemory-clause-answers : goal.returns-in-NoMemory-clause-answers
 returns-in-NoMemory-clause-answers g c =
@@ -143,26 +124,19 @@ returns-in-NoMemory-clause-due g c =
     let plays = whole-zero (Ok c.in-Ok.some) _ _ _ _ _ _ _ c.pieces.invariant.number c.in-Ok.ensures.plays in
     waits-by _ _ _ _ _ _ _ (whole-by _ _ _ _ _ _ _ _ _ _ _ c.pieces.invariant.run plays c.in-Ok.ensures.stays)
 
-pub returns-in-Ok-play_whole-clause-same : goal.returns-in-Ok-play_whole-clause-same
-returns-in-Ok-play_whole-clause-same g c =
-    same-then c.args.self.now.seat c.play_whole-2.new.self.seat c.write_replies-written-in-Ok-play_whole.new.self.seat
-    (same-then c.args.self.now.seat c.play_whole.new.self.seat c.play_whole-2.new.self.seat
-    (same-then c.args.self.now.seat c.pieces.self.seat c.play_whole.new.self.seat c.pieces.invariant.same c.play_whole.ensures.same)
-    c.play_whole-2.ensures.same)
-    c.write_replies-written-in-Ok-play_whole.ensures.same
-
-pub returns-in-Ok-play_whole-clause-team : goal.returns-in-Ok-play_whole-clause-team
-returns-in-Ok-play_whole-clause-team g c =
-    team-then c.args.self.now.seat c.play_whole-2.new.self.seat c.write_replies-written-in-Ok-play_whole.new.self.seat
-    (team-then c.args.self.now.seat c.play_whole.new.self.seat c.play_whole-2.new.self.seat
-    (team-then c.args.self.now.seat c.pieces.self.seat c.play_whole.new.self.seat c.pieces.invariant.team c.play_whole.ensures.team)
-    c.play_whole-2.ensures.team)
-    c.write_replies-written-in-Ok-play_whole.ensures.team
+pub returns-in-Ok-play_whole-clause-seat : goal.returns-in-Ok-play_whole-clause-seat
+returns-in-Ok-play_whole-clause-seat g c =
+    out-then c.args.board.now (HasDoneIf None) (HasDoneIf None) c.args.self.now.seat c.play_whole-2.new.self.seat c.write_replies-written-in-Ok-play_whole.new.self.seat
+    (out-then c.args.board.now (HasDoneIf None) (HasDoneIf None) c.args.self.now.seat c.play_whole.new.self.seat c.play_whole-2.new.self.seat
+    (out-then c.args.board.now (HasDoneIf None) (HasDoneIf None) c.args.self.now.seat c.pieces.self.seat c.play_whole.new.self.seat
+    c.pieces.invariant.seat c.play_whole.ensures.seat)
+    c.play_whole-2.ensures.seat)
+    c.write_replies-written-in-Ok-play_whole.ensures.plays.seat
 
 pub returns-in-Ok-play_whole-clause-answers : goal.returns-in-Ok-play_whole-clause-answers
 returns-in-Ok-play_whole-clause-answers g c =
-    let zero = same-number c.pieces.self.seat c.play_whole.new.self.seat c.play_whole.ensures.same ∙ c.pieces.invariant.number in
-    let zero' = same-number c.play_whole.new.self.seat c.play_whole-2.new.self.seat c.play_whole-2.ensures.same ∙ zero in
+    let zero = same-number c.pieces.self.seat c.play_whole.new.self.seat c.play_whole.ensures.seat.same ∙ c.pieces.invariant.number in
+    let zero' = same-number c.play_whole.new.self.seat c.play_whole-2.new.self.seat c.play_whole-2.ensures.seat.same ∙ zero in
     let plays = whole-zero (Ok c.in-Ok.some) _ _ _ _ _ _ _ c.pieces.invariant.number c.in-Ok.ensures.plays in
     let run = whole-by _ _ _ _ _ _ _ _ _ _ _ c.pieces.invariant.run plays c.in-Ok.ensures.stays in
     let takes = c.in-Ended.ensures.takes in
@@ -170,7 +144,7 @@ returns-in-Ok-play_whole-clause-answers g c =
     (rw (c.finish.ensures, takes.2.0) at c.in-Ok-play_whole.ensures.plays) in
     let stays = rw (c.finish.ensures, takes.2.0) at c.in-Ok-play_whole.ensures.stays in
     let rest = rest-zero c.write_replies-written-in-Ok-play_whole.result _ _ _ _ _ zero'
-    c.write_replies-written-in-Ok-play_whole.ensures.plays in
+    c.write_replies-written-in-Ok-play_whole.ensures.plays.plays in
     rw c.end_of_rest.ensures (ended-sent _ (sight_in (view_of c.play_whole-2.new.self.seat))
     (sight_in (view_of c.write_replies-written-in-Ok-play_whole.new.self.seat)) _ _ c.write_replies-written-in-Ok-play_whole.result
     _ _ _ _ _ _ _ _ _ takes.0 run takes.1 takes.2.1 c.in-Ended.ensures.end last stays rest
@@ -178,31 +152,26 @@ returns-in-Ok-play_whole-clause-answers g c =
 
 pub returns-in-Ok-play_whole-clause-due : goal.returns-in-Ok-play_whole-clause-due
 returns-in-Ok-play_whole-clause-due g c =
-    let zero = same-number c.pieces.self.seat c.play_whole.new.self.seat c.play_whole.ensures.same ∙ c.pieces.invariant.number in
-    let zero' = same-number c.play_whole.new.self.seat c.play_whole-2.new.self.seat c.play_whole-2.ensures.same ∙ zero in
+    let zero = same-number c.pieces.self.seat c.play_whole.new.self.seat c.play_whole.ensures.seat.same ∙ c.pieces.invariant.number in
+    let zero' = same-number c.play_whole.new.self.seat c.play_whole-2.new.self.seat c.play_whole-2.ensures.seat.same ∙ zero in
     let plays = whole-zero (Ok c.in-Ok.some) _ _ _ _ _ _ _ c.pieces.invariant.number c.in-Ok.ensures.plays in
     let run = whole-by _ _ _ _ _ _ _ _ _ _ _ c.pieces.invariant.run plays c.in-Ok.ensures.stays in
     let last = whole-zero (Ok c.in-Ok-play_whole.some) _ _ _ _ _ _ _ zero c.in-Ok-play_whole.ensures.plays in
     let rest = rest-zero c.write_replies-written-in-Ok-play_whole.result _ _ _ _ _ zero'
-    c.write_replies-written-in-Ok-play_whole.ensures.plays in
+    c.write_replies-written-in-Ok-play_whole.ensures.plays.plays in
     waits-rest c.write_replies-written-in-Ok-play_whole.result _ _ _ _
     (waits-whole (Ok c.in-Ok-play_whole.some) _ _ _ _ _ _ (waits-by _ _ _ _ _ _ _ run) last) rest
 
-pub returns-in-Err-play_whole-clause-same : goal.returns-in-Err-play_whole-clause-same
-returns-in-Err-play_whole-clause-same g c =
-    same-then c.args.self.now.seat c.play_whole.new.self.seat c.play_whole-2.new.self.seat
-    (same-then c.args.self.now.seat c.pieces.self.seat c.play_whole.new.self.seat c.pieces.invariant.same c.play_whole.ensures.same)
-    c.play_whole-2.ensures.same
-
-pub returns-in-Err-play_whole-clause-team : goal.returns-in-Err-play_whole-clause-team
-returns-in-Err-play_whole-clause-team g c =
-    team-then c.args.self.now.seat c.play_whole.new.self.seat c.play_whole-2.new.self.seat
-    (team-then c.args.self.now.seat c.pieces.self.seat c.play_whole.new.self.seat c.pieces.invariant.team c.play_whole.ensures.team)
-    c.play_whole-2.ensures.team
+pub returns-in-Err-play_whole-clause-seat : goal.returns-in-Err-play_whole-clause-seat
+returns-in-Err-play_whole-clause-seat g c =
+    out-then c.args.board.now (HasDoneIf None) (HasDoneIf None) c.args.self.now.seat c.play_whole.new.self.seat c.play_whole-2.new.self.seat
+    (out-then c.args.board.now (HasDoneIf None) (HasDoneIf None) c.args.self.now.seat c.pieces.self.seat c.play_whole.new.self.seat
+    c.pieces.invariant.seat c.play_whole.ensures.seat)
+    c.play_whole-2.ensures.seat
 
 pub returns-in-Err-play_whole-clause-answers : goal.returns-in-Err-play_whole-clause-answers
 returns-in-Err-play_whole-clause-answers g c =
-    let zero = same-number c.pieces.self.seat c.play_whole.new.self.seat c.play_whole.ensures.same ∙ c.pieces.invariant.number in
+    let zero = same-number c.pieces.self.seat c.play_whole.new.self.seat c.play_whole.ensures.seat.same ∙ c.pieces.invariant.number in
     let plays = whole-zero (Ok c.in-Ok.some) _ _ _ _ _ _ _ c.pieces.invariant.number c.in-Ok.ensures.plays in
     let run = whole-by _ _ _ _ _ _ _ _ _ _ _ c.pieces.invariant.run plays c.in-Ok.ensures.stays in
     let takes = c.in-Ended.ensures.takes in
@@ -213,7 +182,7 @@ returns-in-Err-play_whole-clause-answers g c =
 
 pub returns-in-Err-play_whole-clause-due : goal.returns-in-Err-play_whole-clause-due
 returns-in-Err-play_whole-clause-due g c =
-    let zero = same-number c.pieces.self.seat c.play_whole.new.self.seat c.play_whole.ensures.same ∙ c.pieces.invariant.number in
+    let zero = same-number c.pieces.self.seat c.play_whole.new.self.seat c.play_whole.ensures.seat.same ∙ c.pieces.invariant.number in
     let plays = whole-zero (Ok c.in-Ok.some) _ _ _ _ _ _ _ c.pieces.invariant.number c.in-Ok.ensures.plays in
     let run = whole-by _ _ _ _ _ _ _ _ _ _ _ c.pieces.invariant.run plays c.in-Ok.ensures.stays in
     let last = whole-zero (Err c.in-Err-play_whole.halt) _ _ _ _ _ _ _ zero c.in-Err-play_whole.ensures.plays in

@@ -1,16 +1,14 @@
--- The seat is ready for a turn, it is the same seat, every read and write so far was as the run tells it, and none failed.
-use Rattle.script_run.proofs.Words.{◌-◌, ◌≡◌, None, SCRIPT_LIMIT}
-use Rattle.board_lock.specs.Seats.{IsSameSeat, view_of}
-use Rattle.board_lock.specs.Small.{IsSameTeam}
-use Rattle.worker_gate.specs.Turns.{IsReady, sight_in}
+-- The seat may take another turn, every read and write so far was as the run tells it, and none failed.
+use Rattle.script_run.proofs.Words.{◌-◌, ◌≡◌, SCRIPT_LIMIT}
+use Rattle.board_lock.specs.Seats.{view_of}
+use Rattle.worker_gate.specs.Turns.{sight_in}
+use Rattle.script_run.specs.SeatTurns.{StaysReady}
 use Rattle.script_run.proofs.SeatRunLemmas.{IsRunBy}
 use Rattle.script_run.proofs.seat_front.SeatFront.play_script.Given as goal
 
 abbrev pub invariant-pieces : goal.invariant-pieces
 invariant-pieces g l = record {
-  ready : IsReady l.board None l.self.seat;
-  same : IsSameSeat l.fn.self.seat l.self.seat;
-  team : IsSameTeam (view_of l.fn.self.seat) (view_of l.self.seat);
+  seat : StaysReady l.board l.fn.self.seat l.self.seat;
   number : (view_of l.self.seat).number ≡ 0;
   run : IsRunBy (sight_in (view_of l.self.seat)) l.reader l.refused (g.S.Source.reading l.fn.source).left (g.S.Source.reading l.source).left
       (g.K.Sink.writing l.fn.sink).taken (g.K.Sink.writing l.sink).taken;

@@ -17,8 +17,8 @@ returns-in_err-play_whole-clause-replies g c =
 
 pub returns-in_err-write_replies-clause-same : goal.returns-in_err-write_replies-clause-same
 returns-in_err-write_replies-clause-same g c =
-    same-then c.args.self.now.seat c.play_whole.new.self.seat c.write_replies.new.self.seat c.play_whole.ensures.same
-    c.write_replies.ensures.same
+    same-then c.args.self.now.seat c.play_whole.new.self.seat c.write_replies.new.self.seat c.play_whole.ensures.seat.same
+    c.write_replies.ensures.plays.seat.same
 
 pub returns-in_err-write_replies-clause-replies : goal.returns-in_err-write_replies-clause-replies
 returns-in_err-write_replies-clause-replies g c =
@@ -27,13 +27,13 @@ returns-in_err-write_replies-clause-replies g c =
     let failed = err_from_is_err_and c.from_residual-in_err-write_replies.result c.from_residual-in_err-write_replies.ensures.1 in
     rw (failed.1, failed.2) (replies-stopped _ _ old.number mid.number (sight_in old) (sight_in mid)
     (sight_in (view_of c.write_replies.new.self.seat)) c.args.reader.now c.play_whole.new.reader _ _ _
-    (same-number c.args.self.now.seat c.play_whole.new.self.seat c.play_whole.ensures.same) c.requires.due
-    c.in_ok-play_whole.ensures.plays c.in_err-write_replies.ensures.plays)
+    (same-number c.args.self.now.seat c.play_whole.new.self.seat c.play_whole.ensures.seat.same) c.requires.due
+    c.in_ok-play_whole.ensures.plays c.in_err-write_replies.ensures.plays.plays)
 
 pub returns-clause-same : goal.returns-clause-same
 returns-clause-same g c =
-    same-then c.args.self.now.seat c.play_whole.new.self.seat c.write_replies.new.self.seat c.play_whole.ensures.same
-    c.write_replies.ensures.same
+    same-then c.args.self.now.seat c.play_whole.new.self.seat c.write_replies.new.self.seat c.play_whole.ensures.seat.same
+    c.write_replies.ensures.plays.seat.same
 
 pub returns-clause-replies : goal.returns-clause-replies
 returns-clause-replies g c =
@@ -41,15 +41,15 @@ returns-clause-replies g c =
     let mid = view_of c.play_whole.new.self.seat in
     replies-whole _ _ old.number mid.number (sight_in old) (sight_in mid) (sight_in (view_of c.write_replies.new.self.seat))
     c.args.reader.now c.play_whole.new.reader _ _ _
-    (same-number c.args.self.now.seat c.play_whole.new.self.seat c.play_whole.ensures.same) c.requires.due
-    c.in_ok-play_whole.ensures.plays c.in_ok-write_replies.ensures.plays (c.in_ok-write_replies.ensures.all refl)
+    (same-number c.args.self.now.seat c.play_whole.new.self.seat c.play_whole.ensures.seat.same) c.requires.due
+    c.in_ok-play_whole.ensures.plays c.in_ok-write_replies.ensures.plays.plays (c.in_ok-write_replies.ensures.all refl)
 
 pub returns-clause-rest : goal.returns-clause-rest
 returns-clause-rest g c =
     let old = view_of c.args.self.now.seat in
     let new = view_of c.write_replies.new.self.seat in
     record {
-      ready = c.write_replies.ensures.ready;
+      ready = c.write_replies.ensures.plays.seat.out;
       due = subst (λ (number : ℕ). IsDue number (sight_in new) [])
           (sym (same-number c.args.self.now.seat c.write_replies.new.self.seat (returns-clause-same g c)))
           (replied-due old.number (sight_in old) (sight_in new) c.args.reader.now c.play_whole.new.reader _ _ (returns-clause-replies g c));
