@@ -5,7 +5,7 @@ ghost use Rattle.std.specs.List.Sorted.{IsSortedByKey};
 ghost use Rattle.std.specs.Ordering.{eq_by_cmp};
 ghost use Rattle.star_values.specs.declared.value.Value.{Value};
 ghost use Rattle.star_values.specs.Value.{row_cmp};
-ghost use Rattle.star_lists.specs.Roomy.{Roomy};
+ghost use Rattle.star_values.specs.Roomy.{Roomy};
 ghost use Rattle.star_plan.specs.Answer.{answer_of};
 ghost use Rattle.star_plan.specs.declared.place.Place.{Place};
 ghost use Rattle.star_plan.specs.Joined.{Joined, value_at};
@@ -30,8 +30,7 @@ use star_plan::{
     answers_overflow_by_whole_sums, cells_take_one_row_more, groups_are_the_keys_of_the_rows,
     groups_take_one_row_more, the_least_of_values_ignores_their_order,
 };
-use star_values::rows_are_in_order;
-use value_columns::codes_tell_values_apart;
+use star_values::{codes_tell_values_apart, rows_are_in_order};
 
 /// The groups of rows, with one row more, are the groups of the rows and the one.
 pub fn one_row_more_is_folded()

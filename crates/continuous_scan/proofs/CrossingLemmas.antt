@@ -8,7 +8,7 @@ use Rattle.std.proofs.alloc.Global.TheSendSync as heap
 use Rattle.std.specs.contracts.option.Option as option
 use Rattle.star_values.proofs.value.Value.TheSendSync as value
 use Rattle.star_values.proofs.literal_list.LiteralList.TheSendSync as literals
-use Rattle.star_lists.proofs.list_of.ListOf.TheSendSync as list
+use Rattle.star_values.proofs.list_of.ListOf.TheSendSync as list
 use Rattle.star_plan.specs.contracts.predicate.Predicate as predicate
 use Rattle.star_plan.proofs.predicate.Predicate.TheLaws.TheKnot as predicates
 use Rattle.star_plan.proofs.predicate.How.TheSendSync as how

@@ -3,7 +3,7 @@
 ghost use Rattle.std.specs.Prelude.{◌≡◌, ◌==◌, All, IfSome};
 ghost use Rattle.continuous_scan.specs.ByValue.{IsConditionInside, IsInside, IsTestInside, IsWider, Surrounds};
 
-use range_tests::{Bounds, Condition, RangeTest};
+use star_plan::{Bounds, Condition, RangeTest};
 
 /// How many range tests a column has at least that is met by value.
 const FEWEST_TESTS: u32 = 2;

@@ -6,8 +6,7 @@ ghost use Rattle.continuous_scan.specs.Inside.{RunBelow, AreUsed};
 
 use crate::runner::Runner;
 use bit_words::Bits;
-use star_lists::ListOf;
-use star_values::NoMemory;
+use star_values::{ListOf, NoMemory};
 use std::alloc::Global;
 use std::marker::Model;
 

@@ -1,6 +1,6 @@
 -- Sums over lists of which one member is another, or each is changed.
 use Rattle.core_driver.proofs.Words.{◌+◌, ◌<◌, ◌∷◌, ◌≡◌, ◌≤◌, [], ap, AreRising, arith, Bool, cond, eqb, eqb-true, false, get_or, length, Life, List, map, None, Option, query_in, QueryLife, refl, Some, suc, sum_by, sum_by-cons, true, with_life, zero, ℕ}
-use Rattle.star_lists.proofs.RisingLemmas.{head_is_only, map-missing, tail_rises}
+use Rattle.star_values.proofs.RisingLemmas.{head_is_only, map-missing, tail_rises}
 
 -- another life of the one query with this number changes the sum by what that query counts
 pub sum-written : (weight : QueryLife → ℕ) (query : ℕ) (life : Life) (queries : List QueryLife) (entry : QueryLife) → AreRising queries

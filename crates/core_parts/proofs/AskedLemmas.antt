@@ -8,8 +8,8 @@ use Rattle.std.proofs.lemmas.List.{get_or-map, length-map}
 use Rattle.std.proofs.lemmas.List.Elements.{All-cons, All-contains_itself, All-head, All-tail}
 use Rattle.std.proofs.lemmas.List.Quantifiers.{position-Some}
 use Rattle.aggregations.specs.Grouped.{Grouped}
-use Rattle.star_lists.proofs.PlaceLemmas.{refill-all}
-use Rattle.star_lists.proofs.RisingLemmas.{RisesBy, changed_if, find-at, map-missing, map-written, missing-nowhere}
+use Rattle.star_values.proofs.PlaceLemmas.{refill-all}
+use Rattle.star_values.proofs.RisingLemmas.{RisesBy, changed_if, find-at, map-missing, map-written, missing-nowhere}
 use Rattle.core_parts.specs.Asked.{AreRising, AskedEntry, AskedQuery, IsNoneOf, asked_at, asked_in, handed_in, with_kept_at}
 
 -- the number of a query

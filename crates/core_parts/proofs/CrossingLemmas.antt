@@ -3,7 +3,7 @@ use denote.Param.Send.{IsSend, view_send, sendable}
 use denote.Param.SendFields.{declared_send, variants_send}
 use Rattle.std.proofs.Crossing.{Arc-send, Vec-send, crosses}
 use Rattle.bit_words.proofs.bits.Bits.TheSendSync as bits
-use Rattle.star_lists.proofs.CrossingLemmas.{fading_send}
+use Rattle.star_values.proofs.CrossingLemmas.{fading_send}
 use Rattle.star_plan.specs.contracts.star_query.StarQuery as query
 use Rattle.aggregations.proofs.groups.Groups.TheSendSync as groups
 use Rattle.continuous_scan.proofs.CrossingLemmas.{option_send, query_send, query_sync}

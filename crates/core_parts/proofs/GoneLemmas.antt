@@ -4,7 +4,7 @@ use Rattle.std.specs.List.{AllPairs, filter_map}
 use Rattle.std.proofs.lemmas.List.{map-append}
 use Rattle.std.proofs.lemmas.List.Elements.{All-append, All-head, All-tail, filter_map-append}
 use Rattle.pipeline_manager.specs.Lives.{Lives}
-use Rattle.star_lists.specs.Faded.{Faded, items_of}
+use Rattle.star_values.specs.Faded.{Faded, items_of}
 use Rattle.core_parts.specs.Seated.{Pending, Seat, with_taken, without_pending}
 use Rattle.core_parts.specs.declared.submitted.Submitted.{Submitted}
 use Rattle.core_parts.specs.Known.{Known}

@@ -9,9 +9,9 @@ use Rattle.std.proofs.lemmas.List.Folds.{find-append}
 use Rattle.std.proofs.lemmas.Option.{none-some}
 use Rattle.aggregations.specs.Grouped.{Grouped}
 use Rattle.pipeline_manager.specs.Lives.{Lives}
-use Rattle.star_lists.specs.Faded.{Faded}
-use Rattle.star_lists.proofs.PlaceLemmas.{find-holds, find-none}
-use Rattle.star_lists.proofs.RisingLemmas.{IsMissing, find-missing, head_is_only, map-missing, tail_rises}
+use Rattle.star_values.specs.Faded.{Faded}
+use Rattle.star_values.proofs.PlaceLemmas.{find-holds, find-none}
+use Rattle.star_values.proofs.RisingLemmas.{IsMissing, find-missing, head_is_only, map-missing, tail_rises}
 use Rattle.core_parts.specs.Asked.{AreBare, AreFinished, AreRising, AskedEntry, AskedQueries, AskedQuery, HasBegun, IsNotAmong, IsOver, asked_at, asked_in, handed_in, with_kept_at}
 use Rattle.core_parts.specs.LetGo.{IsDone, IsForgotten}
 use Rattle.core_parts.proofs.AskedLemmas.{handed-drop, plain}

@@ -10,3 +10,4 @@ pub mod PassingLemmas
 pub mod SeatLemmas
 pub mod GoneLemmas
 pub mod TurnLemmas
+pub mod NextFlightLemmas

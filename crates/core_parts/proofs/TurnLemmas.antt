@@ -6,7 +6,7 @@ use Rattle.std.proofs.lemmas.List.Elements.{All-cons, All-drop, All-head, All-mo
 use Rattle.std.proofs.lemmas.Option.{get_or_from_slice_get, slice_get_within}
 use Rattle.core_parts.specs.declared.submitted.Submitted.{Submitted}
 use Rattle.core_parts.specs.Seats.{is_taken, is_waited, AreInTurn}
-use Rattle.star_lists.proofs.PlaceLemmas.{find-passes}
+use Rattle.star_values.proofs.PlaceLemmas.{find-passes}
 
 -- nobody waits for a statement
 abbrev pub IsNotWaited : Submitted → Type 0

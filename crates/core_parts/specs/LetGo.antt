@@ -1,7 +1,7 @@
 -- Accepted queries that are let go.
 use Rattle.std.specs.Prelude.{◌≡◌, ℕ, ◌++◌, List, All, take, drop, None}
 use Rattle.pipeline_manager.specs.Lives.{Lives}
-use Rattle.star_lists.specs.Faded.{Faded}
+use Rattle.star_values.specs.Faded.{Faded}
 use Rattle.core_parts.specs.Asked.{AskedEntry, IsOver}
 
 -- a query is over, and nothing is kept beside it

@@ -1,2 +1,2 @@
 -- Versions of different filters, as the crate of the filters says it.
-pub use Rattle.core_filters.specs.Spares.{AreApart}
+pub use Rattle.filter_order.specs.Spares.{AreApart}

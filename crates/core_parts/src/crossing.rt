@@ -2,7 +2,7 @@
 use crate::flights::Flights;
 use crate::queries::Queries;
 use crate::seat::Seat;
-use core_filters::Filters;
+use filter_order::Filters;
 
 /// Batches in flight may be sent to another thread.
 pub fn flights_may_be_sent() {

@@ -1,7 +1,7 @@
 //! A worker's hand. A batch that is in one is in `home`, or in `lent` while the worker has it.
 ghost use Rattle.std.specs.Prelude.{◌≡◌};
 
-use core_filters::Versions;
+use filter_order::Versions;
 use std::marker::Model;
 
 /// A worker's hand, with the versions of filters that its batch is to pass, in their order.

@@ -1,4 +1,5 @@
-//! The parts that the core of the shared scan is put together from: filters, batches in flight, seats and accepted queries.
+//! The parts that the core of the shared scan is put together from: batches in flight, and which of
+//! them may come next, seats and accepted queries.
 #![tactic(auto)]
 
 mod asked;
@@ -8,6 +9,7 @@ pub mod flights;
 mod hand;
 mod home;
 mod lent;
+mod next_flights;
 mod numbers;
 mod passing;
 mod queries;
@@ -15,13 +17,14 @@ mod seat;
 mod submitted;
 
 pub use asked::Asked;
-pub use core_filters::{Filters, MAX_FILTERS, References, Spares, Tallies, Version, Versions};
 pub use crossing::{
     filters_may_be_shared, flights_may_be_sent, queries_may_be_sent, seats_may_be_sent,
 };
+pub use filter_order::{Filters, MAX_FILTERS, References, Spares, Tallies, Version, Versions};
 pub use flight::{Flight, MAX_SLOTS};
 pub use flights::Flights;
 pub use hand::Hand;
+pub use next_flights::{is_through, is_wanting, next_finish, next_through, next_wanting};
 pub use queries::Queries;
 pub use seat::{Seat, may_be_answered};
 pub use submitted::{Standing, Submitted};

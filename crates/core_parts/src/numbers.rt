@@ -2,7 +2,7 @@
 ghost use Rattle.std.specs.Prelude.{◌≡◌, ◌<◌, ◌≤◌, ◌++◌, ◌∷◌, ◌==◌, [], length, map};
 ghost use Rattle.std.specs.List.{list_any};
 
-use core_filters::{MAX_FILTERS, Versions};
+use filter_order::{MAX_FILTERS, Versions};
 use std::marker::Model;
 
 /// Numbers, of which there are at most as many as filters. They lie in the value itself, so that no

@@ -9,9 +9,8 @@ ghost use Rattle.core_parts.specs.Asked.{AreFinished, AreRising, IsNoneOf, IsNot
 use crate::asked::Asked;
 use aggregations::Groups;
 use pipeline_manager::{Life, Manager};
-use star_lists::Fading;
 use star_plan::StarQuery;
-use star_values::NoMemory;
+use star_values::{Fading, NoMemory};
 use std::alloc::Global;
 use std::marker::Model;
 use std::sync::Arc;

@@ -4,7 +4,7 @@ ghost use Rattle.std.specs.Option.{option_map_or};
 ghost use Rattle.std.specs.List.Sorted.{IsPartitionPoint};
 ghost use Rattle.pipeline_manager.specs.Conditions.{is_open};
 ghost use Rattle.pipeline_manager.specs.Lives.{life_of};
-ghost use Rattle.star_lists.specs.Faded.{items_of};
+ghost use Rattle.star_values.specs.Faded.{items_of};
 ghost use Rattle.core_parts.specs.Seated.{with_taken, without_pending};
 ghost use Rattle.core_parts.specs.Known.{Known};
 ghost use Rattle.core_parts.specs.Seats.{seat_as, pending_as, is_waited, when_taken, standing_as, is_waited_as, NoneIsWaitedAs, IsWaitedAt, AreGone, AreInTurn, is_open_in};
@@ -13,8 +13,7 @@ ghost use Rattle.core_parts.specs.declared.submitted.Standing.TheVariants.{IsAba
 
 use crate::submitted::{Standing, Submitted};
 use pipeline_manager::{Life, Manager};
-use star_lists::Fading;
-use star_values::NoMemory;
+use star_values::{Fading, NoMemory};
 use std::alloc::Global;
 use std::marker::Model;
 use std::mem;
@@ -31,8 +30,8 @@ pub struct Seat {
 }
 
 impl Model for Seat {
-    ghost use Rattle.star_lists.specs.Roomy.{Roomy};
-    ghost use Rattle.star_lists.specs.Faded.{items_of};
+    ghost use Rattle.star_values.specs.Roomy.{Roomy};
+    ghost use Rattle.star_values.specs.Faded.{items_of};
     ghost use Rattle.core_parts.specs.declared.submitted.Submitted.{Submitted};
     ghost use Rattle.core_parts.specs.Seats.{AreGone, AreInTurn};
 

@@ -5,7 +5,7 @@ use Rattle.pipeline_manager.specs.Sound as managed
 use Rattle.pipeline_manager.specs.Sound.{AreRising, FitsSlots}
 use Rattle.pipeline_manager.specs.declared.life.Life.TheVariants as life
 use Rattle.core_state.proofs.FoundLemmas.{accepted-number, some-at, some-of}
-pub use Rattle.star_lists.proofs.PlaceLemmas.{find-holds, find-none, number-found}
+pub use Rattle.star_values.proofs.PlaceLemmas.{find-holds, find-none, number-found}
 
 -- what is the number of no accepted query is that of no life
 pub none-lives : (state : State) → AreSoundQueries state → (number : ℕ) → accepted_at state.accepted number ≡ None

@@ -1,7 +1,7 @@
 -- Which queries a core has where one seat alone submitted: those among what it took and waits for.
 use Rattle.core_state.proofs.Words.{◌++◌, ◌<◌, ◌∙◌, ◌∷◌, ◌≡◌, ◌≢◌, [], Accepted, accepted_at, All, All-cons, All-contains, All-head, All-nil, All-tail, all_pairs_head, all_pairs_tail, AllPairs, ap, arith, Asked, Awaited, cases_eq, cases_lt, cond, cons_option, Contains, Contains-append_left, Contains-append_right, empty_seat, eq-eqb, eqb, filter_map, filter_map-append, find, get_or, get_or_past, HasAccepted, IsAccountedFor, IsAwaited, IsSomeAnd, IsSound, IsTaken, length, life_of, List, map, ne_eqb, None, Option, option_map, Pending, Query, QueryLife, refl, Replied, Seat, seat_at, Some, State, subst, sym, Taken, taken_by, ℕ, ⊎_elim}
 use Rattle.std.proofs.lemmas.Map.Made.{Contains-tail}
-use Rattle.star_lists.proofs.RisingLemmas.{IsMissing, RisesBy, above_head, find-missing, tail_rises}
+use Rattle.star_values.proofs.RisingLemmas.{IsMissing, RisesBy, above_head, find-missing, tail_rises}
 use Rattle.pipeline_manager.specs.declared.life.Life.TheVariants as life
 use Rattle.core_state.specs.Queries.{accepted_by, given_in, queries_among, query_by}
 use Rattle.core_state.proofs.AcceptedLemmas.{accepted-rising}

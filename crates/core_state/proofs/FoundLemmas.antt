@@ -1,7 +1,7 @@
 -- What is found in lists, and of queries whose lives change.
 use Rattle.core_state.proofs.Words.{◌∙◌, ◌∷◌, ◌≡◌, ◌≢◌, [], Accepted, accepted_at, ap, Bool, cases_eq, cond, eq-eqb, eqb, eqb-true, extent_in, false, IfSome, IsSome, Life, life_in, List, map, ne_eqb, None, none-some, Option, option_map, option_map_or, passes, query_in, query_in-map, QueryLife, refl, renewed, renewed-number, same_Some, Some, subst, sym, true, with_life, ℕ, ⊎_elim}
 use Rattle.std.proofs.Common.{find}
-pub use Rattle.star_lists.proofs.PlaceLemmas.{find-passes}
+pub use Rattle.star_values.proofs.PlaceLemmas.{find-passes}
 
 -- what is found stays, where a change leaves it, and nothing else comes to pass
 pub find-left : {X : Type 0} (p : X → Bool) (change : X → X) → ((x : X) → p (change x) ≡ p x) → ((x : X) → p x ≡ true → change x ≡ x)

@@ -5,7 +5,7 @@ use Rattle.star_values.specs.declared.refusal.Refusal.TheVariants.{DanglingRefer
 use Rattle.star_values.specs.declared.value.Value as cell
 use Rattle.star_parser.specs.Statement as written
 use Rattle.star_plan.specs.declared.table.Table.{Table}
-use Rattle.star_schema.specs.Named.{table_named}
+use Rattle.star_plan.specs.Named.{table_named}
 use Rattle.star_store.specs.Deletes.{is_ended_by, positions_of}
 use Rattle.star_store.specs.Loads.{count_in, dangles, load_change, loaded_records, loaded_rows, most_in, repeats_a_key}
 use Rattle.star_statement.specs.Outcome.{outcome_of}

@@ -19,7 +19,7 @@ pub use Rattle.std.specs.Option.{option_and_then, option_map_or}
 pub use Rattle.std.specs.Prelude.{◌==◌, ◌↔◌, All, AllPairs, Any, Contains, find, flat_map, IfOk, IfSome, is_none, is_some, IsSome, IsSomeAnd, IsTrue, slice_index_or}
 pub use Rattle.star_values.specs.declared.refusal.Refusal.{Refusal}
 pub use Rattle.star_values.specs.declared.refusal.Refusal.TheVariants.{Limit, OutOfOrder, UnknownName}
-pub use Rattle.star_lists.specs.Roomy.{Roomy}
+pub use Rattle.star_values.specs.Roomy.{Roomy}
 pub use Rattle.script_reader.specs.declared.statement.Block.{Block}
 pub use Rattle.script_reader.specs.declared.statement.Statement.{Statement}
 pub use Rattle.star_plan.specs.Answer.{answer_of}
@@ -39,7 +39,7 @@ pub use Rattle.dimension_rows.specs.declared.dimension_row.DimensionRow.{Dimensi
 pub use Rattle.bit_words.proofs.SetLemmas.{Has-with}
 pub use Rattle.bit_words.specs.Sets.{Has, with_number}
 pub use Rattle.batch_flow.specs.Rows.{key_place, Rows}
-pub use Rattle.filter_order.specs.declared.tally.Tally.{Tally}
+pub use Rattle.dimension_filter.specs.declared.tally.Tally.{Tally}
 pub use Rattle.pipeline_manager.proofs.HolderLemmas.{built_of-holder, slot_of-begun, slot_of-holder}
 pub use Rattle.pipeline_manager.proofs.LifeLemmas.{life_in-cut, life_in-other, life_in-same, oldest-waits, query_in-map, query_in-push_other, query_in-push_same, renewed-number}
 pub use Rattle.pipeline_manager.specs.Changes.{after_abandon, after_end, after_spoil, covered, cut_life, cut_query, given_up, is_ending, renewed, started, with_dimension, with_life, with_slot, without_dimension}
@@ -50,7 +50,7 @@ pub use Rattle.pipeline_manager.specs.declared.life.Life.{Life}
 pub use Rattle.pipeline_manager.specs.declared.life.QueryLife.{QueryLife}
 pub use Rattle.pipeline_manager.specs.declared.life.SlotState.{SlotState}
 pub use Rattle.pipeline_manager.specs.declared.life.SlotState.TheVariants.{Clearing, Free, Held}
-pub use Rattle.star_schema.specs.Declaration.{declared_dimension, declared_fact, references}
+pub use Rattle.star_plan.specs.Declaration.{declared_dimension, declared_fact, references}
 pub use Rattle.star_binder.specs.Named.{where_conjuncts}
 pub use Rattle.star_binder.specs.Refused.{bound_delete, bound_select}
 pub use Rattle.star_binder.specs.Select.{select_of}

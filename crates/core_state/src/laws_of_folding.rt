@@ -1,6 +1,6 @@
 //! What a distributor makes of a batch is what the core makes of it.
 ghost use Rattle.std.specs.Prelude.{◌≡◌, ℕ, ◌+◌, ◌≤◌, List, [], length, Option, Some, All, Contains};
-ghost use Rattle.star_lists.specs.Roomy.{Roomy};
+ghost use Rattle.star_values.specs.Roomy.{Roomy};
 ghost use Rattle.star_plan.specs.Joined.{Joined};
 ghost use Rattle.dimension_rows.specs.declared.dimension_row.DimensionRow.{DimensionRow};
 ghost use Rattle.star_history.specs.Keyed.{KeyedStore};

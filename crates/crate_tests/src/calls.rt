@@ -7,14 +7,15 @@ use fact_versions::{KEYS_IN_A_VERSION, Version};
 use filter_order::Order;
 use frame_pool::Pool;
 use script_reader::take_statement;
-use star_lists::{ListOf, ListWithRoom, lists_may_be_sent, lists_may_be_shared};
 use star_parser::{parse, print};
 use star_plan::{Answer, Cell, ChoiceList, Item, ItemList, PlaceList, StarQuery};
-use star_values::{ByteText, NoMemory, Row, SmallText, Value};
+use star_values::{
+    ByteText, CodeColumns, IntegerColumns, ListOf, ListWithRoom, NoMemory, Row, SmallText, Value,
+    lists_may_be_sent, lists_may_be_shared,
+};
 use std::alloc::Global;
 use std::hash::RandomState;
 use std::test::Fail;
-use value_columns::{CodeColumns, IntegerColumns};
 
 /// Statements as they are printed.
 const PRINTED: &str = "wait

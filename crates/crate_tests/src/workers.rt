@@ -3,8 +3,7 @@
 ghost use Rattle.std.specs.Prelude.{◌≤◌};
 
 use core_state::RunSettings;
-use made_run::{MadeEnd, run_made};
-use make_load::{make_script, print_summary, summary};
+use make_load::{MadeEnd, make_script, print_summary, run_made, summary};
 use script_run::{run_alone, run_script};
 use star_io::{ListSink, PieceSource, RunEnd};
 use star_values::{ByteText, NoMemory};

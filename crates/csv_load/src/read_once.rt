@@ -5,8 +5,7 @@ ghost use Rattle.csv_load.specs.Rows.{typed_rows};
 
 use crate::block::{BlockFault, LoadRows, count_records, read_block};
 use crate::laws::each_record_is_a_row;
-use star_lists::ListOf;
-use star_values::{Kind, NoMemory};
+use star_values::{Kind, ListOf, NoMemory};
 use std::alloc::Global;
 
 /// By what the rows of a block are read.

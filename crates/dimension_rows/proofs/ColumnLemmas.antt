@@ -1,7 +1,7 @@
 -- Columns beside rows, with one row more.
 use Rattle.std.proofs.Common.{◌≡◌, ℕ, ℤ, List, [], ◌∷◌, ◌++◌, length, sym, subst}
 use Rattle.std.proofs.lemmas.List.{length-map, map-append}
-use Rattle.value_columns.specs.First.{AreIntegerColumns, AreCodeColumns}
+use Rattle.star_values.specs.First.{AreIntegerColumns, AreCodeColumns}
 use Rattle.dimension_rows.specs.declared.dimension_row.DimensionRow.{DimensionRow}
 use Rattle.dimension_rows.specs.Integers.{AreColumns, values_of}
 

@@ -2,8 +2,8 @@
 use Rattle.std.specs.Prelude.{◌≡◌, ℕ, ◌<◌, ◌≤◌, ℤ, pos, List, length, map, slice_get, slice_index, slice_index_or, option_map, Some}
 use Rattle.star_values.specs.declared.value.Value.{Value}
 use Rattle.star_values.specs.declared.value.Value.TheVariants.{Int}
-use Rattle.value_columns.specs.Codes.{code_of}
-use Rattle.value_columns.specs.First.{AreIntegerColumns, AreCodeColumns}
+use Rattle.star_values.specs.Codes.{code_of}
+use Rattle.star_values.specs.First.{AreIntegerColumns, AreCodeColumns}
 use Rattle.dimension_rows.specs.declared.dimension_row.DimensionRow.{DimensionRow}
 
 -- the first rows have these integers in a column

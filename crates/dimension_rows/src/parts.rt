@@ -5,16 +5,14 @@ ghost use Rattle.std.specs.declared.random_state.RandomState.{RandomState};
 ghost use Rattle.dimension_rows.specs.Integers.{AreColumns};
 ghost use Rattle.dimension_rows.specs.Keys.{key_of, index_of};
 ghost use Rattle.dimension_rows.specs.declared.dimension_row.DimensionRow.{DimensionRow};
-ghost use Rattle.value_columns.specs.First.{KeepCodes, KeepIntegers};
+ghost use Rattle.star_values.specs.First.{KeepCodes, KeepIntegers};
 ghost use Rattle.dimension_rows.specs.Parts.{AreIndexed, HaveRoom};
 
 use crate::dimension_row::{DimensionRow, MAX_DIMENSION_ROWS};
 use crate::key_hash::row_hash;
-use star_lists::ListWithRoom;
-use star_values::{NoMemory, Row};
+use star_values::{CodeColumns, IntegerColumns, ListWithRoom, NoMemory, Row};
 use std::collections::HashMap;
 use std::hash::RandomState;
-use value_columns::{CodeColumns, IntegerColumns};
 
 /// For each row the next older row whose key has the same hash.
 pub(crate) type OlderRows = ListWithRoom<Option<u32>>;

@@ -4,7 +4,7 @@ use denote.Param.SendFields.{declared_send, variants_send}
 use Rattle.std.proofs.Crossing.{crosses}
 use Rattle.std.proofs.alloc.Global.TheSendSync as heap
 use Rattle.bit_words.proofs.bits.Bits.TheSendSync as bits
-use Rattle.star_lists.proofs.list_of.ListOf.TheSendSync as list
+use Rattle.star_values.proofs.list_of.ListOf.TheSendSync as list
 use Rattle.distributor.proofs.distributor.Distributor.TheSendSync as distributor
 use Rattle.distributor.specs.contracts.seats.Lent as lent
 use Rattle.distributor.specs.contracts.seats.SeatGroups as seat

@@ -8,7 +8,7 @@ use Rattle.std.proofs.lemmas.List.FromFn.{get_or-map-range_with_len, length-map-
 use Rattle.std.proofs.lemmas.List.Folds.{fold-map}
 use Rattle.star_values.specs.declared.value.Value as cell
 use Rattle.star_plan.specs.declared.place.Place.{Place}
-use Rattle.star_lists.specs.Roomy.{Roomy}
+use Rattle.star_values.specs.Roomy.{Roomy}
 use Rattle.star_history.specs.Read.{value_by_key}
 use Rattle.bit_words.specs.Sets.{Has}
 use Rattle.batch_flow.specs.Rows.{Rows}

@@ -6,7 +6,7 @@ use Rattle.std.proofs.lemmas.Bool.{cases_lt, eq-eqb}
 use Rattle.std.proofs.lemmas.List.{get_or_past, get_or-set_same, length-map, length-set}
 use Rattle.std.proofs.lemmas.Option.{same_Some}
 use Rattle.bit_words.specs.Sets.{Has}
-use Rattle.star_lists.specs.Roomy.{Roomy}
+use Rattle.star_values.specs.Roomy.{Roomy}
 use Rattle.batch_flow.specs.Rows.{Rows}
 use Rattle.fact_versions.specs.declared.version.Version.{Version}
 use Rattle.dimension_rows.specs.declared.dimension_row.DimensionRow.{DimensionRow}

@@ -2,7 +2,7 @@
 ghost use Rattle.std.specs.Prelude.{◌≡◌, ◌↔◌, ℕ, ◌++◌, [], ◌∷◌, ◌==◌, List, length, slice_get, slice_index, Some, Contains, if◌then◌else◌};
 ghost use Rattle.std.specs.Int.{bit_at};
 ghost use Rattle.bit_words.specs.Sets.{Has};
-ghost use Rattle.star_lists.specs.Roomy.{Roomy};
+ghost use Rattle.star_values.specs.Roomy.{Roomy};
 ghost use Rattle.fact_versions.specs.declared.version.Version.{Version};
 ghost use Rattle.dimension_rows.specs.declared.dimension_row.DimensionRow.{DimensionRow};
 ghost use Rattle.aggregations.specs.Grouped.{Grouped};

@@ -1,7 +1,7 @@
 //! What goes out with seats of a shared distributor, and comes home.
 ghost use Rattle.std.specs.Prelude.{◌≡◌, ◌↔◌, ℕ, ◌+◌, ◌^◌, ◌<◌, ◌≤◌, List, All, IfOk, IfSome, IsSome, IsSomeAnd, IsTrue, None, Some, length, map, replicate, slice_get, slice_index, slice_index_or, slice_set};
 ghost use Rattle.bit_words.specs.Sets.{Has};
-ghost use Rattle.star_lists.specs.Roomy.{Roomy};
+ghost use Rattle.star_values.specs.Roomy.{Roomy};
 ghost use Rattle.fact_versions.specs.declared.version.Version.{Version};
 ghost use Rattle.dimension_rows.specs.declared.dimension_row.DimensionRow.{DimensionRow};
 ghost use Rattle.distributor.specs.declared.seats.SeatGroups.TheVariants.{NotYet};
@@ -16,8 +16,7 @@ use crate::laws::rows_fold_apart;
 use crate::seats::SeatGroups;
 use batch_flow::Batch;
 use bit_words::Bits;
-use star_lists::ListOf;
-use star_values::NoMemory;
+use star_values::{ListOf, NoMemory};
 use std::alloc::Global;
 use std::hash::RandomState;
 

@@ -4,9 +4,9 @@ use denote.Param.Send.{IsSend, view_send, sendable}
 use denote.Param.SendFields.{declared_send}
 use Rattle.std.proofs.Crossing.{crosses}
 use Rattle.std.proofs.alloc.Global.TheSendSync as heap
-use Rattle.star_lists.proofs.list_of.ListOf.TheSendSync as list
+use Rattle.star_values.proofs.list_of.ListOf.TheSendSync as list
 use Rattle.continuous_scan.proofs.CrossingLemmas.{scan_send}
-use Rattle.star_lists.proofs.CrossingLemmas.{trail_send}
+use Rattle.star_values.proofs.CrossingLemmas.{trail_send}
 use Rattle.core_parts.proofs.CrossingLemmas.{flights_send, queries_send, seat_send}
 use Rattle.star_store.proofs.tables.Tables.TheSendSync as tables
 use Rattle.event_core.proofs.logged.Logged.TheSendSync as logged
@@ -20,8 +20,8 @@ use Rattle.pipeline_manager.specs.contracts.query_lives.QueryLives as query_live
 use Rattle.pipeline_manager.specs.contracts.query_lives.QueryLives.TheInside as inside_query_lives
 use Rattle.pipeline_manager.specs.contracts.manager.Manager as manager
 use Rattle.pipeline_manager.specs.contracts.manager.Manager.TheInside as inside_manager
-use Rattle.core_filters.proofs.filters.Filters.TheSendSync as filters
-use Rattle.core_filters.proofs.spares.Spares.TheSendSync as spares
+use Rattle.filter_order.proofs.filters.Filters.TheSendSync as filters
+use Rattle.filter_order.proofs.spares.Spares.TheSendSync as spares
 use Rattle.distributor.proofs.CrossingLemmas.{shared_send}
 use Rattle.frame_pool.proofs.pool.Pool.TheSendSync as pool
 use Rattle.event_core.specs.contracts.machine.Core as core

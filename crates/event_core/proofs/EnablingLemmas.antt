@@ -10,10 +10,10 @@ use Rattle.core_state.specs.Events.{MayCarry}
 use Rattle.core_state.specs.Found.{is_on_roster}
 use Rattle.core_state.specs.State as state
 use Rattle.core_state.proofs.FinishLemmas.{none-passes}
-use Rattle.event_choice.proofs.FlightLemmas.{not-both}
+use Rattle.core_parts.proofs.NextFlightLemmas.{not-both}
 use Rattle.event_core.specs.Lent.{HasFreeHand}
 use Rattle.event_core.proofs.EnablingSetLemmas.{bit-roster}
-use Rattle.star_lists.proofs.PlaceLemmas.{past-from_none}
+use Rattle.star_values.proofs.PlaceLemmas.{past-from_none}
 
 -- what is found in a map
 pub find-map : {X Y : Type 0} (f : X → Y) (p : Y → Bool) (xs : List X) → find p (map f xs) ≡ option_map f (find (λ x. p (f x)) xs)

@@ -6,7 +6,7 @@ use Rattle.std.specs.List.{position}
 use Rattle.core_state.specs.Events.{after_event}
 use Rattle.core_state.specs.State as state
 use Rattle.core_parts.specs.Filtered.{with_tally}
-use Rattle.star_lists.proofs.PlaceLemmas.{position-past, position-within}
+use Rattle.star_values.proofs.PlaceLemmas.{position-past, position-within}
 use Rattle.event_core.proofs.EnablingLemmas.{empty-hand, taken-wanting}
 use Rattle.event_core.proofs.HandLemmas.{AreApart, apart-head, apart-tail, becomes-given, becomes-taken, held-there}
 use Rattle.event_core.proofs.LivedLemmas.{QuietEventsLeave}

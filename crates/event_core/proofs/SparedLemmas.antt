@@ -6,11 +6,11 @@ use Rattle.std.proofs.lemmas.List.{get_or-replicate, length-replicate}
 use Rattle.std.proofs.lemmas.List.Elements.{All-contains_itself, All-weaker, Contains-append_cases, Contains-append_left, Contains-append_right}
 use Rattle.std.proofs.lemmas.List.Folds.{find-append}
 use Rattle.star_statement.specs.declared.applied.ChangeKind.TheVariants.{DeclaresFact}
-use Rattle.core_filters.specs.Filtered.{first_version, first_versions}
-use Rattle.core_filters.specs.Filters.{first_filters, versions_left}
-use Rattle.core_filters.specs.Spares.{first_spares, HasPlace, is_present, references_to, spare_at, Spares, with_all_returned, with_all_taken, with_returned, with_spare}
-use Rattle.core_filters.proofs.FirstFilterLemmas.{length-first, referenced_are_numbered}
-use Rattle.core_filters.proofs.SpareLemmas.{places-stay, spare-apart, spare-put}
+use Rattle.filter_order.specs.Filtered.{first_version, first_versions}
+use Rattle.filter_order.specs.Filters.{first_filters, versions_left}
+use Rattle.filter_order.specs.Spares.{first_spares, HasPlace, is_present, references_to, spare_at, Spares, with_all_returned, with_all_taken, with_returned, with_spare}
+use Rattle.filter_order.proofs.FirstFilterLemmas.{length-first, referenced_are_numbered}
+use Rattle.filter_order.proofs.SpareLemmas.{places-stay, spare-apart, spare-put}
 use Rattle.core_parts.specs.InFlight.{Hand}
 use Rattle.core_parts.specs.Passed.{with_flights_done}
 use Rattle.core_state.specs.Events.{MayCarry}

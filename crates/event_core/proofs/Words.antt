@@ -14,7 +14,7 @@ pub use Rattle.std.specs.List.{cons_option, filter_map, list_all, list_any, posi
 pub use Rattle.std.specs.Option.{is_none, option_and_then, option_map_or}
 pub use Rattle.std.specs.Prelude.{◌↔◌, All, AllPairs, Contains, find, fold, IfSome, is_some, IsSome, IsSomeAnd, IsTrue, position}
 pub use Rattle.star_values.specs.Value.{kinds_in}
-pub use Rattle.star_lists.specs.Roomy.{Roomy}
+pub use Rattle.star_values.specs.Roomy.{Roomy}
 pub use Rattle.script_reader.specs.declared.statement.Statement.{Statement}
 pub use Rattle.star_plan.specs.Columns.{fact_columns}
 pub use Rattle.star_plan.specs.Fits.{selection_fits}
@@ -29,7 +29,7 @@ pub use Rattle.bit_words.proofs.SetLemmas.{Has-with}
 pub use Rattle.bit_words.specs.Sets.{Has, with_number}
 pub use Rattle.frame_pool.specs.Stock.{Stock}
 pub use Rattle.batch_flow.specs.Rows.{Rows}
-pub use Rattle.filter_order.specs.declared.tally.Tally.{Tally}
+pub use Rattle.dimension_filter.specs.declared.tally.Tally.{Tally}
 pub use Rattle.pipeline_manager.proofs.HolderLemmas.{slot_of-begun, slot_of-holder}
 pub use Rattle.pipeline_manager.specs.Changes.{after_abandon, after_cut, after_end, after_reserve, after_run, after_spoil, after_submit, with_life, with_slot}
 pub use Rattle.pipeline_manager.specs.Conditions.{CanAbandon, CanBuild, CanClear, CanEnd, CanFree, CanRun, CanSpoil, is_begun, is_open, IsNew}
@@ -39,7 +39,7 @@ pub use Rattle.pipeline_manager.specs.declared.life.Life.TheVariants.{Abandoned,
 pub use Rattle.pipeline_manager.specs.declared.life.QueryLife.{QueryLife}
 pub use Rattle.pipeline_manager.specs.declared.life.SlotState.{SlotState}
 pub use Rattle.pipeline_manager.specs.declared.life.SlotState.TheVariants.{Clearing, Free, Held}
-pub use Rattle.star_schema.specs.Declaration.{references}
+pub use Rattle.star_plan.specs.Declaration.{references}
 pub use Rattle.star_history.proofs.FoundLemmas.{find_position}
 pub use Rattle.star_history.specs.Accepted.{Accepts, AcceptsAll}
 pub use Rattle.star_history.specs.History.{after_change, Change, store_of}
@@ -62,7 +62,7 @@ pub use Rattle.star_statement.specs.Kinds.{kind_of_change}
 pub use Rattle.star_statement.specs.Outcome.{Outcome, outcome_of, Told}
 pub use Rattle.star_statement.specs.declared.applied.Applied.TheVariants.{Changed}
 pub use Rattle.star_statement.specs.declared.applied.ChangeKind.{ChangeKind}
-pub use Rattle.star_lists.proofs.PlaceLemmas.{refill-all}
+pub use Rattle.star_values.proofs.PlaceLemmas.{refill-all}
 pub use Rattle.core_parts.proofs.TurnLemmas.{first_of}
 pub use Rattle.core_parts.specs.Asked.{AreFinished, AreRising, asked_at, AskedQueries, AskedQuery, known_in, with_kept, with_kept_at}
 pub use Rattle.core_parts.specs.Filters.{next_of, plus, with_new}

@@ -1,7 +1,7 @@
 -- What becomes of the parts at each event.
 use Rattle.std.specs.Prelude.{ℕ, ◌+◌, ◌-◌, ◌*◌, ◌==◌, if◌then◌else◌, List, [], ◌∷◌, ◌++◌, drop, fold, length, replicate, slice_index_or, slice_set, take, Option, Some, None, false}
 use Rattle.bit_words.specs.Sets.{with_number}
-use Rattle.star_lists.specs.Roomy.{Roomy}
+use Rattle.star_values.specs.Roomy.{Roomy}
 use Rattle.dimension_rows.specs.declared.dimension_row.DimensionRow.{DimensionRow}
 use Rattle.star_history.specs.Keyed.{KeyedStore}
 use Rattle.star_statement.specs.declared.applied.ChangeKind.{ChangeKind}

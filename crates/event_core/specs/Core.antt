@@ -5,7 +5,7 @@ use Rattle.std.specs.List.{range_with_len}
 use Rattle.std.specs.Option.{option_map_or}
 use Rattle.bit_words.specs.Sets.{Has}
 use Rattle.star_values.specs.Value.{kinds_in}
-use Rattle.star_lists.specs.Roomy.{Roomy}
+use Rattle.star_values.specs.Roomy.{Roomy}
 use Rattle.star_plan.specs.Fits.{selection_fits}
 use Rattle.star_plan.specs.Test.{Selection}
 use Rattle.dimension_rows.specs.declared.dimension_row.DimensionRow.{DimensionRow}

@@ -2,7 +2,7 @@
 use Rattle.std.specs.Prelude.{◌≡◌, ◌≢◌, ℕ, Bool, Contains, IfSome, List, [], Option, None, Some, false, filter_map, if◌then◌else◌, is_some, map, option_map, replicate, slice_index_or}
 use Rattle.std.specs.List.{list_any}
 use Rattle.bit_words.specs.Sets.{Has}
-use Rattle.star_lists.specs.Roomy.{Roomy}
+use Rattle.star_values.specs.Roomy.{Roomy}
 use Rattle.star_history.specs.Keyed.{KeyedStore}
 use Rattle.frame_pool.specs.Stock.{Stock}
 use Rattle.pipeline_manager.specs.Lives.{Lives}

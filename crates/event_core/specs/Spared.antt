@@ -1,8 +1,8 @@
 -- The references to the tables of present versions: one for each seat, which is kept or in the hand of the seat.
 use Rattle.std.specs.Prelude.{◌≡◌, ◌⊎◌, ℕ, ◌<◌, ◌==◌, false, List, [], Contains, find, length, slice_index_or, Option, Some}
 use Rattle.std.specs.Option.{option_map_or}
-use Rattle.core_filters.specs.Filtered.{FilterVersion, version_at}
-use Rattle.core_filters.specs.Spares.{spare_at, Spares}
+use Rattle.filter_order.specs.Filtered.{FilterVersion, version_at}
+use Rattle.filter_order.specs.Spares.{spare_at, Spares}
 use Rattle.core_parts.specs.InFlight.{Hand}
 use Rattle.core_parts.specs.Lent.{Flight}
 

@@ -6,11 +6,9 @@ ghost use Rattle.event_core.specs.Chosen.{IsOfKind, NoneMayCome};
 ghost use Rattle.event_core.specs.Seen.{state_of};
 
 use crate::machine::Core;
+use core_parts::{next_finish, next_through, next_wanting};
 use core_state::Event;
-use event_choice::{
-    next_build, next_clear, next_finish, next_release, next_reservation, next_start, next_through,
-    next_wanting,
-};
+use pipeline_manager::{next_build, next_clear, next_release, next_reservation, next_start};
 
 /// The kinds of events of which one that may come can be asked for.
 #[derive(Clone, Copy, Debug, PartialEq, Eq)]

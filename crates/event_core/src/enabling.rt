@@ -7,10 +7,10 @@ ghost use Rattle.event_core.specs.Seen.{state_of};
 
 use crate::machine::Core;
 use core_parts::flights::{is_on_some_roster, place_held_by, place_of};
+use core_parts::{is_through, is_wanting};
 use core_state::Event;
-use event_choice::{
-    is_through, is_wanting, may_abandon, may_build, may_clear, may_end, may_release, may_reserve,
-    may_start,
+use pipeline_manager::{
+    may_abandon, may_build, may_clear, may_end, may_release, may_reserve, may_start,
 };
 
 impl Core {

@@ -9,7 +9,7 @@ ghost use Rattle.core_state.specs.State as state;
 ghost use Rattle.core_parts.specs.Lent.{Flight};
 ghost use Rattle.event_core.specs.Changes.{cut_into, given, taken};
 ghost use Rattle.event_core.specs.Core.{AreHolders, Becomes, CanCutNext, IsCore};
-ghost use Rattle.core_filters.specs.Filters.{next_of, versions_left};
+ghost use Rattle.filter_order.specs.Filters.{next_of, versions_left};
 ghost use Rattle.event_core.specs.Parts.{Parts};
 ghost use Rattle.event_core.specs.Seen.{state_of};
 

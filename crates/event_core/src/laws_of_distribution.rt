@@ -1,6 +1,6 @@
 //! What becomes of the parts of a core is what becomes of its state: a batch that is distributed.
 ghost use Rattle.std.specs.Prelude.{◌≡◌, ◌==◌, ℕ, ◌+◌, ◌<◌, ◌≤◌, List, length, position, slice_get, All, Some};
-ghost use Rattle.star_lists.specs.Roomy.{Roomy};
+ghost use Rattle.star_values.specs.Roomy.{Roomy};
 ghost use Rattle.dimension_rows.specs.declared.dimension_row.DimensionRow.{DimensionRow};
 ghost use Rattle.star_history.specs.Kept.{rows_of_all};
 ghost use Rattle.pipeline_manager.specs.Conditions.{CanSpoil};

@@ -18,9 +18,8 @@ use core_parts::{Seat, Standing, Submitted, may_be_answered};
 use core_state::a_reply_that_may_be_taken_is_right;
 use pipeline_manager::Manager;
 use reply_text::Reply;
-use star_lists::ListOf;
 use star_plan::Answer;
-use star_values::NoMemory;
+use star_values::{ListOf, NoMemory};
 
 /// A reply that was taken.
 #[derive(Debug, Drop)]

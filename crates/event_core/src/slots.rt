@@ -27,8 +27,8 @@ use continuous_scan::Scan;
 use core_parts::{Queries, Seat};
 use distributor::SharedDistributor;
 use pipeline_manager::{Life, SlotState};
-use star_lists::ListOf;
 use star_plan::StarQuery;
+use star_values::ListOf;
 use std::alloc::Global;
 use std::sync::Arc;
 

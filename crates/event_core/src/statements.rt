@@ -5,7 +5,7 @@ ghost use Rattle.script_reader.specs.declared.statement.Statement.{Statement};
 ghost use Rattle.star_history.specs.History.{Change};
 ghost use Rattle.star_history.specs.Keyed.{IsKeyed, plain};
 ghost use Rattle.star_history.specs.Settled.{IsSettled};
-ghost use Rattle.star_lists.specs.Roomy.{Roomy};
+ghost use Rattle.star_values.specs.Roomy.{Roomy};
 ghost use Rattle.star_statement.specs.Applied.{Follows};
 ghost use Rattle.star_statement.specs.Form.{form_of_text};
 ghost use Rattle.star_statement.specs.Kinds.{kind_of_change};
@@ -20,7 +20,7 @@ ghost use Rattle.core_state.specs.Tables.{tables_of};
 ghost use Rattle.core_parts.specs.declared.submitted.Submitted.{Submitted};
 ghost use Rattle.event_core.specs.Changes.{statements_at, with_filters_for};
 ghost use Rattle.event_core.specs.Core.{IsCore};
-ghost use Rattle.core_filters.specs.Spares.{first_spares};
+ghost use Rattle.filter_order.specs.Spares.{first_spares};
 ghost use Rattle.core_parts.specs.Filters.{first_filters};
 ghost use Rattle.event_core.specs.Parts.{Parts, beside_of};
 ghost use Rattle.core_parts.specs.Seats.{is_waited};
@@ -33,14 +33,13 @@ use core_parts::{Asked, Filters, Queries, Seat, Spares, Standing};
 use pipeline_manager::Manager;
 use script_reader::Statement;
 use star_history::accepted_histories_are_settled;
-use star_lists::ListOf;
 use star_plan::Schema;
 use star_statement::{
     Applied, ApplyFault, BlockForm, ChangeKind, ReadStatement, apply, block_form,
     outcomes_fit_the_tables,
 };
 use star_store::Tables;
-use star_values::NoMemory;
+use star_values::{ListOf, NoMemory};
 use std::alloc::Global;
 
 impl Core {

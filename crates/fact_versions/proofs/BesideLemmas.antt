@@ -3,9 +3,9 @@ use Rattle.std.proofs.Common.{◌≡◌, ℕ, ℤ, zero, suc, ◌+◌, ◌-◌, 
 use Rattle.std.specs.Prelude.{slice_index, slice_index_or}
 use Rattle.std.proofs.lemmas.List.{drop-map, length-append, length-map, map-append, take-map}
 use Rattle.std.proofs.lemmas.List.Elements.{All-cons, All-head, All-push, All-tail}
-use Rattle.star_lists.specs.Roomy.{Roomy}
+use Rattle.star_values.specs.Roomy.{Roomy}
 use Rattle.star_values.specs.declared.value.Value.{Value}
-use Rattle.value_columns.specs.First.{AreIntegerColumns}
+use Rattle.star_values.specs.First.{AreIntegerColumns}
 use Rattle.fact_versions.specs.Beside.{AreBeside, HaveRoomFor, rows_of}
 use Rattle.fact_versions.specs.Blocks.{AreBlocks}
 use Rattle.fact_versions.specs.Ends.{ended_by, with_end}

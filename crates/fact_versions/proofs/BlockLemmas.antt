@@ -9,7 +9,7 @@ use Rattle.std.proofs.lemmas.Bool.Decides.{nat_tests}
 use Rattle.std.proofs.lemmas.List.{drop-append-le, get_or-set_other, get_or-set_same, length-append, length-drop, length-set, length-take, take-append-le, take_all}
 use Rattle.std.proofs.lemmas.Option.{slice_get-get_or}
 use Rattle.fact_versions.specs.declared.blocks.TheConstants.{VERSIONS_IN_A_BLOCK}
-use Rattle.star_lists.proofs.PlaceLemmas.{refill-all}
+use Rattle.star_values.proofs.PlaceLemmas.{refill-all}
 use Rattle.fact_versions.specs.Blocks.{AreBlocks, AreCounted, AreSeen, block_of, is_end, versions_in, with_end_by, with_version}
 use Rattle.fact_versions.specs.Ends.{with_end}
 use Rattle.fact_versions.proofs.EndsLemmas.{drop-with_end, drop-with_end_before, length-with_end, past-with_end, take-with_end}

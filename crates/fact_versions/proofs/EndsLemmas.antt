@@ -2,10 +2,10 @@
 use Rattle.std.proofs.Common.{◌≡◌, ◌≢◌, ℕ, zero, suc, ◌+◌, ◌<◌, ◌≤◌, List, [], ◌∷◌, length, take, drop, slice_get, slice_index_or, slice_set, option_map, refl, ap, ◌∙◌, arith}
 use Rattle.std.proofs.lemmas.List.{length-set}
 use Rattle.std.specs.List.{refill}
-use Rattle.star_lists.proofs.PlaceLemmas.{refill-all}
+use Rattle.star_values.proofs.PlaceLemmas.{refill-all}
 use Rattle.fact_versions.specs.Ends.{ended_by, with_end}
 use Rattle.fact_versions.specs.declared.version.Version.{Version}
-use Rattle.star_lists.specs.Roomy.{Roomy}
+use Rattle.star_values.specs.Roomy.{Roomy}
 
 -- the versions after one was read, by index, and written back with this end
 abbrev written : List Version → (position commit : ℕ) → Version → List Version

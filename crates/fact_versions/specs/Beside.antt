@@ -1,9 +1,9 @@
 -- What is kept beside versions, so that a scan need not read them.
 use Rattle.std.specs.Prelude.{ℕ, ℤ, ◌+◌, ◌*◌, ◌≤◌, List, length, map}
 use Rattle.fact_versions.specs.declared.blocks.TheConstants.{VERSIONS_IN_A_BLOCK}
-use Rattle.star_lists.specs.Roomy.{Roomy}
+use Rattle.star_values.specs.Roomy.{Roomy}
 use Rattle.star_values.specs.declared.value.Value.{Value}
-use Rattle.value_columns.specs.First.{AreIntegerColumns}
+use Rattle.star_values.specs.First.{AreIntegerColumns}
 use Rattle.fact_versions.specs.Blocks.{AreBlocks}
 use Rattle.fact_versions.specs.Keys.{AreKeyColumns, HaveRoom}
 use Rattle.fact_versions.specs.declared.blocks.Block.{Block}

@@ -6,8 +6,7 @@ ghost use Rattle.fact_versions.specs.Ends.{with_end};
 ghost use Rattle.fact_versions.specs.declared.version.Version as version_of;
 
 use crate::version::Version;
-use star_lists::ListWithRoom;
-use star_values::NoMemory;
+use star_values::{ListWithRoom, NoMemory};
 use std::alloc::Global;
 
 /// How many versions are told of together, by the commits that loaded and deleted them.
@@ -103,7 +102,8 @@ impl Blocks {
             return true;
         }
         are_seen(
-            &self.blocks.as_slice()[first / VERSIONS_IN_A_BLOCK..(end - 1) / VERSIONS_IN_A_BLOCK + 1],
+            &self.blocks.as_slice()[first / VERSIONS_IN_A_BLOCK..(end - 1) / VERSIONS_IN_A_BLOCK
+                + 1],
             commit,
         )
     }

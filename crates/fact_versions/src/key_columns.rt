@@ -3,8 +3,7 @@ ghost use Rattle.std.specs.Prelude.{◌≡◌, ◌≤◌, ◌<◌, ℕ, OnOk, le
 ghost use Rattle.fact_versions.specs.Keys.{HasOneMore, HaveRoom, column_of, no_column};
 
 use crate::version::KEYS_IN_A_VERSION;
-use star_lists::ListWithRoom;
-use star_values::NoMemory;
+use star_values::{ListWithRoom, NoMemory};
 use std::alloc::Global;
 
 /// For each dimension the key numbers of all versions, in their order: 4 bytes for each.

@@ -1,2 +1,9 @@
 pub mod NumberLemmas
 pub mod RateLemmas
+pub mod FilterOrderLemmas
+pub mod FilterPlaceLemmas
+pub mod FirstFilterLemmas
+pub mod OrderLemmas
+pub mod SpareLemmas
+pub mod VersionLemmas
+pub mod TakingLemmas

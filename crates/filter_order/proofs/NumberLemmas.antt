@@ -8,7 +8,7 @@ use Rattle.std.proofs.lemmas.List.{length-take-le, take_at}
 use Rattle.std.proofs.lemmas.List.FromFn.{length-range_with_len, get_or-range_with_len}
 use Rattle.std.proofs.lemmas.List.Sorted.{Contains-permutation, IsPermutation-sym, length_permutation, sorted_far}
 use Rattle.std.proofs.lemmas.Map.Keys.{IsDistinct-from_apart, IsDistinct-IsPermutation, apart_from_distinct}
-use Rattle.filter_order.specs.declared.tally.Tally.{Tally}
+use Rattle.dimension_filter.specs.declared.tally.Tally.{Tally}
 use Rattle.filter_order.specs.Numbers.{all_numbers}
 use Rattle.filter_order.specs.Rates.{IsOrderedByDropRate, comes_before}
 use Rattle.filter_order.proofs.RateLemmas.{before_weak, one_before}

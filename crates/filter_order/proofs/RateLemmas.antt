@@ -8,7 +8,7 @@ use Rattle.std.specs.declared.cmp.Ordering.TheVariants.{Less, Equal, Greater}
 use Rattle.std.proofs.lemmas.Bool.Decides.{nat_tests}
 use Rattle.std.proofs.lemmas.Cmp.{ranked, nat_cmp_total, then_total, on_total}
 use Rattle.std.proofs.lemmas.List.MinMax.{ranks_by}
-use Rattle.filter_order.specs.declared.tally.Tally.{Tally}
+use Rattle.dimension_filter.specs.declared.tally.Tally.{Tally}
 use Rattle.filter_order.specs.Rates.{rate_cmp, tally_of, number_cmp, comes_before}
 
 less : (x y : ℕ) → x < y → nat_cmp x y ≡ Less

@@ -1,6 +1,6 @@
 //! What holds of all orders, whatever call made them.
 ghost use Rattle.std.specs.Prelude.{◌≡◌, ℕ, List};
-ghost use Rattle.filter_order.specs.declared.tally.Tally.{Tally};
+ghost use Rattle.dimension_filter.specs.declared.tally.Tally.{Tally};
 ghost use Rattle.filter_order.specs.Rates.{IsOrderedByDropRate};
 
 /// Filters have one order by drop rate.

@@ -9,8 +9,7 @@ ghost use Rattle.make_load.specs.Summary.{summary_of};
 use crate::counts::numbers_of;
 use crate::totals::Summary;
 use reply_text::{Reply, read_reply};
-use star_lists::ListOf;
-use star_values::NoMemory;
+use star_values::{ListOf, NoMemory};
 use std::alloc::Global;
 
 /// The summary of the replies whose text, one after the other, the bytes are. There is none where the

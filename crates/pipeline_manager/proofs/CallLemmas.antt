@@ -17,7 +17,7 @@ use Rattle.pipeline_manager.specs.Changes.{with_life, started, covered, cut_quer
 use Rattle.pipeline_manager.specs.Conditions.{IsNew}
 use Rattle.pipeline_manager.specs.Sound.{FitsSlots, IsOfFilters, IsSound, slots_held}
 use Rattle.pipeline_manager.proofs.LifeLemmas.{query_in-map, query_in-push_same, query_in-push_other, life_in-same, life_in-other, oldest-waits}
-use Rattle.star_lists.proofs.RisingLemmas.{IsMissing}
+use Rattle.star_values.proofs.RisingLemmas.{IsMissing}
 use Rattle.pipeline_manager.proofs.QueryLemmas.{query_in-missing}
 use Rattle.pipeline_manager.proofs.SoundLemmas.{IsLeftOf, rising-map, rising-with_life, fits-started, fits-cut_life, fits-one, left-started, left-cut_life, left-with_life, sound-with_life, slots_held-set}
 

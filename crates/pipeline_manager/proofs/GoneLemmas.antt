@@ -8,8 +8,8 @@ use Rattle.std.proofs.lemmas.List.{map-append}
 use Rattle.std.proofs.lemmas.List.Elements.{All-cons, All-head, All-nil, All-tail, All-weaker}
 use Rattle.std.proofs.lemmas.List.Folds.{map_fixed}
 use Rattle.std.proofs.lemmas.Option.{none-some}
-use Rattle.star_lists.proofs.PlaceLemmas.{find-holds}
-use Rattle.star_lists.proofs.RisingLemmas.{IsMissing, head_is_only, map-missing, tail_rises}
+use Rattle.star_values.proofs.PlaceLemmas.{find-holds}
+use Rattle.star_values.proofs.RisingLemmas.{IsMissing, head_is_only, map-missing, tail_rises}
 use Rattle.pipeline_manager.specs.declared.life.Life.{Life}
 use Rattle.pipeline_manager.specs.declared.life.Life.TheVariants.{Waiting, Running, Ending, Answered}
 use Rattle.pipeline_manager.specs.declared.life.SlotState.{SlotState}

@@ -13,3 +13,5 @@ pub mod GoneLemmas
 pub mod ToldLemmas
 pub mod KeptLemmas
 pub mod OpenLemmas
+pub mod SetLemmas
+pub mod SlotLemmas

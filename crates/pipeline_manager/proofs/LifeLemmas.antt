@@ -7,7 +7,7 @@ use Rattle.pipeline_manager.specs.declared.life.QueryLife.{QueryLife}
 use Rattle.pipeline_manager.specs.Lives.{query_in, life_in, is_waiting}
 use Rattle.pipeline_manager.specs.Changes.{with_life, renewed, cut_life, cut_query, covered}
 use Rattle.pipeline_manager.specs.Sound.{AreRising}
-use Rattle.star_lists.proofs.RisingLemmas.{IsMissing, head_is_only, tail_rises}
+use Rattle.star_values.proofs.RisingLemmas.{IsMissing, head_is_only, tail_rises}
 use Rattle.pipeline_manager.proofs.QueryLemmas.{query_in-missing}
 
 -- another life leaves the number

@@ -2,7 +2,7 @@
 use Rattle.std.proofs.Common.{◌≡◌, ℕ, zero, suc, ◌<◌, ◌≤◌, true, false, List, [], ◌∷◌, length, get_or, slice_get, find, Some, None, refl, sym, ◌∙◌, arith, subst}
 use Rattle.std.specs.List.{All}
 use Rattle.std.proofs.lemmas.List.{take_all}
-use Rattle.star_lists.proofs.RisingLemmas.{IsMissing, find-at, find-missing}
+use Rattle.star_values.proofs.RisingLemmas.{IsMissing, find-at, find-missing}
 use Rattle.pipeline_manager.specs.declared.life.QueryLife.{QueryLife}
 use Rattle.pipeline_manager.specs.Lives.{is_waiting, query_in}
 use Rattle.pipeline_manager.specs.Inside.{NoneWaits}

@@ -6,7 +6,7 @@ use Rattle.std.proofs.lemmas.Bool.{cases_eq, ne_eqb}
 use Rattle.std.proofs.lemmas.List.{get_or-set_same, get_or-set_other, set-get_or}
 use Rattle.std.proofs.lemmas.Nat.Bits.{bit_at-lt, bit_at-pow_same, bit_at-pow_other, bit_at_or}
 use Rattle.bit_words.specs.Sets.{with_number}
-use Rattle.star_lists.proofs.RisingLemmas.{IsMissing}
+use Rattle.star_values.proofs.RisingLemmas.{IsMissing}
 use Rattle.pipeline_manager.specs.declared.life.Life.{Life}
 use Rattle.pipeline_manager.specs.declared.life.Life.TheVariants.{Answered, Spoiled, Abandoned}
 use Rattle.pipeline_manager.specs.declared.life.QueryLife.{QueryLife}

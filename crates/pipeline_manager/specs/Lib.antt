@@ -5,3 +5,4 @@ pub mod Changes
 pub mod Sound
 pub mod Inside
 pub mod LetGo
+pub mod Slots

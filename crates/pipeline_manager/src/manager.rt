@@ -10,8 +10,7 @@ use crate::life::{Life, SlotState};
 use crate::query_lives::QueryLives;
 use crate::{queries, slots};
 use bit_words::numbers_go_in_and_out;
-use star_lists::ListOf;
-use star_values::NoMemory;
+use star_values::{ListOf, NoMemory};
 use std::alloc::Global;
 use std::marker::Model;
 

@@ -6,8 +6,7 @@ ghost use Rattle.pipeline_manager.specs.LetGo.{is_first, is_second, life_by};
 
 use crate::life::{Life, QueryLife};
 use crate::number_set::NumberSet;
-use star_lists::Trail;
-use star_values::NoMemory;
+use star_values::{NoMemory, Trail};
 use std::alloc::Global;
 use std::marker::Model;
 

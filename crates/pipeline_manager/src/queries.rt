@@ -11,7 +11,7 @@ ghost use Rattle.pipeline_manager.specs.Inside.{NoneWaits, changed_if, is_runnin
 ghost use Rattle.pipeline_manager.specs.LetGo.{AreClosed, cut_held};
 
 use crate::life::{Life, QueryLife, SlotState};
-use star_lists::ListOf;
+use star_values::ListOf;
 
 /// The query with this number.
 fn find_query(queries: &[QueryLife], query: u64) -> Option<&QueryLife>

@@ -11,8 +11,7 @@ ghost use Rattle.pipeline_manager.specs.LetGo.{AreClosed, AreKept, IsClosed, IsO
 use crate::life::{Life, QueryLife, SlotState};
 use crate::old_lives::OldLives;
 use crate::queries;
-use star_lists::ListOf;
-use star_values::NoMemory;
+use star_values::{ListOf, NoMemory};
 use std::alloc::Global;
 use std::marker::Model;
 use std::mem;

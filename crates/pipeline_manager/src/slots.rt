@@ -7,7 +7,7 @@ ghost use Rattle.pipeline_manager.specs.Changes.{with_dimension, without_dimensi
 ghost use Rattle.pipeline_manager.specs.Inside.{UsesFirst};
 
 use crate::life::SlotState;
-use star_lists::ListOf;
+use star_values::ListOf;
 
 /// The slots at the front, of which there are so many.
 pub(crate) fn in_front(slots: &[SlotState], count: usize) -> &[SlotState]

@@ -5,10 +5,10 @@ use Rattle.std.specs.Option.{option_map_or}
 use Rattle.std.specs.List.{list_all, list_any, prefix_len}
 use Rattle.std.proofs.lemmas.Bool.{and_parts}
 use Rattle.std.proofs.lemmas.Bool.Decides.{nat_tests}
-use Rattle.star_symbols.specs.declared.keyword.Keyword.{Keyword}
-use Rattle.star_symbols.specs.declared.reading.TheConstants.{MAX_NAME_BYTES}
-use Rattle.star_symbols.specs.Keyword.{keyword_in, keyword_of, keywords}
-use Rattle.star_symbols.specs.Written.{begins_name, is_name_byte}
+use Rattle.star_lexer.specs.declared.keyword.Keyword.{Keyword}
+use Rattle.star_lexer.specs.declared.reading.TheConstants.{MAX_NAME_BYTES}
+use Rattle.star_lexer.specs.Keyword.{keyword_in, keyword_of, keywords}
+use Rattle.star_lexer.specs.Written.{begins_name, is_name_byte}
 use Rattle.reply_text.specs.Formed.{IsTableName}
 use Rattle.reply_text.specs.Reading.{is_keyword, is_table_name, name_at, table_name_in}
 use Rattle.reply_text.proofs.PartLemmas.{if_some, part_at-exact, part_at-sound}

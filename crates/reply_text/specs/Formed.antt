@@ -7,8 +7,8 @@ use Rattle.star_values.specs.declared.cell.Cell.TheVariants.{Null, Full}
 use Rattle.star_values.specs.declared.value.Value.TheVariants.{Int, Str}
 use Rattle.star_values.specs.declared.refusal.Refusal.{Refusal}
 use Rattle.star_values.specs.declared.refusal.Refusal.TheVariants.{Syntax, UnknownName, AmbiguousName, DuplicateName, TypeMismatch, MissingJoin, MixedConjunct, NotGrouped, BadRecord, DuplicateKey, DanglingReference, Limit, OutOfOrder, NotUtf8}
-use Rattle.star_symbols.specs.Written.{IsName}
-use Rattle.star_symbols.specs.declared.reading.TheConstants.{MAX_NAME_BYTES}
+use Rattle.star_lexer.specs.Written.{IsName}
+use Rattle.star_lexer.specs.declared.reading.TheConstants.{MAX_NAME_BYTES}
 use Rattle.reply_text.specs.declared.reply.Reply.{Reply}
 use Rattle.reply_text.specs.declared.reply.Reply.TheVariants.{Table, Commit, Answer, Overflow, Memory, Refused, Waited}
 

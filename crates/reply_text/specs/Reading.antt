@@ -13,9 +13,9 @@ use Rattle.star_values.specs.declared.cell.Cell.TheVariants.{Null, Full}
 use Rattle.star_values.specs.declared.value.Value.TheVariants.{Int, Str}
 use Rattle.star_values.specs.declared.refusal.Refusal.{Refusal}
 use Rattle.star_values.specs.declared.refusal.Refusal.TheVariants as refusal
-use Rattle.star_symbols.specs.Keyword.{keyword_of}
-use Rattle.star_symbols.specs.Written.{begins_name, is_name_byte}
-use Rattle.star_symbols.specs.declared.reading.TheConstants.{MAX_NAME_BYTES}
+use Rattle.star_lexer.specs.Keyword.{keyword_of}
+use Rattle.star_lexer.specs.Written.{begins_name, is_name_byte}
+use Rattle.star_lexer.specs.declared.reading.TheConstants.{MAX_NAME_BYTES}
 use Rattle.reply_text.specs.declared.reply.Reply.{Reply}
 use Rattle.reply_text.specs.declared.reply.Reply.TheVariants.{Table, Commit, Answer, Overflow, Memory, Refused, Waited}
 

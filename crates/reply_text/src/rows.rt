@@ -4,9 +4,8 @@ ghost use Rattle.std.specs.List.{list_all};
 ghost use Rattle.reply_text.specs.Reading.{are_even, even_rows_at, row_at, rows_in};
 
 use crate::cells::ended_cell_at;
-use star_lists::ListOf;
 use star_plan::{AnswerRows, CellList};
-use star_values::NoMemory;
+use star_values::{ListOf, NoMemory};
 use std::alloc::Global;
 
 /// So many rows, where all have as many cells as the first. No room is made for rows that are not

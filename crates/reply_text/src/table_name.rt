@@ -1,10 +1,10 @@
 //! The name of a declared table at the front of bytes.
 ghost use Rattle.std.specs.Prelude.{◌≡◌, ◌≤◌, length, take, option_map, bytes_eq};
 ghost use Rattle.std.specs.List.{list_all, list_any, prefix_len};
-ghost use Rattle.star_symbols.specs.Written.{begins_name, is_name_byte};
+ghost use Rattle.star_lexer.specs.Written.{begins_name, is_name_byte};
 ghost use Rattle.reply_text.specs.Reading.{is_keyword, is_table_name, name_at, table_name_in};
 
-use star_symbols::MAX_NAME_BYTES;
+use star_lexer::MAX_NAME_BYTES;
 
 /// The words of the language that are no names.
 const KEYWORDS: [&[u8]; 26] = [

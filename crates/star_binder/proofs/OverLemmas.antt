@@ -25,7 +25,7 @@ use Rattle.star_plan.specs.declared.item.Item.TheVariants as item
 use Rattle.star_plan.specs.declared.place.Place.{Place}
 use Rattle.star_plan.specs.declared.place.Place.TheVariants as place
 use Rattle.star_plan.specs.declared.schema.Schema.{Schema}
-use Rattle.star_schema.specs.Repeats.{repeats}
+use Rattle.star_plan.specs.Repeats.{repeats}
 use Rattle.star_plan.specs.declared.table.Table.TheVariants.{Fact, Dimension}
 use Rattle.star_binder.specs.Bound.{bound_item, named_selection, query_in, selection_on, test_on}
 use Rattle.star_binder.specs.Conjuncts.{is_mixed, joins}

@@ -16,7 +16,7 @@ use Rattle.star_plan.specs.declared.place.Place.{Place}
 use Rattle.star_plan.specs.declared.place.Place.TheVariants as place
 use Rattle.star_plan.specs.declared.schema.Schema.{Schema}
 use Rattle.star_plan.specs.declared.table_def.TableDef.{TableDef}
-use Rattle.star_schema.specs.Named.{column_named}
+use Rattle.star_plan.specs.Named.{column_named}
 use Rattle.star_plan.specs.declared.table.Table.{Table}
 use Rattle.star_plan.specs.declared.table.Table.TheVariants.{Fact, Dimension}
 use Rattle.star_binder.specs.Bound.{bound_item}

@@ -4,8 +4,8 @@ use Rattle.std.specs.Option.{option_map_or}
 use Rattle.std.proofs.lemmas.List.Elements.{All-head, All-tail}
 use Rattle.star_plan.specs.declared.schema.Schema.{Schema}
 use Rattle.star_plan.specs.declared.table_def.TableDef.{TableDef}
-use Rattle.star_schema.specs.Limits.{HasFewColumns, IsWithinLimits}
-use Rattle.star_schema.specs.declared.TheConstants.{MAX_COLUMNS}
+use Rattle.star_plan.specs.Limits.{HasFewColumns, IsWithinLimits}
+use Rattle.star_plan.specs.declared.TheConstants.{MAX_COLUMNS}
 use Rattle.star_plan.specs.Columns.{columns_of}
 use Rattle.star_plan.specs.declared.table.Table.{Table}
 use Rattle.star_plan.specs.declared.table.Table.TheVariants.{Fact, Dimension}

@@ -7,7 +7,7 @@ use Rattle.star_plan.specs.declared.place.Place.{Place}
 use Rattle.star_plan.specs.declared.place.Place.TheVariants as place
 use Rattle.star_plan.specs.declared.schema.Schema.{Schema}
 use Rattle.star_plan.specs.Columns.{columns_of, definition_of}
-use Rattle.star_schema.specs.Named.{table_named, column_named, has_name}
+use Rattle.star_plan.specs.Named.{table_named, column_named, has_name}
 use Rattle.star_plan.specs.declared.table.Table.{Table}
 use Rattle.star_plan.specs.declared.table.Table.TheVariants.{Fact, Dimension}
 use Rattle.star_binder.specs.Scope.{TablesInScope}

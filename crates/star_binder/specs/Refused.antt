@@ -16,8 +16,8 @@ use Rattle.star_plan.specs.Columns.{kind_at, kinds_of, columns_of, same_table}
 use Rattle.star_plan.specs.Test as plan
 use Rattle.star_plan.specs.Test.{Query}
 use Rattle.star_plan.specs.declared.schema.Schema.{Schema}
-use Rattle.star_schema.specs.Named.{table_named}
-use Rattle.star_schema.specs.Repeats.{repeats}
+use Rattle.star_plan.specs.Named.{table_named}
+use Rattle.star_plan.specs.Repeats.{repeats}
 use Rattle.star_plan.specs.declared.table.Table.{Table}
 use Rattle.star_plan.specs.declared.table.Table.TheVariants.{Fact, Dimension}
 use Rattle.star_binder.specs.Bound.{number_of, query_in, test_on}

@@ -5,7 +5,7 @@ use Rattle.star_parser.specs.Statement.{Statement, Dimension, Fact}
 use Rattle.star_plan.specs.declared.column_def.ColumnDef.{ColumnDef}
 use Rattle.star_plan.specs.declared.schema.Schema.{Schema}
 use Rattle.star_plan.specs.declared.table_def.TableDef.{TableDef}
-use Rattle.star_schema.specs.Named.{dimension_named}
+use Rattle.star_plan.specs.Named.{dimension_named}
 
 -- the number of a dimension by its name; 255 is that of none
 abbrev pub number_of_dimension : Schema → List ℕ → ℕ

@@ -11,8 +11,7 @@ ghost use Rattle.star_binder.specs.Places.{table_of};
 use crate::named::{add_columns, compares_columns};
 use crate::scope::Scope;
 use star_parser::{Column, Tree};
-use star_plan::{Place, Schema, Table};
-use star_schema::columns_of;
+use star_plan::{Place, Schema, Table, columns_of};
 use star_values::NoMemory;
 use std::alloc::Global;
 

@@ -15,8 +15,7 @@ use crate::named::{Literal, add_conjunct_literals};
 use crate::scope::{Scope, number_at, table_at};
 use crate::select::Select;
 use star_parser::{AstItem, Column, Tree};
-use star_plan::{ColumnDef, Place, Schema, Table};
-use star_schema::columns_of;
+use star_plan::{ColumnDef, Place, Schema, Table, columns_of};
 use star_values::{Kind, NoMemory, Value};
 use std::alloc::Global;
 

@@ -3,15 +3,14 @@
 ghost use Rattle.std.specs.Prelude.{◌≡◌, ◌||◌, map, not, IfOk};
 ghost use Rattle.std.specs.List.{list_any};
 ghost use Rattle.star_plan.specs.Columns.{same_table};
-ghost use Rattle.star_schema.specs.Repeats.{repeats};
+ghost use Rattle.star_plan.specs.Repeats.{repeats};
 ghost use Rattle.star_binder.specs.Places.{is_ambiguous, is_unknown};
 ghost use Rattle.star_binder.specs.Refused.{names_no_table, names_the_fact};
 
 use crate::conjuncts::is_same;
 use crate::scope::Scope;
 use star_parser::Column;
-use star_plan::Table;
-use star_schema::{find_table, sorts_to_repeat};
+use star_plan::{Table, find_table, sorts_to_repeat};
 use star_values::{NoMemory, SmallText};
 use std::alloc::Global;
 

@@ -3,13 +3,12 @@ ghost use Rattle.std.specs.Prelude.{◌≡◌, true, count_by, find};
 ghost use Rattle.std.specs.List.{list_any};
 ghost use Rattle.std.specs.Option.{option_map_or};
 ghost use Rattle.star_plan.specs.Columns.{columns_of};
-ghost use Rattle.star_schema.specs.Named.{column_named};
+ghost use Rattle.star_plan.specs.Named.{column_named};
 ghost use Rattle.star_binder.specs.Bound.{number_of};
 ghost use Rattle.star_binder.specs.Places.{is_ambiguous, is_name_of, is_unknown, number_at, place_in, place_of, place_within, stands_in, table_at, table_of};
 
 use star_parser::Column;
-use star_plan::{Place, Schema, Table};
-use star_schema::{columns_of, find_column, is_table_named};
+use star_plan::{Place, Schema, Table, columns_of, find_column, is_table_named};
 use std::marker::Model;
 
 /// Some tables of a schema within its limits, in the order of FROM.
@@ -20,7 +19,7 @@ pub(crate) struct Scope<'a> {
 }
 
 impl<'a> Model for Scope<'a> {
-    ghost use Rattle.star_schema.specs.Limits.{IsWithinLimits};
+    ghost use Rattle.star_plan.specs.Limits.{IsWithinLimits};
     ghost use Rattle.star_binder.specs.Scope.{TablesInScope};
 
     ghost Value = { TablesInScope };

@@ -6,7 +6,7 @@ ghost use Rattle.star_plan.specs.Fits.{some_test_fits};
 ghost use Rattle.star_plan.specs.Columns.{fact_columns, kinds_of};
 ghost use Rattle.star_plan.specs.Over.{IsOver};
 ghost use Rattle.star_plan.specs.Test.{query_of, test_of};
-ghost use Rattle.star_schema.specs.Limits.{IsWithinLimits};
+ghost use Rattle.star_plan.specs.Limits.{IsWithinLimits};
 ghost use Rattle.star_binder.specs.Bound as bound;
 ghost use Rattle.star_binder.specs.Fault.{Binds, BindsDelete, BindsSelect, is_delete, is_select};
 ghost use Rattle.star_binder.specs.Parts.{parts_of};
@@ -19,8 +19,7 @@ use crate::refused::{refusal_of, refusal_of_delete};
 use crate::scope::Scope;
 use crate::select::Select;
 use star_parser::{Ast, Tree};
-use star_plan::{PlaceList, Predicate, Schema, StarQuery, Table};
-use star_schema::find_table;
+use star_plan::{PlaceList, Predicate, Schema, StarQuery, Table, find_table};
 use star_values::{NoMemory, SmallText, StatementFault};
 use std::alloc::Global;
 

@@ -1,12 +1,11 @@
 //! The table that a declaration declares: its names become numbers.
 ghost use Rattle.std.specs.Prelude.{◌≡◌, true, map, IfOk};
 ghost use Rattle.star_parser.specs.Statement.{statement_of};
-ghost use Rattle.star_schema.specs.Limits.{IsWithinLimits};
+ghost use Rattle.star_plan.specs.Limits.{IsWithinLimits};
 ghost use Rattle.star_binder.specs.Table.{declared_table, defined_column, is_declaration, target_of};
 
 use star_parser::{Ast, AstColumn};
-use star_plan::{ColumnDef, ColumnList, Schema, TableDef};
-use star_schema::find_dimension;
+use star_plan::{ColumnDef, ColumnList, Schema, TableDef, find_dimension};
 use star_values::{NoMemory, SmallText};
 use std::alloc::Global;
 

@@ -1,12 +1,25 @@
-//! Runs every case of the folder in which it starts, prints a line a case, and ends with 0 where all are right.
+//! Plays the stories on the standard input, and prints each line with what came of it; then runs every case of the folder in
+//! which it starts, prints a line a case, and ends with 0 where all are right.
 #![tactic(auto)]
 
+mod answers;
 mod case;
+mod choice;
+mod drive;
+mod event;
 mod judge;
 mod outcome;
+mod question;
+mod settings;
+mod stage;
+mod story;
+mod told;
+mod unlent;
+mod words;
 
 use crate::case::case_names;
 use crate::outcome::{are_all_right, check_case, count_right};
+use crate::stage::play;
 use std::hash::RandomState;
 use std::io;
 use std::process::ExitCode;
@@ -16,7 +29,7 @@ use std::sync::Wait;
 use std::thread::Threads;
 
 fn main(rt: HostRuntime) -> ExitCode {
-    match check_folder(&rt, ".") {
+    match play_and_check(&rt, ".") {
         Ok(true) => ExitCode::SUCCESS,
         Ok(false) => ExitCode::FAILURE,
         Err(error) => {
@@ -25,6 +38,14 @@ fn main(rt: HostRuntime) -> ExitCode {
             ExitCode::from(2)
         }
     }
+}
+
+/// Plays the stories on the standard input, and then runs the cases of a folder. Answers whether these are all right.
+fn play_and_check<
+    R: Input + Files + Print + AllocGlobal + RandomSource + Threads + Wait + Sync + Clone + Drop,
+>(rt: &R, folder: &str) -> io::Result<bool> {
+    play(rt)?;
+    check_folder(rt, folder)
 }
 
 /// Runs the cases of a folder, prints what came of them, and answers whether all are right.

@@ -18,7 +18,7 @@ use Rattle.star_plan.specs.Joined.{Joined, kept_of}
 use Rattle.star_plan.specs.Over.{IsOver}
 use Rattle.star_plan.specs.Row.{value_in}
 use Rattle.star_plan.specs.Test.{Query}
-use Rattle.star_schema.specs.Declaration.{references}
+use Rattle.star_plan.specs.Declaration.{references}
 use Rattle.fact_versions.specs.declared.version.Version.{Version}
 use Rattle.fact_versions.specs.Visible.{is_visible}
 use Rattle.dimension_rows.specs.declared.dimension_row.DimensionRow.{DimensionRow}

@@ -14,7 +14,7 @@ use Rattle.star_plan.specs.declared.table.Table.TheVariants.{Fact, Dimension}
 use Rattle.star_plan.specs.declared.table_def.TableDef.{TableDef}
 use Rattle.star_plan.specs.Joined.{kept_of}
 use Rattle.star_plan.specs.Test.{Query}
-use Rattle.star_schema.specs.Declaration.{declared_fact}
+use Rattle.star_plan.specs.Declaration.{declared_fact}
 use Rattle.fact_versions.specs.Visible.{is_visible}
 use Rattle.dimension_rows.specs.declared.dimension_row.DimensionRow.{DimensionRow}
 use Rattle.star_history.specs.Accepted.{Accepts}

@@ -11,9 +11,9 @@ use Rattle.star_plan.specs.declared.table_def.TableDef.{TableDef}
 use Rattle.star_plan.specs.Columns.{kinds_of}
 use Rattle.star_plan.specs.Fits.{fits_table}
 use Rattle.star_values.specs.Value.{kinds_in}
-use Rattle.star_schema.specs.Declaration.{declared_dimension, declared_fact}
-use Rattle.star_schema.specs.Limits.{with_dimension, with_fact}
-use Rattle.star_schema.specs.Schemas.{IsDeclared, ReferencesNothing}
+use Rattle.star_plan.specs.Declaration.{declared_dimension, declared_fact}
+use Rattle.star_plan.specs.Limits.{with_dimension, with_fact}
+use Rattle.star_plan.specs.Schemas.{IsDeclared, ReferencesNothing}
 use Rattle.fact_versions.specs.declared.version.Version.{Version}
 use Rattle.dimension_rows.specs.declared.dimension_row.DimensionRow.{DimensionRow}
 use Rattle.dimension_rows.specs.declared.dimension_row.TheConstants.{MAX_DIMENSION_ROWS}

@@ -3,8 +3,8 @@ use Rattle.std.specs.Prelude.{◌≡◌, ◌≢◌, ℕ, ◌+◌, ◌<◌, ◌�
 use Rattle.star_values.specs.declared.value.Value as cell
 use Rattle.star_plan.specs.declared.table.Table.TheVariants.{Fact, Dimension}
 use Rattle.star_plan.specs.Fits.{fits_table}
-use Rattle.star_schema.specs.Declaration.{declared_dimension, declared_fact}
-use Rattle.star_schema.specs.Schemas.{ReferencesNothing}
+use Rattle.star_plan.specs.Declaration.{declared_dimension, declared_fact}
+use Rattle.star_plan.specs.Schemas.{ReferencesNothing}
 use Rattle.fact_versions.specs.declared.version.TheConstants.{MAX_VERSIONS}
 use Rattle.dimension_rows.specs.declared.dimension_row.TheConstants.{MAX_DIMENSION_ROWS}
 use Rattle.dimension_rows.specs.Keys.{key_of, index_of}

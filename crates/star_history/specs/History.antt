@@ -4,7 +4,7 @@ use Rattle.star_values.specs.declared.value.Value as cell
 use Rattle.star_plan.specs.declared.table.Table.{Table}
 use Rattle.star_plan.specs.declared.table.Table.TheVariants.{Fact, Dimension}
 use Rattle.star_plan.specs.declared.table_def.TableDef.{TableDef}
-use Rattle.star_schema.specs.Limits.{with_dimension, with_fact}
+use Rattle.star_plan.specs.Limits.{with_dimension, with_fact}
 use Rattle.dimension_rows.specs.declared.dimension_row.DimensionRow.{DimensionRow}
 use Rattle.star_history.specs.Store.{PlainVersion, Store, empty_store, rows_in}
 

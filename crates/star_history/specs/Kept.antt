@@ -1,7 +1,7 @@
 -- The tables of a history as they are kept: a schema, the rows of each dimension and the versions of the fact table,
 -- which have room for more, and the number of commits.
 use Rattle.std.specs.Prelude.{ℕ, List, map}
-use Rattle.star_lists.specs.Roomy.{Roomy}
+use Rattle.star_values.specs.Roomy.{Roomy}
 use Rattle.star_plan.specs.declared.schema.Schema.{Schema}
 use Rattle.fact_versions.specs.declared.version.Version.{Version}
 use Rattle.dimension_rows.specs.declared.dimension_row.DimensionRow.{DimensionRow}

@@ -4,7 +4,7 @@ use Rattle.star_values.specs.declared.value.Value as cell
 use Rattle.star_plan.specs.declared.schema.Schema.{Schema}
 use Rattle.star_plan.specs.declared.table_def.TableDef.{TableDef}
 use Rattle.star_plan.specs.Fits.{fits_table}
-use Rattle.star_schema.specs.Schemas.{IsDeclared}
+use Rattle.star_plan.specs.Schemas.{IsDeclared}
 use Rattle.fact_versions.specs.declared.version.TheConstants.{MAX_VERSIONS}
 use Rattle.dimension_rows.specs.declared.dimension_row.DimensionRow.{DimensionRow}
 use Rattle.dimension_rows.specs.declared.dimension_row.TheConstants.{MAX_DIMENSION_ROWS}

@@ -3,7 +3,7 @@ ghost use Rattle.std.specs.Prelude.{◌≡◌, ℕ, ◌≤◌, List, map, All, C
 ghost use Rattle.std.specs.List.{range_with_len};
 ghost use Rattle.star_values.specs.declared.value.Value.{Value};
 ghost use Rattle.star_plan.specs.declared.schema.Schema.{Schema};
-ghost use Rattle.star_lists.specs.Roomy.{Roomy};
+ghost use Rattle.star_values.specs.Roomy.{Roomy};
 ghost use Rattle.star_plan.specs.Groups.{key_of};
 ghost use Rattle.star_plan.specs.Joined.{value_at};
 ghost use Rattle.star_plan.specs.Over.{IsOver, places_in};
@@ -21,8 +21,9 @@ ghost use Rattle.star_history.specs.Settled.{IsSettled};
 ghost use Rattle.star_history.specs.Store.{PlainVersion, Store, empty_store, rows_in};
 
 use dimension_rows::a_new_row_moves_no_other;
-use star_plan::rows_fit_by_their_kinds;
-use star_schema::{accepted_tables_keep_a_schema_declared, empty_schemas_are_declared};
+use star_plan::{
+    accepted_tables_keep_a_schema_declared, empty_schemas_are_declared, rows_fit_by_their_kinds,
+};
 
 /// The commits of a history are numbered from 1, and are as many as its loads and deletes.
 pub fn commits_are_counted()

@@ -2,3 +2,13 @@
 mod LineLemmas
 mod SpacedLemmas
 mod TextLemmas
+mod ContentLemmas
+mod KeywordLemmas
+mod LimitLemmas
+mod LimitTests
+mod QuotedLemmas
+mod ReadBackLemmas
+mod SpellingLemmas
+mod TokenLemmas
+mod WordLemmas
+mod WrittenLemmas

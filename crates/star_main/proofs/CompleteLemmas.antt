@@ -12,9 +12,9 @@ use Rattle.command_words.specs.declared.settings.Settings.{Settings}
 use Rattle.core_state.specs.declared.settings.RunSettings.{RunSettings}
 use Rattle.event_core.specs.Parts.{Parts}
 use Rattle.script_run.specs.Run.{AnswersScript}
-use Rattle.made_run.specs.Made.{AnswersMade}
-use Rattle.made_run.specs.declared.made.MadeEnd.{MadeEnd}
-use Rattle.made_run.specs.declared.made.MadeEnd.TheVariants as made_end
+use Rattle.make_load.specs.Made.{AnswersMade}
+use Rattle.make_load.specs.declared.made.MadeEnd.{MadeEnd}
+use Rattle.make_load.specs.declared.made.MadeEnd.TheVariants as made_end
 use Rattle.session_server.specs.Server.{CountsDoor}
 use Rattle.star_main.specs.Complete.{EndsMade, EndsScript, IsComplete, ReadFailed, WriteFailed}
 use Rattle.star_main.specs.Headline.{Headline, HasCause, status_of}

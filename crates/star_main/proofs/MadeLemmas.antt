@@ -5,10 +5,10 @@ use Rattle.star_io.specs.Link.{ReadingSide, WritingSide}
 use Rattle.core_state.specs.declared.settings.RunSettings.{RunSettings}
 use Rattle.event_core.specs.Parts.{Parts}
 use Rattle.command_words.specs.declared.settings.Settings.{Settings}
-use Rattle.made_run.specs.Made.{AnswersMade, CountsMade}
-use Rattle.made_run.specs.declared.made.MadeEnd.{MadeEnd}
-use Rattle.made_run.specs.declared.made.MadeEnd.TheVariants.{Clean, SomeRefused, WriteFault, NoMemory}
-use Rattle.made_run.proofs.RunLemmas.{made-alone, without_memory}
+use Rattle.make_load.specs.Made.{AnswersMade, CountsMade}
+use Rattle.make_load.specs.declared.made.MadeEnd.{MadeEnd}
+use Rattle.make_load.specs.declared.made.MadeEnd.TheVariants.{Clean, SomeRefused, WriteFault, NoMemory}
+use Rattle.make_load.proofs.RunLemmas.{made-alone, without_memory}
 use Rattle.star_main.specs.Headline.{HasCause}
 use Rattle.star_main.specs.Made.{MadeHeadline, made_status_of}
 use Rattle.star_main.specs.Modes.{IsMade, run_settings_of}

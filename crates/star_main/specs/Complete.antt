@@ -7,9 +7,9 @@ use Rattle.star_io.specs.declared.run_end.RunEnd.{RunEnd}
 use Rattle.star_io.specs.declared.run_end.RunEnd.TheVariants.{Clean, SomeRefused, ScriptLimit}
 use Rattle.command_words.specs.declared.settings.Settings.{Settings}
 use Rattle.script_run.specs.Run.{AnswersScript}
-use Rattle.made_run.specs.Made.{WritesMade}
-use Rattle.made_run.specs.declared.made.MadeEnd.{MadeEnd}
-use Rattle.made_run.specs.declared.made.MadeEnd.TheVariants as made_end
+use Rattle.make_load.specs.Made.{WritesMade}
+use Rattle.make_load.specs.declared.made.MadeEnd.{MadeEnd}
+use Rattle.make_load.specs.declared.made.MadeEnd.TheVariants as made_end
 use Rattle.star_main.specs.Headline.{status_of}
 use Rattle.star_main.specs.Made.{made_status_of}
 use Rattle.star_main.specs.Modes.{HasScript, IsMade, Serves}

@@ -3,9 +3,9 @@ use Rattle.std.specs.Prelude.{◌≡◌, ℕ, Option}
 use Rattle.star_io.specs.Link.{WritingSide}
 use Rattle.core_state.specs.declared.settings.RunSettings.{RunSettings}
 use Rattle.event_core.specs.Parts.{Parts}
-use Rattle.made_run.specs.Made.{AnswersMade}
-use Rattle.made_run.specs.declared.made.MadeEnd.{MadeEnd}
-use Rattle.made_run.specs.declared.made.MadeEnd.TheVariants.{Clean, SomeRefused, WriteFault, NoMemory}
+use Rattle.make_load.specs.Made.{AnswersMade}
+use Rattle.make_load.specs.declared.made.MadeEnd.{MadeEnd}
+use Rattle.make_load.specs.declared.made.MadeEnd.TheVariants.{Clean, SomeRefused, WriteFault, NoMemory}
 
 -- the status of a run of the made workload
 abbrev pub made_status_of : MadeEnd → ℕ

@@ -20,7 +20,7 @@ ghost use Rattle.star_main.specs.Words.{IfRan, IfServe, IfWork};
 use command_words::{Mode, Settings, read_words};
 use core_state::RunSettings;
 use event_core::Core;
-use made_run::{MadeDone, MadeEnd, run_made, run_made_on_one_thread};
+use make_load::{MadeDone, MadeEnd, run_made, run_made_on_one_thread};
 use script_run::{RunDone, run_alone, run_on_one_thread, run_script};
 use session_server::serve;
 use star_io::{Door, RunEnd, ServeEnd, Sink, Source};

@@ -2,10 +2,10 @@
 use Rattle.std.proofs.Common.{◌≡◌, ℕ, zero, suc, ◌<◌, ◌≤◌, Bool, true, false, ◌||◌, List, [], ◌∷◌, ◌++◌, length, Some, None, refl, ap, sym, subst, ◌∙◌, arith, append-nil, inl, inr}
 use Rattle.std.specs.Prelude.{flat_map}
 use Rattle.star_values.specs.declared.value.Value.{Value}
-use Rattle.star_symbols.specs.declared.keyword.Keyword.TheVariants as key
-use Rattle.star_symbols.specs.declared.sign.Sign.TheVariants as mark
-use Rattle.star_symbols.specs.declared.symbol.Symbol.{Symbol}
-use Rattle.star_symbols.specs.declared.symbol.Symbol.TheVariants as symbol
+use Rattle.star_lexer.specs.declared.keyword.Keyword.TheVariants as key
+use Rattle.star_lexer.specs.declared.sign.Sign.TheVariants as mark
+use Rattle.star_lexer.specs.declared.symbol.Symbol.{Symbol}
+use Rattle.star_lexer.specs.declared.symbol.Symbol.TheVariants as symbol
 use Rattle.star_parser.specs.declared.tree.Column.{Column}
 use Rattle.star_parser.specs.declared.tree.Relation.{Relation}
 use Rattle.star_parser.specs.declared.tree.Relation.TheVariants as how

@@ -1,10 +1,10 @@
 -- Each reader reads its form.
 use Rattle.std.proofs.Common.{◌≡◌, ℕ, suc, ◌≤◌, Bool, false, List, length, Some, None, refl}
 use Rattle.star_values.specs.declared.value.Kind.TheVariants as kinds
-use Rattle.star_symbols.specs.declared.keyword.Keyword.TheVariants as key
-use Rattle.star_symbols.specs.declared.sign.Sign.TheVariants as mark
-use Rattle.star_symbols.specs.declared.symbol.Symbol.{Symbol}
-use Rattle.star_symbols.specs.declared.symbol.Symbol.TheVariants as symbol
+use Rattle.star_lexer.specs.declared.keyword.Keyword.TheVariants as key
+use Rattle.star_lexer.specs.declared.sign.Sign.TheVariants as mark
+use Rattle.star_lexer.specs.declared.symbol.Symbol.{Symbol}
+use Rattle.star_lexer.specs.declared.symbol.Symbol.TheVariants as symbol
 use Rattle.star_parser.specs.declared.ast.AstItem.TheVariants as items
 use Rattle.star_parser.specs.Form as form
 use Rattle.star_parser.specs.Form.{Form, stands_for}

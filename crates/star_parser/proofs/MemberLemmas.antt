@@ -1,10 +1,10 @@
 -- The symbols of an `and` or an `or`, written part by part.
 use Rattle.std.proofs.Common.{◌≡◌, ℕ, ◌+◌, ◌<◌, Bool, true, false, List, [], ◌∷◌, ◌++◌, length, get_or, drop, map, refl, ap, sym, ◌∙◌, append_assoc}
 use Rattle.std.proofs.lemmas.List.{at_drop_more}
-use Rattle.star_symbols.specs.declared.keyword.Keyword.TheVariants as key
-use Rattle.star_symbols.specs.declared.sign.Sign.TheVariants as mark
-use Rattle.star_symbols.specs.declared.symbol.Symbol.{Symbol}
-use Rattle.star_symbols.specs.declared.symbol.Symbol.TheVariants as symbol
+use Rattle.star_lexer.specs.declared.keyword.Keyword.TheVariants as key
+use Rattle.star_lexer.specs.declared.sign.Sign.TheVariants as mark
+use Rattle.star_lexer.specs.declared.symbol.Symbol.{Symbol}
+use Rattle.star_lexer.specs.declared.symbol.Symbol.TheVariants as symbol
 use Rattle.star_parser.specs.declared.tree.Tree.{Tree}
 use Rattle.star_parser.specs.Condition.{Condition, Conditions, more, conditions, condition_of}
 use Rattle.star_parser.specs.Printed.{in_brackets, one_symbols, all_symbols, both_symbols_from, either_symbols_from, separator_symbols}

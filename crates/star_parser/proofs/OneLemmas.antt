@@ -1,7 +1,7 @@
 -- One part of a condition that is no `not`.
 use Rattle.std.proofs.Common.{◌≡◌, ℕ, suc, false, List, ap, sym, ◌∙◌}
-use Rattle.star_symbols.specs.declared.keyword.Keyword.TheVariants as key
-use Rattle.star_symbols.specs.declared.symbol.Symbol.{Symbol}
+use Rattle.star_lexer.specs.declared.keyword.Keyword.TheVariants as key
+use Rattle.star_lexer.specs.declared.symbol.Symbol.{Symbol}
 use Rattle.star_parser.specs.Condition.{Negate}
 use Rattle.star_parser.specs.Reader as reader
 use Rattle.star_parser.specs.Reader.{Reader, begins, behind, on, gives, is_word}

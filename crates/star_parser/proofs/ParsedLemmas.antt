@@ -3,10 +3,10 @@ use Rattle.std.proofs.Common.{◌≡◌, ℕ, Bool, true, false, List, length, O
 use Rattle.std.specs.Prelude.{◌↔◌, ◌⊎◌, IsTrue, if◌then◌else◌, All, IfOk, Result, Ok, Err}
 use Rattle.std.specs.Option.{option_map_or}
 use Rattle.std.proofs.lemmas.List.{length-map}
-use Rattle.star_symbols.specs.declared.symbol.Symbol.{Symbol}
-use Rattle.star_symbols.specs.Limits.{IsOverLimit, is_over_limit}
-use Rattle.star_symbols.specs.Symbol.{Symbolic, symbolic, symbols_of}
-use Rattle.star_symbols.specs.Written.{IsWritable, line_of}
+use Rattle.star_lexer.specs.declared.symbol.Symbol.{Symbol}
+use Rattle.star_lexer.specs.Limits.{IsOverLimit, is_over_limit}
+use Rattle.star_lexer.specs.Symbol.{Symbolic, symbolic, symbols_of}
+use Rattle.star_lexer.specs.Written.{IsWritable, line_of}
 use Rattle.star_parser.specs.Statement.{Statement}
 use Rattle.star_parser.specs.Reader.{Outcome}
 use Rattle.star_parser.specs.Reading.{sentence_at}

@@ -2,8 +2,8 @@
 use Rattle.std.proofs.Common.{◌≡◌, ℕ, suc, ◌≤◌, ◌-◌, false, List, [], ◌∷◌, ◌++◌, length, take, Option, Some, None, refl, ap, sym, subst, ◌∙◌, arith, append_assoc, append-nil, length-append, inl, inr}
 use Rattle.std.specs.Prelude.{◌==◌, if◌then◌else◌, unwrap_or, slice_index, Result, Ok, Err}
 use Rattle.std.specs.Option.{option_map_or}
-use Rattle.star_symbols.specs.declared.symbol.Symbol.{Symbol}
-use Rattle.star_symbols.specs.Symbol.{Symbolic}
+use Rattle.star_lexer.specs.declared.symbol.Symbol.{Symbol}
+use Rattle.star_lexer.specs.Symbol.{Symbolic}
 use Rattle.star_parser.specs.declared.ast.Ast.{Ast}
 use Rattle.star_parser.specs.declared.fault.ParseFault.{ParseFault}
 use Rattle.star_parser.specs.declared.fault.ParseFault.TheVariants.{Syntax}

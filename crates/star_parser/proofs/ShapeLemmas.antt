@@ -1,9 +1,9 @@
 -- What a sentence stands for has the shape that the grammar says.
 use Rattle.std.proofs.Common.{◌≡◌, ℕ, zero, suc, Bool, false, List, [], ◌∷◌, ◌++◌, Option, None, refl, ap, sym, subst, inl, inr}
 use Rattle.std.specs.Prelude.{flat_map}
-use Rattle.star_symbols.specs.declared.keyword.Keyword.TheVariants as key
-use Rattle.star_symbols.specs.declared.symbol.Symbol.{Symbol}
-use Rattle.star_symbols.specs.declared.symbol.Symbol.TheVariants as symbol
+use Rattle.star_lexer.specs.declared.keyword.Keyword.TheVariants as key
+use Rattle.star_lexer.specs.declared.symbol.Symbol.{Symbol}
+use Rattle.star_lexer.specs.declared.symbol.Symbol.TheVariants as symbol
 use Rattle.star_parser.specs.declared.ast.AstColumn.{AstColumn}
 use Rattle.star_parser.specs.declared.tree.Column.{Column}
 use Rattle.star_parser.specs.Condition.{Condition, Conditions, Either, Both, Negate, Test, Same, Between, OneOf, none, more, members, conditions, conjuncts, disjuncts, alone_or}

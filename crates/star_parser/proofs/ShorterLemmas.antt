@@ -1,10 +1,10 @@
 -- A reader leaves no more symbols than it was given.
 use Rattle.std.proofs.Common.{ℕ, zero, suc, ◌≤◌, Bool, true, false, List, [], ◌∷◌, length, Some, None, arith}
 use Rattle.std.specs.Prelude.{if◌then◌else◌, flat_map}
-use Rattle.star_symbols.specs.declared.keyword.Keyword.TheVariants as key
-use Rattle.star_symbols.specs.declared.sign.Sign.{Sign}
-use Rattle.star_symbols.specs.declared.sign.Sign.TheVariants as mark
-use Rattle.star_symbols.specs.declared.symbol.Symbol.{Symbol}
+use Rattle.star_lexer.specs.declared.keyword.Keyword.TheVariants as key
+use Rattle.star_lexer.specs.declared.sign.Sign.{Sign}
+use Rattle.star_lexer.specs.declared.sign.Sign.TheVariants as mark
+use Rattle.star_lexer.specs.declared.symbol.Symbol.{Symbol}
 use Rattle.star_parser.specs.Condition.{Condition, Either, Both, Negate, conjuncts, disjuncts, alone_or}
 use Rattle.star_parser.specs.Reader as reader
 use Rattle.star_parser.specs.Reader.{Outcome, Reader, begins, behind, bind, on, gives, expect, is_word, is_sign, separated_in, separated_at}

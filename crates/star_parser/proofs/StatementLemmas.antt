@@ -1,10 +1,10 @@
 -- The readers of statements read their forms.
 use Rattle.std.proofs.Common.{◌≡◌, ℕ, ◌≤◌, Bool, true, false, ◌||◌, List, [], ◌∷◌, ◌++◌, length, Option, Some, None, refl, ap, sym, ◌∙◌}
 use Rattle.star_values.specs.declared.value.Kind.{Kind}
-use Rattle.star_symbols.specs.declared.keyword.Keyword.TheVariants as key
-use Rattle.star_symbols.specs.declared.sign.Sign.TheVariants as mark
-use Rattle.star_symbols.specs.declared.symbol.Symbol.{Symbol}
-use Rattle.star_symbols.specs.declared.symbol.Symbol.TheVariants as symbol
+use Rattle.star_lexer.specs.declared.keyword.Keyword.TheVariants as key
+use Rattle.star_lexer.specs.declared.sign.Sign.TheVariants as mark
+use Rattle.star_lexer.specs.declared.symbol.Symbol.{Symbol}
+use Rattle.star_lexer.specs.declared.symbol.Symbol.TheVariants as symbol
 use Rattle.star_parser.specs.declared.ast.AstColumn.{AstColumn}
 use Rattle.star_parser.specs.declared.ast.AstItem.{AstItem}
 use Rattle.star_parser.specs.Condition.{Condition}

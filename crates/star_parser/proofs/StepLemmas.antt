@@ -1,7 +1,7 @@
 -- What a reader gives, step by step as a function takes them.
 use Rattle.std.proofs.Common.{◌≡◌, ◌∙◌, true, false, Bool, List, [], ◌∷◌, Some, None, Result, Ok, Err, refl, ap, sym, subst}
 use Rattle.std.specs.Prelude.{if◌then◌else◌, IfOk}
-use Rattle.star_symbols.specs.declared.symbol.Symbol.{Symbol}
+use Rattle.star_lexer.specs.declared.symbol.Symbol.{Symbol}
 use Rattle.star_parser.specs.declared.parser.Stop.{Stop}
 use Rattle.star_parser.specs.declared.parser.Stop.TheVariants.{Memory, Unfit}
 use Rattle.star_parser.specs.Reader.{Outcome, Reader, Gives, begins, behind, bind, gives, on}

@@ -1,12 +1,12 @@
 -- The tests of keywords and signs find one symbol each.
 use Rattle.std.proofs.Common.{◌≡◌, Bool, true, false, ◌||◌, refl, ap, sym}
 use denote.Enum.Bare.{same_true, true_same}
-use Rattle.star_symbols.specs.contracts.sign.Sign as sign_type
-use Rattle.star_symbols.specs.contracts.keyword.Keyword as keyword_type
-use Rattle.star_symbols.specs.declared.keyword.Keyword.{Keyword}
-use Rattle.star_symbols.specs.declared.sign.Sign.{Sign}
-use Rattle.star_symbols.specs.declared.symbol.Symbol.{Symbol}
-use Rattle.star_symbols.specs.declared.symbol.Symbol.TheVariants as symbol
+use Rattle.star_lexer.specs.contracts.sign.Sign as sign_type
+use Rattle.star_lexer.specs.contracts.keyword.Keyword as keyword_type
+use Rattle.star_lexer.specs.declared.keyword.Keyword.{Keyword}
+use Rattle.star_lexer.specs.declared.sign.Sign.{Sign}
+use Rattle.star_lexer.specs.declared.symbol.Symbol.{Symbol}
+use Rattle.star_lexer.specs.declared.symbol.Symbol.TheVariants as symbol
 use Rattle.star_parser.specs.Reader.{is_word, is_sign}
 use Rattle.star_parser.proofs.ReadsLemmas.{Finds, true_false}
 

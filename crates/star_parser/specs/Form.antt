@@ -2,10 +2,10 @@
 -- stands for. A list may be cut into the parts of a form in any way, so a form is no reader.
 use Rattle.std.specs.Prelude.{◌≡◌, ◌⊎◌, ℕ, List, [], ◌∷◌, ◌++◌}
 use Rattle.star_values.specs.declared.value.Value.{Value}
-use Rattle.star_symbols.specs.declared.keyword.Keyword.{Keyword}
-use Rattle.star_symbols.specs.declared.sign.Sign.{Sign}
-use Rattle.star_symbols.specs.declared.symbol.Symbol.{Symbol}
-use Rattle.star_symbols.specs.declared.symbol.Symbol.TheVariants as symbol
+use Rattle.star_lexer.specs.declared.keyword.Keyword.{Keyword}
+use Rattle.star_lexer.specs.declared.sign.Sign.{Sign}
+use Rattle.star_lexer.specs.declared.symbol.Symbol.{Symbol}
+use Rattle.star_lexer.specs.declared.symbol.Symbol.TheVariants as symbol
 
 -- which lists of symbols are of the form, and what each stands for
 abbrev pub Form : Type 0 → Type 1

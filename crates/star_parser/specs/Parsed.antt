@@ -1,8 +1,8 @@
 -- What a line is, as a function that computes. That it says what the grammar and the limits say is proved.
 use Rattle.std.specs.Prelude.{◌≡◌, ℕ, List, length, if◌then◌else◌, Some, None, Result, Ok, Err}
 use Rattle.std.specs.Option.{option_map_or}
-use Rattle.star_symbols.specs.Limits.{is_over_limit}
-use Rattle.star_symbols.specs.Symbol.{Symbolic, symbolic}
+use Rattle.star_lexer.specs.Limits.{is_over_limit}
+use Rattle.star_lexer.specs.Symbol.{Symbolic, symbolic}
 use Rattle.star_parser.specs.declared.ast.Ast.{Ast}
 use Rattle.star_parser.specs.declared.fault.ParseFault.{ParseFault}
 use Rattle.star_parser.specs.declared.fault.ParseFault.TheVariants.{Limit, Syntax, Memory}

@@ -2,12 +2,12 @@
 use Rattle.std.specs.Prelude.{◌≡◌, ℕ, zero, suc, Bool, true, false, List, [], ◌∷◌, ◌++◌, length, Option, Some, None, if◌then◌else◌, Result, Ok, Err}
 use denote.Enum.Bare.{sameb}
 use Rattle.star_values.specs.declared.value.Value.{Value}
-use Rattle.star_symbols.specs.contracts.sign.Sign as sign_type
-use Rattle.star_symbols.specs.contracts.keyword.Keyword as keyword_type
-use Rattle.star_symbols.specs.declared.keyword.Keyword.{Keyword}
-use Rattle.star_symbols.specs.declared.sign.Sign.{Sign}
-use Rattle.star_symbols.specs.declared.symbol.Symbol.{Symbol}
-use Rattle.star_symbols.specs.declared.symbol.Symbol.TheVariants as symbol
+use Rattle.star_lexer.specs.contracts.sign.Sign as sign_type
+use Rattle.star_lexer.specs.contracts.keyword.Keyword as keyword_type
+use Rattle.star_lexer.specs.declared.keyword.Keyword.{Keyword}
+use Rattle.star_lexer.specs.declared.sign.Sign.{Sign}
+use Rattle.star_lexer.specs.declared.symbol.Symbol.{Symbol}
+use Rattle.star_lexer.specs.declared.symbol.Symbol.TheVariants as symbol
 use Rattle.star_parser.specs.declared.parser.Stop.{Stop}
 use Rattle.star_parser.specs.declared.parser.Stop.TheVariants.{Memory, Unfit}
 

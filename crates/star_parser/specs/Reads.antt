@@ -1,6 +1,6 @@
 -- When a reader reads a form.
 use Rattle.std.specs.Prelude.{◌≡◌, Bool, false, List, [], ◌∷◌, ◌++◌, Option, Some, None, IfSome, IfNone}
-use Rattle.star_symbols.specs.declared.symbol.Symbol.{Symbol}
+use Rattle.star_lexer.specs.declared.symbol.Symbol.{Symbol}
 use Rattle.star_parser.specs.Form.{Form}
 use Rattle.star_parser.specs.Reader.{Outcome, begins}
 

@@ -1,7 +1,7 @@
 -- Which lines are statements, and the place where a line stops being the front of one.
 use Rattle.std.specs.Prelude.{◌≡◌, ◌⊎◌, ℕ, suc, ◌-◌, ◌==◌, ◌<◌, if◌then◌else◌, unwrap_or, List, ◌++◌, length, take, slice_index, Some, None, Result, Ok, Err}
-use Rattle.star_symbols.specs.declared.symbol.Symbol.{Symbol}
-use Rattle.star_symbols.specs.Symbol.{Symbolic, symbolic}
+use Rattle.star_lexer.specs.declared.symbol.Symbol.{Symbol}
+use Rattle.star_lexer.specs.Symbol.{Symbolic, symbolic}
 use Rattle.star_parser.specs.declared.ast.Ast.{Ast}
 use Rattle.star_parser.specs.declared.fault.ParseFault.{ParseFault}
 use Rattle.star_parser.specs.declared.fault.ParseFault.TheVariants.{Limit, Syntax, Memory}

@@ -6,7 +6,7 @@ ghost use Rattle.star_parser.specs.Reading.{kind_at, dotted_at, column_at, count
 use crate::ast::AstItem;
 use crate::parser::{Parser, Stop};
 use crate::tree::Column;
-use star_symbols::{Keyword, Sign};
+use star_lexer::{Keyword, Sign};
 use star_values::{Kind, SmallText};
 
 impl Parser<'_> {

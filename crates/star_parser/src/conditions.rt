@@ -7,7 +7,7 @@ ghost use Rattle.star_parser.specs.Reading.{compared_at, equal_to_at, upper_boun
 
 use crate::parser::{Parser, Stop};
 use crate::tree::{Column, Relation, Tree, TreeList};
-use star_symbols::{Keyword, Sign};
+use star_lexer::{Keyword, Sign};
 use star_values::{LiteralList, NoMemory, Value};
 
 impl Parser<'_> {

@@ -1,12 +1,12 @@
 //! What the definitions say together.
 ghost use Rattle.std.specs.Prelude.{◌≡◌, ◌↔◌, ℕ, List};
-ghost use Rattle.star_symbols.specs.Limits.{IsOverLimit};
+ghost use Rattle.star_lexer.specs.Limits.{IsOverLimit};
 ghost use Rattle.star_parser.specs.Statement.{Statement};
 ghost use Rattle.star_parser.specs.Sentence.{IsSentence, IsStop};
 ghost use Rattle.star_parser.specs.Parsed.{Over, Stopped, Means, parsed_of};
 ghost use Rattle.star_parser.specs.Printed.{IsShaped};
 
-use star_symbols::limits_are_tested;
+use star_lexer::limits_are_tested;
 
 /// What a line is as a function is what the limits and the grammar say of it: every line is over a
 /// limit, or a statement of one meaning, or the front of none from one place on.

@@ -2,8 +2,7 @@
 
 use crate::ast::{AstColumn, AstItem};
 use crate::tree::Column;
-use star_lists::ListOf;
-use star_values::SmallText;
+use star_values::{ListOf, SmallText};
 
 /// The columns of a declared table.
 pub type AstColumnList = ListOf<AstColumn>;

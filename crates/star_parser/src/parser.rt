@@ -1,10 +1,10 @@
 //! Symbols from the front.
 ghost use Rattle.std.specs.Prelude.{◌≡◌, IfOk};
-ghost use Rattle.star_symbols.specs.declared.sign.Sign.TheVariants as mark;
-ghost use Rattle.star_symbols.specs.declared.symbol.Symbol.TheVariants as symbol;
+ghost use Rattle.star_lexer.specs.declared.sign.Sign.TheVariants as mark;
+ghost use Rattle.star_lexer.specs.declared.symbol.Symbol.TheVariants as symbol;
 ghost use Rattle.star_parser.specs.Reader.{Gives, begins, behind, is_word, is_sign, is_literal, expect, name_at, literal_at, end_at};
 
-use star_symbols::{Keyword, Sign, Symbol};
+use star_lexer::{Keyword, Sign, Symbol};
 use star_values::{NoMemory, SmallText, Value};
 use std::alloc::{AllocError, AllocFailed, Global};
 

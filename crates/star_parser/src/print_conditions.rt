@@ -5,7 +5,7 @@ ghost use Rattle.star_parser.specs.Printed.{test_symbols, same_symbols, between_
 
 use crate::print_symbols::{Print, add_joined, add_keyword, add_sign};
 use crate::tree::{Column, Relation, Tree};
-use star_symbols::{Keyword, Sign, Symbol};
+use star_lexer::{Keyword, Sign, Symbol};
 use star_values::{NoMemory, Value};
 
 /// A whole condition, which needs no parentheses.

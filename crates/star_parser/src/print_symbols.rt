@@ -1,15 +1,15 @@
 //! The symbols of the parts of a statement, written behind others.
 ghost use Rattle.std.specs.Prelude.{◌≡◌, ◌++◌, ◌∷◌, [], OnOk, List, flat_map};
-ghost use Rattle.star_symbols.specs.declared.symbol.Symbol.{Symbol};
-ghost use Rattle.star_symbols.specs.declared.symbol.Symbol.TheVariants as symbol;
-ghost use Rattle.star_symbols.specs.declared.keyword.Keyword.TheVariants as key;
-ghost use Rattle.star_symbols.specs.declared.sign.Sign.TheVariants as mark;
+ghost use Rattle.star_lexer.specs.declared.symbol.Symbol.{Symbol};
+ghost use Rattle.star_lexer.specs.declared.symbol.Symbol.TheVariants as symbol;
+ghost use Rattle.star_lexer.specs.declared.keyword.Keyword.TheVariants as key;
+ghost use Rattle.star_lexer.specs.declared.sign.Sign.TheVariants as mark;
 ghost use Rattle.star_parser.specs.Grammar.{comma};
 ghost use Rattle.star_parser.specs.Printed.{joined, name_symbols, literal_symbols, column_symbols, item_symbols, kind_symbol, target_symbols, declared_symbols, in_brackets};
 
 use crate::ast::{AstColumn, AstItem};
 use crate::tree::Column;
-use star_symbols::{Keyword, Sign, Symbol};
+use star_lexer::{Keyword, Sign, Symbol};
 use star_values::{Kind, NoMemory, SmallText, Value};
 
 /// A part of a statement that is printed as symbols.

@@ -1,7 +1,7 @@
 //! A statement as the line that it is printed as.
 ghost use Rattle.std.specs.Prelude.{◌≡◌, ◌++◌, ◌∷◌, List, IsUtf8, IfOk, OnOk, option_map};
-ghost use Rattle.star_symbols.specs.declared.keyword.Keyword.TheVariants as key;
-ghost use Rattle.star_symbols.specs.declared.symbol.Symbol.TheVariants as symbol;
+ghost use Rattle.star_lexer.specs.declared.keyword.Keyword.TheVariants as key;
+ghost use Rattle.star_lexer.specs.declared.symbol.Symbol.TheVariants as symbol;
 ghost use Rattle.star_parser.specs.Condition.{condition_of};
 ghost use Rattle.star_parser.specs.Statement.{statement_of};
 ghost use Rattle.star_parser.specs.Statement as plain;
@@ -12,7 +12,7 @@ use crate::ast::{Ast, AstColumn, AstItem};
 use crate::print_conditions::add_any;
 use crate::print_symbols::{Print, add_joined, add_keyword, add_more, add_sign};
 use crate::tree::{Column, Tree};
-use star_symbols::{
+use star_lexer::{
     Keyword, Sign, Symbol, limits_are_tested, write_symbols, written_symbols_read_back,
 };
 use star_values::{ByteText, NoMemory, SmallText};

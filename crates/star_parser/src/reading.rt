@@ -1,7 +1,7 @@
 //! A line as a statement, or the reason why it is none.
 ghost use Rattle.std.specs.Prelude.{◌≡◌, ℕ, ◌<◌, ◌≤◌, ◌^◌, Ok, Err, IfOk, OnOk, IsErrOf, length};
 ghost use Rattle.std.specs.Option.{option_map_or};
-ghost use Rattle.star_symbols.specs.Limits.{IsOverLimit};
+ghost use Rattle.star_lexer.specs.Limits.{IsOverLimit};
 ghost use Rattle.star_parser.specs.Statement.{Statement, statement_of};
 ghost use Rattle.star_parser.specs.Parsed.{IsParsed, parsed_by, parsed_of};
 ghost use Rattle.star_parser.specs.Reading.{sentence_at};
@@ -10,7 +10,7 @@ ghost use Rattle.star_parser.specs.Sentence.{IsSentenceOf, IsStopOf, IsSentence,
 use crate::ast::Ast;
 use crate::fault::ParseFault;
 use crate::parser::{Parser, Stop};
-use star_symbols::{LineFault, Symbols, limits_are_tested, read_symbols};
+use star_lexer::{LineFault, Symbols, limits_are_tested, read_symbols};
 use std::alloc::Global;
 
 /// Reads a line as one statement, to its end. The limits of a line are tested first.

@@ -5,7 +5,7 @@ ghost use Rattle.star_parser.specs.Reading.{names_at, items_at, columns_at, lite
 use crate::ast::{AstColumn, AstItem};
 use crate::parser::{Parser, Stop};
 use crate::tree::Column;
-use star_symbols::Sign;
+use star_lexer::Sign;
 use star_values::{SmallText, Value};
 
 impl Parser<'_> {

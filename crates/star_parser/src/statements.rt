@@ -9,7 +9,7 @@ use crate::ast::{Ast, AstColumn};
 use crate::lists::{AstColumnList, AstItemList, GroupColumnList, NameList};
 use crate::parser::{Parser, Stop};
 use crate::tree::{Column, Tree};
-use star_symbols::{Keyword, Sign};
+use star_lexer::{Keyword, Sign};
 use star_values::SmallText;
 
 impl Parser<'_> {

@@ -6,3 +6,7 @@ mod KeysLemmas
 mod PermutationLemmas
 mod FirstLemmas
 mod AnswerLemmas
+pub mod FlatLemmas
+mod ListLemmas
+mod RepeatLemmas
+mod SchemaLemmas

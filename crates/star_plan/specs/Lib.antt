@@ -10,3 +10,11 @@ pub mod Columns
 pub mod Fits
 pub mod Members
 pub mod Examples
+pub mod Flat
+pub mod Declaration
+pub mod Schemas
+pub mod Limits
+pub mod Named
+pub mod Fault
+pub mod Repeats
+pub mod Names

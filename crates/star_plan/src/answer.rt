@@ -1,6 +1,6 @@
 //! The answer of a query.
 use crate::cell::CellList;
-use star_lists::ListOf;
+use star_values::ListOf;
 
 /// The answer of a query.
 #[derive(Debug, PartialEq, Eq, Drop)]

@@ -7,8 +7,7 @@ ghost use Rattle.star_plan.specs.Test.{selection_of};
 
 use crate::predicate::Predicate;
 use crate::truth::holds;
-use star_lists::ListOf;
-use star_values::Row;
+use star_values::{ListOf, Row};
 
 /// What a query says of a dimension.
 #[derive(Debug, Drop)]

@@ -1,6 +1,5 @@
 //! A column of a declared table.
-use star_lists::ListOf;
-use star_values::{Kind, SmallText};
+use star_values::{Kind, ListOf, SmallText};
 
 /// A column of a declared table.
 #[derive(Debug, PartialEq, Eq, Drop)]

@@ -1,6 +1,6 @@
 //! What a query asks of each group.
 use crate::place::Place;
-use star_lists::ListOf;
+use star_values::ListOf;
 
 /// An item of a select list.
 #[derive(Clone, Copy, Debug, PartialEq, Eq)]

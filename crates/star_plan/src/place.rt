@@ -1,6 +1,6 @@
 //! Where a value stands in a joined row.
 
-use star_lists::ListOf;
+use star_values::ListOf;
 
 /// A column of the fact table, or a column of a dimension.
 #[derive(Clone, Copy, Debug, PartialEq, Eq)]

@@ -1,7 +1,6 @@
 //! A declared table.
 use crate::column_def::ColumnList;
-use star_lists::ListOf;
-use star_values::SmallText;
+use star_values::{ListOf, SmallText};
 
 /// A declared table. The first column of a dimension is its key.
 #[derive(Debug, PartialEq, Eq, Drop)]

@@ -10,7 +10,7 @@ use Rattle.star_parser.specs.Statement as written
 use Rattle.star_plan.specs.declared.column_def.ColumnDef.{ColumnDef}
 use Rattle.star_plan.specs.declared.schema.Schema.{Schema}
 use Rattle.star_plan.specs.declared.table_def.TableDef.{TableDef}
-use Rattle.star_schema.specs.Schemas.{ReferencesNothing}
+use Rattle.star_plan.specs.Schemas.{ReferencesNothing}
 use Rattle.star_binder.specs.Table.{declared_table, defined_column}
 use Rattle.star_history.specs.History.{Change, after_change}
 use Rattle.star_history.specs.Keyed.{KeyedStore, plain}

@@ -28,8 +28,8 @@ use Rattle.star_plan.specs.Test.{Query, Unnamed}
 use Rattle.star_plan.specs.declared.column_def.ColumnDef.{ColumnDef}
 use Rattle.star_plan.specs.declared.schema.Schema.{Schema}
 use Rattle.star_plan.specs.declared.table.Table.TheVariants.{Dimension}
-use Rattle.star_schema.specs.Declaration as declaration
-use Rattle.star_schema.specs.Schemas.{IsDeclared}
+use Rattle.star_plan.specs.Declaration as declaration
+use Rattle.star_plan.specs.Schemas.{IsDeclared}
 use Rattle.star_binder.specs.Bound.{named_selection, query_in, selection_on, test_on}
 use Rattle.star_binder.specs.Conjuncts.{references}
 use Rattle.star_binder.specs.Refused.{bound_over, bound_select, from_tables}

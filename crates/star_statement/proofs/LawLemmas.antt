@@ -21,8 +21,8 @@ use Rattle.star_plan.specs.declared.table.Table.{Table}
 use Rattle.star_plan.specs.declared.table.Table.TheVariants as table
 use Rattle.star_plan.specs.Columns.{columns_of, kinds_of}
 use Rattle.star_plan.specs.declared.table_def.TableDef.{TableDef}
-use Rattle.star_schema.specs.Declaration.{declared_dimension, declared_fact}
-use Rattle.star_schema.specs.Named.{table_named}
+use Rattle.star_plan.specs.Declaration.{declared_dimension, declared_fact}
+use Rattle.star_plan.specs.Named.{table_named}
 use Rattle.csv_load.specs.Records.{records_in}
 use Rattle.csv_load.specs.Rows.{typed_rows}
 use Rattle.star_binder.specs.Named.{where_conjuncts}

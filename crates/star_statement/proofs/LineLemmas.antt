@@ -6,11 +6,11 @@ use Rattle.std.proofs.lemmas.List.Elements.{All-cons, All-contains_itself, All-h
 use Rattle.script_reader.specs.declared.statement.Statement.{Statement}
 use Rattle.star_lexer.specs.Line.{lexed}
 use Rattle.star_lexer.specs.declared.token.Token.{Token}
-use Rattle.star_symbols.specs.Limits.{IsOverLimit, IsTooLong}
-use Rattle.star_symbols.specs.Symbol.{symbols_of}
-use Rattle.star_symbols.specs.declared.reading.TheConstants.{MAX_LINE_BYTES, MAX_NAME_BYTES}
-use Rattle.star_symbols.specs.declared.symbol.Symbol.{Symbol}
-use Rattle.star_symbols.specs.declared.symbol.Symbol.TheVariants as symbol
+use Rattle.star_lexer.specs.Limits.{IsOverLimit, IsTooLong}
+use Rattle.star_lexer.specs.Symbol.{symbols_of}
+use Rattle.star_lexer.specs.declared.reading.TheConstants.{MAX_LINE_BYTES, MAX_NAME_BYTES}
+use Rattle.star_lexer.specs.declared.symbol.Symbol.{Symbol}
+use Rattle.star_lexer.specs.declared.symbol.Symbol.TheVariants as symbol
 use Rattle.star_parser.specs.Grammar.{sentence, statement}
 use Rattle.star_parser.specs.Sentence.{IsSentence, IsStop}
 use Rattle.star_parser.specs.Statement as written

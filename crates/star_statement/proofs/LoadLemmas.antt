@@ -9,7 +9,7 @@ use Rattle.star_values.specs.declared.value.Value as cell
 use Rattle.star_plan.specs.declared.table.Table.{Table}
 use Rattle.star_plan.specs.declared.table.Table.TheVariants.{Fact, Dimension}
 use Rattle.star_plan.specs.Columns.{columns_of, kinds_of}
-use Rattle.star_schema.specs.Named.{table_named}
+use Rattle.star_plan.specs.Named.{table_named}
 use Rattle.csv_load.specs.Records.{records_in}
 use Rattle.csv_load.specs.Rows.{typed_rows}
 use Rattle.star_history.specs.History.{Change, Loaded}

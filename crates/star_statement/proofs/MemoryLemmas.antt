@@ -12,7 +12,7 @@ use Rattle.star_plan.specs.Test.{Query, Test}
 use Rattle.star_plan.specs.declared.answer.Answer.{Answer}
 use Rattle.star_plan.specs.declared.answer.Answer.TheVariants as answer
 use Rattle.star_plan.specs.declared.table_def.TableDef.{TableDef}
-use Rattle.star_schema.specs.Declaration.{declared_dimension, declared_fact}
+use Rattle.star_plan.specs.Declaration.{declared_dimension, declared_fact}
 use Rattle.star_binder.specs.Named.{where_conjuncts}
 use Rattle.star_binder.specs.Refused.{bound_delete, bound_select}
 use Rattle.star_binder.specs.Select.{select_of}

@@ -12,12 +12,12 @@ use Rattle.star_lexer.specs.Token.{begins_word, integer_at, is_word_byte, number
 use Rattle.star_lexer.specs.declared.token.Lexeme.{Lexeme}
 use Rattle.star_lexer.specs.declared.token.Lexeme.TheVariants.{Word, Integer, Text}
 use Rattle.star_lexer.specs.declared.token.Token.{Token}
-use Rattle.star_symbols.specs.Keyword.{keyword_of}
-use Rattle.star_symbols.specs.Symbol.{symbol_from, symbol_of, symbols_of, token_bytes, word_symbol}
-use Rattle.star_symbols.specs.Written.{IsName, begins_name, is_name_byte}
-use Rattle.star_symbols.specs.declared.keyword.Keyword.{Keyword}
-use Rattle.star_symbols.specs.declared.symbol.Symbol.{Symbol}
-use Rattle.star_symbols.specs.declared.symbol.Symbol.TheVariants as symbol
+use Rattle.star_lexer.specs.Keyword.{keyword_of}
+use Rattle.star_lexer.specs.Symbol.{symbol_from, symbol_of, symbols_of, token_bytes, word_symbol}
+use Rattle.star_lexer.specs.Written.{IsName, begins_name, is_name_byte}
+use Rattle.star_lexer.specs.declared.keyword.Keyword.{Keyword}
+use Rattle.star_lexer.specs.declared.symbol.Symbol.{Symbol}
+use Rattle.star_lexer.specs.declared.symbol.Symbol.TheVariants as symbol
 use Rattle.star_statement.proofs.ValueLemmas.{either, map_or}
 
 -- ---- bytes

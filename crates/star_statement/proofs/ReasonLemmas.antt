@@ -18,8 +18,8 @@ use Rattle.star_plan.specs.declared.schema.Schema.{Schema}
 use Rattle.star_plan.specs.declared.table.Table.{Table}
 use Rattle.star_plan.specs.declared.table.Table.TheVariants as table
 use Rattle.star_plan.specs.declared.table_def.TableDef.{TableDef}
-use Rattle.star_schema.specs.Declaration.{declared_dimension, declared_fact}
-use Rattle.star_schema.specs.Named.{table_named}
+use Rattle.star_plan.specs.Declaration.{declared_dimension, declared_fact}
+use Rattle.star_plan.specs.Named.{table_named}
 use Rattle.star_binder.specs.Refused.{bound_delete, bound_in, bound_over, bound_select, fact_alone, from_tables}
 use Rattle.star_binder.specs.Scope.{TablesInScope}
 use Rattle.star_binder.specs.Select.{SelectParts}

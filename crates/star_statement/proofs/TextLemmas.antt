@@ -7,7 +7,7 @@ use Rattle.star_values.specs.declared.refusal.Refusal.{Refusal}
 use Rattle.star_values.specs.declared.refusal.Refusal.TheVariants.{Syntax, Limit, NotUtf8}
 use Rattle.script_reader.specs.declared.statement.Statement.{Statement}
 use Rattle.script_reader.specs.declared.statement.Block.{Block}
-use Rattle.star_symbols.specs.Limits.{IsOverLimit}
+use Rattle.star_lexer.specs.Limits.{IsOverLimit}
 use Rattle.star_parser.specs.Statement as written
 use Rattle.star_parser.specs.Sentence.{IsSentence, IsStop}
 use Rattle.star_parser.specs.Parsed.{Parsed, Over, Stopped, Means, parsed_of}

@@ -3,7 +3,7 @@ ghost use Rattle.std.specs.Prelude.{◌≡◌, false, true, IsErr, IsErrOf, IsTr
 ghost use Rattle.script_reader.specs.declared.statement.Block.{Block};
 ghost use Rattle.star_parser.specs.Printed.{IsShaped};
 ghost use Rattle.star_parser.specs.Statement.{statement_of};
-ghost use Rattle.star_schema.specs.Declaration.{declared_dimension, declared_fact};
+ghost use Rattle.star_plan.specs.Declaration.{declared_dimension, declared_fact};
 ghost use Rattle.star_binder.specs.Fault.{is_delete, is_select};
 ghost use Rattle.star_binder.specs.Table.{declared_table, is_declaration};
 ghost use Rattle.star_history.specs.History.{DimensionDeclared, FactDeclared};
@@ -21,7 +21,7 @@ use crate::text::read_text;
 use reply_text::Reply;
 use star_binder::{bind, bind_delete, bind_table};
 use star_parser::Ast;
-use star_schema::find_table;
+use star_plan::find_table;
 use star_store::{Done, Store, Tables};
 use star_values::{NoMemory, Refusal, SmallText, StatementFault};
 use std::alloc::Global;

@@ -3,7 +3,7 @@ ghost use Rattle.std.specs.Prelude.{◌≡◌, ◌↔◌, ℕ, List, [], Option,
 ghost use Rattle.script_reader.specs.declared.statement.Statement.{Statement};
 ghost use Rattle.star_values.specs.declared.refusal.Refusal.TheVariants.{Syntax, Limit, NotUtf8, OutOfOrder};
 ghost use Rattle.star_values.specs.declared.refusal.Refusal.{Refusal};
-ghost use Rattle.star_symbols.specs.Limits.{IsOverLimit};
+ghost use Rattle.star_lexer.specs.Limits.{IsOverLimit};
 ghost use Rattle.star_parser.specs.Condition.{Condition};
 ghost use Rattle.star_parser.specs.Statement as written;
 ghost use Rattle.star_parser.specs.declared.ast.AstItem.{AstItem};

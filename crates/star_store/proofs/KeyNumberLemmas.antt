@@ -7,14 +7,14 @@ use Rattle.std.proofs.lemmas.Bool.{cases_eq, cases_lt}
 use Rattle.std.proofs.lemmas.Bool.Decides.{Decides-eqb}
 use Rattle.std.proofs.lemmas.List.{get_or-map, get_or-set_same, get_or-set_other, length-set}
 use Rattle.std.proofs.lemmas.List.Quantifiers.{position-Some}
-use Rattle.star_lists.specs.Roomy.{Roomy}
+use Rattle.star_values.specs.Roomy.{Roomy}
 use Rattle.star_values.specs.declared.value.Value as cell
 use Rattle.star_plan.specs.declared.column_def.ColumnDef.{ColumnDef}
 use Rattle.star_plan.specs.declared.schema.Schema.{Schema}
 use Rattle.star_plan.specs.Columns.{fact_columns}
 use Rattle.star_plan.specs.Row.{value_in}
-use Rattle.star_schema.specs.Declaration.{has_key_of, references}
-use Rattle.star_schema.specs.Schemas.{IsDeclared, ReferencesAKey}
+use Rattle.star_plan.specs.Declaration.{has_key_of, references}
+use Rattle.star_plan.specs.Schemas.{IsDeclared, ReferencesAKey}
 use Rattle.dimension_rows.specs.declared.dimension_row.DimensionRow.{DimensionRow}
 use Rattle.dimension_rows.specs.Keys.{index_of}
 use Rattle.star_history.specs.Alone.{foreign_key}

@@ -10,7 +10,7 @@ use Rattle.std.proofs.lemmas.List.Kept.{AllPairs-cons}
 use Rattle.star_values.specs.declared.value.Value as cell
 use Rattle.star_values.specs.OrderLaws.{value_cmp-equal}
 use Rattle.star_values.specs.Value.{value_cmp}
-use Rattle.star_schema.specs.Repeats.{repeats}
+use Rattle.star_plan.specs.Repeats.{repeats}
 use Rattle.dimension_rows.specs.declared.dimension_row.DimensionRow.{DimensionRow}
 use Rattle.dimension_rows.specs.Keys.{index_of, is_key, key_of}
 use Rattle.star_history.specs.Accepted.{HaveOtherKeys}

@@ -16,8 +16,8 @@ use Rattle.star_plan.specs.declared.table_def.TableDef.{TableDef}
 use Rattle.star_plan.specs.Columns.{columns_of, kinds_of}
 use Rattle.star_plan.specs.Fits.{fits_table}
 use Rattle.star_values.specs.Value.{kinds_in}
-use Rattle.star_schema.specs.Schemas.{HasColumns, IsDeclared}
-use Rattle.star_lists.specs.Roomy.{Roomy}
+use Rattle.star_plan.specs.Schemas.{HasColumns, IsDeclared}
+use Rattle.star_values.specs.Roomy.{Roomy}
 use Rattle.fact_versions.specs.declared.version.TheConstants.{MAX_VERSIONS}
 use Rattle.fact_versions.specs.declared.version.Version.{Version}
 use Rattle.dimension_rows.specs.declared.dimension_row.TheConstants.{MAX_DIMENSION_ROWS}

@@ -6,7 +6,7 @@ use Rattle.std.specs.Option.{option_map_or}
 use Rattle.std.proofs.lemmas.List.{length-append}
 use Rattle.std.proofs.lemmas.List.Folds.{list_any_none}
 use Rattle.star_values.specs.declared.value.Value as cell
-use Rattle.star_schema.specs.Repeats.{repeats}
+use Rattle.star_plan.specs.Repeats.{repeats}
 use Rattle.dimension_rows.specs.declared.dimension_row.DimensionRow.{DimensionRow}
 use Rattle.dimension_rows.specs.Keys.{index_of, key_of}
 use Rattle.star_history.specs.History.{rows_by}

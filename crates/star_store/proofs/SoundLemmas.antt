@@ -5,14 +5,14 @@ use Rattle.std.specs.List.{All, list_any}
 use Rattle.std.proofs.lemmas.List.Elements.{All-cons, All-head, All-nil, All-tail}
 use Rattle.star_values.specs.declared.refusal.Refusal.{Refusal}
 use Rattle.star_values.specs.declared.refusal.Refusal.TheVariants.{OutOfOrder, DuplicateName, UnknownName, Limit, TypeMismatch}
-use Rattle.star_lists.specs.Roomy.{Roomy}
+use Rattle.star_values.specs.Roomy.{Roomy}
 use Rattle.star_plan.specs.declared.schema.Schema.{Schema}
 use Rattle.star_plan.specs.declared.table_def.TableDef.{TableDef}
 use Rattle.star_plan.specs.Fits.{fits_table}
-use Rattle.star_schema.specs.Declaration.{declared_dimension, declared_fact, references_another_kind, references_nothing, references_twice, takes_a_name_twice}
-use Rattle.star_schema.specs.Limits.{with_dimension, with_fact}
-use Rattle.star_schema.specs.Schemas.{ReferencesNothing}
-use Rattle.star_schema.specs.declared.TheConstants.{MAX_COLUMNS, MAX_DIMENSIONS}
+use Rattle.star_plan.specs.Declaration.{declared_dimension, declared_fact, references_another_kind, references_nothing, references_twice, takes_a_name_twice}
+use Rattle.star_plan.specs.Limits.{with_dimension, with_fact}
+use Rattle.star_plan.specs.Schemas.{ReferencesNothing}
+use Rattle.star_plan.specs.declared.TheConstants.{MAX_COLUMNS, MAX_DIMENSIONS}
 use Rattle.fact_versions.specs.declared.version.Version.{Version}
 use Rattle.dimension_rows.specs.declared.dimension_row.DimensionRow.{DimensionRow}
 use Rattle.star_history.specs.Accepted.{Accepts}

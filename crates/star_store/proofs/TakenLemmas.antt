@@ -22,9 +22,9 @@ use Rattle.star_plan.specs.Columns.{columns_of, fact_columns, kinds_of}
 use Rattle.star_plan.specs.Row.{value_in}
 use Rattle.star_plan.specs.Test.{Test}
 use Rattle.star_plan.specs.Truth.{passes}
-use Rattle.star_schema.specs.Declaration.{has_key_of, references}
-use Rattle.star_schema.specs.Named.{dimension_named, has_name, table_named}
-use Rattle.star_schema.specs.Schemas.{IsDeclared, ReferencesAKey}
+use Rattle.star_plan.specs.Declaration.{has_key_of, references}
+use Rattle.star_plan.specs.Named.{dimension_named, has_name, table_named}
+use Rattle.star_plan.specs.Schemas.{IsDeclared, ReferencesAKey}
 use Rattle.dimension_rows.specs.declared.dimension_row.DimensionRow.{DimensionRow}
 use Rattle.dimension_rows.specs.Keys.{index_of}
 use Rattle.csv_load.specs.Records.{records_in}

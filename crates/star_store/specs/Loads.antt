@@ -9,8 +9,8 @@ use Rattle.star_plan.specs.declared.schema.Schema.{Schema}
 use Rattle.star_plan.specs.declared.table.Table.{Table}
 use Rattle.star_plan.specs.declared.table.Table.TheVariants.{Fact, Dimension}
 use Rattle.star_plan.specs.Columns.{columns_of, kinds_of}
-use Rattle.star_schema.specs.Named.{table_named}
-use Rattle.star_schema.specs.Repeats.{repeats}
+use Rattle.star_plan.specs.Named.{table_named}
+use Rattle.star_plan.specs.Repeats.{repeats}
 use Rattle.fact_versions.specs.declared.version.TheConstants.{MAX_VERSIONS}
 use Rattle.dimension_rows.specs.declared.dimension_row.DimensionRow.{DimensionRow}
 use Rattle.dimension_rows.specs.declared.dimension_row.TheConstants.{MAX_DIMENSION_ROWS}

@@ -3,7 +3,7 @@ use Rattle.std.specs.Prelude.{◌≡◌, ℕ, ◌<◌, List, length, position, s
 use Rattle.star_values.specs.declared.value.Value as cell
 use Rattle.star_plan.specs.declared.schema.Schema.{Schema}
 use Rattle.star_plan.specs.Columns.{fact_columns}
-use Rattle.star_schema.specs.Declaration.{references}
+use Rattle.star_plan.specs.Declaration.{references}
 use Rattle.fact_versions.specs.declared.version.TheConstants.{KEYS_IN_A_VERSION}
 use Rattle.dimension_rows.specs.declared.dimension_row.DimensionRow.{DimensionRow}
 use Rattle.dimension_rows.specs.Keys.{index_of}

@@ -1,16 +1,14 @@
 //! Declarations: a table more, and for a dimension the list of its rows.
 ghost use Rattle.std.specs.Prelude.{◌≡◌, ◌<◌, List, [], ◌∷◌, ◌++◌, length, IsOk, IsOkAnd, IsErrOf, IfErr, OnOk, OnErr};
-ghost use Rattle.star_schema.specs.Declaration.{declared_dimension};
-ghost use Rattle.star_schema.specs.Limits.{with_dimension};
-ghost use Rattle.star_schema.specs.Schemas.{IsDeclared, ReferencesNothing};
+ghost use Rattle.star_plan.specs.Declaration.{declared_dimension};
+ghost use Rattle.star_plan.specs.Limits.{with_dimension};
+ghost use Rattle.star_plan.specs.Schemas.{IsDeclared, ReferencesNothing};
 ghost use Rattle.star_history.specs.Kept.{rows_of_all};
 ghost use Rattle.star_store.specs.Fault.{Tells};
 
 use dimension_rows::{DimensionRows, Dims};
-use star_lists::ListOf;
-use star_plan::{Schema, TableDef};
-use star_schema::declare_dimension;
-use star_values::StatementFault;
+use star_plan::{Schema, TableDef, declare_dimension};
+use star_values::{ListOf, StatementFault};
 use std::alloc::Global;
 use std::hash::RandomState;
 use std::mem;

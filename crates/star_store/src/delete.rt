@@ -1,6 +1,6 @@
 //! Deletes: the versions that one ends.
 ghost use Rattle.std.specs.Prelude.{◌≡◌, ◌-◌, ◌^◌, List, true, All, IfSome, IsErrOf, IsTrue, option_map};
-ghost use Rattle.star_lists.specs.Roomy.{Roomy};
+ghost use Rattle.star_values.specs.Roomy.{Roomy};
 ghost use Rattle.star_plan.specs.Columns.{kinds_of};
 ghost use Rattle.star_plan.specs.Fits.{fits_table, some_test_fits};
 ghost use Rattle.star_plan.specs.Test.{test_of};

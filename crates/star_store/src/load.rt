@@ -2,13 +2,13 @@
 ghost use Rattle.std.specs.Prelude.{◌≡◌, ℕ, ◌+◌, ◌^◌, ◌<◌, List, ◌≤◌, ◌++◌, false, not, nat_lt, All, IsSome, IsTrue, Some, None, Ok, IfOk, IfErr, IfSome, IsErrOf, OnOk, OnErr, length, map};
 ghost use Rattle.std.specs.Option.{ForSome};
 ghost use Rattle.star_values.specs.declared.refusal.Refusal.TheVariants.{BadRecord};
-ghost use Rattle.star_lists.specs.Roomy.{Roomy};
+ghost use Rattle.star_values.specs.Roomy.{Roomy};
 ghost use Rattle.star_plan.specs.Columns.{columns_of, kinds_of};
 ghost use Rattle.star_values.specs.Value.{kinds_in};
 ghost use Rattle.star_plan.specs.declared.table.Table.TheVariants.{Fact, Dimension};
-ghost use Rattle.star_schema.specs.Named.{table_named};
-ghost use Rattle.star_schema.specs.Limits.{IsWithinLimits};
-ghost use Rattle.star_schema.specs.Schemas.{IsDeclared};
+ghost use Rattle.star_plan.specs.Named.{table_named};
+ghost use Rattle.star_plan.specs.Limits.{IsWithinLimits};
+ghost use Rattle.star_plan.specs.Schemas.{IsDeclared};
 ghost use Rattle.fact_versions.specs.declared.version.Version.{Version};
 ghost use Rattle.dimension_rows.specs.declared.dimension_row.DimensionRow.{DimensionRow};
 ghost use Rattle.dimension_rows.specs.Keys.{key_of};
@@ -33,10 +33,8 @@ use csv_load::{
 use dimension_rows::{DimensionRows, Dims, MAX_DIMENSION_ROWS};
 use fact_versions::{FactVersions, MAX_VERSIONS, Version};
 use star_history::later_rows_move_no_key_number;
-use star_lists::ListOf;
-use star_plan::{ColumnDef, Schema, Table, rows_fit_by_their_kinds};
-use star_schema::{columns_of, find_table};
-use star_values::{NoMemory, Refusal, SmallText, StatementFault};
+use star_plan::{ColumnDef, Schema, Table, columns_of, find_table, rows_fit_by_their_kinds};
+use star_values::{ListOf, NoMemory, Refusal, SmallText, StatementFault};
 use std::alloc::Global;
 
 /// A block to be loaded, with a header or without one. It may have been read before.

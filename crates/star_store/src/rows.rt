@@ -2,15 +2,14 @@
 ghost use Rattle.std.specs.Prelude.{◌≡◌, ◌≤◌, ◌+◌, ◌++◌, false, All, IsSome, IfOk, Some, length, map};
 ghost use Rattle.std.specs.List.{list_any};
 ghost use Rattle.star_plan.specs.Columns.{kinds_of};
-ghost use Rattle.star_schema.specs.Repeats.{repeats};
+ghost use Rattle.star_plan.specs.Repeats.{repeats};
 ghost use Rattle.dimension_rows.specs.Keys.{key_of};
 ghost use Rattle.star_history.specs.History.{rows_by};
 ghost use Rattle.star_store.specs.Loads.{is_taken, repeats_a_key, same_key};
 
 use csv_load::LoadRows;
 use dimension_rows::{DimensionRows, MAX_DIMENSION_ROWS, a_new_row_moves_no_other};
-use star_plan::ColumnDef;
-use star_schema::sorts_to_repeat;
+use star_plan::{ColumnDef, sorts_to_repeat};
 use star_values::{Kind, NoMemory, Row, Value, values_are_in_order};
 use std::alloc::{AllocError, Global};
 

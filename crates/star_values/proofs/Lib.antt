@@ -2,3 +2,8 @@
 mod IntegerLemmas
 mod LiteralLemmas
 mod SmallTextLemmas
+pub mod PlaceLemmas
+pub mod RisingLemmas
+pub mod CrossingLemmas
+mod CodeLemmas
+mod FirstLemmas

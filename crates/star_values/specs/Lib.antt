@@ -9,3 +9,9 @@ pub mod StatementFault
 pub mod OrderLaws
 pub mod Lends
 pub mod Literals
+pub mod ListLends
+pub mod Roomy
+pub mod Past
+pub mod Faded
+pub mod Codes
+pub mod First

@@ -1,6 +1,6 @@
 use Rattle.std.proofs.Common.{◌≡◌, ℕ, ◌<◌, length, get_or}
 use Rattle.std.specs.Prelude.{None}
-use Rattle.range_tests.specs.declared.condition.Condition.TheVariants.{Always}
+use Rattle.star_plan.specs.declared.condition.Condition.TheVariants.{Always}
 use Rattle.continuous_scan.specs.ByValue.{IsMeant}
 use Rattle.continuous_scan.proofs.conditions.conditions_of.Given as goal
 

@@ -1,5 +1,5 @@
 use Rattle.std.proofs.Common.{◌≡◌, replicate}
-use Rattle.range_tests.specs.declared.condition.Condition.TheVariants.{Always}
+use Rattle.star_plan.specs.declared.condition.Condition.TheVariants.{Always}
 use Rattle.continuous_scan.proofs.conditions.empty_conditions.Given as goal
 
 abbrev pub invariant-loop-slot : goal.invariant-loop-slot

@@ -2,7 +2,7 @@ use Rattle.std.proofs.Common.{◌∙◌, ap, sym}
 use Rattle.std.specs.List.{list_all}
 use Rattle.star_plan.specs.Test.{query_of}
 use Rattle.fact_versions.specs.declared.version.Version.{Version}
-use Rattle.range_tests.specs.declared.condition.Condition.{Condition}
+use Rattle.star_plan.specs.declared.condition.Condition.{Condition}
 use Rattle.continuous_scan.specs.Stamped.{passes_version}
 use Rattle.std.specs.Prelude.{Some}
 use Rattle.continuous_scan.specs.ByValue.{lets_rest, lets_unless_met}

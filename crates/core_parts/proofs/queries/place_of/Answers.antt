@@ -2,8 +2,8 @@ use Rattle.std.proofs.Common.{eqb, ap, sym, ◌∙◌, arith, slice_get}
 use Rattle.std.specs.Option.{option_and_then}
 use Rattle.std.proofs.lemmas.List.{get_or_default}
 use Rattle.core_parts.specs.Asked.{AskedEntry}
-use Rattle.star_lists.proofs.PlaceLemmas.{get-position}
-use Rattle.star_lists.proofs.RisingLemmas.{missing_past, position-found, position-missing}
+use Rattle.star_values.proofs.PlaceLemmas.{get-position}
+use Rattle.star_values.proofs.RisingLemmas.{missing_past, position-found, position-missing}
 use Rattle.core_parts.proofs.AskedLemmas.{number_of, rising-entries}
 use Rattle.core_parts.proofs.queries.place_of.Goals as goal
 use Rattle.core_parts.proofs.queries.place_of.Goals.{else-place-asked-via-then-place-asked+else-number, else-place-asked-via-else-place-asked}

@@ -1,7 +1,7 @@
 use Rattle.std.proofs.Common.{ltb, rules}
 use Rattle.std.proofs.lemmas.List.Sorted.{IsPartitionPoint-from_clause, IsPartitionedBy-ltb}
 use Rattle.std.proofs.lemmas.Bool.{ltb-true, ltb-false}
-use Rattle.star_lists.proofs.RisingLemmas.{rising_non_decreasing}
+use Rattle.star_values.proofs.RisingLemmas.{rising_non_decreasing}
 use Rattle.core_parts.specs.declared.submitted.Submitted.{Submitted}
 use Rattle.core_parts.proofs.NumberLemmas.{rise}
 use Rattle.core_parts.proofs.seat.first_from.Goals as goal

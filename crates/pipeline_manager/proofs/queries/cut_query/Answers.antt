@@ -1,6 +1,6 @@
 use Rattle.std.proofs.Common.{sym}
 use Rattle.pipeline_manager.specs.Changes.{cut_query}
-use Rattle.star_lists.proofs.RisingLemmas.{map-lent, map-missing}
+use Rattle.star_values.proofs.RisingLemmas.{map-lent, map-missing}
 use Rattle.pipeline_manager.specs.declared.life.QueryLife.{QueryLife}
 use Rattle.pipeline_manager.proofs.queries.cut_query.Goals as goal
 

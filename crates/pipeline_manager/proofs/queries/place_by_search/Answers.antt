@@ -1,6 +1,6 @@
 use Rattle.std.proofs.Common.{ap, ◌∙◌, arith}
 use Rattle.std.proofs.lemmas.List.{get_or_default}
-use Rattle.star_lists.proofs.RisingLemmas.{missing_past}
+use Rattle.star_values.proofs.RisingLemmas.{missing_past}
 use Rattle.pipeline_manager.specs.declared.life.QueryLife.{QueryLife}
 use Rattle.pipeline_manager.proofs.queries.place_by_search.Goals as goal
 use Rattle.pipeline_manager.proofs.queries.place_by_search.Goals.{else-place-queries-via-then-place-queries+else-queries-place, else-place-queries-via-else-place-queries}

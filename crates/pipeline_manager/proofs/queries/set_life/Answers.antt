@@ -1,5 +1,5 @@
 use Rattle.std.proofs.Common.{sym}
-use Rattle.star_lists.proofs.RisingLemmas.{map-lent, map-missing}
+use Rattle.star_values.proofs.RisingLemmas.{map-lent, map-missing}
 use Rattle.pipeline_manager.specs.declared.life.QueryLife.{QueryLife}
 use Rattle.pipeline_manager.proofs.queries.set_life.Goals as goal
 

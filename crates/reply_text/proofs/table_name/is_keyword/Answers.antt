@@ -1,5 +1,5 @@
 use Rattle.std.proofs.Common.{◌∙◌, sym}
-use Rattle.star_symbols.specs.Keyword.{keywords}
+use Rattle.star_lexer.specs.Keyword.{keywords}
 use Rattle.reply_text.proofs.NameLemmas.{is_keyword-any}
 use Rattle.reply_text.proofs.table_name.is_keyword.Goals as goal
 

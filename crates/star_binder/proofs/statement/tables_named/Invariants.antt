@@ -1,5 +1,5 @@
 use Rattle.std.proofs.Common.{◌≡◌, ◌++◌, drop, filter_map}
-use Rattle.star_schema.specs.Named.{table_named}
+use Rattle.star_plan.specs.Named.{table_named}
 use Rattle.star_binder.proofs.statement.tables_named.Given as goal
 
 -- the tables so far, and those of the names that are left, are all

@@ -1,4 +1,4 @@
-use Rattle.star_symbols.specs.Symbol.{symbolic}
+use Rattle.star_lexer.specs.Symbol.{symbolic}
 use Rattle.star_parser.proofs.ShapeLemmas.{sentence_shaped}
 use Rattle.star_parser.proofs.laws.statements_have_their_shapes.Goals as goal
 

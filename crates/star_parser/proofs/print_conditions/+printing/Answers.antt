@@ -1,7 +1,7 @@
 use Rattle.std.proofs.Common.{[], ◌∷◌, ◌++◌, map, ap, sym, ◌∙◌}
 use Rattle.std.proofs.lemmas.Result.{IfOk-equal}
-use Rattle.star_symbols.specs.declared.sign.Sign.TheVariants as mark
-use Rattle.star_symbols.specs.declared.symbol.Symbol.TheVariants as symbol
+use Rattle.star_lexer.specs.declared.sign.Sign.TheVariants as mark
+use Rattle.star_lexer.specs.declared.symbol.Symbol.TheVariants as symbol
 use Rattle.star_parser.specs.Condition.{conditions, condition_of}
 use Rattle.star_parser.specs.Printed.{in_brackets, one_symbols, all_symbols, both_symbols, either_symbols}
 use Rattle.star_parser.proofs.MemberLemmas.{both_turn, either_turn, brackets_behind}

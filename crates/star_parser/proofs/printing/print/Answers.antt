@@ -1,6 +1,6 @@
 use Rattle.std.proofs.Common.{◌++◌, sym, subst, ap, ◌∙◌}
 use Rattle.std.specs.Prelude.{IsUtf8}
-use Rattle.star_symbols.specs.Written.{line_of}
+use Rattle.star_lexer.specs.Written.{line_of}
 use Rattle.star_parser.specs.Statement.{statement_of}
 use Rattle.star_parser.specs.Parsed.{parsed_of}
 use Rattle.star_parser.specs.Printed.{statement_symbols}

@@ -1,6 +1,6 @@
 use Rattle.std.proofs.Common.{◌≡◌, ℕ, ◌<◌, length, None, slice_index_or}
 use Rattle.std.specs.Prelude.{position}
-use Rattle.star_schema.specs.Declaration.{references}
+use Rattle.star_plan.specs.Declaration.{references}
 use Rattle.star_store.proofs.versions.references_of.Given as goal
 
 -- the columns of the dimensions so far are found

@@ -1,6 +1,6 @@
 use Rattle.std.proofs.Common.{◌<◌, ◌≡◌, ap, arith, length, refl, subst, sym, List, ◌∙◌}
 use Rattle.std.specs.Prelude.{IfSome, slice_get}
-use Rattle.star_lists.specs.Roomy.{Roomy}
+use Rattle.star_values.specs.Roomy.{Roomy}
 use Rattle.fact_versions.proofs.BesideLemmas.{beside_ended, room_stays}
 use Rattle.fact_versions.proofs.EndsLemmas.{length-with_end, lent-with_end}
 use Rattle.fact_versions.specs.declared.version.Version.{Version}

@@ -1,5 +1,5 @@
 use Rattle.std.proofs.Common.{◌≡◌, ◌≤◌, ◌-◌, Some, map, subst, sym, ap, ◌∙◌, arith}
-use Rattle.star_symbols.specs.declared.keyword.Keyword.TheVariants as key
+use Rattle.star_lexer.specs.declared.keyword.Keyword.TheVariants as key
 use Rattle.star_parser.specs.Condition.{Both, Either, alone_or, conjuncts, disjuncts, condition_of}
 use Rattle.star_parser.specs.Reader.{Gives, gives, is_word}
 use Rattle.star_parser.specs.Reading.{one_at, all_by, all_at, any_at, conjuncts_at, disjuncts_at}

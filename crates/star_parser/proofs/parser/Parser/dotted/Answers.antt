@@ -1,5 +1,5 @@
 use Rattle.std.proofs.Common.{Some, None, ◌∙◌}
-use Rattle.star_symbols.specs.declared.sign.Sign.TheVariants as mark
+use Rattle.star_lexer.specs.declared.sign.Sign.TheVariants as mark
 use Rattle.star_parser.specs.Reader.{gives, is_sign, name_at, ◌>>=◌}
 use Rattle.star_parser.proofs.StepLemmas.{on_then, on_else, bind_ok}
 use Rattle.star_parser.proofs.parser.Parser.dotted.Goals as goal

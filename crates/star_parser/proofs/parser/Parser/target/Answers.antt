@@ -1,5 +1,5 @@
 use Rattle.std.proofs.Common.{Some, None, ◌∙◌}
-use Rattle.star_symbols.specs.declared.keyword.Keyword.TheVariants as key
+use Rattle.star_lexer.specs.declared.keyword.Keyword.TheVariants as key
 use Rattle.star_parser.specs.Reader.{gives, is_word, name_at, ◌>>=◌}
 use Rattle.star_parser.specs.Reading.{target_at}
 use Rattle.star_parser.proofs.StepLemmas.{on_then, on_else, bind_ok}

@@ -1,3 +1,0 @@
-pub mod FlightLemmas
-pub mod SetLemmas
-pub mod SlotLemmas

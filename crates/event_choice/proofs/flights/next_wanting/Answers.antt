@@ -1,9 +1,0 @@
-use Rattle.std.proofs.Common.{refl, arith}
-use Rattle.core_parts.specs.Flights.{Wants}
-use Rattle.event_choice.proofs.FlightLemmas.{find-apart}
-use Rattle.event_choice.proofs.flights.next_wanting.Goals as goal
-
-pub returns-then-is_wanting-clause-some : goal.returns-then-is_wanting-clause-some
-returns-then-is_wanting-clause-some c =
-    find-apart (Wants c.args.filters.now) c.args.flights.now c.loop-flight.flight-index c.number.result c.flight-item.result
-    c.requires.apart (omega arith) c.flight-item.is c.number.ensures (c.if-is_wanting.ensures.0 refl)

@@ -1,7 +1,0 @@
-use Rattle.std.proofs.Common.{take}
-use Rattle.std.specs.Prelude.{All}
-use Rattle.core_parts.specs.Flights.{Wants}
-use Rattle.event_choice.proofs.flights.next_wanting.Given as goal
-
-abbrev pub invariant-loop-flight : goal.invariant-loop-flight
-invariant-loop-flight l = All (λ flight. Wants l.filters flight → ⊥) (take l.flight-index l.flights)

@@ -1,6 +1,0 @@
-use Rattle.event_choice.proofs.SetLemmas.{in-past}
-use Rattle.event_choice.proofs.sets.has.Goals as goal
-
-pub returns-else-dimension-lt8 : goal.returns-else-dimension-lt8
-returns-else-dimension-lt8 c =
-    in-past c.args.set c.args.dimension c.ranges.set.fits c.if-dimension-lt8.false

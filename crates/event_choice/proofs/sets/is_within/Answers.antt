@@ -1,5 +1,0 @@
-use Rattle.event_choice.proofs.SetLemmas.{all-within}
-use Rattle.event_choice.proofs.sets.is_within.Goals as goal
-
-pub returns : goal.returns
-returns c = all-within c.args.set c.args.other c.ranges.set.fits c.ranges.other.fits

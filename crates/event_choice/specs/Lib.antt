@@ -1,2 +1,0 @@
--- What may come next.
-pub mod Slots

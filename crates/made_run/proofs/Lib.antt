@@ -1,2 +1,0 @@
--- Lemmas on the run of the made workload.
-pub mod RunLemmas

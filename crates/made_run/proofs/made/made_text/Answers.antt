@@ -1,6 +1,0 @@
-use Rattle.made_run.proofs.RunLemmas.{short-made}
-use Rattle.made_run.proofs.made.made_text.Goals as goal
-
-pub returns-clause-short : goal.returns-clause-short
-returns-clause-short c =
-    short-made c.args.seed c.args.rows c.make_script.result c.requires c.made_scripts_are_within_the_limit.ensures c.make_script.ensures

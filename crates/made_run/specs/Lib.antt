@@ -1,2 +1,0 @@
--- What a run of the made workload writes and tells.
-pub mod Made

@@ -1,0 +1,17 @@
+use Rattle.std.proofs.Common.{◌≡◌, refl, rules}
+use Rattle.make_load.proofs.RunLemmas.{never-limit, never-read-fault, ran_of}
+use Rattle.make_load.proofs.ran.run_text.Goals as goal
+
+pub returns-clause-ran : goal.returns-clause-ran
+returns-clause-ran g c =
+    ran_of (c.args.settings.workers ≡ 0) c.args.settings c.run_script-done.result.core c.run_script-done.result.end c.args.script.now
+    c.new-source.result.rest.now c.run_script-done.new.source.rest.now c.new-sink.result.taken c.run_script-done.new.sink.taken _ _ _ _
+    c.new-source.ensures.rest (search rules) refl refl refl refl c.run_script-done.ensures.answers
+
+pub returns-clause-read : goal.returns-clause-read
+returns-clause-read g c = never-read-fault c.run_script-done.result.end _ _ _ _ refl c.run_script-done.ensures.faults
+
+pub returns-clause-limit : goal.returns-clause-limit
+returns-clause-limit g c =
+    never-limit c.run_script-done.result.end _ _ _ _ c.args.script.now c.new-source.result.rest.now c.run_script-done.new.source.rest.now
+    c.requires.short c.new-source.ensures.rest refl refl c.run_script-done.ensures.answers.0

@@ -1,6 +1,0 @@
-use Rattle.std.proofs.Common.{take}
-use Rattle.range_tests.specs.Flat.{AreRangesOf}
-use Rattle.range_tests.proofs.condition.range_tests_of.Given as goal
-
-abbrev pub invariant-loop-member : goal.invariant-loop-member
-invariant-loop-member l = AreRangesOf (take l.member-index l.members) l.tests

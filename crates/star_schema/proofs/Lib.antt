@@ -1,4 +1,0 @@
--- Lemmas on the definitions of this crate.
-mod ListLemmas
-mod RepeatLemmas
-mod SchemaLemmas

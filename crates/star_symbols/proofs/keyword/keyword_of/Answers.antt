@@ -1,6 +1,0 @@
-use Rattle.star_symbols.specs.Keyword.{keyword_of, keywords}
-use Rattle.star_symbols.proofs.keyword.keyword_of.Goals as goal
-
-pub returns : goal.returns
-unfolding keyword_of keywords
-returns c = c.entry_of.ensures

@@ -1,7 +1,0 @@
-use Rattle.std.proofs.Common.{◌≡◌, ℕ, List, IfOk, subst}
-use Rattle.star_symbols.proofs.ContentLemmas.{scanned_content}
-use Rattle.star_symbols.proofs.reading.content.Goals as goal
-
-pub returns : goal.returns
-returns c =
-    subst (λ (bytes : List ℕ). IfOk c.scan_content.result (λ text. text.items ≡ bytes)) (scanned_content c.args.quoted.now) c.scan_content.ensures

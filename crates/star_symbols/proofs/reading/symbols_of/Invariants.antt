@@ -1,5 +1,0 @@
-use Rattle.star_symbols.proofs.TokenLemmas.{AreSoFar}
-use Rattle.star_symbols.proofs.reading.symbols_of.Given as goal
-
-abbrev pub invariant-tokens : goal.invariant-tokens
-invariant-tokens l = AreSoFar l.line l.tokens l.token-index l.symbols.items

@@ -1,0 +1,20 @@
+use Rattle.std.proofs.Common.{◌∙◌, ◌∷◌, ◌++◌, [], ap, sym, subst, length}
+use Rattle.star_values.specs.First.{AreCodeColumns, HasCode, HasText}
+use Rattle.star_values.proofs.FirstLemmas.{kept_of_row, made_first, refill_all, text_inside}
+use Rattle.star_values.proofs.code_columns.CodeColumns.append.Goals as goal
+
+pub returns-clause-first : goal.returns-clause-first
+returns-clause-first c = λ rows before first.
+    let lent = c.as_mut_slice.ensures.members in
+    let whole = refill_all c.make_columns-made.new.columns c.append_to_columns-kept.new.columns (c.append_to_columns-kept.ensures.count ∙ ap length lent) in
+    subst (AreCodeColumns (rows ++ c.args.row.now ∷ [])) (sym whole)
+    (c.append_to_columns-kept.ensures.first rows before (subst (AreCodeColumns rows) (sym lent)
+    (made_first HasCode rows c.self.inside.columns c.make_columns-made.new.columns c.make_columns-made.ensures.same (subst (AreCodeColumns rows) (sym c.self.view_is) first))))
+
+pub returns-clause-kept : goal.returns-clause-kept
+returns-clause-kept c =
+    let lent = c.as_mut_slice.ensures.members in
+    let whole = refill_all c.make_columns-made.new.columns c.append_to_columns-kept.new.columns (c.append_to_columns-kept.ensures.count ∙ ap length lent) in
+    kept_of_row HasText c.args.before c.len.result c.args.row.now c.args.self.now c.self.inside.columns c.make_columns-made.new.columns c.as_mut_slice.result.now
+    c.append_to_columns-kept.new.columns _ c.make_columns-made.result c.append_to_columns-kept.result c.and.result (text_inside c.args.row.now)
+    c.and.ensures c.len.ensures c.self.view_is lent whole c.make_columns-made.ensures.same c.make_columns-made.ensures.made c.append_to_columns-kept.ensures.kept

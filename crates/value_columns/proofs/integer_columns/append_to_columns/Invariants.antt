@@ -1,6 +1,0 @@
-use Rattle.value_columns.specs.First.{HasInteger}
-use Rattle.value_columns.proofs.FirstLemmas.{AreAppended}
-use Rattle.value_columns.proofs.integer_columns.append_to_columns.Given as goal
-
-abbrev pub invariant-loop-number : goal.invariant-loop-number
-invariant-loop-number l = AreAppended HasInteger HasInteger l.before l.row l.initial.columns l.columns l.number l.kept
