@@ -10,7 +10,7 @@ ghost use Rattle.board_lock.specs.Seats.{view_of, IsOutside, IsInside, IsSameSea
 use crate::bell::Bell;
 use crate::board::Board;
 use crate::seat::{BoardLock, BoardSeat, StateTable};
-use crate::view::{Compare, Cut, Give, Glue, Look, Take, View};
+use crate::view::{Compare, FirstLook, Give, Glue, Parting, Take, View};
 use atomic_table::{Refused, Seat, Table};
 use star_values::NoMemory;
 use std::alloc::{AllocFailed, Global};
@@ -110,7 +110,7 @@ impl<S: Board> BoardLock<S> {
         ensures same { (seat.new.table_id ≡ seat.old.table_id) × (seat.new.id ≡ seat.old.id) }
         ensures empty { Looks S.Board.row S.Board.empty seat.old.me seat.new.me }
     {
-        self.table.shared.load::<Look>(seat, 0);
+        self.table.shared.load::<FirstLook>(seat, 0);
     }
 
     /// Makes the next seat, which any thread may have: of `seats` seats, where there are fewer so far.
@@ -130,7 +130,7 @@ impl<S: Board> BoardLock<S> {
             (view_of result).number ≡ S.Board.empty }
     {
         self.look(&mut seat.seat);
-        let other = self.table.shared.split_seat::<Cut>(&mut seat.seat);
+        let other = self.table.shared.split_seat::<Parting>(&mut seat.seat);
         let number = seat.made;
         seat.made += 1;
         BoardSeat {

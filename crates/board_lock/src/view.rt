@@ -61,17 +61,17 @@ impl<S> Play<Option<S>, View<S>> for Give {
 }
 
 // The first seat looks before it splits.
-pub(crate) struct Look;
+pub(crate) struct FirstLook;
 
-impl<S: Board> Play<Option<S>, View<S>> for Look {
+impl<S: Board> Play<Option<S>, View<S>> for FirstLook {
     ghost use Rattle.board_lock.specs.Rule.{Looks};
 
     ghost then = { λ _ before _ after. Looks S.Board.row S.Board.empty before after };
 }
 
-pub(crate) struct Cut;
+pub(crate) struct Parting;
 
-impl<S> Split<View<S>> for Cut {
+impl<S> Split<View<S>> for Parting {
     ghost use Rattle.board_lock.specs.Views.{split_view, new_view};
 
     ghost left = { split_view };

@@ -7,7 +7,7 @@ use Rattle.command_words.specs.Ranges.{AreInRange, Takes}
 use Rattle.command_words.specs.Table.{are_new, option_names, settings_by, settings_in, settings_of, value_of, ◌>>=◌}
 use Rattle.command_words.specs.Values.{mode_or, number_of, number_or, within}
 use Rattle.command_words.specs.Words.{Entry, Text, entries_of}
-use Rattle.command_words.specs.declared.limits.Numbers.{Numbers}
+use Rattle.command_words.specs.declared.limits.OptionNumbers.{OptionNumbers}
 use Rattle.command_words.specs.declared.limits.TheConstants.{ACCEPT, BATCH, PORT, ROWS, SEED, SLOTS, WORKERS}
 use Rattle.command_words.specs.declared.settings.Mode.{Mode}
 use Rattle.command_words.specs.declared.settings.Settings.{Settings}
@@ -18,7 +18,7 @@ behind : {A B : Type 0} (P : A → Type 0) (Q : B → Type 0) (o : Option A) (f 
 behind P Q None f has then = tt
 behind P Q (Some x) f has then = then x has
 
-within_takes : (numbers : Numbers) (number : ℕ) → IfSome (within numbers number) (Takes numbers)
+within_takes : (numbers : OptionNumbers) (number : ℕ) → IfSome (within numbers number) (Takes numbers)
 within_takes numbers number = go (nat_le numbers.least number && nat_le number numbers.greatest) refl
   where
     go : (b : Bool) → (nat_le numbers.least number && nat_le number numbers.greatest) ≡ b
@@ -31,7 +31,7 @@ within_takes numbers number = go (nat_le numbers.least number && nat_le number n
         (grind (arith, nat_tests), grind (arith, nat_tests))
 
 -- a number that is read or stands by default is one that the option takes
-number_takes : (numbers : Numbers) → Takes numbers numbers.default → (o : Option Text) → IfSome (number_or numbers o) (Takes numbers)
+number_takes : (numbers : OptionNumbers) → Takes numbers numbers.default → (o : Option Text) → IfSome (number_or numbers o) (Takes numbers)
 number_takes numbers default None = default
 number_takes numbers default (Some text) = go (number_of text)
   where
@@ -40,7 +40,7 @@ number_takes numbers default (Some text) = go (number_of text)
     go (Some number) = within_takes numbers number
 
 -- what is made of a number that is read or stands by default
-number_behind : (numbers : Numbers) (o : Option Text) (f : ℕ → Option Settings) → Takes numbers numbers.default
+number_behind : (numbers : OptionNumbers) (o : Option Text) (f : ℕ → Option Settings) → Takes numbers numbers.default
     → ((number : ℕ) → Takes numbers number → IfSome (f number) AreInRange) → IfSome (number_or numbers o >>= f) AreInRange
 number_behind numbers o f default then = behind (Takes numbers) AreInRange (number_or numbers o) f (number_takes numbers default o) then
 

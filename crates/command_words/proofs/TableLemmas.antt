@@ -10,7 +10,7 @@ use Rattle.std.proofs.lemmas.Slice.Eq.{bytes_eq-Decides}
 use Rattle.command_words.specs.Table.{are_new, is_among, option_names, settings_by, settings_in, value_of, ◌>>=◌}
 use Rattle.command_words.specs.Values.{mode_or, number_in, number_or, within}
 use Rattle.command_words.specs.Words.{Entry, Text}
-use Rattle.command_words.specs.declared.limits.Numbers.{Numbers}
+use Rattle.command_words.specs.declared.limits.OptionNumbers.{OptionNumbers}
 use Rattle.command_words.specs.declared.limits.TheConstants.{ACCEPT, BATCH, MAX_DIGITS, PORT, ROWS, SEED, SLOTS, WORKERS}
 use Rattle.command_words.specs.declared.settings.Mode.{Mode}
 use Rattle.command_words.specs.declared.settings.Settings.{Settings}
@@ -22,7 +22,7 @@ number_of_hyphen text true true = refl
 number_of_hyphen text true false = refl
 number_of_hyphen text false b = refl
 
-hyphen_is_no_number : (text : Text) (numbers : Numbers) → number_in numbers (45 ∷ text) ≡ None
+hyphen_is_no_number : (text : Text) (numbers : OptionNumbers) → number_in numbers (45 ∷ text) ≡ None
 hyphen_is_no_number text numbers =
     ap (λ b. option_and_then (within numbers) (cond b (Some (digits_value 10 (45 ∷ text))) None))
     (number_of_hyphen text (not (length (45 ∷ text) == 0)) (nat_le (length (45 ∷ text)) MAX_DIGITS))
@@ -44,7 +44,7 @@ module _ (written : Text → Option Text) (text : Text) where
   bad_mode : written (codes "mode") ≡ Some (45 ∷ text) → mode_or (written (codes "mode")) ≡ None
   bad_mode e = ap mode_or e
 
-  bad_number : (name : Text) (numbers : Numbers) → written name ≡ Some (45 ∷ text) → number_or numbers (written name) ≡ None
+  bad_number : (name : Text) (numbers : OptionNumbers) → written name ≡ Some (45 ∷ text) → number_or numbers (written name) ≡ None
   bad_number name numbers e = ap (number_or numbers) e ∙ hyphen_is_no_number text numbers
 
   named : (name other : Text) → written name ≡ Some (45 ∷ text) → bytes_eq other name ≡ true → written other ≡ Some (45 ∷ text)

@@ -1,11 +1,11 @@
 -- Which numbers settings have: those that the options take.
 use Rattle.std.specs.Prelude.{ℕ, ◌≤◌}
-use Rattle.command_words.specs.declared.limits.Numbers.{Numbers}
+use Rattle.command_words.specs.declared.limits.OptionNumbers.{OptionNumbers}
 use Rattle.command_words.specs.declared.limits.TheConstants.{WORKERS, SLOTS, BATCH, SEED, ROWS, PORT, ACCEPT}
 use Rattle.command_words.specs.declared.settings.Settings.{Settings}
 
 -- an option takes the number
-abbrev pub Takes : Numbers → ℕ → Type 0
+abbrev pub Takes : OptionNumbers → ℕ → Type 0
 Takes numbers number = (numbers.least ≤ number) × (number ≤ numbers.greatest)
 
 -- each number is one that its option takes

@@ -5,7 +5,7 @@ use Rattle.std.specs.List.{list_all}
 use Rattle.std.specs.Str.{bytes_eq}
 use Rattle.std.specs.Str.Parse.{digits_value}
 use Rattle.command_words.specs.Words.{Text}
-use Rattle.command_words.specs.declared.limits.Numbers.{Numbers}
+use Rattle.command_words.specs.declared.limits.OptionNumbers.{OptionNumbers}
 use Rattle.command_words.specs.declared.limits.TheConstants.{MAX_DIGITS}
 use Rattle.command_words.specs.declared.settings.Mode.{Mode}
 use Rattle.command_words.specs.declared.settings.Mode.TheVariants.{Run, Alone, Make, Serve}
@@ -32,13 +32,13 @@ abbrev pub number_of : Text → Option ℕ
 number_of text = if is_number text then Some (digits_value 10 text) else None
 
 -- the number, where it is in the range of the option
-abbrev pub within : Numbers → ℕ → Option ℕ
+abbrev pub within : OptionNumbers → ℕ → Option ℕ
 within numbers number = if nat_le numbers.least number && nat_le number numbers.greatest then Some number else None
 
-abbrev pub number_in : Numbers → Text → Option ℕ
+abbrev pub number_in : OptionNumbers → Text → Option ℕ
 number_in numbers text = option_and_then (within numbers) (number_of text)
 
 -- the number, where one is written, and the default where none is
-abbrev pub number_or : Numbers → Option Text → Option ℕ
+abbrev pub number_or : OptionNumbers → Option Text → Option ℕ
 number_or numbers None = Some numbers.default
 number_or numbers (Some text) = number_in numbers text

@@ -2,7 +2,7 @@
 
 /// The numbers that an option takes, and the one that stands where the option is left out.
 #[derive(Clone, Copy, Debug, PartialEq, Eq)]
-pub struct Numbers {
+pub struct OptionNumbers {
     /// The least that it takes.
     pub least: u32,
     /// The greatest that it takes.
@@ -15,49 +15,49 @@ pub struct Numbers {
 pub(crate) const MAX_DIGITS: usize = 7;
 
 /// `--workers`: 0 to 16, and 0 where it is left out.
-pub const WORKERS: Numbers = Numbers {
+pub const WORKERS: OptionNumbers = OptionNumbers {
     least: 0,
     greatest: 16,
     default: 0,
 };
 
 /// `--slots`: 1 to 64, and 64 where it is left out.
-pub const SLOTS: Numbers = Numbers {
+pub const SLOTS: OptionNumbers = OptionNumbers {
     least: 1,
     greatest: 64,
     default: 64,
 };
 
 /// `--batch`: 1 to 1024, and 256 where it is left out.
-pub const BATCH: Numbers = Numbers {
+pub const BATCH: OptionNumbers = OptionNumbers {
     least: 1,
     greatest: 1024,
     default: 256,
 };
 
 /// `--seed`: 0 to 9999999, and 7 where it is left out.
-pub const SEED: Numbers = Numbers {
+pub const SEED: OptionNumbers = OptionNumbers {
     least: 0,
     greatest: 9999999,
     default: 7,
 };
 
 /// `--rows`: 0 to 1000000, and 100000 where it is left out.
-pub const ROWS: Numbers = Numbers {
+pub const ROWS: OptionNumbers = OptionNumbers {
     least: 0,
     greatest: 1000000,
     default: 100000,
 };
 
 /// `--port`: 1 to 65535, and 5433 where it is left out.
-pub const PORT: Numbers = Numbers {
+pub const PORT: OptionNumbers = OptionNumbers {
     least: 1,
     greatest: 65535,
     default: 5433,
 };
 
 /// `--accept`: 0 to 9999999, and 0 where it is left out.
-pub const ACCEPT: Numbers = Numbers {
+pub const ACCEPT: OptionNumbers = OptionNumbers {
     least: 0,
     greatest: 9999999,
     default: 0,

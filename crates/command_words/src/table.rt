@@ -5,7 +5,7 @@ ghost use Rattle.command_words.specs.Table.{settings_by};
 ghost use Rattle.command_words.specs.Values.{number_or};
 ghost use Rattle.command_words.specs.declared.limits.TheConstants.{PORT};
 
-use crate::limits::{ACCEPT, BATCH, Numbers, PORT, ROWS, SEED, SLOTS, WORKERS};
+use crate::limits::{ACCEPT, BATCH, OptionNumbers, PORT, ROWS, SEED, SLOTS, WORKERS};
 use crate::settings::Settings;
 use crate::values::{mode_or, number_or};
 use clap::ArgMatches;
@@ -36,7 +36,7 @@ pub(crate) fn settings_by(matches: &ArgMatches) -> Option<Settings>
 }
 
 /// The number that was found for a name.
-fn number_at(matches: &ArgMatches, name: &str, numbers: Numbers) -> Option<u32>
+fn number_at(matches: &ArgMatches, name: &str, numbers: OptionNumbers) -> Option<u32>
     ensures { result ≡ number_or numbers (first_value (found_of matches.now) name.now) }
 {
     number_or(numbers, matches.get_str(name))

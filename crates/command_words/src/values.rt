@@ -4,7 +4,7 @@ ghost use Rattle.std.specs.Char.{is_ascii_digit};
 ghost use Rattle.std.specs.List.{list_all};
 ghost use Rattle.command_words.specs.Values.{is_number, mode_in, mode_or, number_in, number_of, number_or};
 
-use crate::limits::{MAX_DIGITS, Numbers};
+use crate::limits::{MAX_DIGITS, OptionNumbers};
 use crate::settings::Mode;
 
 /// The mode that the text names, and `run` where there is no text.
@@ -34,7 +34,7 @@ fn mode_in(text: &str) -> Option<Mode>
 }
 
 /// The number of an option that the text writes, and its default where there is no text.
-pub(crate) fn number_or(numbers: Numbers, text: Option<&str>) -> Option<u32>
+pub(crate) fn number_or(numbers: OptionNumbers, text: Option<&str>) -> Option<u32>
     ensures { result ≡ number_or numbers (option_map (λ t. t.now) text.entry) }
 {
     match text {
@@ -44,7 +44,7 @@ pub(crate) fn number_or(numbers: Numbers, text: Option<&str>) -> Option<u32>
 }
 
 /// The number that the text writes, where the option takes it.
-fn number_in(numbers: Numbers, text: &str) -> Option<u32>
+fn number_in(numbers: OptionNumbers, text: &str) -> Option<u32>
     ensures { result ≡ number_in numbers text.now }
 {
     let Some(number) = number_of(text) else {

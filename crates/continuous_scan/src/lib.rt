@@ -23,4 +23,4 @@ pub use laws::{
     a_lap_has_each_position_once, bits_are_those_of_slots, cuts_are_computed,
     each_position_is_cut_once, rows_go_by_what_is_asked,
 };
-pub use scan::{Cut, Scan};
+pub use scan::{CutOutcome, Scan};

@@ -1,5 +1,5 @@
 -- No batch comes into a hand but by an event that takes one.
-use Rattle.core_driver.proofs.Words.{◌≡◌, All, All-filter, All-push, All-weaker, AreIdle, Build, Clear, Cut, cut_flight, Distribute, eqb, Event, EventKind, Finish, Flight, IsLed, IsOfKind, IsReorder, IsStill, IsThrough, None, not, refl, Release, Reserve, Scan, Some, Start, State, subst, sym, Took, ℕ, ⊎_elim}
+use Rattle.core_driver.proofs.Words.{◌≡◌, All, All-filter, All-push, All-weaker, AreIdle, Build, Clear, Cut, cut_flight, Distribute, eqb, Event, EventKind, Finish, Flight, IsLed, IsOfKind, IsReorder, IsStill, IsThrough, None, not, refl, Release, Reserve, ScanState, Some, Start, State, subst, sym, Took, ℕ, ⊎_elim}
 use Rattle.core_state.specs.Events.{after_event}
 use Rattle.core_driver.proofs.LedLemmas.{led-holds}
 use Rattle.core_driver.proofs.TakenLemmas.{distributes, still-leaves}
@@ -11,7 +11,7 @@ IsIdle flight = flight.hand ≡ None
 -- an event that moves no batch
 idle-still : (event : Event) (old new : State) → IsStill event → Took event old new → AreIdle old → AreIdle new
 idle-still event old new still took idle =
-    subst (λ (scan : Scan). All IsIdle scan.flights) (sym (still-leaves event old new still took).scan) idle
+    subst (λ (scan : ScanState). All IsIdle scan.flights) (sym (still-leaves event old new still took).scan) idle
 
 -- a cut
 idle-cut : (old new : State) → Took Cut old new → AreIdle old → AreIdle new
@@ -24,7 +24,7 @@ idle-cut old new took idle = ⊎_elim
 -- a distribution
 idle-distributed : (batch : ℕ) (old new : State) → Took (Distribute batch) old new → AreIdle old → AreIdle new
 idle-distributed batch old new took idle =
-    subst (λ (scan : Scan). All IsIdle scan.flights) (sym (distributes batch old new took).scan)
+    subst (λ (scan : ScanState). All IsIdle scan.flights) (sym (distributes batch old new took).scan)
     (All-filter (λ (flight : Flight). not (eqb flight.rows.number batch)) IsIdle old.scan.flights idle)
 
 -- an event of no kind

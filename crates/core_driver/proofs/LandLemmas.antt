@@ -1,5 +1,5 @@
 -- Batches that passed all filters are distributed until none is in flight.
-use Rattle.core_driver.proofs.Words.{◌∙◌, ◌∷◌, ◌≡◌, [], All, All-filter, All-head, ap, Build, Clear, cond, Cut, Distribute, eq-eqb, eqb, Event, Finish, Flight, flight_at, IfSome, is_some, IsLed, IsOfKind, IsStill, IsThrough, List, None, NoneMayCome, not, Option, refl, Release, Reserve, Scan, Some, Start, State, subst, sym, Took, ℕ}
+use Rattle.core_driver.proofs.Words.{◌∙◌, ◌∷◌, ◌≡◌, [], All, All-filter, All-head, ap, Build, Clear, cond, Cut, Distribute, eq-eqb, eqb, Event, Finish, Flight, flight_at, IfSome, is_some, IsLed, IsOfKind, IsStill, IsThrough, List, None, NoneMayCome, not, Option, refl, Release, Reserve, ScanState, Some, Start, State, subst, sym, Took, ℕ}
 use Rattle.core_state.specs.State.{Filters}
 use Rattle.event_core.specs.declared.choosing.EventKind.TheVariants as kind
 use Rattle.core_driver.proofs.LedLemmas.{led-holds}
@@ -14,7 +14,7 @@ through-distributed : (batch : ℕ) (old new : State) → Took (Distribute batch
 through-distributed batch old new took through =
     let after : Distributes batch old new = distributes batch old new took in
     subst (λ (filters : Filters). All (IsThrough filters) new.scan.flights) (sym after.filters)
-    (subst (λ (scan : Scan). All (IsThrough old.filters) scan.flights) (sym after.scan)
+    (subst (λ (scan : ScanState). All (IsThrough old.filters) scan.flights) (sym after.scan)
     (All-filter (λ (flight : Flight). not (eqb flight.rows.number batch)) (IsThrough old.filters) old.scan.flights through))
 
 -- each distribution leaves the others through
@@ -55,4 +55,4 @@ landed-led old new through led none = none-in-flight new (through-led old new le
 
 -- they stay so through events that move no batch
 pub landed-stays : (event : Event) (old new : State) → IsStill event → Took event old new → old.scan.flights ≡ [] → new.scan.flights ≡ []
-landed-stays event old new still took landed = ap (λ (scan : Scan). scan.flights) (still-leaves event old new still took).scan ∙ landed
+landed-stays event old new still took landed = ap (λ (scan : ScanState). scan.flights) (still-leaves event old new still took).scan ∙ landed

@@ -1,5 +1,5 @@
 -- How the way of a scan begins.
-use Rattle.core_driver.proofs.Words.{◌*◌, ◌<◌, ◌∙◌, ◌≡◌, ◌≤◌, All, ap, arith, BeganAt, cases_lt, first_cases, first_in, first_of, get_or, inl, inr, IsLed, IsLeft, IsLeftBetween, IsOfAdmission, IsOnItsWay, IsRunning, IsSound, IsWithin, length, Life, QueryLife, refl, Scan, SomeRuns, State, subst, sym, tables_by, versions_in, ℕ, ⊎_elim}
+use Rattle.core_driver.proofs.Words.{◌*◌, ◌<◌, ◌∙◌, ◌≡◌, ◌≤◌, All, ap, arith, BeganAt, cases_lt, first_cases, first_in, first_of, get_or, inl, inr, IsLed, IsLeft, IsLeftBetween, IsOfAdmission, IsOnItsWay, IsRunning, IsSound, EndsWithin, length, Life, QueryLife, refl, ScanState, SomeRuns, State, subst, sym, tables_by, versions_in, ℕ, ⊎_elim}
 use Rattle.pipeline_manager.specs.declared.life.Life.TheVariants as life
 use Rattle.core_driver.proofs.LapAdmitLemmas.{Admitted, AllBegan, admitted}
 use Rattle.core_driver.proofs.LapQueryLemmas.{OfQuery, all-none, each-query}
@@ -46,7 +46,7 @@ way-above state sound above began =
     }))
 
 -- so many positions are cut at most where all queries that run began where the scan stands
-pub within-began : (state : State) → IsSound state → AllBegan (first_in state) state → IsWithin (versions_in state) state
+pub within-began : (state : State) → IsSound state → AllBegan (first_in state) state → EndsWithin (versions_in state) state
 within-began state sound began = ⊎_elim
     (λ above. record {
       end = first_in state;
@@ -62,7 +62,7 @@ within-began state sound began = ⊎_elim
     }) (cases_lt 0 (first_in state))
 
 -- and so many wherever they began
-pub within-any : (state : State) → IsWithin (2 * versions_in state) state
+pub within-any : (state : State) → EndsWithin (2 * versions_in state) state
 within-any state =
     record { end = versions_in state; most = 2 * versions_in state; way = way-of state; enough = omega arith }
 
@@ -83,7 +83,7 @@ versions-admitted old new admits = ap (λ entries. length (tables_by entries).ve
 -- the next cut begins where it did
 pub first-admitted : (old new : State) → Admitted old new → first_in new ≡ first_in old
 first-admitted old new admits =
-    ap (λ (scan : Scan). first_of scan.position (versions_in new)) admits.scan
+    ap (λ (scan : ScanState). first_of scan.position (versions_in new)) admits.scan
     ∙ ap (first_of old.scan.position) (versions-admitted old new admits)
 
 -- admissions one after the other

@@ -1,5 +1,5 @@
 -- An event of a round other than a cut leaves the table and where the scan stands, and begins no query.
-use Rattle.core_driver.proofs.Words.{◌∙◌, ◌≡◌, after_cleared, after_end, after_free, after_spoil, ap, Clear, Clearing, Distribute, Event, Finish, fold, Free, Give, given_up, Held, inr, IsLed, IsOfLanding, IsStill, length, length-set, List, Lives, refl, Release, Reorder, Scan, slot_at, SlotState, State, subst, sym, Take, Took, without_dimension, ℕ, ⊎_elim}
+use Rattle.core_driver.proofs.Words.{◌∙◌, ◌≡◌, after_cleared, after_end, after_free, after_spoil, ap, Clear, Clearing, Distribute, Event, Finish, fold, Free, Give, given_up, Held, inr, IsLed, IsOfLanding, IsStill, length, length-set, List, Lives, refl, Release, Reorder, ScanState, slot_at, SlotState, State, subst, sym, Take, Took, without_dimension, ℕ, ⊎_elim}
 use Rattle.core_state.proofs.WholeLivesLemmas.{slots-spoiled}
 use Rattle.core_driver.proofs.LapEndsLemmas.{Ends, ends-answer, ends-both, ends-same, ends-spoiled}
 use Rattle.core_driver.proofs.LedLemmas.{led-holds}
@@ -52,7 +52,7 @@ lands-still event old new still took lives =
     let left : LeavesBatches old new = still-leaves event old new still took in
     record {
       entries = left.entries;
-      position = ap (λ (scan : Scan). scan.position) left.scan;
+      position = ap (λ (scan : ScanState). scan.position) left.scan;
       slots = lives.slots;
       ends = lives.ends;
     }
@@ -69,7 +69,7 @@ lands-distributes batch old new done =
     let lives : LandsLives old.lives new.lives = subst (LandsLives old.lives) (sym done.lives) (lives-spoiled done.spoiled old.lives) in
     record {
       entries = done.entries;
-      position = ap (λ (scan : Scan). scan.position) done.scan;
+      position = ap (λ (scan : ScanState). scan.position) done.scan;
       slots = lives.slots;
       ends = lives.ends;
     }

@@ -1,5 +1,5 @@
 -- The events of a round leave a scan that is on its way on its way.
-use Rattle.core_driver.proofs.Words.{◌-◌, ◌∙◌, ◌≡◌, ◌≤◌, after_cutting, All, ap, arith, BeganAt, CameRound, Cut, first_in, first_of, inl, inr, IsEnd, IsLedCutting, IsLeftBetween, IsOfRound, IsOnItsWay, IsSound, IsToComeRound, IsWithin, MayCut, positions_of, State, StepsKeep, subst, sym, Took, versions_in, ℕ, ⊎_elim}
+use Rattle.core_driver.proofs.Words.{◌-◌, ◌∙◌, ◌≡◌, ◌≤◌, after_cutting, All, ap, arith, BeganAt, CameRound, Cut, first_in, first_of, inl, inr, IsEnd, IsLedCutting, IsLeftBetween, IsOfRound, IsOnItsWay, IsSound, IsToComeRound, EndsWithin, MayCut, positions_of, State, StepsKeep, subst, sym, Took, versions_in, ℕ, ⊎_elim}
 use Rattle.core_driver.proofs.CuttingLemmas.{SpendsEach, landing-cuts, led-spends}
 use Rattle.core_driver.proofs.LapCutLemmas.{CutsOn, cut_of, cuts-on}
 use Rattle.core_driver.proofs.LapEndsLemmas.{all-ends, over-began, over-between}
@@ -56,7 +56,7 @@ way-land end most old new lands way = ⊎_elim
     (λ came. inr (came-land end most old new lands came)) on)) way
 
 -- the way ends within as many positions
-within-land : (left : ℕ) (old new : State) → Lands old new → IsWithin left old → IsWithin left new
+within-land : (left : ℕ) (old new : State) → Lands old new → EndsWithin left old → EndsWithin left new
 within-land left old new lands within = record {
   end = within.end;
   most = within.most;
@@ -65,8 +65,8 @@ within-land left old new lands within = record {
 }
 
 -- a cut takes its positions from the way
-within-cut : (left : ℕ) (old : State) → IsSound old → MayCut old → IsSound (after_cutting old) → IsWithin left old
-    → (positions_of Cut old ≤ left) × IsWithin (left - positions_of Cut old) (after_cutting old)
+within-cut : (left : ℕ) (old : State) → IsSound old → MayCut old → IsSound (after_cutting old) → EndsWithin left old
+    → (positions_of Cut old ≤ left) × EndsWithin (left - positions_of Cut old) (after_cutting old)
 within-cut left old sound may later within =
     let on : CutsOn within.end within.most old = cuts-on within.end within.most old sound may later within.way in
     let all = within.enough in
@@ -74,24 +74,24 @@ within-cut left old sound may later within =
     ((omega arith), record { end = within.end; most = within.most - cut_of old; way = on.way; enough = omega arith })
 
 -- an event of a round
-within-round : StepsKeep → SpendsEach IsOfRound IsWithin
+within-round : StepsKeep → SpendsEach IsOfRound EndsWithin
 within-round keep event left old new one sound =
-    by-round (λ event. Took event old new → IsWithin left old
-    → (positions_of event old ≤ left) × IsWithin (left - positions_of event old) new)
+    by-round (λ event. Took event old new → EndsWithin left old
+    → (positions_of event old ≤ left) × EndsWithin (left - positions_of event old) new)
     (λ took within.
     let done = cut-done old new took in
     let later : IsSound (after_cutting old) = subst IsSound done (took-sound keep Cut old new took sound) in
     let cut = within-cut left old sound took.enabled later within in
-    (cut.0, subst (IsWithin (left - positions_of Cut old)) (sym done) cut.1))
+    (cut.0, subst (EndsWithin (left - positions_of Cut old)) (sym done) cut.1))
     (λ other landing took within.
     let none = landing-cuts other old landing in (
       (omega arith),
-      subst (λ n. IsWithin n new) (let same : left ≡ left - positions_of other old = omega arith in same)
+      subst (λ n. EndsWithin n new) (let same : left ≡ left - positions_of other old = omega arith in same)
           (within-land left old new (lands-taken other old new landing took) within),
     ))
     event one
 
 -- a round leaves the scan on its way, by as many positions as were cut
-pub round-within : StepsKeep → (cut left : ℕ) (old new : State) → IsLedCutting IsOfRound cut old new → IsSound old → IsWithin left old
-    → (cut ≤ left) × IsWithin (left - cut) new
-round-within keep = led-spends keep IsOfRound IsWithin (within-round keep)
+pub round-within : StepsKeep → (cut left : ℕ) (old new : State) → IsLedCutting IsOfRound cut old new → IsSound old → EndsWithin left old
+    → (cut ≤ left) × EndsWithin (left - cut) new
+round-within keep = led-spends keep IsOfRound EndsWithin (within-round keep)

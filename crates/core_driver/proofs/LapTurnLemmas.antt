@@ -1,5 +1,5 @@
 -- How many positions are cut in turns, where there is a slot for each query.
-use Rattle.core_driver.proofs.Words.{◌*◌, ◌-◌, ◌≡◌, ◌≤◌, Admits, arith, first_in, HasLap, inl, inr, IsLanded, IsLed, IsLedCutting, IsOfAdmission, IsOfLanding, IsOfRound, IsSound, IsWithin, length, State, StepsKeep, subst, sym, unfinished_in, versions_in, ℕ, ⊎_elim}
+use Rattle.core_driver.proofs.Words.{◌*◌, ◌-◌, ◌≡◌, ◌≤◌, Admits, arith, first_in, HasLap, inl, inr, IsLanded, IsLed, IsLedCutting, IsOfAdmission, IsOfLanding, IsOfRound, IsSound, EndsWithin, length, State, StepsKeep, subst, sym, unfinished_in, versions_in, ℕ, ⊎_elim}
 use Rattle.core_driver.specs.Lap.{HasBegun, IsBound, IsToBegin}
 use Rattle.core_driver.proofs.CuttingLemmas.{led-of}
 use Rattle.core_driver.proofs.LapAdmitLemmas.{Admitted, AllBegan}
@@ -25,16 +25,16 @@ lap-lands keep bound from state sound led lands few bounds =
     })
 
 -- how far the scan goes from a state in which all are admitted
-begins-within : (left : ℕ) (old mid : State) → IsSound mid → IsToBegin left old → Admitted old mid → IsWithin left mid
+begins-within : (left : ℕ) (old mid : State) → IsSound mid → IsToBegin left old → Admitted old mid → EndsWithin left mid
 begins-within left old mid sound begins admits =
     let same : versions_in mid ≡ versions_in old = versions-admitted old mid admits in
     ⊎_elim
-    (λ twice. subst (λ n. IsWithin n mid) (let is : 2 * versions_in mid ≡ left = omega arith in is) (within-any mid))
+    (λ twice. subst (λ n. EndsWithin n mid) (let is : 2 * versions_in mid ≡ left = omega arith in is) (within-any mid))
     (λ once.
     let began : AllBegan (first_in mid) mid = subst (λ start. AllBegan start mid) (sym (first-admitted old mid admits))
     (admits.began (began-none (first_in old) old once.1)) in
     let one = once.0 in
-    subst (λ n. IsWithin n mid) (let is : versions_in mid ≡ left = omega arith in is) (within-began mid sound began)) begins.is_bound
+    subst (λ n. EndsWithin n mid) (let is : versions_in mid ≡ left = omega arith in is) (within-began mid sound began)) begins.is_bound
 
 -- once all are admitted, the lap has begun
 begun : StepsKeep → (left : ℕ) (old mid : State) → IsSound old → HasLap left old → Admits old mid → HasBegun left mid

@@ -1,5 +1,5 @@
 -- Events by which batches pass filters, and a new order, leave lives, tables and the scan, and as much work.
-use Rattle.core_driver.proofs.Words.{◌∙◌, ◌≡◌, all_to_cut, ap, Build, by-option, Distribute, Event, find, Give, inr, IsSpoilt, length, List, Lives, refl, Reorder, Scan, State, steps_to_free, subst, sum_by, sym, tables_by, Take, Took, work_in, ℕ, ⊎_elim}
+use Rattle.core_driver.proofs.Words.{◌∙◌, ◌≡◌, all_to_cut, ap, Build, by-option, Distribute, Event, find, Give, inr, IsSpoilt, length, List, Lives, refl, Reorder, ScanState, State, steps_to_free, subst, sum_by, sym, tables_by, Take, Took, work_in, ℕ, ⊎_elim}
 use Rattle.std.proofs.lemmas.List.{length-map}
 use Rattle.core_state.specs.Events.{after_event}
 use Rattle.core_state.specs.Found.{is_held_by}
@@ -69,4 +69,4 @@ reordered-lives old new took = ⊎_elim (λ same. same) (λ never. absurd never)
 pub work-reordered : (old new : State) → Took Reorder old new → work_in new ≡ work_in old
 work-reordered old new took =
     let left : LeavesBatches old new = still-leaves Reorder old new tt took in
-    same-work old new (reordered-lives old new took) left.entries (ap (λ (scan : Scan). scan.position) left.scan) (ap (λ (scan : Scan). length scan.flights) left.scan)
+    same-work old new (reordered-lives old new took) left.entries (ap (λ (scan : ScanState). scan.position) left.scan) (ap (λ (scan : ScanState). length scan.flights) left.scan)

@@ -1,5 +1,5 @@
 -- Where a query runs and a frame is free, a batch is cut, and the count of positions rises.
-use Rattle.core_driver.proofs.Words.{◌+◌, ◌-◌, ◌<◌, ◌∙◌, ◌∷◌, ◌≡◌, ◌≤◌, ◌⊎◌, [], Abandon, All, All-head, All-tail, ap, arith, Carry, cases_lt, Cut, cuts, Distribute, end_in, Event, first_in, Give, inl, inr, IsDriven, IsLed, IsLedCutting, IsOfAdmission, IsRunning, IsSomeAnd, IsSound, life-runs, life_of, List, MayCut, positions_of, refl, Rises, Runs, Scan, Some, some-runs, State, StepsKeep, Submit, subst, sym, Take, Took, TookCutting, ℕ, ⊎_elim}
+use Rattle.core_driver.proofs.Words.{◌+◌, ◌-◌, ◌<◌, ◌∙◌, ◌∷◌, ◌≡◌, ◌≤◌, ◌⊎◌, [], Abandon, All, All-head, All-tail, ap, arith, Carry, cases_lt, Cut, cuts, Distribute, end_in, Event, first_in, Give, inl, inr, IsDriven, IsLed, IsLedCutting, IsOfAdmission, IsRunning, IsSomeAnd, IsSound, life-runs, life_of, List, MayCut, positions_of, refl, Rises, Runs, ScanState, Some, some-runs, State, StepsKeep, Submit, subst, sym, Take, Took, TookCutting, ℕ, ⊎_elim}
 use Rattle.pipeline_manager.specs.declared.life.Life.TheVariants as life
 use Rattle.core_state.specs.Events.{after_event}
 use Rattle.core_state.specs.Numbered.{counted, last_number}
@@ -13,7 +13,7 @@ use Rattle.core_driver.proofs.TakenLemmas.{distributes, still-admission, still-l
 same-free : (old new : State) → IsLed IsOfAdmission old new → new.scan.free ≡ old.scan.free
 same-free old new led = led-holds IsOfAdmission (λ state. state.scan.free ≡ old.scan.free)
     (λ event before after admits took same.
-    ap (λ (scan : Scan). scan.free) (still-leaves event before after (still-admission event admits) took).scan ∙ same)
+    ap (λ (scan : ScanState). scan.free) (still-leaves event before after (still-admission event admits) took).scan ∙ same)
     old new led refl
 
 -- where a batch may be cut, one may be cut after an admission
@@ -59,9 +59,9 @@ count-same Cut old new driven took = inl refl
 count-same (Take worker batch) old new driven took = inr (took-hands (Take worker batch) old new tt took).cut
 count-same (Carry worker batch) old new driven took = absurd (⊎_elim (λ never. never) (λ never. never) driven)
 count-same (Give worker) old new driven took = inr (took-hands (Give worker) old new tt took).cut
-count-same (Distribute batch) old new driven took = inr (ap (λ (scan : Scan). scan.cut) (distributes batch old new took).scan)
+count-same (Distribute batch) old new driven took = inr (ap (λ (scan : ScanState). scan.cut) (distributes batch old new took).scan)
 count-same (Abandon query) old new driven took = absurd (⊎_elim (λ never. never) (λ never. never) driven)
-count-same other old new driven took = inr (ap (λ (scan : Scan). scan.cut) (still-leaves other old new tt took).scan)
+count-same other old new driven took = inr (ap (λ (scan : ScanState). scan.cut) (still-leaves other old new tt took).scan)
 
 -- none lowers it
 rises-same : (event : Event) (old new : State) → IsDriven event → IsSound old → Took event old new → (count : ℕ) → Rises count old.scan.cut

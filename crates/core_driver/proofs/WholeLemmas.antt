@@ -1,5 +1,5 @@
 -- What a whole turn leaves, by its two halves: an admission, and a round.
-use Rattle.core_driver.proofs.Words.{◌<◌, ◌∷◌, ◌≡◌, ◌⊎◌, [], Admits, All, All-cons, All-nil, ap, arith, Build, Cut, Event, EventKind, Free, get_or, inl, inr, is_free, IsDriven, IsEnabled, IsLanded, IsLed, IsOfAdmission, IsOfRound, IsSettled, IsSome, IsSound, kind_of, length, List, MayCut, MayGoOn, None, Option, position-Some, refl, Reserve, Rises, Scan, SlotState, Some, Start, State, StepsKeep, subst, sym, TookSome, work_in, ℕ, ⊎_elim}
+use Rattle.core_driver.proofs.Words.{◌<◌, ◌∷◌, ◌≡◌, ◌⊎◌, [], Admits, All, All-cons, All-nil, ap, arith, Build, Cut, Event, EventKind, Free, get_or, inl, inr, is_free, IsDriven, IsEnabled, IsLanded, IsLed, IsOfAdmission, IsOfRound, IsSettled, IsSome, IsSound, kind_of, length, List, MayCut, MayGoOn, None, Option, position-Some, refl, Reserve, Rises, ScanState, SlotState, Some, Start, State, StepsKeep, subst, sym, TookSome, work_in, ℕ, ⊎_elim}
 use Rattle.std.specs.Prelude.{false, position, true}
 use Rattle.event_core.specs.declared.choosing.EventKind.TheVariants as kind
 use Rattle.core_driver.specs.Driven.{AdmitsOldest}
@@ -44,7 +44,7 @@ turn-admits keep old mid new sound admits led = λ query oldest free.
 pub turn-rises : StepsKeep → (old mid new : State) → IsSound old → Admits old mid → (MayCut mid → Rises mid.scan.cut new.scan.cut)
     → MayCut old → Rises old.scan.cut new.scan.cut
 turn-rises keep old mid new sound admits rises may =
-    subst (λ count. Rises count new.scan.cut) (ap (λ (scan : Scan). scan.cut) (led-admitted old mid admits.led).scan)
+    subst (λ count. Rises count new.scan.cut) (ap (λ (scan : ScanState). scan.cut) (led-admitted old mid admits.led).scan)
     (rises (cut-stays keep old mid admits.led sound may))
 
 -- a kind of events by which queries go on

@@ -36,7 +36,7 @@ pub use Rattle.core_state.specs.Cutting.{after_cutting, end_in, first_in}
 pub use Rattle.core_state.specs.Events.{IsEnabled, IsThrough, MayCut}
 pub use Rattle.core_state.specs.Found.{accepted_at, flight_at}
 pub use Rattle.core_state.specs.Sound.{IsNext, IsSound}
-pub use Rattle.core_state.specs.State.{Accepted, Flight, Scan, State}
+pub use Rattle.core_state.specs.State.{Accepted, Flight, ScanState, State}
 pub use Rattle.core_state.specs.Tables.{tables_by, tables_of, versions_in}
 pub use Rattle.core_state.specs.declared.event.Event.{Event}
 pub use Rattle.core_state.specs.declared.event.Event.TheVariants.{Abandon, Build, Carry, Clear, Cut, Distribute, Finish, Give, Release, Reorder, Reserve, Start, Submit, Take}
@@ -45,5 +45,5 @@ pub use Rattle.event_core.specs.Seen.{state_of}
 pub use Rattle.event_core.specs.Took.{IsLed, IsSpoilt, Took, TookAll}
 pub use Rattle.event_core.specs.declared.choosing.EventKind.{EventKind}
 pub use Rattle.core_driver.specs.Driven.{Admits, AnswersAll, AreTurns, CutsAll, IsCut, IsDriven, IsFinished, IsFreeOrRuns, IsFreeOrUnderWay, IsLanded, IsOfAdmission, IsOfLanding, IsOfRound, IsOfSome, IsReorder, IsRound, IsSettled, IsTurn, IsUnderWay, IsWholeTurn, LandsAndTurns, MayGoOn, NoneOfMayCome, Rises}
-pub use Rattle.core_driver.specs.Lap.{BeganAt, CameRound, HasLap, HasSlotsForAll, is_to_start, is_unfinished, IsEnd, IsLedCutting, IsLeftBetween, IsOnItsWay, IsToComeRound, IsWithin, NoneIsToStart, positions_of, SharesLap, SomeRuns, TookCutting, unfinished_in}
+pub use Rattle.core_driver.specs.Lap.{BeganAt, CameRound, HasLap, HasSlotsForAll, is_to_start, is_unfinished, IsEnd, IsLedCutting, IsLeftBetween, IsOnItsWay, IsToComeRound, EndsWithin, NoneIsToStart, positions_of, SharesLap, SomeRuns, TookCutting, unfinished_in}
 pub use Rattle.core_driver.specs.Work.{all_to_cut, steps_to_free, TookSome, work_in}

@@ -1,5 +1,5 @@
 -- Each event that is taken by its kind leaves less work.
-use Rattle.core_driver.proofs.Words.{◌+◌, ◌<◌, ◌∙◌, ◌≡◌, after_spoil, All, All-map, all_to_cut, ap, arith, Build, Clear, Cut, Distribute, Event, EventKind, false, Finish, first_of, Flight, flight_at, fold, inl, inr, IsDriven, IsOfKind, IsSome, IsSound, IsStill, length, Lives, lives_by, None, Option, refl, Release, Reserve, Scan, Some, Spoils, Start, State, steps_to_free, subst, sum_by, sym, tables_of, Took, true, versions_in, without_flight, work_in, ℕ, ⊎_elim}
+use Rattle.core_driver.proofs.Words.{◌+◌, ◌<◌, ◌∙◌, ◌≡◌, after_spoil, All, All-map, all_to_cut, ap, arith, Build, Clear, Cut, Distribute, Event, EventKind, false, Finish, first_of, Flight, flight_at, fold, inl, inr, IsDriven, IsOfKind, IsSome, IsSound, IsStill, length, Lives, lives_by, None, Option, refl, Release, Reserve, ScanState, Some, Spoils, Start, State, steps_to_free, subst, sum_by, sym, tables_of, Took, true, versions_in, without_flight, work_in, ℕ, ⊎_elim}
 use Rattle.std.proofs.lemmas.List.Elements.{All-contains}
 use Rattle.core_state.specs.Events.{after_event}
 use Rattle.core_state.specs.State.{FilterVersion}
@@ -30,7 +30,7 @@ fewer-steps old new left less =
     (steps_in old.lives.queries) (sum_by steps_to_free old.lives.slots) (length old.scan.flights)
     (steps_in new.lives.queries) (sum_by steps_to_free new.lives.slots) (length old.scan.flights) less.cut (let steps = less.steps in omega arith) in
     let same : work_in new ≡ work_by new.lives old.entries old.scan.position (length old.scan.flights) =
-    ap (λ (scan : Scan). work_by new.lives new.entries scan.position (length scan.flights)) left.scan
+    ap (λ (scan : ScanState). work_by new.lives new.entries scan.position (length scan.flights)) left.scan
     ∙ ap (λ entries. work_by new.lives entries old.scan.position (length old.scan.flights)) left.entries in
     subst (λ work. work < work_in old) (sym same) falls
 
@@ -68,7 +68,7 @@ work-distributed batch old new sound took =
     (steps_in spoils.queries) (sum_by steps_to_free spoils.slots) (length (without_flight batch old.scan.flights))
     no_more.cut (let steps = no_more.steps in omega arith) in
     let same : work_in new ≡ work_by spoils old.entries old.scan.position (length (without_flight batch old.scan.flights)) =
-    ap (λ (scan : Scan). work_by new.lives new.entries scan.position (length scan.flights)) after.scan
+    ap (λ (scan : ScanState). work_by new.lives new.entries scan.position (length scan.flights)) after.scan
     ∙ ap (λ entries. work_by new.lives entries old.scan.position (length (without_flight batch old.scan.flights))) after.entries
     ∙ ap (λ lives. work_by lives old.entries old.scan.position (length (without_flight batch old.scan.flights))) after.lives in
     subst (λ work. work < work_in old) (sym same) falls

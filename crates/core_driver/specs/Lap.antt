@@ -73,7 +73,7 @@ abbrev pub IsOnItsWay : (end most : ℕ) → State → Type 0
 IsOnItsWay end most state = (SomeRuns state → ⊥) ⊎ (IsToComeRound end most state ⊎ CameRound end most state)
 
 -- the scan is on its way, at whose end at most so many positions more were cut
-pub record IsWithin (left : ℕ) (state : State) : Type 0 where
+pub record EndsWithin (left : ℕ) (state : State) : Type 0 where
   pub end : ℕ
   pub most : ℕ
   pub way : IsOnItsWay end most state
@@ -91,7 +91,7 @@ pub record IsToBegin (left : ℕ) (state : State) : Type 0 where
 -- the lap has begun: no query is to begin to run any more, and the scan is on its way
 pub record HasBegun (left : ℕ) (state : State) : Type 0 where
   pub none : NoneIsToStart state
-  pub within : IsWithin left state
+  pub within : EndsWithin left state
 
 -- the lap in which at most so many positions more are cut is to begin, or has begun
 abbrev pub HasLap : (left : ℕ) → State → Type 0

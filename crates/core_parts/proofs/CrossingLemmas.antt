@@ -8,10 +8,10 @@ use Rattle.star_plan.specs.contracts.star_query.StarQuery as query
 use Rattle.aggregations.proofs.groups.Groups.TheSendSync as groups
 use Rattle.continuous_scan.proofs.CrossingLemmas.{option_send, query_send, query_sync}
 use Rattle.core_parts.proofs.home.Home.TheSendSync as home
-use Rattle.core_parts.proofs.numbers.Numbers.TheSendSync as numbers
+use Rattle.core_parts.proofs.version_numbers.VersionNumbers.TheSendSync as numbers
 use Rattle.core_parts.proofs.submitted.Submitted.TheSendSync as submitted
-use Rattle.core_parts.specs.contracts.asked.Asked as asked
-use Rattle.core_parts.specs.contracts.asked.Asked.TheInside as inside_asked
+use Rattle.core_parts.specs.contracts.accepted_query.AcceptedQuery as asked
+use Rattle.core_parts.specs.contracts.accepted_query.AcceptedQuery.TheInside as inside_asked
 use Rattle.core_parts.specs.contracts.flight.Flight as flight
 use Rattle.core_parts.specs.contracts.flight.Flight.TheInside as inside_flight
 use Rattle.core_parts.specs.contracts.flight.Stand as stand

@@ -4,7 +4,7 @@ ghost use Rattle.continuous_scan.specs.Blanks.{asked_by};
 ghost use Rattle.core_parts.specs.Seen.{seen_of, written};
 
 use crate::hand::Hand;
-use crate::numbers::Numbers;
+use crate::version_numbers::VersionNumbers;
 use batch_flow::Batch;
 use bit_words::Bits;
 use continuous_scan::{Blank, Scan};
@@ -21,7 +21,7 @@ pub(crate) struct Lent {
     worker: u32,
     number: u64,
     roster: Bits<1>,
-    version_numbers: Numbers,
+    version_numbers: VersionNumbers,
     batch: Seen,
     versions: Snapshot<Versions>,
 }
@@ -68,7 +68,7 @@ impl Lent {
             worker: hand.worker(),
             number: batch.number(),
             roster: batch.roster(),
-            version_numbers: Numbers::of_versions(versions),
+            version_numbers: VersionNumbers::of_versions(versions),
             batch: Seen::Written(Snapshot::of(batch)),
             versions: Snapshot::of(versions),
         }
@@ -93,7 +93,7 @@ impl Lent {
             worker: hand.worker(),
             number: blank.number(),
             roster: blank.roster(),
-            version_numbers: Numbers::of_versions(versions),
+            version_numbers: VersionNumbers::of_versions(versions),
             batch: Seen::Unwritten {
                 blank: Snapshot::of(blank),
                 scan,
@@ -122,7 +122,7 @@ impl Lent {
     }
 
     /// The numbers of the versions in the hand.
-    pub(crate) fn version_numbers(&self) -> &Numbers
+    pub(crate) fn version_numbers(&self) -> &VersionNumbers
         ensures { result.now ≡ map (λ version. version.number) self.now.hand.versions }
     {
         &self.version_numbers

@@ -2,7 +2,7 @@
 //! them may come next, seats and accepted queries.
 #![tactic(auto)]
 
-mod asked;
+mod accepted_query;
 mod crossing;
 mod flight;
 pub mod flights;
@@ -10,17 +10,19 @@ mod hand;
 mod home;
 mod lent;
 mod next_flights;
-mod numbers;
 mod passing;
 mod queries;
 mod seat;
 mod submitted;
+mod version_numbers;
 
-pub use asked::Asked;
+pub use accepted_query::AcceptedQuery;
 pub use crossing::{
     filters_may_be_shared, flights_may_be_sent, queries_may_be_sent, seats_may_be_sent,
 };
-pub use filter_order::{Filters, MAX_FILTERS, References, Spares, Tallies, Version, Versions};
+pub use filter_order::{
+    DropTallies, FilterVersion, Filters, MAX_FILTERS, References, Spares, Versions,
+};
 pub use flight::{Flight, MAX_SLOTS};
 pub use flights::Flights;
 pub use hand::Hand;

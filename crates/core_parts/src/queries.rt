@@ -1,4 +1,4 @@
-//! The accepted queries in the order of their numbers, which rise. One query is in `asked`.
+//! The accepted queries in the order of their numbers, which rise. One query is in `accepted_query`.
 ghost use Rattle.std.specs.Prelude.{◌≡◌, ◌+◌, ◌<◌, ◌≤◌, ◌==◌, [], ◌∷◌, ◌++◌, All, Contains, find, length, position, slice_get, take, true, IsSome, IsTrue, IfSome, None, Some, OnOk};
 ghost use Rattle.std.specs.Arc.{arc_value};
 ghost use Rattle.std.specs.List.Sorted.{IsPartitionPoint};
@@ -6,7 +6,7 @@ ghost use Rattle.std.specs.Option.{option_and_then, option_map_or};
 ghost use Rattle.core_parts.specs.LetGo.{AreDone, IsDone, IsForgotten};
 ghost use Rattle.core_parts.specs.Asked.{AreFinished, AreRising, IsNoneOf, IsNotAmong, IsOver, asked_at, asked_in, handed_in, with_kept_at};
 
-use crate::asked::Asked;
+use crate::accepted_query::AcceptedQuery;
 use aggregations::Groups;
 use pipeline_manager::{Life, Manager};
 use star_plan::StarQuery;
@@ -21,7 +21,7 @@ use std::sync::Arc;
 /// Only `reserve` takes memory.
 #[derive(Debug, Drop)]
 pub struct Queries {
-    asked: Fading<Asked>,
+    asked: Fading<AcceptedQuery>,
 
     /// How often queries were to be let go since the front was looked at. It is looked at once for as many as a half of those
     /// that stand, so that all looks together take time in their number.
@@ -73,7 +73,7 @@ impl Queries {
     }
 
     /// Puts a query behind the others, into room that was reserved. It was not handed on.
-    pub fn push(&mut self, query: Asked)
+    pub fn push(&mut self, query: AcceptedQuery)
         requires room { 0 < self.old.room }
         requires whole { query.whole ≡ true }
         ensures items { self.new.items ≡ self.old.items ++ query.asked ∷ [] }
@@ -84,7 +84,7 @@ impl Queries {
     }
 
     /// The query of a number, which was not let go. It is whole unless it was handed on.
-    pub fn asked_of(&self, number: u64) -> &Asked
+    pub fn asked_of(&self, number: u64) -> &AcceptedQuery
         requires rising { AreRising self.now.items }
         requires there { IsSome (asked_at self.now.items number) }
         requires stands { IsNotAmong self.now.gone number }
@@ -156,7 +156,7 @@ impl Queries {
 }
 
 /// The place of the accepted query of a number.
-fn place_of(asked: &[Asked], number: u64) -> Option<usize>
+fn place_of(asked: &[AcceptedQuery], number: u64) -> Option<usize>
     requires { AreRising (asked_in asked.now) }
     ensures place { result ≡ position (λ entry. entry.asked.number == number) asked.now }
     ensures there { option_and_then (slice_get asked.now) result ≡ find (λ entry. entry.asked.number == number) asked.now }
@@ -170,7 +170,7 @@ fn place_of(asked: &[Asked], number: u64) -> Option<usize>
 }
 
 /// The place of the first query with this number or a greater one.
-fn first_from(asked: &[Asked], number: u64) -> usize
+fn first_from(asked: &[AcceptedQuery], number: u64) -> usize
     requires { AreRising (asked_in asked.now) }
     ensures bound { result ≤ length asked.now }
     ensures halves { IsPartitionPoint (λ entry. entry.asked.number < number) (λ entry. number ≤ entry.asked.number) asked.now result }
@@ -179,7 +179,7 @@ fn first_from(asked: &[Asked], number: u64) -> usize
 }
 
 /// The accepted query of a number.
-fn asked_of(asked: &[Asked], number: u64) -> &Asked
+fn asked_of(asked: &[AcceptedQuery], number: u64) -> &AcceptedQuery
     requires rising { AreRising (asked_in asked.now) }
     requires there { IsSome (asked_at (asked_in asked.now) number) }
     ensures asked { asked_at (asked_in asked.now) number ≡ Some result.now.asked }
@@ -190,7 +190,7 @@ fn asked_of(asked: &[Asked], number: u64) -> &Asked
 }
 
 /// The snapshot of an accepted query, 0 where none has this number.
-fn snapshot_of(asked: &[Asked], number: u64) -> u64
+fn snapshot_of(asked: &[AcceptedQuery], number: u64) -> u64
     requires { AreRising (asked_in asked.now) }
     ensures { result ≡ option_map_or (λ entry. entry.snapshot) (asked_at (asked_in asked.now) number) 0 }
 {
@@ -201,7 +201,7 @@ fn snapshot_of(asked: &[Asked], number: u64) -> u64
 }
 
 /// Hands the query of a number on.
-fn hand_on(asked: &mut [Asked], number: u64) -> Arc<StarQuery, Global>
+fn hand_on(asked: &mut [AcceptedQuery], number: u64) -> Arc<StarQuery, Global>
     requires rising { AreRising (asked_in asked.old) }
     requires there { IsSome (asked_at (asked_in asked.old) number) }
     requires whole { IsNoneOf (handed_in asked.old) number }
@@ -215,7 +215,7 @@ fn hand_on(asked: &mut [Asked], number: u64) -> Arc<StarQuery, Global>
 }
 
 /// Lets the query of a number go, and what is kept beside it.
-fn give_up(asked: &mut [Asked], number: u64)
+fn give_up(asked: &mut [AcceptedQuery], number: u64)
     requires { AreRising (asked_in asked.old) }
     ensures length { length asked.new ≡ length asked.old }
     ensures items { asked_in asked.new ≡ with_kept_at number None (asked_in asked.old) }
@@ -227,7 +227,7 @@ fn give_up(asked: &mut [Asked], number: u64)
 }
 
 /// Keeps these groups, or none, beside the query of a number.
-fn keep(asked: &mut [Asked], number: u64, kept: Option<Groups>)
+fn keep(asked: &mut [AcceptedQuery], number: u64, kept: Option<Groups>)
     requires { AreRising (asked_in asked.old) }
     ensures length { length asked.new ≡ length asked.old }
     ensures items { asked_in asked.new ≡ with_kept_at number kept (asked_in asked.old) }
@@ -239,7 +239,7 @@ fn keep(asked: &mut [Asked], number: u64, kept: Option<Groups>)
 }
 
 /// Takes what is kept beside the query of a number away, if something is.
-fn take_kept(asked: &mut [Asked], number: u64) -> Option<Groups>
+fn take_kept(asked: &mut [AcceptedQuery], number: u64) -> Option<Groups>
     requires { AreRising (asked_in asked.old) }
     ensures groups { result ≡ option_and_then (λ entry. entry.kept) (asked_at (asked_in asked.old) number) }
     ensures length { length asked.new ≡ length asked.old }
@@ -251,7 +251,7 @@ fn take_kept(asked: &mut [Asked], number: u64) -> Option<Groups>
 }
 
 /// Lets the first queries go that are done, at one of so many calls.
-fn settle(asked: &mut Fading<Asked>, calls: &mut usize, manager: &Manager)
+fn settle(asked: &mut Fading<AcceptedQuery>, calls: &mut usize, manager: &Manager)
     ensures { IsForgotten manager.now asked.old asked.new }
 {
     *calls = calls.saturating_add(1);
@@ -263,7 +263,7 @@ fn settle(asked: &mut Fading<Asked>, calls: &mut usize, manager: &Manager)
 }
 
 /// Lets the first queries go that are over, and beside which nothing is kept.
-fn forget_done(asked: &mut Fading<Asked>, manager: &Manager)
+fn forget_done(asked: &mut Fading<AcceptedQuery>, manager: &Manager)
     ensures { IsForgotten manager.now asked.old asked.new }
 {
     let done = count_done(asked.rest(), manager);
@@ -271,7 +271,7 @@ fn forget_done(asked: &mut Fading<Asked>, manager: &Manager)
 }
 
 /// How many of the first queries are over and have nothing kept beside them.
-fn count_done(asked: &[Asked], manager: &Manager) -> usize
+fn count_done(asked: &[AcceptedQuery], manager: &Manager) -> usize
     ensures bound { result ≤ length asked.now }
     ensures done { AreDone manager.now (take result asked.now) }
 {
@@ -284,7 +284,7 @@ fn count_done(asked: &[Asked], manager: &Manager) -> usize
 }
 
 /// Whether a query is over, and nothing is kept beside it.
-fn is_done(asked: &Asked, manager: &Manager) -> bool
+fn is_done(asked: &AcceptedQuery, manager: &Manager) -> bool
     ensures { IsTrue result → IsDone manager.now asked.now }
 {
     asked.is_bare() && is_over(asked.number(), manager)

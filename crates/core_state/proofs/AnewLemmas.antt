@@ -1,5 +1,5 @@
 -- What stays sound where other groups are kept of accepted queries, and lives and seats are others.
-use Rattle.core_state.proofs.Words.{◌∙◌, ◌∷◌, ◌≡◌, [], Accepted, accepted_at, All, All-map, ap, AreSoundFilters, AreSoundHands, AreSoundQueries, AreSoundSeats, AreSoundSlots, arith, Bool, cond, Contains, Contains-get_or, Encodes, eqb, false, Filter, FitsSlot, Flight, forgotten, frame_words, get_or, Grouped, HasAccepted, Held, IfSome, IsSomeAnd, IsSound, IsSoundAccepted, IsSoundBatch, IsSoundHand, IsSoundQuery, length, List, map, None, Option, option_map, Query, query_in, QueryLife, refl, rows_in, Scan, Seat, slot_at, SlotState, Some, State, Store, subst, sym, tables_of, true, ℕ}
+use Rattle.core_state.proofs.Words.{◌∙◌, ◌∷◌, ◌≡◌, [], Accepted, accepted_at, All, All-map, ap, AreSoundFilters, AreSoundHands, AreSoundQueries, AreSoundSeats, AreSoundSlots, arith, Bool, cond, Contains, Contains-get_or, Encodes, eqb, false, Filter, FitsSlot, Flight, forgotten, frame_words, get_or, Grouped, HasAccepted, Held, IfSome, IsSomeAnd, IsSound, IsSoundAccepted, IsSoundBatch, IsSoundHand, IsSoundQuery, length, List, map, None, Option, option_map, Query, query_in, QueryLife, refl, rows_in, ScanState, Seat, slot_at, SlotState, Some, State, Store, subst, sym, tables_of, true, ℕ}
 use Rattle.core_state.proofs.FrameLemmas.{LivesAs, StaysOnRoster, batches-with, filter-with, query-with}
 
 -- a change of what is kept of accepted queries, and of nothing else of them
@@ -16,7 +16,7 @@ forgets query accepted = by_test (eqb accepted.number query)
     by_test false = (accepted.groups, refl)
 
 -- the core that keeps other groups, with other lives, other seats and another scan
-abbrev pub kept_anew : State → (Accepted → Accepted) → List QueryLife → List Seat → Scan → State
+abbrev pub kept_anew : State → (Accepted → Accepted) → List QueryLife → List Seat → ScanState → State
 kept_anew state change queries seats scan = record state {
   seats = seats;
   accepted = map change state.accepted;
@@ -74,7 +74,7 @@ fits-anew store accepted change keeps filter slot (Held number built) fits = (
 )
 fits-anew store accepted change keeps filter slot other fits = fits
 
-pub filters-anew : (state : State) (change : Accepted → Accepted) → KeepsAsked change → (queries : List QueryLife) (seats : List Seat) (scan : Scan) → AreSoundFilters state
+pub filters-anew : (state : State) (change : Accepted → Accepted) → KeepsAsked change → (queries : List QueryLife) (seats : List Seat) (scan : ScanState) → AreSoundFilters state
     → AreSoundFilters (kept_anew state change queries seats scan)
 filters-anew state change keeps queries seats scan old = record {
   each = λ k d low.
@@ -102,7 +102,7 @@ batches-anew state change keeps queries flights stays old =
       extent = (stays entry.number).1 ∙ on.extent;
     }) old
 
-pub hands-anew : (state : State) (change : Accepted → Accepted) (queries : List QueryLife) (seats : List Seat) (scan : Scan)
+pub hands-anew : (state : State) (change : Accepted → Accepted) (queries : List QueryLife) (seats : List Seat) (scan : ScanState)
     → length seats ≡ length state.seats → AreSoundHands (record state { scan = scan }) → AreSoundHands (kept_anew state change queries seats scan)
 hands-anew state change queries seats scan count old = record {
   each = subst (λ n. All (λ flight. IfSome flight.hand (IsSoundHand n state.lives.filters (tables_of state) flight)) scan.flights) (sym count) old.each;
@@ -117,7 +117,7 @@ numbers-anew change keeps (first ∷ accepted) =
     ∙ ap (λ rest. first.number ∷ rest) (numbers-anew change keeps accepted)
 
 -- the accepted queries are sound where each is by its life
-pub queries-anew : (state : State) (change : Accepted → Accepted) → KeepsAsked change → (queries : List QueryLife) (seats : List Seat) (scan : Scan)
+pub queries-anew : (state : State) (change : Accepted → Accepted) → KeepsAsked change → (queries : List QueryLife) (seats : List Seat) (scan : ScanState)
     → map (λ entry. entry.query) queries ≡ map (λ entry. entry.query) state.lives.queries
     → ((accepted : Accepted) → Contains state.accepted accepted → IsSoundQuery state accepted
     → IfSome (query_in queries accepted.number) (LivesAs (tables_of state) seats scan accepted (change accepted)))

@@ -1,5 +1,5 @@
 -- What is covered of each query behind a cut.
-use Rattle.core_state.proofs.Words.{◌++◌, ◌-◌, ◌∙◌, ◌∷◌, ◌≡◌, ◌≢◌, ◌≤◌, [], Accepted, ap, append-nil, append_assoc, arith, below, Bool, cond, cut_life, end_in, eqb, eqb-false, eqb-true, false, find, first_in, flat_map, Flight, IsCovered, IsKept, IsNext, IsPermutation, IsSome, IsSound, lap, Life, life_of, List, None, option_map, option_map_or, positions_for, query_in, range_with_len, refl, Scan, Some, starts_of, State, still_to_come, subst, sym, tables_of, to_come, true, versions_in, ℕ}
+use Rattle.core_state.proofs.Words.{◌++◌, ◌-◌, ◌∙◌, ◌∷◌, ◌≡◌, ◌≢◌, ◌≤◌, [], Accepted, ap, append-nil, append_assoc, arith, below, Bool, cond, cut_life, end_in, eqb, eqb-false, eqb-true, false, find, first_in, flat_map, Flight, IsCovered, IsKept, IsNext, IsPermutation, IsSome, IsSound, lap, Life, life_of, List, None, option_map, option_map_or, positions_for, query_in, range_with_len, refl, ScanState, Some, starts_of, State, still_to_come, subst, sym, tables_of, to_come, true, versions_in, ℕ}
 use Rattle.std.proofs.lemmas.List.{flat_map_more}
 use Rattle.pipeline_manager.specs.Changes as managed
 use Rattle.pipeline_manager.specs.declared.life.Life.TheVariants as life
@@ -30,7 +30,7 @@ cuts-lap state sound range query extent start left found within next = record {
 }
 
 -- what is covered stays so where what is in flight and what is to come are together what they were
-covered-cut : (state : State) (scan : Scan) (accepted : Accepted) (extent : ℕ) (before now : Life)
+covered-cut : (state : State) (scan : ScanState) (accepted : Accepted) (extent : ℕ) (before now : Life)
     → flat_map (positions_for accepted.number extent) state.scan.flights ++ to_come extent before
     ≡ flat_map (positions_for accepted.number extent) scan.flights ++ to_come extent now
     → IsNext scan.position extent now → IsCovered (tables_of state) state.scan accepted extent before
@@ -90,7 +90,7 @@ flown-on state sound query extent start left runs along =
     ∙ ap (λ xs. xs ++ rest) (flat_map_more (positions_for query extent) [] state.scan.flights (cut_flight state))
 
 -- what is kept of each query, with the batch that is cut in flight and the scan behind it
-pub kept-cut : (state : State) (scan : Scan)
+pub kept-cut : (state : State) (scan : ScanState)
     → scan.flights ≡ flights_after state → scan.position ≡ end_in state → IsSound state → Cuts state
     → (accepted : Accepted) (extent : ℕ) (now : Life)
     → query_in state.lives.queries accepted.number ≡ Some (record { query = accepted.number; extent = extent; life = now })

@@ -1,5 +1,5 @@
 -- A batch that the scan cuts keeps a core sound.
-use Rattle.core_state.proofs.Words.{◌-◌, ◌<◌, ◌∙◌, ◌∷◌, ◌≡◌, ◌≢◌, ◌≤◌, ◌⊎◌, [], after_cutting, All-map, All-push, all_pairs_push, AllPairs, ap, append-nil, AreSoundBatches, AreSoundHands, AreSoundNumbers, AreSoundQueries, AreSoundSlots, arith, changes_of, counted, cut_query, end_in, filter_map, filter_map-append, first_in, Flight, frame_words, get_or, get_or-map, gets_rows, Has, IfSome, IsOnRoster, IsSound, IsSoundBatch, IsSoundHand, IsTrue, last_after, last_number, length, length-map, List, map, MayBeOnRoster, MayCut, Numbers, option_map, QueryLife, refl, Scan, Some, State, subst, sym, tables_of, ℕ, ⊎_elim}
+use Rattle.core_state.proofs.Words.{◌-◌, ◌<◌, ◌∙◌, ◌∷◌, ◌≡◌, ◌≢◌, ◌≤◌, ◌⊎◌, [], after_cutting, All-map, All-push, all_pairs_push, AllPairs, ap, append-nil, AreSoundBatches, AreSoundHands, AreSoundNumbers, AreSoundQueries, AreSoundSlots, arith, changes_of, counted, cut_query, end_in, filter_map, filter_map-append, first_in, Flight, frame_words, get_or, get_or-map, gets_rows, Has, IfSome, IsOnRoster, IsSound, IsSoundBatch, IsSoundHand, IsTrue, last_after, last_number, length, length-map, List, map, MayBeOnRoster, MayCut, Numbers, option_map, QueryLife, refl, ScanState, Some, State, subst, sym, tables_of, ℕ, ⊎_elim}
 use Rattle.std.proofs.lemmas.List.{length_push}
 use Rattle.pipeline_manager.specs.declared.life.Life.TheVariants as life
 use Rattle.pipeline_manager.proofs.CallLemmas.{sound-after_cut}
@@ -20,7 +20,7 @@ use Rattle.core_state.proofs.WholeLivesLemmas.{lives-cut, stay-lost}
 abbrev queries_after : State → List QueryLife
 queries_after state = map (cut_query (first_in state) (end_in state - 1)) state.lives.queries
 
-abbrev scan_after : State → Scan
+abbrev scan_after : State → ScanState
 scan_after state = record {
   position = end_in state;
   flights = flights_after state;

@@ -1,5 +1,5 @@
 -- The rows of a batch that is cut: their bits are what the queries on its roster say of their versions.
-use Rattle.core_state.proofs.Words.{◌*◌, ◌+◌, ◌-◌, ◌<◌, ◌∙◌, ◌≡◌, ◌≤◌, All, All-contains, All-contains_itself, All-filter, ap, arith, bit_at, bit_at-zero, bits_of, Bool, cond, Contains, drop, end_in, eq-eqb, eqb, false, filter, filter_passes, first_in, Flight, frame_words, get_or, get_or-map, get_or-map-range_with_len, Has, has_passed, is_visible, IsOnRoster, IsSettled, IsSound, IsSoundBatch, IsSoundRow, joined, keeps_so_far, key_number, key_numbers, length, length-map, length-map-range_with_len, length-take-le, List, list_all, list_any, list_any_at, map, None, OnRoster, passes, PlainVersion, QueryLife, range_with_len, refl, roster_of, rows_of, running_at, same_Some, slice_get, slots_of, SlotState, Some, State, Store, subst, sym, tables_of, takes, takes_at, takes_version, true, versions_from, versions_in, ℕ}
+use Rattle.core_state.proofs.Words.{◌*◌, ◌+◌, ◌-◌, ◌<◌, ◌∙◌, ◌≡◌, ◌≤◌, All, All-contains, All-contains_itself, All-filter, ap, arith, bit_at, bit_at-zero, bits_of, Bool, cond, Contains, drop, end_in, eq-eqb, eqb, false, filter, filter_passes, first_in, Flight, frame_words, get_or, get_or-map, get_or-map-range_with_len, Has, has_passed, is_visible, IsOnRoster, IsSettled, IsSound, IsSoundBatch, IsSoundRow, joined, keeps_so_far, key_number, key_numbers, length, length-map, length-map-range_with_len, length-take-le, List, list_all, list_any, list_any_at, map, None, OnRoster, passes, PlainVersion, QueryLife, range_with_len, refl, roster_of, rows_to_cut, running_at, same_Some, slice_get, slots_of, SlotState, Some, State, Store, subst, sym, tables_of, takes, takes_at, takes_version, true, versions_from, versions_in, ℕ}
 use Rattle.std.specs.Prelude.{◌&&◌}
 use Rattle.std.proofs.lemmas.List.{get_or-drop, get_or-take, length-drop}
 use Rattle.std.proofs.lemmas.Option.{get_or_from_slice_get}
@@ -12,7 +12,7 @@ use Rattle.core_state.proofs.KeyedLemmas.{filter-there}
 
 -- the batch that is cut, in flight
 abbrev pub cut_flight : State → Flight
-cut_flight state = record { rows = rows_of state; roster = roster_of state; hand = None }
+cut_flight state = record { rows = rows_to_cut state; roster = roster_of state; hand = None }
 
 -- the versions of a cut are as many as its positions
 length-cut : (versions : List PlainVersion) (first end : ℕ) → end ≤ length versions → length (versions_from first end versions) ≡ end - first

@@ -1,5 +1,5 @@
 -- Each declaration that the tables take leaves everything sound beside the seats.
-use Rattle.core_state.proofs.Words.{◌++◌, ◌+◌, ◌↔◌, ◌∙◌, ◌∷◌, ◌≡◌, ◌≤◌, [], Accepts, All, All-nil, ap, arith, Change, changes_of, Contains, Contains-get_or, counted, DimensionDeclared, Ended, Entry, FactDeclared, filter_dimensions, Filters, FilterVersion, first_versions, get_or, Has, IsOfRows, IsPermutation, IsPermutation-refl, IsSettled, IsSound, IsSoundBeside, IsSoundFilter, IsSoundStore, length, length-map, length-replicate, List, Loaded, None, none-some, replicate, Some, State, Store, subst, sym, TableDef, tables_by, tables_of, Tally, versions_in, with_change, with_number, ℕ}
+use Rattle.core_state.proofs.Words.{◌++◌, ◌+◌, ◌↔◌, ◌∙◌, ◌∷◌, ◌≡◌, ◌≤◌, [], Accepts, All, All-nil, ap, arith, Change, changes_of, Contains, Contains-get_or, counted, DimensionDeclared, Ended, Entry, FactDeclared, filter_dimensions, Filters, FilterVersion, first_versions, get_or, Has, IsOfRows, IsPermutation, IsPermutation-refl, IsSettled, IsSound, IsSoundBeside, IsSoundFilter, IsSoundStore, length, length-map, length-replicate, List, Loaded, None, none-some, replicate, Some, State, Store, subst, sym, TableDef, tables_by, tables_of, DropTally, versions_in, with_change, with_number, ℕ}
 use Rattle.std.specs.Prelude.{fold}
 use Rattle.std.proofs.lemmas.List.Elements.{All-replicate}
 use Rattle.core_state.proofs.DeclareLemmas.{declared-quiet, declared_now, empty-sound, filters-low, first-dimensions, first-each, has-set, nil-by-map, no-filters, store-push, undeclared-by, versions-first}
@@ -68,7 +68,7 @@ fact-declared settles seat statement table state none accepts old =
     })
     (let stands = old.scan.position in let many = as_many in omega arith)
     (record {
-      tallies = All-replicate (λ (tally : Tally). tally.drops ≤ tally.probes) (length dimensions) (record { probes = 0; drops = 0 }) (omega arith);
+      tallies = All-replicate (λ (tally : DropTally). tally.drops ≤ tally.probes) (length dimensions) (record { probes = 0; drops = 0 }) (omega arith);
       count = length-replicate (length dimensions) (record { probes = 0; drops = 0 })
           ∙ sym (sym (length-map filters.versions (λ (v : FilterVersion). v.filter.dimension))
           ∙ ap length (first-dimensions dimensions (state.numbers.version + 1)));

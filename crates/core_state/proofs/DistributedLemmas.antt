@@ -1,5 +1,5 @@
 -- A batch that is distributed keeps a core sound.
-use Rattle.core_state.proofs.Words.{◌+◌, ◌∙◌, ◌∷◌, ◌≡◌, ◌≢◌, ◌≤◌, [], Accepted, accepted_at, All, All-cons, All-contains, All-filter, All-nil, all_pairs_head, all_pairs_tail, AllPairs, AllPairs-cons, AllPairs-filter, ap, AreSoundHands, AreSoundQueries, arith, Bool, cond, cons_option, Contains, eq-eqb, eqb, false, filter, Flight, flight_at, frame_words, get_or, Hand, IfSome, IsSound, IsSoundBatch, IsSoundHand, IsSoundQuery, IsThrough, length, List, map, ne_eqb, None, not, Option, option_map, query_in, QueryLife, refl, Scan, Some, State, subst, sym, tables_of, true, ℕ}
+use Rattle.core_state.proofs.Words.{◌+◌, ◌∙◌, ◌∷◌, ◌≡◌, ◌≢◌, ◌≤◌, [], Accepted, accepted_at, All, All-cons, All-contains, All-filter, All-nil, all_pairs_head, all_pairs_tail, AllPairs, AllPairs-cons, AllPairs-filter, ap, AreSoundHands, AreSoundQueries, arith, Bool, cond, cons_option, Contains, eq-eqb, eqb, false, filter, Flight, flight_at, frame_words, get_or, Hand, IfSome, IsSound, IsSoundBatch, IsSoundHand, IsSoundQuery, IsThrough, length, List, map, ne_eqb, None, not, Option, option_map, query_in, QueryLife, refl, ScanState, Some, State, subst, sym, tables_of, true, ℕ}
 use Rattle.pipeline_manager.specs.Sound.{AreRising}
 use Rattle.core_state.proofs.AcceptedLemmas.{accepted-rising}
 use Rattle.core_state.proofs.AnewLemmas.{batches-anew, filters-anew, hands-anew, queries-anew}
@@ -66,7 +66,7 @@ fewer-apart p (flight ∷ flights) apart =
     by_test false rest = rest
 
 -- the hands that are left are sound
-hands-left : (state : State) (p : Flight → Bool) (scan : Scan) → scan.flights ≡ filter p state.scan.flights → AreSoundHands state
+hands-left : (state : State) (p : Flight → Bool) (scan : ScanState) → scan.flights ≡ filter p state.scan.flights → AreSoundHands state
     → AreSoundHands (record state { scan = scan })
 hands-left state p scan left old = record {
   each = subst (All (λ f. IfSome f.hand (IsSoundHand (length state.seats) state.lives.filters (tables_of state) f))) (sym left)
@@ -122,7 +122,7 @@ sound-landed folds batch flight state there of_batch through sound = record {
     left : Flight → Bool
     left other = not (eqb other.rows.number batch)
 
-    scan : Scan
+    scan : ScanState
     scan = record state.scan { flights = without_flight batch state.scan.flights; free = state.scan.free + 1 }
 
     lives : (accepted : Accepted) → Contains state.accepted accepted → IsSoundQuery state accepted → (entry : QueryLife)

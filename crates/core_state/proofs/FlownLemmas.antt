@@ -1,5 +1,5 @@
 -- What stays sound where the batches in flight change, and not their positions.
-use Rattle.core_state.proofs.Words.{◌++◌, ◌+◌, ◌<◌, ◌==◌, ◌∙◌, ◌∷◌, ◌≡◌, ◌≤◌, [], All-map, ap, AreSoundBatches, AreSoundHands, AreSoundNumbers, AreSoundQueries, AreSoundVersions, arith, filter, flat_map, Flight, get_or, get_or-map, IsSound, IsSoundOrder, length, length-map, List, map, option_map_or, positions_for, query_in, range_with_len, refl, Scan, State, subst, sym, tables_of, Tally, ℕ}
+use Rattle.core_state.proofs.Words.{◌++◌, ◌+◌, ◌<◌, ◌==◌, ◌∙◌, ◌∷◌, ◌≡◌, ◌≤◌, [], All-map, ap, AreSoundBatches, AreSoundHands, AreSoundNumbers, AreSoundQueries, AreSoundVersions, arith, filter, flat_map, Flight, get_or, get_or-map, IsSound, IsSoundOrder, length, length-map, List, map, option_map_or, positions_for, query_in, range_with_len, refl, ScanState, State, subst, sym, tables_of, DropTally, ℕ}
 use Rattle.std.specs.List.{find}
 use Rattle.std.specs.Prelude.{nat_lt}
 use Rattle.core_state.proofs.FoundLemmas.{some-by}
@@ -8,7 +8,7 @@ use Rattle.core_state.proofs.HeldLemmas.{queries-held}
 use Rattle.core_state.proofs.MovedLemmas.{seats-held}
 
 -- the core with changed batches in flight, and other tallies
-abbrev pub flown : State → List Tally → (Flight → Flight) → State
+abbrev pub flown : State → List DropTally → (Flight → Flight) → State
 flown state tallies change =
     moved state state.lives.queries state.lives.slots (record state.filters { tallies = tallies })
     (record state.scan { flights = map change state.scan.flights }) state.numbers
@@ -39,7 +39,7 @@ all-positions-keep number extent change keeps (flight ∷ flights) =
     (positions-keep number extent flight (change flight) (keeps flight))
     ∙ ap (λ rest. positions_for number extent flight ++ rest) (all-positions-keep number extent change keeps flights)
 
-queries-flown : (state : State) (tallies : List Tally) (change : Flight → Flight) → ((flight : Flight) → KeepsPlace flight (change flight))
+queries-flown : (state : State) (tallies : List DropTally) (change : Flight → Flight) → ((flight : Flight) → KeepsPlace flight (change flight))
     → AreSoundQueries state → AreSoundQueries (flown state tallies change)
 queries-flown state tallies change keeps =
     queries-held state state.lives.queries state.lives.slots (record state.filters { tallies = tallies }) scan state.numbers refl refl
@@ -51,10 +51,10 @@ queries-flown state tallies change keeps =
       was.2,
     )))
   where
-    scan : Scan
+    scan : ScanState
     scan = record state.scan { flights = map change state.scan.flights }
 
-numbers-flown : (state : State) (tallies : List Tally) (change : Flight → Flight) → ((flight : Flight) → KeepsPlace flight (change flight))
+numbers-flown : (state : State) (tallies : List DropTally) (change : Flight → Flight) → ((flight : Flight) → KeepsPlace flight (change flight))
     → AreSoundVersions state.numbers.version state.filters.versions (map change state.scan.flights)
     → AreSoundNumbers state → AreSoundNumbers (flown state tallies change)
 numbers-flown state tallies change keeps versions old = record {
@@ -73,14 +73,14 @@ numbers-flown state tallies change keeps versions old = record {
 }
 
 -- what a change of batches in flight has to give
-pub record Flies (state : State) (tallies : List Tally) (change : Flight → Flight) : Type 0 where
+pub record Flies (state : State) (tallies : List DropTally) (change : Flight → Flight) : Type 0 where
   pub place : (flight : Flight) → KeepsPlace flight (change flight)
   pub batches : AreSoundBatches (flown state tallies change)
   pub hands : AreSoundHands (flown state tallies change)
   pub versions : AreSoundVersions state.numbers.version state.filters.versions (map change state.scan.flights)
   pub order : IsSoundOrder (record state.filters { tallies = tallies })
 
-pub sound-flown : (state : State) (tallies : List Tally) (change : Flight → Flight) → Flies state tallies change → IsSound state
+pub sound-flown : (state : State) (tallies : List DropTally) (change : Flight → Flight) → Flies state tallies change → IsSound state
     → IsSound (flown state tallies change)
 sound-flown state tallies change flies old = record {
   settings = old.settings;

@@ -1,9 +1,9 @@
 -- What stays sound of each part of a core where what it reads changes: one lemma a part.
-use Rattle.core_state.proofs.Words.{◌++◌, ◌<◌, ◌↔◌, ◌∙◌, ◌∷◌, ◌≡◌, ◌≢◌, ◌≤◌, ◌⊎◌, [], Accepted, accepted_at, All, All-cons, All-contains, All-head, All-nil, All-tail, All-weaker, AllPairs, ap, AreSoundVersions, arith, Asked, Awaited, cases_eq, Contains, empty_seat, extent_in, Filter, Filters, FilterVersion, FitsSlot, flat_map, Flight, Free, get_or, get_or-set_other, get_or-set_same, Grouped, Hand, HasAccepted, IfSome, IfSome_then, inl, inr, is_open, IsAccountedFor, IsAwaited, IsCovered, IsKept, IsNext, IsOnRoster, IsPermutation, IsPresentByNumber, IsSoundAccepted, IsSoundBatch, IsSoundFilter, IsSoundQuery, IsSoundSeat, IsTaken, IsTrue, length, Life, life_in, List, Lives, map, MayBeOnRoster, None, none-some, Numbers, Option, Pending, positions_for, Query, query_in, QueryLife, range_with_len, Replied, same_Some, Scan, Seat, set, slice_get, SlotState, Some, State, Store, subst, sym, tables_of, Taken, to_come, ℕ, ⊎_elim}
+use Rattle.core_state.proofs.Words.{◌++◌, ◌<◌, ◌↔◌, ◌∙◌, ◌∷◌, ◌≡◌, ◌≢◌, ◌≤◌, ◌⊎◌, [], Accepted, accepted_at, All, All-cons, All-contains, All-head, All-nil, All-tail, All-weaker, AllPairs, ap, AreSoundVersions, arith, Asked, Awaited, cases_eq, Contains, empty_seat, extent_in, Filter, Filters, FilterVersion, FitsSlot, flat_map, Flight, Free, get_or, get_or-set_other, get_or-set_same, Grouped, Hand, HasAccepted, IfSome, IfSome_then, inl, inr, is_open, IsAccountedFor, IsAwaited, IsCovered, IsKept, IsNext, IsOnRoster, IsPermutation, IsPresentByNumber, IsSoundAccepted, IsSoundBatch, IsSoundFilter, IsSoundQuery, IsSoundSeat, IsTaken, IsTrue, length, Life, life_in, List, Lives, map, MayBeOnRoster, None, none-some, Numbers, Option, Pending, positions_for, Query, query_in, QueryLife, range_with_len, Replied, same_Some, ScanState, Seat, set, slice_get, SlotState, Some, State, Store, subst, sym, tables_of, Taken, to_come, ℕ, ⊎_elim}
 use Rattle.pipeline_manager.specs.declared.life.Life.TheVariants as life
 
 -- the core with other lives of the same filters, other filters, another scan and other numbers
-abbrev pub moved : State → List QueryLife → List SlotState → Filters → Scan → Numbers → State
+abbrev pub moved : State → List QueryLife → List SlotState → Filters → ScanState → Numbers → State
 moved state queries slots filters scan numbers = record state {
   lives = record state.lives { queries = queries; slots = slots };
   filters = filters;
@@ -56,7 +56,7 @@ abbrev pub StayTaken : List Seat → (now : List Seat) → Type 0
 StayTaken seats now = (seat number : ℕ) → Contains (map (λ taken. taken.statement) (get_or seats seat empty_seat).taken) number
     → Contains (map (λ taken. taken.statement) (get_or now seat empty_seat).taken) number
 
-covered-with : (store : Store) (scan next : Scan) (accepted : Accepted) (extent : ℕ) (now : Life)
+covered-with : (store : Store) (scan next : ScanState) (accepted : Accepted) (extent : ℕ) (now : Life)
     → flat_map (positions_for accepted.number extent) next.flights ≡ flat_map (positions_for accepted.number extent) scan.flights
     → next.position ≡ scan.position → IsCovered store scan accepted extent now → IsCovered store next accepted extent now
 covered-with store scan next accepted extent now same stands old = record {
@@ -67,7 +67,7 @@ covered-with store scan next accepted extent now same stands old = record {
 }
 
 -- what is kept does not change where the same positions are in flight, the scan stands where it stood, and what was taken stays
-pub kept-with : (store : Store) (seats others : List Seat) (scan next : Scan) → StayTaken seats others
+pub kept-with : (store : Store) (seats others : List Seat) (scan next : ScanState) → StayTaken seats others
     → (accepted : Accepted) (extent : ℕ) (now : Life)
     → flat_map (positions_for accepted.number extent) next.flights ≡ flat_map (positions_for accepted.number extent) scan.flights
     → next.position ≡ scan.position → IsKept store seats scan accepted extent now → IsKept store others next accepted extent now
@@ -80,7 +80,7 @@ kept-with store seats others scan next stay accepted extent life.Answered same s
 kept-with store seats others scan next stay accepted extent other same stands old = old
 
 -- what is asked of an accepted query, with what is given of it, by its life
-abbrev pub LivesAs : Store → List Seat → Scan → Accepted → (given : Accepted) → QueryLife → Type 0
+abbrev pub LivesAs : Store → List Seat → ScanState → Accepted → (given : Accepted) → QueryLife → Type 0
 LivesAs store seats scan accepted given entry =
     IsKept store seats scan given entry.extent entry.life × (IsTrue (is_open entry.life)
     → (position : ℕ) → IfSome (slice_get store.versions position)
@@ -105,7 +105,7 @@ lives-as state accepted sound entry found =
         subst (LivesAs (tables_of state) state.seats state.scan accepted accepted) (same_Some e entry is) (kept, extent, within)
 
 -- an accepted query is sound with other groups where its life says so
-pub query-with : (last later : ℕ) (store : Store) (queries others : List QueryLife) (seats now : List Seat) (scan next : Scan) (accepted : Accepted)
+pub query-with : (last later : ℕ) (store : Store) (queries others : List QueryLife) (seats now : List Seat) (scan next : ScanState) (accepted : Accepted)
     (groups : Option Grouped) → last ≤ later
     → IfSome (query_in others accepted.number) (LivesAs store now next accepted (record accepted { groups = groups }))
     → IsSoundAccepted last store queries seats scan accepted

@@ -1,5 +1,5 @@
 -- A batch that a worker gives back keeps a core sound.
-use Rattle.core_state.proofs.Words.{◌+◌, ◌<◌, ◌∙◌, ◌∷◌, ◌≡◌, ◌≢◌, [], AcceptsAll, after_give, All, All-contains, All-map, all_at, AllPairs, AllPairs-cons, arith, bit_at, bits_left_at, Change, changes_of, cond, cons_option, Contains, empty_store, Encodes, eq-eqb, eqb, false, Filter, FilterVersion, find, Flight, frame_words, get_or, given_back, Hand, Has-with, held_by, IfSome, is_held_by, IsMatched, IsOnRoster, IsOver, IsSettled, IsSome, IsSound, IsSoundBatch, IsSoundHand, IsSoundQuery, IsSoundRow, length, length-map-range_with_len, List, map, ne_eqb, None, OnRoster, Option, option_map, option_map_or, passed_by, PlainVersion, refl, Rows, rows_in, slice_get, Some, State, store_of, subst, suc, sym, tables_of, tallies_after, Tally, true, with_number, zero, ℕ, ⊎_elim}
+use Rattle.core_state.proofs.Words.{◌+◌, ◌<◌, ◌∙◌, ◌∷◌, ◌≡◌, ◌≢◌, [], AcceptsAll, after_give, All, All-contains, All-map, all_at, AllPairs, AllPairs-cons, arith, bit_at, bits_left_at, Change, changes_of, cond, cons_option, Contains, empty_store, Encodes, eq-eqb, eqb, false, Filter, FilterVersion, find, Flight, frame_words, get_or, given_back, Hand, Has-with, held_by, IfSome, is_held_by, IsMatched, IsOnRoster, IsOver, IsSettled, IsSome, IsSound, IsSoundBatch, IsSoundHand, IsSoundQuery, IsSoundRow, length, length-map-range_with_len, List, map, ne_eqb, None, OnRoster, Option, option_map, option_map_or, passed_by, PlainVersion, refl, Rows, rows_in, slice_get, Some, State, store_of, subst, suc, sym, tables_of, tallies_after, DropTally, true, with_number, zero, ℕ, ⊎_elim}
 use Rattle.core_state.specs.Cutting.{passed_through}
 use Rattle.core_state.specs.Flown.{IsSoundTask}
 use Rattle.core_state.proofs.AcceptedLemmas.{accepted-on, find-holds}
@@ -180,7 +180,7 @@ sound-given settles worker state some sound =
   where
     flies : (flight : Flight) → Flies state (tallies_after flight state.filters.versions state.filters.tallies) (given flight.rows.number)
     flies flight =
-        let tallies : List Tally = tallies_after flight state.filters.versions state.filters.tallies in
+        let tallies : List DropTally = tallies_after flight state.filters.versions state.filters.tallies in
         let change : Flight → Flight = given flight.rows.number in
         let after = tallied-after flight state.filters.versions state.filters.tallies sound.order.count sound.order.tallies in
         record {

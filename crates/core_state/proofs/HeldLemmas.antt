@@ -1,5 +1,5 @@
 -- What stays sound of slots, queries and filters where one slot or one life is written.
-use Rattle.core_state.proofs.Words.{◌<◌, ◌∙◌, ◌≡◌, ◌≢◌, Accepted, AreSoundFilters, AreSoundQueries, arith, cases_lt, Filter, Filters, FitsSlot, Free, get_or, get_or-set_other, get_or_past, IfSome, IsOnRoster, IsSoundFilter, IsSoundQuery, length, length-set, List, map, Numbers, OnRoster, query_in, QueryLife, Scan, set, slot_at, SlotState, State, subst, sym, tables_of, ℕ, ⊎_elim}
+use Rattle.core_state.proofs.Words.{◌<◌, ◌∙◌, ◌≡◌, ◌≢◌, Accepted, AreSoundFilters, AreSoundQueries, arith, cases_lt, Filter, Filters, FitsSlot, Free, get_or, get_or-set_other, get_or_past, IfSome, IsOnRoster, IsSoundFilter, IsSoundQuery, length, length-set, List, map, Numbers, OnRoster, query_in, QueryLife, ScanState, set, slot_at, SlotState, State, subst, sym, tables_of, ℕ, ⊎_elim}
 use Rattle.core_state.proofs.FrameLemmas.{LivesAs, StaysOnRoster, at-set, filter-with, moved, query-with}
 use Rattle.core_state.proofs.MovedLemmas.{held_now}
 
@@ -42,7 +42,7 @@ entry-set state queries slot now entry apart stays old = record {
 }
 
 -- the accepted queries are sound where each is by its life
-pub queries-held : (state : State) (queries : List QueryLife) (slots : List SlotState) (filters : Filters) (scan : Scan) (numbers : Numbers)
+pub queries-held : (state : State) (queries : List QueryLife) (slots : List SlotState) (filters : Filters) (scan : ScanState) (numbers : Numbers)
     → numbers.statement ≡ state.numbers.statement
     → map (λ entry. entry.query) queries ≡ map (λ entry. entry.query) state.lives.queries
     → ((accepted : Accepted) → IsSoundQuery state accepted

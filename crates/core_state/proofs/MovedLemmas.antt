@@ -1,5 +1,5 @@
 -- A core whose lives, filters and numbers change is sound where what these changes touch is.
-use Rattle.core_state.proofs.Words.{◌≡◌, All, AreSoundFilters, AreSoundQueries, AreSoundSeats, AreSoundSlots, AreSoundVersions, arith, Filters, frame_words, Free, get_or, IfSome, IsOnRoster, IsSound, IsSoundOrder, life_in, List, None, Numbers, QueryLife, refl, Scan, SlotState, Some, State, tables_of, ℕ}
+use Rattle.core_state.proofs.Words.{◌≡◌, All, AreSoundFilters, AreSoundQueries, AreSoundSeats, AreSoundSlots, AreSoundVersions, arith, Filters, frame_words, Free, get_or, IfSome, IsOnRoster, IsSound, IsSoundOrder, life_in, List, None, Numbers, QueryLife, refl, ScanState, SlotState, Some, State, tables_of, ℕ}
 use Rattle.pipeline_manager.specs.declared.life.Life.TheVariants as life
 use Rattle.core_state.proofs.FrameLemmas.{Told, Wanted, batches-with, moved, seat-lasts}
 
@@ -16,7 +16,7 @@ StaysWanted state queries = (query : ℕ)
     × (life_in state.lives.queries query ≡ Some life.Abandoned → life_in queries query ≡ Some life.Abandoned)
 
 -- seats stay sound where what they wait for is wanted still
-pub seats-held : (state : State) (queries : List QueryLife) (slots : List SlotState) (filters : Filters) (scan : Scan) (numbers : Numbers)
+pub seats-held : (state : State) (queries : List QueryLife) (slots : List SlotState) (filters : Filters) (scan : ScanState) (numbers : Numbers)
     → numbers.statement ≡ state.numbers.statement → StaysWanted state queries → AreSoundSeats state
     → AreSoundSeats (moved state queries slots filters scan numbers)
 seats-held state queries slots filters scan numbers same wanted old = record {

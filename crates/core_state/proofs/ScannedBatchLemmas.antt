@@ -1,5 +1,5 @@
 -- The batch that a scan cuts is the batch that the core cuts.
-use Rattle.core_state.proofs.Words.{◌++◌, ◌-◌, ◌∙◌, ◌∷◌, ◌≡◌, [], All, All-head, All-tail, ap, AreTablesOf, bits_of, DimensionRow, drop, end_in, first_in, flat_map, get_or, HasKeyNumbers, is_some, IsScannedAs, IsSound, key_numbers, KeyedStore, length, life_at, List, map, next_number, None, OnRoster, plain, plain_version, PlainVersion, range_with_len, refl, roster_of, Rows, rows_of, running_at, Scanning, Schema, slots_of, Some, State, Store, sym, tables_of, take, takes_version, true, Version, versions_from, ℕ}
+use Rattle.core_state.proofs.Words.{◌++◌, ◌-◌, ◌∙◌, ◌∷◌, ◌≡◌, [], All, All-head, All-tail, ap, AreTablesOf, bits_of, DimensionRow, drop, end_in, first_in, flat_map, get_or, HasKeyNumbers, is_some, IsScannedAs, IsSound, key_numbers, KeyedStore, length, life_at, List, map, next_number, None, OnRoster, plain, plain_version, PlainVersion, range_with_len, refl, roster_of, Rows, rows_to_cut, running_at, Scanning, Schema, slots_of, Some, State, Store, sym, tables_of, take, takes_version, true, Version, versions_from, ℕ}
 use Rattle.std.proofs.lemmas.List.{drop-map, take-map}
 use Rattle.std.proofs.lemmas.List.Elements.{All-drop, All-take}
 use Rattle.star_history.specs.Keyed.{number_by_key}
@@ -107,7 +107,7 @@ same-rows finds state scan store first end number room same tables =
 pub same-batch : FindsKeys → (state : State) (scan : Scanning) (store : KeyedStore) → IsSound state → IsScannedAs state scan
     → AreTablesOf state store
     → stamped.batch_of state.settings.batch (next_number state.numbers.batch (map (λ flight. flight.rows.number) state.scan.flights))
-    (frame_words state) scan store.versions ≡ rows_of state
+    (frame_words state) scan store.versions ≡ rows_to_cut state
 same-batch finds state scan store sound same tables =
     ap (λ first. stamped.batch_over first (scanned.end_in (length store.versions) state.settings.batch scan) number (frame_words state)
     scan.running store.versions) (same-first state scan store same tables)

@@ -2,7 +2,7 @@
 use Rattle.core_state.proofs.Words.{◌+◌, ◌<◌, ◌↔◌, ◌∙◌, ◌≡◌, ◌≤◌, ◌⊎◌, Accepted, accepted_at, ap, AreTablesOf, arith, Clearing, end_in, entry_of, false, filter_map, first_in, first_of, Free, get_or, get_or_default, Held, holder_of, inl, inr, is_some, IsKept, IsLeft, IsSameRun, IsScannedAs, IsSome, IsSound, KeyedStore, lap_start, length, length-map, life_at, life_of, List, list_any_at, Lives, MayCut, min, next_below, None, none-some, OnRoster, Option, option_and_then, option_map, option_map_or, place_in_lap, plain_version, QueryLife, range_with_len, refl, Running, running_at, RunsAs, Scanning, slot_at, SlotState, Some, start_at, start_in, State, Store, subst, sym, tables_of, true, versions_in, ℕ}
 use Rattle.std.specs.Prelude.{fold}
 use Rattle.pipeline_manager.specs.declared.life.Life.TheVariants as life
-use Rattle.continuous_scan.specs.Calls.{AreInStep, CanCut, IsWithin, SlotInStep}
+use Rattle.continuous_scan.specs.Calls.{AreInStep, CanCut, IsWithinTable, SlotInStep}
 use Rattle.continuous_scan.specs.Lap.{IsInStep}
 use Rattle.continuous_scan.specs.Range as scanned
 use Rattle.continuous_scan.specs.Range.{some_run}
@@ -138,13 +138,13 @@ runs-well state slot entry r sound here same =
 
 -- the same of each slot
 slot-well : (state : State) (scan : Scanning) (slot : ℕ) → IsSound state → IsScannedAs state scan → slot < length state.lives.slots
-    → SlotInStep scan.position (get_or scan.running slot None) × IsWithin (versions_in state) (get_or scan.running slot None)
+    → SlotInStep scan.position (get_or scan.running slot None) × IsWithinTable (versions_in state) (get_or scan.running slot None)
 slot-well state scan slot sound same low =
     elim (slot-cases state slot (get_or scan.running slot None) sound low (same.slots slot low)) [
-      | inl none ↦ subst (λ o. SlotInStep scan.position o × IsWithin (versions_in state) o) (sym none.1) (tt, tt)
+      | inl none ↦ subst (λ o. SlotInStep scan.position o × IsWithinTable (versions_in state) o) (sym none.1) (tt, tt)
       | inr runs ↦
           let well = runs-well state slot runs.entry runs.run sound runs.here runs.same in
-          subst (λ o. SlotInStep scan.position o × IsWithin (versions_in state) o) (sym runs.there)
+          subst (λ o. SlotInStep scan.position o × IsWithinTable (versions_in state) o) (sym runs.there)
           (subst (λ position. IsInStep position runs.run) (sym same.position) well.0, well.1)
     ]
 
@@ -162,6 +162,6 @@ scanned-can-cut state scan store sound same tables = record {
   position = let stands = sound.scan.position in let at = same.position in let many = same-count state store tables in omega arith;
   within = λ slot d low.
       let inside : slot < length state.lives.slots = let many = same.count in omega arith in
-      subst (λ n. IsWithin n (get_or scan.running slot d)) (sym (same-count state store tables))
-      (subst (IsWithin (versions_in state)) (get_or_default scan.running slot None d low) (slot-well state scan slot sound same inside).1);
+      subst (λ n. IsWithinTable n (get_or scan.running slot d)) (sym (same-count state store tables))
+      (subst (IsWithinTable (versions_in state)) (get_or_default scan.running slot None d low) (slot-well state scan slot sound same inside).1);
 }

@@ -1,5 +1,5 @@
 -- What stays sound of seats where other groups are kept of accepted queries.
-use Rattle.core_state.proofs.Words.{◌++◌, ◌<◌, ◌∙◌, ◌∷◌, ◌≡◌, ◌≢◌, ◌≤◌, ◌⊎◌, [], Accepted, All, All-cons, All-filter, All-head, All-map, All-tail, All-weaker, all_pairs_head, all_pairs_tail, AllPairs, AllPairs-cons, ap, AreSoundSeats, arith, Bool, cases_eq, cases_lt, cond, Contains, Contains-append_left, Contains-append_right, Contains-push, empty_seat, false, filter, get_or, get_or-set_other, get_or-set_same, get_or_default, get_or_past, IfSome, inl, inr, IsAccountedFor, IsAwaited, IsSoundSeat, length, life_in, List, map, option_map, Pending, QueryLife, refl, Scan, Seat, set, Some, State, subst, sym, true, ℕ, ⊎_elim}
+use Rattle.core_state.proofs.Words.{◌++◌, ◌<◌, ◌∙◌, ◌∷◌, ◌≡◌, ◌≢◌, ◌≤◌, ◌⊎◌, [], Accepted, All, All-cons, All-filter, All-head, All-map, All-tail, All-weaker, all_pairs_head, all_pairs_tail, AllPairs, AllPairs-cons, ap, AreSoundSeats, arith, Bool, cases_eq, cases_lt, cond, Contains, Contains-append_left, Contains-append_right, Contains-push, empty_seat, false, filter, get_or, get_or-set_other, get_or-set_same, get_or_default, get_or_past, IfSome, inl, inr, IsAccountedFor, IsAwaited, IsSoundSeat, length, life_in, List, map, option_map, Pending, QueryLife, refl, ScanState, Seat, set, Some, State, subst, sym, true, ℕ, ⊎_elim}
 use Rattle.std.proofs.lemmas.List.{set_past}
 use Rattle.std.proofs.lemmas.Map.Made.{Contains-tail}
 use Rattle.pipeline_manager.specs.declared.life.Life.TheVariants as life
@@ -49,7 +49,7 @@ part-changed part change same seats seat other =
     (cases_lt seat (length seats))
 
 -- the seats and what was submitted by them stay
-pub seats-anew : (state : State) (change : Accepted → Accepted) → KeepsAsked change → (queries : List QueryLife) (seats : List Seat) (scan : Scan) → length seats ≡ length state.seats
+pub seats-anew : (state : State) (change : Accepted → Accepted) → KeepsAsked change → (queries : List QueryLife) (seats : List Seat) (scan : ScanState) → length seats ≡ length state.seats
     → ((seat : ℕ) → (get_or seats seat empty_seat).submitted ≡ (get_or state.seats seat empty_seat).submitted)
     → All (IsSoundSeat state.numbers.statement (map change state.accepted) queries) seats → AreSoundSeats state → AreSoundSeats (kept_anew state change queries seats scan)
 seats-anew state change keeps queries seats scan count stays each old = record {

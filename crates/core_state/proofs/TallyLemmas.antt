@@ -1,5 +1,5 @@
 -- What a batch that is given back makes of the tallies.
-use Rattle.core_state.proofs.Words.{◌&&◌, ◌+◌, ◌∷◌, ◌≡◌, ◌≤◌, [], All, All-cons, All-head, All-tail, ap, arith, Bool, cond, counted, eqb, false, Filter, FilterVersion, Flight, Hand, length, List, None, Option, option_map_or, range_with_len, Rows, slice_index_or, Some, suc, tallies_after, Tally, true, ℕ}
+use Rattle.core_state.proofs.Words.{◌&&◌, ◌+◌, ◌∷◌, ◌≡◌, ◌≤◌, [], All, All-cons, All-head, All-tail, ap, arith, Bool, cond, counted, eqb, false, Filter, FilterVersion, Flight, Hand, length, List, None, Option, option_map_or, range_with_len, Rows, slice_index_or, Some, suc, tallies_after, DropTally, true, ℕ}
 use Rattle.std.specs.Prelude.{fold}
 use Rattle.dimension_filter.specs.Pass.{bits_left, drops_below, is_asked_at, key_in, probes_below}
 use Rattle.core_state.specs.Cutting.{passed_by, tallies_through, with_batch, with_tally}
@@ -20,7 +20,7 @@ counted-more : (drops probes dropped probed : ℕ) → drops ≤ probes → drop
 counted-more drops probes dropped probed few more = omega arith
 
 -- a batch drops no more rows than those for which the filter is asked
-tally-batch : (filter : Filter) (rows : Rows) (tally : Tally) → tally.drops ≤ tally.probes
+tally-batch : (filter : Filter) (rows : Rows) (tally : DropTally) → tally.drops ≤ tally.probes
     → (with_batch filter rows tally).drops ≤ (with_batch filter rows tally).probes
 tally-batch filter rows tally few =
     counted-more tally.drops tally.probes (drops_below filter rows.keys rows.bits (length rows.bits)) (probes_below filter rows.bits (length rows.bits)) few
@@ -29,44 +29,44 @@ tally-batch filter rows tally few =
     (range_with_len 0 (length rows.bits)) (omega arith))
 
 -- each tally has at most as many drops as probes where that of one dimension has
-tallied : (dimension : ℕ) (change : Tally → Tally) → ((tally : Tally) → tally.drops ≤ tally.probes → (change tally).drops ≤ (change tally).probes)
-    → (versions : List FilterVersion) (tallies : List Tally) → length tallies ≡ length versions → All (λ tally. tally.drops ≤ tally.probes) tallies
+tallied : (dimension : ℕ) (change : DropTally → DropTally) → ((tally : DropTally) → tally.drops ≤ tally.probes → (change tally).drops ≤ (change tally).probes)
+    → (versions : List FilterVersion) (tallies : List DropTally) → length tallies ≡ length versions → All (λ tally. tally.drops ≤ tally.probes) tallies
     → (length (with_tally dimension change versions tallies) ≡ length versions)
     × All (λ tally. tally.drops ≤ tally.probes) (with_tally dimension change versions tallies)
 tallied dimension change keeps [] tallies count all = (count, all)
 tallied dimension change keeps (version ∷ versions) [] count all = absurd (omega arith)
 tallied dimension change keeps (version ∷ versions) (tally ∷ tallies) count all =
-    let few : Tally → Type 0 = λ t. t.drops ≤ t.probes in
+    let few : DropTally → Type 0 = λ t. t.drops ≤ t.probes in
     let rest = tallied dimension change keeps versions tallies (omega arith) (All-tail few tally tallies all) in (
       ap suc rest.0,
-      All-cons few (cond {A = Tally} (eqb version.filter.dimension dimension) (change tally) tally) (with_tally dimension change versions tallies)
+      All-cons few (cond {A = DropTally} (eqb version.filter.dimension dimension) (change tally) tally) (with_tally dimension change versions tallies)
           (by_test (eqb version.filter.dimension dimension) (All-head few tally tallies all)) rest.1,
     )
   where
     by_test : (t : Bool) → tally.drops ≤ tally.probes
-        → (cond {A = Tally} t (change tally) tally).drops ≤ (cond {A = Tally} t (change tally) tally).probes
+        → (cond {A = DropTally} t (change tally) tally).drops ≤ (cond {A = DropTally} t (change tally) tally).probes
     by_test true few = keeps tally few
     by_test false few = few
 
 -- each tally has at most as many drops as probes after a batch passed some versions, one after the other
-tallied-through : (passed : List FilterVersion) (rows : Rows) (versions : List FilterVersion) (tallies : List Tally) → length tallies ≡ length versions
+tallied-through : (passed : List FilterVersion) (rows : Rows) (versions : List FilterVersion) (tallies : List DropTally) → length tallies ≡ length versions
     → All (λ tally. tally.drops ≤ tally.probes) tallies
     → (length (tallies_through passed rows versions tallies) ≡ length versions)
     × All (λ tally. tally.drops ≤ tally.probes) (tallies_through passed rows versions tallies)
 tallied-through [] rows versions tallies count all = (count, all)
 tallied-through (version ∷ passed) rows versions tallies count all =
-    let change : Tally → Tally = with_batch version.filter rows in
+    let change : DropTally → DropTally = with_batch version.filter rows in
     let after = tallied version.filter.dimension change (tally-batch version.filter rows) versions tallies count all in
     tallied-through passed (passed_by version.filter rows) versions (with_tally version.filter.dimension change versions tallies) after.0 after.1
 
 -- the tallies after a batch is given back
-pub tallied-after : (flight : Flight) (versions : List FilterVersion) (tallies : List Tally) → length tallies ≡ length versions
+pub tallied-after : (flight : Flight) (versions : List FilterVersion) (tallies : List DropTally) → length tallies ≡ length versions
     → All (λ tally. tally.drops ≤ tally.probes) tallies
     → (length (tallies_after flight versions tallies) ≡ length versions)
     × All (λ tally. tally.drops ≤ tally.probes) (tallies_after flight versions tallies)
 tallied-after flight versions tallies count all = by_hand flight.hand
   where
-    After : Option Hand → List Tally
+    After : Option Hand → List DropTally
     After o = option_map_or (λ hand. tallies_through hand.versions flight.rows versions tallies) o tallies
 
     by_hand : (o : Option Hand) → (length (After o) ≡ length versions) × All (λ tally. tally.drops ≤ tally.probes) (After o)

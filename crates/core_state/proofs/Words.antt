@@ -39,7 +39,7 @@ pub use Rattle.dimension_rows.specs.declared.dimension_row.DimensionRow.{Dimensi
 pub use Rattle.bit_words.proofs.SetLemmas.{Has-with}
 pub use Rattle.bit_words.specs.Sets.{Has, with_number}
 pub use Rattle.batch_flow.specs.Rows.{key_place, Rows}
-pub use Rattle.dimension_filter.specs.declared.tally.Tally.{Tally}
+pub use Rattle.dimension_filter.specs.declared.drop_tally.DropTally.{DropTally}
 pub use Rattle.pipeline_manager.proofs.HolderLemmas.{built_of-holder, slot_of-begun, slot_of-holder}
 pub use Rattle.pipeline_manager.proofs.LifeLemmas.{life_in-cut, life_in-other, life_in-same, oldest-waits, query_in-map, query_in-push_other, query_in-push_same, renewed-number}
 pub use Rattle.pipeline_manager.specs.Changes.{after_abandon, after_end, after_spoil, covered, cut_life, cut_query, given_up, is_ending, renewed, started, with_dimension, with_life, with_slot, without_dimension}
@@ -84,7 +84,7 @@ pub use Rattle.star_statement.specs.Text.{meaning_of}
 pub use Rattle.core_state.specs.Admitting.{after_build, after_build_wants, after_clear, after_finish, after_release, after_reserving, after_start, selection_in, versions_in_hands, with_built, with_version}
 pub use Rattle.core_state.specs.Answers.{IsRight}
 pub use Rattle.core_state.specs.Beside.{IsOfRows, IsSoundBeside, with_entry}
-pub use Rattle.core_state.specs.Cutting.{after_carry, after_cutting, after_distribute, after_give, after_reorder, after_take, bits_of, end_in, fed, first_in, frame_words, gets_rows, given_back, passed_by, roster_of, rows_for, rows_of, slots_of, starts_of, takes_version, tallies_after, unkept, versions_from, with_rows}
+pub use Rattle.core_state.specs.Cutting.{after_carry, after_cutting, after_distribute, after_give, after_reorder, after_take, bits_of, end_in, fed, first_in, frame_words, gets_rows, given_back, passed_by, roster_of, rows_for, rows_to_cut, slots_of, starts_of, takes_version, tallies_after, unkept, versions_from, with_rows}
 pub use Rattle.core_state.specs.Events.{AreFed, IsEnabled, IsFed, IsThrough, MayCarry, MayCut, MayDistribute, MayFinish, MayReserve, MayTake}
 pub use Rattle.core_state.specs.Flown.{Encodes, FitsSlot, IsClearOf, IsOnRoster, IsSoundBatch, IsSoundFilter, IsSoundHand, IsSoundRow, keeps_so_far, MayBeOnRoster}
 pub use Rattle.core_state.specs.Found.{accepted_at, entry_of, flight_at, has_passed, has_passed_all, held_by, holder_of, is_empty, is_held_by, is_on_roster, running_at, start_at, start_in, version_at}
@@ -93,7 +93,7 @@ pub use Rattle.core_state.specs.Logged.{EndsAscending, facts_loaded_by, position
 pub use Rattle.core_state.specs.Numbered.{counted, last_after, last_number, next_number}
 pub use Rattle.core_state.specs.Scanned.{AreTablesOf, IsSameRun, IsScannedAs, life_at, RunsAs, RunsAt}
 pub use Rattle.core_state.specs.Sound.{AreSoundBatches, AreSoundFilters, AreSoundHands, AreSoundNumbers, AreSoundQueries, AreSoundSeats, AreSoundSlots, AreSoundVersions, empty_core, HasAccepted, HasTaken, IsAnswer, IsAwaited, IsCovered, IsKept, IsNext, IsPresentByNumber, IsQuietBefore, IsSound, IsSoundAccepted, IsSoundOrder, IsSoundQuery, IsSoundSeat, IsSoundStore, IsTaken, kept_at, positions_for, to_come, versions_at}
-pub use Rattle.core_state.specs.State.{Accepted, Asked, Awaited, Entry, Filters, FilterVersion, Flight, Hand, Numbers, OnRoster, Pending, Replied, Scan, Seat, State, Taken}
+pub use Rattle.core_state.specs.State.{Accepted, Asked, Awaited, Entry, Filters, FilterVersion, Flight, Hand, Numbers, OnRoster, Pending, Replied, ScanState, Seat, State, Taken}
 pub use Rattle.core_state.specs.Steps.{after_step, after_steps, awaited_at, Done, MaySpoil, MayStep, MayStepAll, Replying, Step, Wanting}
 pub use Rattle.core_state.specs.Submitting.{after_abandoning, after_outcome, after_submitting, after_taking, awaited_by, empty_seat, first_versions, forgotten, Grouping, groups_in, next_ready, Ready, ready_by, ready_to, seat_at, taken_by, Whole, with_change, with_query, with_seat, with_statement, with_taken, without_groups, without_pending}
 pub use Rattle.core_state.specs.Tables.{changes_of, filter_dimensions, key_number, key_numbers, tables_by, tables_of, versions_in}

@@ -26,7 +26,7 @@ use Rattle.core_state.specs.Found.{accepted_at, version_at}
 use Rattle.core_state.specs.Logged.{EndsAscending}
 use Rattle.core_state.specs.Numbered.{last_number}
 use Rattle.core_state.specs.Settings.{AreWithin, frames_of}
-use Rattle.core_state.specs.State.{Accepted, Asked, Awaited, Filters, FilterVersion, Flight, Replied, Scan, Seat, State}
+use Rattle.core_state.specs.State.{Accepted, Asked, Awaited, Filters, FilterVersion, Flight, Replied, ScanState, Seat, State}
 use Rattle.core_state.specs.Submitting.{empty_seat, seat_at}
 use Rattle.core_state.specs.declared.settings.RunSettings.{RunSettings}
 use Rattle.core_state.specs.Tables.{changes_of, filter_dimensions, tables_of, versions_in}
@@ -82,7 +82,7 @@ IsNext position extent other = Unit {0}
 
 -- a query that runs or is ending: each position of its extent was folded, or is in one batch in flight, or is still to
 -- come, each once; what is kept is what the folded positions give
-pub record IsCovered (store : Store) (scan : Scan) (accepted : Accepted) (extent : ℕ)
+pub record IsCovered (store : Store) (scan : ScanState) (accepted : Accepted) (extent : ℕ)
     (life : Life) : Type 0 where
   pub folded : List ℕ
   pub each_once : IsPermutation
@@ -107,7 +107,7 @@ HasTaken seats accepted =
 
 -- what is kept for an accepted query with this life: nothing folded before it starts, what is folded of its lap, the whole
 -- of it once it is answered until its seat took the reply, and nothing where it has no answer
-abbrev pub IsKept : Store → List Seat → Scan → Accepted → (extent : ℕ) → Life → Type 0
+abbrev pub IsKept : Store → List Seat → ScanState → Accepted → (extent : ℕ) → Life → Type 0
 IsKept store seats scan accepted extent life.Waiting =
     accepted.groups ≡ Some (grouped_of accepted.query [])
 IsKept store seats scan accepted extent life.Building =
@@ -124,7 +124,7 @@ IsKept store seats scan accepted extent life.Abandoned = accepted.groups ≡ Non
 -- an accepted query: it has its life, it is one over the schema, its snapshot is a commit so far, its extent is within the
 -- table, and what is kept is what its life says; while it is unfinished its extent is the versions that came by its snapshot
 pub record IsSoundAccepted (last : ℕ) (store : Store) (queries : List QueryLife)
-    (seats : List Seat) (scan : Scan) (accepted : Accepted) : Type 0 where
+    (seats : List Seat) (scan : ScanState) (accepted : Accepted) : Type 0 where
   pub number : accepted.number ≤ last
   pub over : IsOver store.schema accepted.query
   pub snapshot : accepted.snapshot ≤ store.commits

@@ -27,7 +27,7 @@ pub record Accepted : Type 0 where
 
 -- where the scan stands, the batches in flight in the order in which they were cut, how many frames are free for more,
 -- and how many positions were cut in all
-pub record Scan : Type 0 where
+pub record ScanState : Type 0 where
   pub position : ℕ
   pub flights : List Flight
   pub free : ℕ
@@ -46,5 +46,5 @@ pub record State : Type 0 where
   pub accepted : List Accepted
   pub lives : Lives
   pub filters : Filters
-  pub scan : Scan
+  pub scan : ScanState
   pub numbers : Numbers

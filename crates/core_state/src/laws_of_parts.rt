@@ -13,7 +13,7 @@ ghost use Rattle.continuous_scan.specs.Range.{new_scan, some_run};
 ghost use Rattle.continuous_scan.specs.Scanning.{Scanning};
 ghost use Rattle.continuous_scan.specs.Stamped.{CanTestAll, batch_of};
 ghost use Rattle.core_state.specs.Admitting.{after_build_wants, after_start};
-ghost use Rattle.core_state.specs.Cutting.{after_cutting, after_distribute, end_in, first_in, frame_words, rows_of};
+ghost use Rattle.core_state.specs.Cutting.{after_cutting, after_distribute, end_in, first_in, frame_words, rows_to_cut};
 ghost use Rattle.core_state.specs.Events.{IsEnabled, MayCut, after_event};
 ghost use Rattle.core_state.specs.Found.{accepted_at, flight_at};
 ghost use Rattle.core_state.specs.Numbered.{next_number};
@@ -44,7 +44,7 @@ pub fn a_scan_cuts_what_the_core_cuts()
     ensures batch { (state : State) (scan : Scanning) (keyed : KeyedStore) → IsSound state → IsScannedAs state scan →
         AreTablesOf state keyed →
         let number = next_number state.numbers.batch (map (λ flight. flight.rows.number) state.scan.flights) in
-        batch_of state.settings.batch number (frame_words state) scan keyed.versions ≡ rows_of state }
+        batch_of state.settings.batch number (frame_words state) scan keyed.versions ≡ rows_to_cut state }
     ensures after { (state : State) (scan : Scanning) (keyed : KeyedStore) → MayCut state → IsSound state →
         IsScannedAs state scan → AreTablesOf state keyed →
         IsScannedAs (after_cutting state) (scanned.after_cut (length keyed.versions) state.settings.batch scan) }

@@ -18,13 +18,13 @@ use event_core::{
 };
 use pipeline_manager::Life;
 use reply_text::print_reply;
-use script_reader::{Next, ScriptReader, Statement};
+use script_reader::{NextStatement, ScriptReader, Statement};
 use star_statement::ReadStatement;
 use star_values::{ByteText, NoMemory};
 use std::alloc::Global;
 use std::hash::RandomState;
 use std::test::Fail;
-use worker_gate::{Carried, NoGate, Taken, do_work, give_work, take_work};
+use worker_gate::{Carried, NoGate, TakenWork, do_work, give_work, take_work};
 
 /// A core with a seat that submits, and seat 1, which works. A batch has two rows.
 const SETTINGS: RunSettings = RunSettings {
@@ -153,8 +153,8 @@ fn has_to_wait(core: &mut Core, statement: &Statement) -> bool
 /// The next statement of a script, if there is one, and memory for it.
 fn next_of(script: &mut ScriptReader) -> Option<Statement> {
     match script.next_statement() {
-        Ok(Next::Got(statement)) => Some(statement),
-        Ok(Next::NotYet | Next::End) => None,
+        Ok(NextStatement::Got(statement)) => Some(statement),
+        Ok(NextStatement::NotYet | NextStatement::End) => None,
         Err(NoMemory) => None,
     }
 }
@@ -251,8 +251,8 @@ fn pass(core: &mut Core, script: &mut ScriptReader, meanwhile: Meanwhile, bits: 
     ensures empty { held_by (state_of core.new).scan.flights 1 ≡ None }
 {
     match take_work(core, 1) {
-        Taken::Got(work) => do_behind(core, script, meanwhile, Carried::Written(work), bits),
-        Taken::Nothing => false,
+        TakenWork::Got(work) => do_behind(core, script, meanwhile, Carried::Written(work), bits),
+        TakenWork::Nothing => false,
     }
 }
 

@@ -6,7 +6,7 @@ use Rattle.std.proofs.alloc.Global.TheSendSync as heap
 use Rattle.bit_words.proofs.bits.Bits.TheSendSync as bits
 use Rattle.star_values.proofs.list_of.ListOf.TheSendSync as list
 use Rattle.distributor.proofs.distributor.Distributor.TheSendSync as distributor
-use Rattle.distributor.specs.contracts.seats.Lent as lent
+use Rattle.distributor.specs.contracts.seats.LentGroups as lent
 use Rattle.distributor.specs.contracts.seats.SeatGroups as seat
 use Rattle.distributor.specs.contracts.shared.SharedDistributor as shared
 use Rattle.distributor.specs.contracts.shared.SharedDistributor.TheInside as inside_shared

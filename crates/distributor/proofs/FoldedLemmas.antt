@@ -17,7 +17,7 @@ use Rattle.dimension_rows.specs.declared.dimension_row.DimensionRow.{DimensionRo
 use Rattle.aggregations.specs.Absorbing.{with_all}
 use Rattle.aggregations.specs.Folding.{with_row}
 use Rattle.aggregations.specs.Grouped.{Grouped}
-use Rattle.distributor.specs.declared.seats.Lent.{Lent}
+use Rattle.distributor.specs.declared.seats.LentGroups.{LentGroups}
 use Rattle.distributor.specs.declared.seats.SeatGroups.{SeatGroups}
 use Rattle.distributor.specs.declared.seats.SeatGroups.TheVariants.{Away}
 use Rattle.distributor.specs.Apart.{HasLanded, HasMoved, IsFoldedBy, IsPart, IsSlot, MayFoldApart, MayLand, count_in, seen_with}
@@ -209,7 +209,7 @@ spoiled-seen spoiled seats home slot some low =
 
 -- A batch that comes home.
 
-module _ (dims : List (Roomy DimensionRow)) (batch : Rows) (versions : List Version) (lost : ℕ) (own : List (Option Grouped)) (lent : Lent)
+module _ (dims : List (Roomy DimensionRow)) (batch : Rows) (versions : List Version) (lost : ℕ) (own : List (Option Grouped)) (lent : LentGroups)
     (folded : AreFolded dims batch versions lost own (record { slots = lent.slots; groups = lent.groups.value }))
     (within : AreBitsWithin batch lent.slots)
     (home : List (Option Grouped)) (out : IsOut home lent) where
@@ -258,7 +258,7 @@ room-land false rows count k owns (Some home) (Some out) own at is few room =
     subst (λ (o : Option Grouped). IfSome o (λ its. home.rows + its.rows ≤ 2 ^ 32)) (sym is) (omega (arith, both, all, few, room))
 
 module _ (laws : MayFoldApart) (dims : List (Roomy DimensionRow)) (batch : Rows) (versions : List Version) (lost : ℕ) (own : List (Option Grouped))
-    (lent : Lent)
+    (lent : LentGroups)
     (folded : AreFolded dims batch versions lost own (record { slots = lent.slots; groups = lent.groups.value }))
     (within : AreBitsWithin batch lent.slots)
     (home : List (Option Grouped)) (seats : List SeatGroups) (k : ℕ) (d : SeatGroups) (low : k < length seats) (shared : AreShared home seats)

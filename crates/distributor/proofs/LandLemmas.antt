@@ -11,7 +11,7 @@ use Rattle.batch_flow.specs.Rows.{Rows}
 use Rattle.fact_versions.specs.declared.version.Version.{Version}
 use Rattle.dimension_rows.specs.declared.dimension_row.DimensionRow.{DimensionRow}
 use Rattle.aggregations.specs.Grouped.{Grouped}
-use Rattle.distributor.specs.declared.seats.Lent.{Lent}
+use Rattle.distributor.specs.declared.seats.LentGroups.{LentGroups}
 use Rattle.distributor.specs.declared.seats.SeatGroups.{SeatGroups}
 use Rattle.distributor.specs.declared.seats.SeatGroups.TheVariants.{Away}
 use Rattle.distributor.specs.Apart.{HasLanded, MayFoldApart, MayLand, count_in}
@@ -65,13 +65,13 @@ some_and : (o : Option Lending) (P : Lending → Type 0) → IsSomeAnd o P → (
 some_and None P some = absurd some
 some_and (Some lending) P some = (lending, refl, some)
 
-abbrev lending_of : Lent → Lending
+abbrev lending_of : LentGroups → Lending
 lending_of lent = record { slots = lent.slots; groups = lent.groups.value }
 
 module _ (batch : Rows) (lost : ℕ) (own : List (Option Grouped)) (seats : List SeatGroups) (k : ℕ) (d : SeatGroups) (low : k < length seats)
     (given : IsSomeAnd (get_or (map lending_in seats) k None) (MayCome batch lost own)) where
   -- what is known of it at home
-  pub lent-of : (lent : Lent) × (get_or seats k d ≡ Away lent) × MayCome batch lost own (record { slots = lent.slots; groups = lent.groups.value })
+  pub lent-of : (lent : LentGroups) × (get_or seats k d ≡ Away lent) × MayCome batch lost own (record { slots = lent.slots; groups = lent.groups.value })
   lent-of =
       let it = some_and (get_or (map lending_in seats) k None) (MayCome batch lost own) given in
       let away = lending-away (get_or seats k d) it.0 (sym (lending-get seats k d low) ∙ it.1) in

@@ -6,8 +6,8 @@ ghost use Rattle.distributor.specs.Apart.{HasMoved, IsPair, IsReady, LeavesOther
 ghost use Rattle.distributor.specs.Seats.{HaveMoved, IsSeat, lending_in, own_in};
 
 use crate::distributor::Distributor;
-use crate::kind::SLOTS;
-use crate::seats::{Lent, SeatGroups, put_seat, take_back};
+use crate::row_kind::SLOTS;
+use crate::seats::{LentGroups, SeatGroups, put_seat, take_back};
 use bit_words::Bits;
 use star_values::NoMemory;
 use std::alloc::Global;
@@ -125,7 +125,7 @@ pub(crate) fn lend_to_seat(
         put_seat(seat, SeatGroups::AtHome(own));
         return None;
     }
-    let lent = Lent {
+    let lent = LentGroups {
         slots,
         counts: counts_of(&own),
         groups: Snapshot::of(&own),

@@ -5,13 +5,13 @@ ghost use Rattle.bit_words.specs.Sets.{Has};
 ghost use Rattle.star_values.specs.declared.value.Value as cell;
 ghost use Rattle.star_plan.specs.declared.place.Place.{Place};
 ghost use Rattle.aggregations.specs.Absorbing.{with_all, without_rows};
-ghost use Rattle.distributor.specs.declared.seats.Lent.{Lent};
+ghost use Rattle.distributor.specs.declared.seats.LentGroups.{LentGroups};
 ghost use Rattle.distributor.specs.Apart.{HasLanded, HasSettled, LeavesOthers, MayLand, at_slot, count_in};
 ghost use Rattle.distributor.specs.Seats.{IsSeat, lending_in, own_in};
 
 use crate::distributor::Distributor;
 use crate::laws::rows_fold_apart;
-use crate::seats::{Lent, SeatGroups, put_seat};
+use crate::seats::{LentGroups, SeatGroups, put_seat};
 use bit_words::Bits;
 use star_values::NoMemory;
 use std::mem;
@@ -74,7 +74,12 @@ fn spoils_slot(
 }
 
 /// Does that with all slots, of which some were lost, and answers those that are spoiled.
-fn take_home(home: &mut Distributor, own: &mut Distributor, lost: &Bits<1>, lent: &Lent) -> Bits<1>
+fn take_home(
+    home: &mut Distributor,
+    own: &mut Distributor,
+    lost: &Bits<1>,
+    lent: &LentGroups,
+) -> Bits<1>
     requires long { length own.old ≡ length home.old }
     requires few { length home.old ≤ 64 }
     requires may { (slot : ℕ) → slot < length home.old →

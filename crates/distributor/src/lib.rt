@@ -2,7 +2,6 @@
 #![tactic(auto)]
 
 mod apart;
-mod block;
 mod blocks;
 mod coding;
 mod counting;
@@ -10,15 +9,16 @@ mod crossing;
 mod distributor;
 mod giving;
 mod going;
-mod homes;
 mod id_table;
 mod joining;
-mod kind;
 mod kind_table;
 mod landing;
 mod laws;
 mod lending;
+mod row_block;
+mod row_groups;
 mod row_ids;
+mod row_kind;
 mod seats;
 mod shared;
 mod shared_home;

@@ -7,8 +7,8 @@ ghost use Rattle.distributor.specs.Seats.{AreShared, IsSeat, IsWithout, lending_
 ghost use Rattle.distributor.specs.Shared.{IsInside};
 
 use crate::distributor::Distributor;
-use crate::kind::SLOTS;
 use crate::laws::rows_fold_apart;
+use crate::row_kind::SLOTS;
 use bit_words::Bits;
 use std::snapshot::Snapshot;
 
@@ -20,13 +20,13 @@ pub(crate) enum SeatGroups {
     /// Its groups are at home.
     AtHome(Distributor),
     /// They are out with it.
-    Away(Lent),
+    Away(LentGroups),
 }
 
 /// What is known at home of groups that are out: for which slots they are, and how many there were at each, all of
 /// which are at home too. Contracts go on seeing what went out.
 #[derive(Drop)]
-pub(crate) struct Lent {
+pub(crate) struct LentGroups {
     pub(crate) slots: Bits<1>,
     pub(crate) counts: [usize; SLOTS],
     pub(crate) groups: Snapshot<Distributor>,

@@ -2,7 +2,7 @@
 use Rattle.event_core.proofs.Words.{[], ◌++◌, ◌+◌, ◌-◌, ◌∙◌, ◌∷◌, ◌≡◌, after_cut, after_cutting, ap, AreHolders, arith, attached_to, batch_of, Becomes, cond, counted, Cut, cut_into, Event, false, Flight, flight_as, flights_as, frame_words, IsCore, IsEnabled, IsScannedAs, IsSound, IsTrue, Known, known_in, last_after, LeavesAttached, length, length-append, List, map, MayCut, next_number, None, Parts, Reach, reaches_in, refl, roster_of, Scanning, some_run, State, state_of, subst, sym, ℕ}
 use Rattle.std.proofs.lemmas.List.{map-append}
 use Rattle.continuous_scan.specs.Range as scanned
-use Rattle.core_state.specs.Cutting.{end_in, first_in, rows_of}
+use Rattle.core_state.specs.Cutting.{end_in, first_in, rows_to_cut}
 use Rattle.core_state.specs.Events.{after_event}
 use Rattle.core_state.specs.State as state
 use Rattle.event_core.proofs.CutHolderLemmas.{RosterLaw, roster-found}
@@ -23,11 +23,11 @@ abbrev pub BatchLaw : Type 0
 BatchLaw = (parts : Parts) → IsCore parts
     → batch_of parts.settings.batch
     (next_number parts.numbers.batch (map (λ flight. flight.rows.number) (state_of parts).scan.flights))
-    (frame_words (state_of parts)) parts.scan parts.tables.versions ≡ rows_of (state_of parts)
+    (frame_words (state_of parts)) parts.scan parts.tables.versions ≡ rows_to_cut (state_of parts)
 
 -- so the batch of the parts is that of the state
 same-rows : BatchLaw → (parts : Parts) (frame : List ℕ) → IsCore parts → length frame ≡ parts.pool.words
-    → batch_of parts.settings.batch (number_in parts) (length frame) parts.scan parts.tables.versions ≡ rows_of (state_of parts)
+    → batch_of parts.settings.batch (number_in parts) (length frame) parts.scan parts.tables.versions ≡ rows_to_cut (state_of parts)
 same-rows law parts frame core long =
     ap (λ used. batch_of parts.settings.batch (next_number parts.numbers.batch used) (length frame) parts.scan parts.tables.versions)
     (same-numbers (known_in parts.asked) (reaches_in parts.lives.queries) parts.flights)
@@ -49,7 +49,7 @@ new_flight holders frame parts = record {
 same-flight : BatchLaw → RosterLaw → (parts : Parts) (holders frame : List ℕ) → IsCore parts → length frame ≡ parts.pool.words
     → AreHolders parts.lives holders
     → flight_as (known_in parts.asked) (reaches_in parts.lives.queries) (new_flight holders frame parts)
-    ≡ record { rows = rows_of (state_of parts); roster = roster_of (state_of parts); hand = None }
+    ≡ record { rows = rows_to_cut (state_of parts); roster = roster_of (state_of parts); hand = None }
 same-flight batches rosters parts holders frame core long held =
     ap (λ roster. record {
       rows = batch_of parts.settings.batch (number_in parts) (length frame) parts.scan parts.tables.versions;
@@ -97,7 +97,7 @@ flights-cut : BatchLaw → RosterLaw → (parts : Parts) (holders frame : List �
     → length frame ≡ parts.pool.words → AreHolders parts.lives holders
     → flights_as (known_in parts.asked) (reaches_in (after_cut first last parts.lives).queries) (parts.flights ++ new_flight holders frame parts ∷ [])
     ≡ (state_of parts).scan.flights
-    ++ record { rows = rows_of (state_of parts); roster = roster_of (state_of parts); hand = None } ∷ []
+    ++ record { rows = rows_to_cut (state_of parts); roster = roster_of (state_of parts); hand = None } ∷ []
 flights-cut batches rosters parts holders frame first last core long held =
     ap (λ reaches. flights_as (known_in parts.asked) reaches (parts.flights ++ new_flight holders frame parts ∷ []))
     (reaches-cut first last parts.lives.queries)
@@ -119,7 +119,7 @@ state-cut batches rosters parts holders frame inside core runs range is long hel
     cut_state-same parts first (first_in (state_of parts)) end (end_in (state_of parts))
     (scanned.after_cut (length parts.tables.versions) parts.settings.batch parts.scan).position (end_in (state_of parts))
     (flights_as (known_in parts.asked) (reaches_in (after_cut first (end - 1) parts.lives).queries) (parts.flights ++ new_flight holders frame parts ∷ []))
-    ((state_of parts).scan.flights ++ record { rows = rows_of (state_of parts); roster = roster_of (state_of parts); hand = None } ∷ [])
+    ((state_of parts).scan.flights ++ record { rows = rows_to_cut (state_of parts); roster = roster_of (state_of parts); hand = None } ∷ [])
     (length inside) (length parts.pool.inside - 1)
     range.0 range.1
     (stands-behind (length parts.tables.versions) parts.settings.batch parts.scan runs ∙ range.1)

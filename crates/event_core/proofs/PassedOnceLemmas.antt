@@ -1,5 +1,5 @@
 -- A batch passes the filter that it meets next: the front takes it and gives it back.
-use Rattle.event_core.proofs.Words.{◌++◌, ◌+◌, ◌<◌, ◌∙◌, ◌∷◌, ◌≡◌, ◌≢◌, [], after_give, after_take, All, All-append, All-cons, All-head, All-nil, All-tail, ap, arith, Becomes, Bool, cond, eq-eqb, eqb, false, Flight, flight_as, flights_as, get_or-append_seam, Give, inl, IsCore, IsEnabled, IsLed, IsPassing, IsSome, Known, known_in, length, length-append, List, list_all, MayTake, ne_eqb, next_of, None, not, Option, option_map_or, Parts, passed_by, plus, position_or_len, Reach, reaches_in, refl, slice_get, slice_get-get_or, Some, state_of, subst, sym, Take, Tally, tally_of, true, ℕ}
+use Rattle.event_core.proofs.Words.{◌++◌, ◌+◌, ◌<◌, ◌∙◌, ◌∷◌, ◌≡◌, ◌≢◌, [], after_give, after_take, All, All-append, All-cons, All-head, All-nil, All-tail, ap, arith, Becomes, Bool, cond, eq-eqb, eqb, false, Flight, flight_as, flights_as, get_or-append_seam, Give, inl, IsCore, IsEnabled, IsLed, IsPassing, IsSome, Known, known_in, length, length-append, List, list_all, MayTake, ne_eqb, next_of, None, not, Option, option_map_or, Parts, passed_by, plus, position_or_len, Reach, reaches_in, refl, slice_get, slice_get-get_or, Some, state_of, subst, sym, Take, DropTally, tally_of, true, ℕ}
 use Rattle.std.proofs.Math.Seq.{set-append_seam}
 use Rattle.std.proofs.lemmas.List.{map-append}
 use Rattle.std.specs.List.{position}
@@ -13,7 +13,7 @@ use Rattle.event_core.proofs.LivedLemmas.{QuietEventsLeave}
 use Rattle.event_core.proofs.WorkLemmas.{seen-same}
 
 -- the parts with these tallies and batches in flight
-abbrev pub parts_at : Parts → List Tally → List Flight → Parts
+abbrev pub parts_at : Parts → List DropTally → List Flight → Parts
 parts_at parts tallies flights = record parts { filters = record parts.filters { tallies = tallies }; flights = flights }
 
 -- what is idle
@@ -107,7 +107,7 @@ none-placed : {X : Type 0} (p : X → Bool) (xs : List X) → All (λ one. p one
 none-placed p xs none = position-past p xs (let first = none-first p xs none in omega arith)
 
 -- the batch passes the version of the filter that it meets next
-pub passes-one : QuietEventsLeave → (parts : Parts) (tallies : List Tally) (front : List Flight) (flight : Flight) (back : List Flight)
+pub passes-one : QuietEventsLeave → (parts : Parts) (tallies : List DropTally) (front : List Flight) (flight : Flight) (back : List Flight)
     (version : state.FilterVersion) → IsCore (parts_at parts tallies (front ++ flight ∷ back)) → All IsIdle (front ++ flight ∷ back)
     → list_all (λ bits. eqb bits 0) flight.batch.bits ≡ false → next_of parts.filters flight.batch ≡ Some version
     → IsPassedOn (parts_at parts tallies (front ++ flight ∷ back))

@@ -29,7 +29,7 @@ pub use Rattle.bit_words.proofs.SetLemmas.{Has-with}
 pub use Rattle.bit_words.specs.Sets.{Has, with_number}
 pub use Rattle.frame_pool.specs.Stock.{Stock}
 pub use Rattle.batch_flow.specs.Rows.{Rows}
-pub use Rattle.dimension_filter.specs.declared.tally.Tally.{Tally}
+pub use Rattle.dimension_filter.specs.declared.drop_tally.DropTally.{DropTally}
 pub use Rattle.pipeline_manager.proofs.HolderLemmas.{slot_of-begun, slot_of-holder}
 pub use Rattle.pipeline_manager.specs.Changes.{after_abandon, after_cut, after_end, after_reserve, after_run, after_spoil, after_submit, with_life, with_slot}
 pub use Rattle.pipeline_manager.specs.Conditions.{CanAbandon, CanBuild, CanClear, CanEnd, CanFree, CanRun, CanSpoil, is_begun, is_open, IsNew}

@@ -23,7 +23,7 @@ use crate::marks::Marks;
 use continuous_scan::Scan;
 use core_parts::{Filters, Flights, Queries, Seat, Spares};
 use core_state::RunSettings;
-use dimension_filter::Tally;
+use dimension_filter::DropTally;
 use distributor::SharedDistributor;
 use frame_pool::Pool;
 use pipeline_manager::{Life, Manager, has};
@@ -231,7 +231,7 @@ impl Core {
     }
 
     /// What the filter of a dimension did so far. The dimension has a filter.
-    pub fn tally(&self, dimension: u8) -> Tally
+    pub fn tally(&self, dimension: u8) -> DropTally
         requires { Has (state_of self.now).lives.filters dimension }
         ensures { Some result ≡ tally_at (state_of self.now).filters dimension }
     {

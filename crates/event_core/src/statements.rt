@@ -29,7 +29,7 @@ ghost use Rattle.event_core.specs.Seen.{state_of};
 use crate::laws_of_statements::submissions_follow_the_core;
 use crate::logged::Logged;
 use crate::machine::Core;
-use core_parts::{Asked, Filters, Queries, Seat, Spares, Standing};
+use core_parts::{AcceptedQuery, Filters, Queries, Seat, Spares, Standing};
 use pipeline_manager::Manager;
 use script_reader::Statement;
 use star_history::accepted_histories_are_settled;
@@ -106,7 +106,14 @@ impl Core {
                 Ok(())
             }
             Applied::Accepted { query, snapshot } => {
-                let asked = Asked::new(self.alloc, self.hash_keys, number, seat, query, snapshot)?;
+                let asked = AcceptedQuery::new(
+                    self.alloc,
+                    self.hash_keys,
+                    number,
+                    seat,
+                    query,
+                    snapshot,
+                )?;
                 let extent = self.tables.store().facts().len();
                 accept(&mut self.asked, &mut self.manager, asked, extent)?;
                 stand(&mut self.seats, seat, number, Standing::IsAsked);
@@ -246,7 +253,7 @@ fn filter_for(
 fn accept(
     asked: &mut Queries,
     manager: &mut Manager,
-    query: Asked,
+    query: AcceptedQuery,
     extent: u32,
 ) -> Result<(), NoMemory>
     requires room { 0 < asked.old.room }

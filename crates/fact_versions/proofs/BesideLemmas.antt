@@ -6,12 +6,12 @@ use Rattle.std.proofs.lemmas.List.Elements.{All-cons, All-head, All-push, All-ta
 use Rattle.star_values.specs.Roomy.{Roomy}
 use Rattle.star_values.specs.declared.value.Value.{Value}
 use Rattle.star_values.specs.First.{AreIntegerColumns}
-use Rattle.fact_versions.specs.Beside.{AreBeside, HaveRoomFor, rows_of}
+use Rattle.fact_versions.specs.Beside.{AreBeside, HaveRoomFor, version_rows}
 use Rattle.fact_versions.specs.Blocks.{AreBlocks}
 use Rattle.fact_versions.specs.Ends.{ended_by, with_end}
 use Rattle.fact_versions.specs.Keys.{AreKeyColumns, HasOneMore, HaveAllKeys, column_of, keys_for}
 use Rattle.fact_versions.proofs.EndsLemmas.{length-with_end}
-use Rattle.fact_versions.specs.declared.blocks.Block.{Block}
+use Rattle.fact_versions.specs.declared.version_blocks.VersionBlock.{VersionBlock}
 use Rattle.fact_versions.specs.declared.version.Version.{Version}
 use Rattle.fact_versions.specs.declared.version.TheConstants.{KEYS_IN_A_VERSION, MAX_VERSIONS}
 
@@ -36,7 +36,7 @@ more_keys versions version old new count more kept = record {
 
 -- one version more, and what stands beside it
 pub beside_more : (old new : List Version) (version : Version) (before : ℕ) (integers more_integers : List (List ℤ)) (keys more_keys : List (Roomy ℕ))
-    (blocks more_blocks : List Block) → new ≡ old ++ version ∷ [] → before ≡ length old → length old < MAX_VERSIONS
+    (blocks more_blocks : List VersionBlock) → new ≡ old ++ version ∷ [] → before ≡ length old → length old < MAX_VERSIONS
     → ((rows : List (List Value)) → length rows ≡ before → AreIntegerColumns rows integers → AreIntegerColumns (rows ++ version.row ∷ []) more_integers)
     → length version.keys ≡ KEYS_IN_A_VERSION
     → ((dimension : ℕ) → dimension < KEYS_IN_A_VERSION → HasOneMore (column_of keys dimension) (column_of more_keys dimension) (slice_index version.keys dimension))
@@ -47,13 +47,13 @@ beside_more old new version before integers more_integers keys keys_then blocks 
       few = (let long = length-append old (version ∷ []) in omega arith);
       whole_integers =
           subst (λ rows. AreIntegerColumns rows more_integers) (sym (map-append (λ (v : Version). v.row) old (version ∷ [])))
-          (step (rows_of old) (length-map old (λ (v : Version). v.row) ∙ sym counted) kept.whole_integers);
+          (step (version_rows old) (length-map old (λ (v : Version). v.row) ∙ sym counted) kept.whole_integers);
       whole_keys = more_keys old version keys keys_then count more kept.whole_keys;
       whole_blocks = note old (sym counted) kept.whole_blocks;
     })
 
 -- one version more used up its room
-pub room_less : (room : ℕ) (version : Version) (versions new : Roomy Version) (keys more_keys : List (Roomy ℕ)) (blocks more_blocks : Roomy Block)
+pub room_less : (room : ℕ) (version : Version) (versions new : Roomy Version) (keys more_keys : List (Roomy ℕ)) (blocks more_blocks : Roomy VersionBlock)
     → 0 < room → new.items ≡ versions.items ++ version ∷ [] → new.room + 1 ≡ versions.room
     → ((dimension : ℕ) → dimension < KEYS_IN_A_VERSION → HasOneMore (column_of keys dimension) (column_of more_keys dimension) (slice_index version.keys dimension))
     → length more_blocks.items + more_blocks.room ≡ length blocks.items + blocks.room
@@ -82,7 +82,7 @@ whole-with_end (version ∷ versions) (suc position) commit whole =
     (whole-with_end versions position commit (All-tail P version versions whole))
 
 -- one version ended
-pub beside_ended : (old new now : List Version) (position commit : ℕ) (integers : List (List ℤ)) (keys : List (Roomy ℕ)) (blocks more_blocks : List Block)
+pub beside_ended : (old new now : List Version) (position commit : ℕ) (integers : List (List ℤ)) (keys : List (Roomy ℕ)) (blocks more_blocks : List VersionBlock)
     → old ≡ now → new ≡ with_end now position commit → AreBlocks (with_end old position commit) more_blocks
     → AreBeside old integers keys blocks → AreBeside new integers keys more_blocks
 beside_ended old new now position commit integers keys blocks more_blocks same ended noted kept =
@@ -102,7 +102,7 @@ beside_ended old new now position commit integers keys blocks more_blocks same e
     })
 
 -- and the room stays
-pub room_stays : (room : ℕ) (versions new : Roomy Version) (keys : List (Roomy ℕ)) (blocks more_blocks : Roomy Block)
+pub room_stays : (room : ℕ) (versions new : Roomy Version) (keys : List (Roomy ℕ)) (blocks more_blocks : Roomy VersionBlock)
     → length new.items ≡ length versions.items → new.room ≡ versions.room
     → length more_blocks.items ≡ length blocks.items → more_blocks.room ≡ blocks.room
     → HaveRoomFor room versions keys blocks → HaveRoomFor room new keys more_blocks

@@ -8,17 +8,17 @@ use Rattle.std.proofs.lemmas.Bool.{cases_eq, cases_lt}
 use Rattle.std.proofs.lemmas.Bool.Decides.{nat_tests}
 use Rattle.std.proofs.lemmas.List.{drop-append-le, get_or-set_other, get_or-set_same, length-append, length-drop, length-set, length-take, take-append-le, take_all}
 use Rattle.std.proofs.lemmas.Option.{slice_get-get_or}
-use Rattle.fact_versions.specs.declared.blocks.TheConstants.{VERSIONS_IN_A_BLOCK}
+use Rattle.fact_versions.specs.declared.version_blocks.TheConstants.{VERSIONS_IN_A_BLOCK}
 use Rattle.star_values.proofs.PlaceLemmas.{refill-all}
 use Rattle.fact_versions.specs.Blocks.{AreBlocks, AreCounted, AreSeen, block_of, is_end, versions_in, with_end_by, with_version}
 use Rattle.fact_versions.specs.Ends.{with_end}
 use Rattle.fact_versions.proofs.EndsLemmas.{drop-with_end, drop-with_end_before, length-with_end, past-with_end, take-with_end}
 use Rattle.fact_versions.proofs.PartLemmas.{get_or-part, inside_part, length-part}
-use Rattle.fact_versions.specs.declared.blocks.Block.{Block}
+use Rattle.fact_versions.specs.declared.version_blocks.VersionBlock.{VersionBlock}
 use Rattle.fact_versions.specs.declared.version.Version.{Version}
 
 same_block : (begin other : ℕ) (ended flag : Bool) → begin ≡ other → ended ≡ flag
-    → ◌≡◌ {A = Block} (record { begin = begin; ended = ended }) (record { begin = other; ended = flag })
+    → ◌≡◌ {A = VersionBlock} (record { begin = begin; ended = ended }) (record { begin = other; ended = flag })
 same_block begin other ended flag one two = cc
 
 or_turned : (a b c : Bool) → ((a || b) || c) ≡ ((a || c) || b)
@@ -29,7 +29,7 @@ or_turned false false true = refl
 or_turned false false false = refl
 
 -- two versions come into a block in either order
-turned : (block : Block) (one other : Version) → with_version (with_version block one) other ≡ with_version (with_version block other) one
+turned : (block : VersionBlock) (one other : Version) → with_version (with_version block one) other ≡ with_version (with_version block other) one
 turned block one other =
     same_block _ _ _ _ (let most : max (max block.begin one.begin) other.begin ≡ max (max block.begin other.begin) one.begin = omega arith in most)
     (or_turned block.ended (is_end one.end) (is_end other.end))
@@ -61,10 +61,10 @@ last_more versions version number within last =
     ∙ ap (λ front. front ++ version ∷ []) (sym (take_all VERSIONS_IN_A_BLOCK rest (omega arith)))
 
 -- blocks of which the last has one version more
-one_more : (versions : List Version) (version : Version) (old new : List Block) → AreBlocks versions old
+one_more : (versions : List Version) (version : Version) (old new : List VersionBlock) → AreBlocks versions old
     → AreCounted (length versions + 1) (length new)
-    → ((number : ℕ) (otherwise : Block) → number < length versions / VERSIONS_IN_A_BLOCK → get_or new number otherwise ≡ get_or old number otherwise)
-    → ((otherwise : Block) → get_or new (length versions / VERSIONS_IN_A_BLOCK) otherwise
+    → ((number : ℕ) (otherwise : VersionBlock) → number < length versions / VERSIONS_IN_A_BLOCK → get_or new number otherwise ≡ get_or old number otherwise)
+    → ((otherwise : VersionBlock) → get_or new (length versions / VERSIONS_IN_A_BLOCK) otherwise
     ≡ with_version (block_of (versions_in (length versions / VERSIONS_IN_A_BLOCK) versions)) version)
     → AreBlocks (versions ++ version ∷ []) new
 one_more versions version old new kept counted same last = record {
@@ -72,7 +72,7 @@ one_more versions version old new kept counted same last = record {
   each = λ number otherwise low. by number otherwise (let most = counted.last in omega arith) (cases_eq number (length versions / VERSIONS_IN_A_BLOCK));
 }
   where
-    by : (number : ℕ) (otherwise : Block) → number * VERSIONS_IN_A_BLOCK ≤ length versions
+    by : (number : ℕ) (otherwise : VersionBlock) → number * VERSIONS_IN_A_BLOCK ≤ length versions
         → (number ≡ length versions / VERSIONS_IN_A_BLOCK) ⊎ (number ≢ length versions / VERSIONS_IN_A_BLOCK)
         → get_or new number otherwise ≡ block_of (versions_in number (versions ++ version ∷ []))
     by number otherwise low (inl here) =
@@ -85,7 +85,7 @@ one_more versions version old new kept counted same last = record {
         ∙ ap block_of (sym (before_more versions version number (omega arith)))
 
 -- a version that begins a block
-pub pushed_blocks : (versions : List Version) (version : Version) (old new : List Block) (block : Block)
+pub pushed_blocks : (versions : List Version) (version : Version) (old new : List VersionBlock) (block : VersionBlock)
     → length versions % VERSIONS_IN_A_BLOCK ≡ 0 → new ≡ old ++ block ∷ [] → block ≡ record { begin = version.begin; ended = is_end version.end }
     → AreBlocks versions old → AreBlocks (versions ++ version ∷ []) new
 pushed_blocks versions version old new block full put is kept =
@@ -104,7 +104,7 @@ pushed_blocks versions version old new block full put is kept =
     ∙ get_or-append_seam old block [] otherwise ∙ first ∙ ap (λ front. with_version (block_of front) version) (sym none))
 
 -- a version that comes into the last block
-pub noted_blocks : (versions : List Version) (version : Version) (before : ℕ) (old new : List Block) (block read : Block)
+pub noted_blocks : (versions : List Version) (version : Version) (before : ℕ) (old new : List VersionBlock) (block read : VersionBlock)
     → length versions ≡ before → before % VERSIONS_IN_A_BLOCK ≢ 0 → new ≡ set old (before / VERSIONS_IN_A_BLOCK) block
     → block ≡ with_version (get_or old (before / VERSIONS_IN_A_BLOCK) read) version
     → AreBlocks versions old → AreBlocks (versions ++ version ∷ []) new
@@ -124,7 +124,7 @@ noted_blocks versions version before old new block read all some put is kept =
     ∙ ap (λ n. with_version (block_of (versions_in n versions)) version) (sym place))
 
 -- blocks that were lent to be written over, as one of them was
-pub refill-block : (old lent : List Block) (place : ℕ) (block : Block) → lent ≡ old
+pub refill-block : (old lent : List VersionBlock) (place : ℕ) (block : VersionBlock) → lent ≡ old
     → refill (length old) old (set lent place block) ≡ set old place block
 refill-block old lent place block same =
     ap (λ blocks. refill (length old) old (set blocks place block)) same
@@ -171,7 +171,7 @@ other_block versions number position commit apart = by (cases_lt position (numbe
         ∙ past-with_end (versions_in number versions) (position - number * VERSIONS_IN_A_BLOCK) commit (omega arith)
 
 -- a version that is ended, in its block
-pub ended_blocks : (versions : List Version) (position commit : ℕ) (old new : List Block) (block read : Block)
+pub ended_blocks : (versions : List Version) (position commit : ℕ) (old new : List VersionBlock) (block read : VersionBlock)
     → position < length versions → IfSome (slice_get versions position) (λ version. version.end ≡ 0)
     → new ≡ set old (position / VERSIONS_IN_A_BLOCK) block
     → block ≡ with_end_by (get_or old (position / VERSIONS_IN_A_BLOCK) read) commit
@@ -203,7 +203,7 @@ ended_blocks versions position commit old new block read inside live put is kept
         fresh otherwise =
             subst (λ (found : Option Version). IfSome found (λ version. version.end ≡ 0)) (slice_get-get_or versions position otherwise inside) live
 
-    by : position / VERSIONS_IN_A_BLOCK < length old → (number : ℕ) (otherwise : Block) → number < length old
+    by : position / VERSIONS_IN_A_BLOCK < length old → (number : ℕ) (otherwise : VersionBlock) → number < length old
         → (number ≡ position / VERSIONS_IN_A_BLOCK) ⊎ (number ≢ position / VERSIONS_IN_A_BLOCK)
         → get_or (set old (position / VERSIONS_IN_A_BLOCK) block) number otherwise ≡ block_of (versions_in number (with_end versions position commit))
     by within number otherwise low (inl here) =
@@ -237,22 +237,22 @@ told (version ∷ versions) (suc place) otherwise within =
     (let less = rest.0 in omega arith, λ none. rest.1 (neither (block_of versions).ended (is_end version.end) none).0)
 
 -- a version of a block that is seen is seen
-seen_in_block : (versions : List Version) (blocks : List Block) (number place commit : ℕ) (otherwise : Version) (block : Block) → AreBlocks versions blocks
+seen_in_block : (versions : List Version) (blocks : List VersionBlock) (number place commit : ℕ) (otherwise : Version) (block : VersionBlock) → AreBlocks versions blocks
     → number < length blocks → place < VERSIONS_IN_A_BLOCK → number * VERSIONS_IN_A_BLOCK + place < length versions
     → ((get_or blocks number block).begin ≤ commit) × ((get_or blocks number block).ended ≡ false)
     → ((get_or versions (number * VERSIONS_IN_A_BLOCK + place) otherwise).begin ≤ commit)
     × ((get_or versions (number * VERSIONS_IN_A_BLOCK + place) otherwise).end ≡ 0)
 seen_in_block versions blocks number place commit otherwise block kept inside low within seen =
     let own = told (versions_in number versions) place otherwise (inside_part versions (number * VERSIONS_IN_A_BLOCK) VERSIONS_IN_A_BLOCK place low within) in
-    let most = ap (λ (b : Block). b.begin) (kept.each number block inside) in
+    let most = ap (λ (b : VersionBlock). b.begin) (kept.each number block inside) in
     let version = ap (λ (v : Version). v.begin) (get_or-part versions (number * VERSIONS_IN_A_BLOCK) VERSIONS_IN_A_BLOCK place otherwise low) in (
       (let less = own.0 in let least = seen.0 in omega arith),
       sym (ap (λ (v : Version). v.end) (get_or-part versions (number * VERSIONS_IN_A_BLOCK) VERSIONS_IN_A_BLOCK place otherwise low))
-          ∙ own.1 (sym (ap (λ (b : Block). b.ended) (kept.each number block inside)) ∙ seen.1),
+          ∙ own.1 (sym (ap (λ (b : VersionBlock). b.ended) (kept.each number block inside)) ∙ seen.1),
     )
 
 -- versions of blocks that are seen are seen
-seen_by_blocks : (versions : List Version) (blocks : List Block) (first end commit : ℕ) → first < end → end ≤ length versions
+seen_by_blocks : (versions : List Version) (blocks : List VersionBlock) (first end commit : ℕ) → first < end → end ≤ length versions
     → AreBlocks versions blocks
     → AreSeen commit (slice_range blocks (first / VERSIONS_IN_A_BLOCK) ((end - 1) / VERSIONS_IN_A_BLOCK + 1))
     → All (λ version. (version.begin ≤ commit) × (version.end ≡ 0)) (take (end - first) (drop first versions))
@@ -277,13 +277,13 @@ seen_by_blocks versions blocks first end commit some inside kept seen place othe
         subst (λ p. ((get_or versions p otherwise).begin ≤ commit) × ((get_or versions p otherwise).end ≡ 0)) whole
         (seen_in_block versions blocks (position / VERSIONS_IN_A_BLOCK) (position % VERSIONS_IN_A_BLOCK) commit otherwise (record { begin = 0; ended = false }) kept
         (omega arith) rest (omega arith)
-        (subst (λ (b : Block). (b.begin ≤ commit) × (b.ended ≡ false)) here
+        (subst (λ (b : VersionBlock). (b.begin ≤ commit) × (b.ended ≡ false)) here
         (seen (position / VERSIONS_IN_A_BLOCK - first / VERSIONS_IN_A_BLOCK) (record { begin = 0; ended = false })
         (inside_part blocks (first / VERSIONS_IN_A_BLOCK) ((end - 1) / VERSIONS_IN_A_BLOCK + 1 - first / VERSIONS_IN_A_BLOCK)
         (position / VERSIONS_IN_A_BLOCK - first / VERSIONS_IN_A_BLOCK) (omega arith) (omega arith)))))
 
 -- the same by an answer, of versions of which there may be none
-pub seen_if_answered : (versions now : List Version) (blocks : List Block) (first end commit : ℕ) (answer : Bool) → versions ≡ now → end ≤ length now
+pub seen_if_answered : (versions now : List Version) (blocks : List VersionBlock) (first end commit : ℕ) (answer : Bool) → versions ≡ now → end ≤ length now
     → AreBlocks versions blocks
     → (first < end → IsTrue answer ↔ AreSeen commit (slice_range blocks (first / VERSIONS_IN_A_BLOCK) ((end - 1) / VERSIONS_IN_A_BLOCK + 1)))
     → IsTrue answer → All (λ version. (version.begin ≤ commit) × (version.end ≡ 0)) (take (end - first) (drop first now))

@@ -2,13 +2,13 @@
 //! it. Which of them a query sees is in `visible`.
 #![tactic(auto)]
 
-mod blocks;
 mod crossing;
 mod fact_versions;
 mod key_columns;
 mod laws;
 mod stretch;
 mod version;
+mod version_blocks;
 mod visible;
 
 pub use crossing::{fact_versions_may_be_sent, fact_versions_may_be_shared};

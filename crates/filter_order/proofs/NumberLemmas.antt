@@ -8,7 +8,7 @@ use Rattle.std.proofs.lemmas.List.{length-take-le, take_at}
 use Rattle.std.proofs.lemmas.List.FromFn.{length-range_with_len, get_or-range_with_len}
 use Rattle.std.proofs.lemmas.List.Sorted.{Contains-permutation, IsPermutation-sym, length_permutation, sorted_far}
 use Rattle.std.proofs.lemmas.Map.Keys.{IsDistinct-from_apart, IsDistinct-IsPermutation, apart_from_distinct}
-use Rattle.dimension_filter.specs.declared.tally.Tally.{Tally}
+use Rattle.dimension_filter.specs.declared.drop_tally.DropTally.{DropTally}
 use Rattle.filter_order.specs.Numbers.{all_numbers}
 use Rattle.filter_order.specs.Rates.{IsOrderedByDropRate, comes_before}
 use Rattle.filter_order.proofs.RateLemmas.{before_weak, one_before}
@@ -34,7 +34,7 @@ distinct_below n = IsDistinct-from_apart nat_eq (range_with_len 0 n) (λ i j d b
     grind (arith, nat_tests))
 
 -- numbers that are sorted by drop rate are ordered by it
-pub ordered_from_sorted : (tallies : List Tally) (order : List ℕ) → IsPermutation (range_with_len 0 (length tallies)) order
+pub ordered_from_sorted : (tallies : List DropTally) (order : List ℕ) → IsPermutation (range_with_len 0 (length tallies)) order
     → IsSortedBy (comes_before tallies) order → IsOrderedByDropRate tallies order
 ordered_from_sorted tallies order permuted sorted =
     let distinct : IsDistinct nat_eq order =
@@ -48,7 +48,7 @@ ordered_from_sorted tallies order permuted sorted =
     }
 
 -- the same, in front of the numbers that have no tally
-pub ordered_in_front : (tallies : List Tally) (order rest : List ℕ) → length tallies ≤ 8 → IsPermutation (take (length tallies) all_numbers) order
+pub ordered_in_front : (tallies : List DropTally) (order rest : List ℕ) → length tallies ≤ 8 → IsPermutation (take (length tallies) all_numbers) order
     → IsSortedBy (comes_before tallies) order → IsOrderedByDropRate tallies (take (length tallies) (order ++ rest))
 ordered_in_front tallies order rest few permuted sorted =
     let permuted_below : IsPermutation (range_with_len 0 (length tallies)) order =
@@ -115,7 +115,7 @@ module _ (lt : ℕ → ℕ → Bool) (one_way : (x y : ℕ) → lt x y ≡ true 
       (unique xs ys (behind xs x p) (behind ys y q) (later y xs ys p_here q there_here) (later y ys xs q p_here back_here))
 
 -- tallies have one order
-pub one_order : (tallies : List Tally) (order other : List ℕ) → IsOrderedByDropRate tallies order → IsOrderedByDropRate tallies other → order ≡ other
+pub one_order : (tallies : List DropTally) (order other : List ℕ) → IsOrderedByDropRate tallies order → IsOrderedByDropRate tallies other → order ≡ other
 one_order tallies order other p q =
     let numbers = range_with_len 0 (length tallies) in
     unique (comes_before tallies) (before_weak tallies).one_way order other p.ordered q.ordered

@@ -8,7 +8,7 @@ use Rattle.std.specs.declared.cmp.Ordering.TheVariants.{Less, Equal, Greater}
 use Rattle.std.proofs.lemmas.Bool.Decides.{nat_tests}
 use Rattle.std.proofs.lemmas.Cmp.{ranked, nat_cmp_total, then_total, on_total}
 use Rattle.std.proofs.lemmas.List.MinMax.{ranks_by}
-use Rattle.dimension_filter.specs.declared.tally.Tally.{Tally}
+use Rattle.dimension_filter.specs.declared.drop_tally.DropTally.{DropTally}
 use Rattle.filter_order.specs.Rates.{rate_cmp, tally_of, number_cmp, comes_before}
 
 less : (x y : ℕ) → x < y → nat_cmp x y ≡ Less
@@ -97,15 +97,15 @@ rate_total = record {
       (λ s t. tied x.probes x.drops y.probes y.drops z.probes z.drops (positive _ s) (positive _ t));
 }
 
-pub number_total : (tallies : List Tally) → IsTotalOrder (number_cmp tallies)
+pub number_total : (tallies : List DropTally) → IsTotalOrder (number_cmp tallies)
 unfolding number_cmp
 number_total tallies = then_total (on_total (tally_of tallies) rate_total) nat_cmp_total
 
-pub before_weak : (tallies : List Tally) → IsStrictWeakOrder (comes_before tallies)
+pub before_weak : (tallies : List DropTally) → IsStrictWeakOrder (comes_before tallies)
 before_weak tallies = ranks_by (number_total tallies) (λ (number : ℕ). number)
 
 -- of two filters one comes before the other
-pub one_before : (tallies : List Tally) (a b : ℕ) → nat_eq a b ≡ false → comes_before tallies b a ≡ false → comes_before tallies a b ≡ true
+pub one_before : (tallies : List DropTally) (a b : ℕ) → nat_eq a b ≡ false → comes_before tallies b a ≡ false → comes_before tallies a b ≡ true
 unfolding number_cmp
 one_before tallies a b apart behind = by_answer (number_cmp tallies a b) refl
   where

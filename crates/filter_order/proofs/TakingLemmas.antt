@@ -10,7 +10,7 @@ use Rattle.std.proofs.lemmas.Bool.{cases_lt}
 use Rattle.std.proofs.lemmas.List.Elements.{All-head}
 use Rattle.std.proofs.lemmas.Option.{none-some, same_Some, slice_get-get_or, slice_get_past}
 use Rattle.batch_flow.specs.Rows.{Rows}
-use Rattle.dimension_filter.specs.declared.tally.Tally.{Tally}
+use Rattle.dimension_filter.specs.declared.drop_tally.DropTally.{DropTally}
 use Rattle.filter_order.specs.Filtered.{FilterVersion, version_at, with_tally}
 use Rattle.filter_order.specs.Filters.{left_of, plus, with_each_done}
 use Rattle.filter_order.specs.Spares.{AreApart, HasPlace, IsKept, Spares, is_present, with_all_returned, with_all_taken, with_returned, with_spare}
@@ -136,8 +136,8 @@ drop-found xs i x found = by_cases (cases_lt i (length xs))
     by_cases (inr past) = absurd (none-some x (sym (slice_get_past xs i past) ∙ found))
 
 -- what each did from some place on, of which the first is added
-pub done-next : (versions present : List FilterVersion) (done tallies after : List Tally)
-    (place : ℕ) (version : FilterVersion) (more : Tally)
+pub done-next : (versions present : List FilterVersion) (done tallies after : List DropTally)
+    (place : ℕ) (version : FilterVersion) (more : DropTally)
     → slice_get versions place ≡ Some version → slice_get done place ≡ Some more
     → after ≡ with_tally version.filter.dimension (plus more) present tallies
     → with_each_done (drop (place + 1) versions) (drop (place + 1) done) present after

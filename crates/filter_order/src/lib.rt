@@ -3,19 +3,19 @@
 //! are made ahead.
 #![tactic(auto)]
 
+mod drop_tallies;
+mod filter_version;
 mod filters;
 mod laws;
 mod order;
 mod rates;
 mod spares;
-mod tallies;
-mod version;
 mod versions;
 
+pub use drop_tallies::DropTallies;
+pub use filter_version::{FilterVersion, Reference, References};
 pub use filters::Filters;
 pub use laws::orders_by_drop_rate_are_equal;
 pub use order::{Order, best_order};
 pub use spares::Spares;
-pub use tallies::Tallies;
-pub use version::{Reference, References, Version};
 pub use versions::{MAX_FILTERS, Versions};

@@ -7,8 +7,8 @@ ghost use Rattle.filter_order.specs.Filtered.{version_at};
 ghost use Rattle.filter_order.specs.Filters.{left_of, no_rows, rows_or_none, versions_left};
 ghost use Rattle.filter_order.specs.Spares.{AreApart, HasPlace, IsKept, first_spares, is_present, spare_at, with_all_returned, with_all_taken, with_returned, with_spare};
 
+use crate::filter_version::{FilterVersion, Reference, References};
 use crate::filters::Filters;
-use crate::version::{Reference, References, Version};
 use crate::versions::Versions;
 use batch_flow::Batch;
 use star_values::{ListOf, NoMemory};
@@ -59,7 +59,7 @@ impl Spares {
     }
 
     /// Takes the reference of a seat, which is kept, and gives the version once more by it.
-    pub fn take(&mut self, seat: u32, version: &Version) -> Version
+    pub fn take(&mut self, seat: u32, version: &FilterVersion) -> FilterVersion
         requires { spare_at self.old version.now.filter.dimension seat ≡ Some version.now.filter }
         ensures version { result ≡ version.now }
         ensures left { self.new ≡ with_spare version.now.filter.dimension seat None self.old }
@@ -99,7 +99,7 @@ impl Spares {
     }
 
     /// Keeps the reference of a seat again, where its version is still the present one of the filter. It lets any other go.
-    pub fn give(&mut self, seat: u32, version: Version, filters: &Filters)
+    pub fn give(&mut self, seat: u32, version: FilterVersion, filters: &Filters)
         requires { is_present filters.now.versions version ≡ true → HasPlace version.filter.dimension seat self.old }
         ensures { self.new ≡ with_returned seat version (is_present filters.now.versions version) self.old }
     {
@@ -121,7 +121,7 @@ impl Spares {
 /// For each of these versions a reference to its table for each of so many seats.
 fn references_of_all(
     alloc: Global,
-    versions: &[Version],
+    versions: &[FilterVersion],
     seats: u32,
 ) -> Result<ListOf<References>, NoMemory>
     ensures { IfOk result (λ spares. spares ≡ first_spares seats versions.now) }
@@ -142,7 +142,11 @@ fn renew(spares: &mut ListOf<References>, dimension: u8, references: References)
 }
 
 /// What `Spares::take` does, over the list alone.
-fn take_version(spares: &mut ListOf<References>, seat: u32, version: &Version) -> Version
+fn take_version(
+    spares: &mut ListOf<References>,
+    seat: u32,
+    version: &FilterVersion,
+) -> FilterVersion
     requires { spare_at spares.old version.now.filter.dimension seat ≡ Some version.now.filter }
     ensures version { result ≡ version.now }
     ensures left { spares.new ≡ with_spare version.now.filter.dimension seat None spares.old }
@@ -181,7 +185,11 @@ fn take_left(
 
 /// The present version of the filter of a dimension, if it has one that a batch did not pass. Where there is no batch, it was not
 /// passed.
-fn left_to<'a>(filters: &'a Filters, dimension: u8, batch: Option<&Batch>) -> Option<&'a Version>
+fn left_to<'a>(
+    filters: &'a Filters,
+    dimension: u8,
+    batch: Option<&Batch>,
+) -> Option<&'a FilterVersion>
     requires { dimension < 8 }
     ensures { option_map (λ version. version.now) result
         ≡ (let rows = rows_or_none (option_map (λ batch. batch.now) batch.entry) in
@@ -198,7 +206,7 @@ fn left_to<'a>(filters: &'a Filters, dimension: u8, batch: Option<&Batch>) -> Op
 fn take_next(
     spares: &mut ListOf<References>,
     seat: u32,
-    left: Option<&Version>,
+    left: Option<&FilterVersion>,
     versions: &mut Versions,
 )
     requires kept { IfSome left (λ version. IsKept seat spares.old version.now) }
@@ -215,7 +223,7 @@ fn take_next(
 }
 
 /// What `Spares::give` does, over the list alone, with a version that is the present one or is not.
-fn give_version(spares: &mut ListOf<References>, seat: u32, version: Version, present: bool)
+fn give_version(spares: &mut ListOf<References>, seat: u32, version: FilterVersion, present: bool)
     requires { present ≡ true → HasPlace version.filter.dimension seat spares.old }
     ensures { spares.new ≡ with_returned seat version present spares.old }
 {

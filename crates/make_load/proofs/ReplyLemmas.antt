@@ -11,7 +11,7 @@ use Rattle.reply_text.specs.Text.{more_text, refusal_text, row_text, text_of, te
 use Rattle.reply_text.specs.Formed.{IsWellFormed}
 use Rattle.reply_text.specs.declared.reply.Reply.{Reply}
 use Rattle.reply_text.specs.declared.reply.Reply.TheVariants.{Table, Commit, Answer, Overflow, Memory, Refused, Waited}
-use Rattle.make_load.specs.Summary.{rows_of}
+use Rattle.make_load.specs.Summary.{answered_rows}
 
 -- bytes are read as replies up to the rest, and each list of replies whose text the bytes are goes on so
 pub record IsReadTo (bytes : List ℕ) (front : List Reply) (rest : List ℕ) : Type 0 where
@@ -32,7 +32,7 @@ ends-long : (text : List ℕ) (byte : ℕ) → 0 < length (text ++ byte ∷ [])
 ends-long text byte = omega (arith, length-append text (byte ∷ []))
 
 -- a reply has a byte, and no more rows than bytes
-text_of-long : (reply : Reply) → (0 < length (text_of reply)) × (rows_of reply ≤ length (text_of reply))
+text_of-long : (reply : Reply) → (0 < length (text_of reply)) × (answered_rows reply ≤ length (text_of reply))
 text_of-long (Table name) = (ends-long (codes "table " ++ name) 10, omega arith)
 text_of-long (Commit number rows) = (ends-long (codes "commit " ++ decimal number ++ codes " rows " ++ decimal rows) 10, omega arith)
 text_of-long (Answer snapshot rows) =
@@ -47,12 +47,12 @@ text_of-long (Refused refusal) = (ends-long (codes "refused " ++ refusal_text re
 text_of-long Waited = (lit< tt, omega arith)
 
 -- no more rows than bytes
-pub rows_within : (replies : List Reply) → sum_by rows_of replies ≤ length (text_of_all replies)
+pub rows_within : (replies : List Reply) → sum_by answered_rows replies ≤ length (text_of_all replies)
 rows_within [] = omega arith
 rows_within (reply ∷ replies) =
-    omega (arith, sum_by-cons rows_of reply replies, length-append (text_of reply) (text_of_all replies), rows_within replies, (text_of-long reply).1)
+    omega (arith, sum_by-cons answered_rows reply replies, length-append (text_of reply) (text_of_all replies), rows_within replies, (text_of-long reply).1)
 
-pub rows_fit : (replies : List Reply) (text : List ℕ) → text ≡ text_of_all replies → length text < 2 ^ 64 → sum_by rows_of replies < 2 ^ 64
+pub rows_fit : (replies : List Reply) (text : List ℕ) → text ≡ text_of_all replies → length text < 2 ^ 64 → sum_by answered_rows replies < 2 ^ 64
 rows_fit replies text e fits = omega (arith, rows_within replies, ap length e)
 
 text_of_all-append : (front more : List Reply) → text_of_all (front ++ more) ≡ text_of_all front ++ text_of_all more

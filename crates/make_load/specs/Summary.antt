@@ -32,9 +32,9 @@ is_memory Memory = true
 is_memory _ = false
 
 -- how many rows an answer has; any other reply has none
-abbrev pub rows_of : Reply → ℕ
-rows_of (Answer snapshot rows) = length rows
-rows_of _ = 0
+abbrev pub answered_rows : Reply → ℕ
+answered_rows (Answer snapshot rows) = length rows
+answered_rows _ = 0
 
 -- a number, or the greatest of 64 bits where it is greater
 abbrev pub capped : ℕ → ℕ
@@ -46,7 +46,7 @@ summary_of replies = record {
   statements = length replies;
   commits = count_by is_commit replies;
   answers = count_by is_answer replies;
-  rows = sum_by rows_of replies;
+  rows = sum_by answered_rows replies;
   overflows = count_by is_overflow replies;
   refused = count_by is_refused replies;
   memory = count_by is_memory replies;

@@ -2,7 +2,7 @@
 ghost use Rattle.std.specs.Prelude.{◌≡◌, ◌+◌, ◌<◌, ◌^◌, length, sum, count_by};
 ghost use Rattle.std.specs.List.{sum_by};
 ghost use Rattle.reply_text.specs.Text.{text_of_all};
-ghost use Rattle.make_load.specs.Summary.{capped, is_answer, is_commit, is_memory, is_overflow, is_refused, rows_of, summary_of};
+ghost use Rattle.make_load.specs.Summary.{capped, is_answer, is_commit, is_memory, is_overflow, is_refused, answered_rows, summary_of};
 
 use crate::totals::Summary;
 use reply_text::Reply;
@@ -89,14 +89,14 @@ fn is_memory(reply: &Reply) -> bool
 
 /// The rows of all answers. There are no more of them than bytes of their text.
 fn answer_rows(replies: &[Reply]) -> u64
-    requires { sum_by rows_of replies.now < 2 ^ 64 }
-    ensures { result ≡ sum_by rows_of replies.now }
+    requires { sum_by answered_rows replies.now < 2 ^ 64 }
+    ensures { result ≡ sum_by answered_rows replies.now }
 {
-    replies.iter().map(|reply| rows_of(reply)).sum()
+    replies.iter().map(|reply| answered_rows(reply)).sum()
 }
 
-fn rows_of(reply: &Reply) -> u64
-    ensures { result ≡ rows_of reply.now }
+fn answered_rows(reply: &Reply) -> u64
+    ensures { result ≡ answered_rows reply.now }
 {
     match reply {
         Reply::Answer { rows, .. } => rows.len() as u64,

@@ -1,10 +1,10 @@
 -- What a line more is to a reader.
 use Rattle.std.proofs.Common.{◌≡◌, ◌≢◌, ℕ, ◌<◌, Bool, true, false, List, [], ◌∷◌, ◌++◌, length, take, drop, Option, Some, None, Result, Ok, Err, IfOk, OnErr, refl, sym, ap, ◌∙◌, arith, append-nil, append_assoc, take-append-drop}
 use Rattle.script_reader.specs.declared.open_load.OpenLoad.{OpenLoad}
-use Rattle.script_reader.specs.declared.open_load.Taken.{Taken}
-use Rattle.script_reader.specs.declared.open_load.Taken.TheVariants.{Passed, Joined, Whole}
-use Rattle.script_reader.specs.declared.reader.Next.{Next}
-use Rattle.script_reader.specs.declared.reader.Next.TheVariants.{Got, NotYet, End}
+use Rattle.script_reader.specs.declared.open_load.TakenLine.{TakenLine}
+use Rattle.script_reader.specs.declared.open_load.TakenLine.TheVariants.{Passed, Joined, Whole}
+use Rattle.script_reader.specs.declared.reader.NextStatement.{NextStatement}
+use Rattle.script_reader.specs.declared.reader.NextStatement.TheVariants.{Got, NotYet, End}
 use Rattle.script_reader.specs.declared.statement.Statement.{Statement}
 use Rattle.script_reader.specs.declared.statement.Block.TheVariants.{Unclosed}
 use Rattle.star_values.specs.declared.no_memory.NoMemory.{NoMemory}
@@ -73,12 +73,12 @@ moved front new rest n e =
     ∙ ap (λ bytes. front ++ bytes) (take-append-drop n rest)
 
 -- a line that ends no statement
-abbrev pub IsNotWhole : Taken → Type 0
+abbrev pub IsNotWhole : TakenLine → Type 0
 IsNotWhole Passed = Unit {0}
 IsNotWhole Joined = Unit {0}
 IsNotWhole (Whole statement) = ⊥
 
-pub goes_on : (taken : Taken) (old new : OpenLoad) (rest : List ℕ) (n : ℕ) (ended : Bool) → IsNotWhole taken
+pub goes_on : (taken : TakenLine) (old new : OpenLoad) (rest : List ℕ) (n : ℕ) (ended : Bool) → IsNotWhole taken
     → IsLeft old rest ended → FirstLine ended rest n → TakesLine old new (take n rest) taken → GoesOn old rest new (drop n rest) ended
 goes_on Passed old new rest n ended other left first taken =
     rw (taken.0, taken.1) (passes rest n ended (rw taken.0 at left) first (rw (taken.0, taken.1) at taken.2))
@@ -144,7 +144,7 @@ unclosed old load before rest fed statement way none some is more last comes =
     ∙ ap (λ some_load. statements_in true some_load []) (is_open load.line load.block some) in
     rw (end.0, end.1, append-nil (bytes_of old ++ before), append-nil rest, none, is) now
 
-last_ended : (next : Next) (old load new : OpenLoad) (before rest : List ℕ) (fed : ℕ) → GoesOn old before load rest true → rest ≡ []
+last_ended : (next : NextStatement) (old load new : OpenLoad) (before rest : List ℕ) (fed : ℕ) → GoesOn old before load rest true → rest ≡ []
     → TakesLast load new next → Answers (reading_of old before fed true) (reading_of new rest fed true) next
 last_ended (Got statement) old load new before rest fed way none taken =
     rw taken.0 (unclosed old load before rest fed statement way none taken.1 taken.2)
@@ -153,7 +153,7 @@ last_ended End old load new before rest fed way none taken =
     let now = at_end load rest way.left none ∙ ap (λ (other : OpenLoad). statements_in true (load_of other) []) taken.0 in
     (refl, sym (same_now old load before rest true way true (λ e. (refl, refl))) ∙ now, rw (taken.1, none) refl)
 
-pub last_answers : (ended : Bool) (result : Result Next NoMemory) (old load new : OpenLoad) (before rest : List ℕ) (fed : ℕ)
+pub last_answers : (ended : Bool) (result : Result NextStatement NoMemory) (old load new : OpenLoad) (before rest : List ℕ) (fed : ℕ)
     → GoesOn old before load rest ended → NoLine ended rest
     → (ended ≡ false → (result ≡ Ok NotYet) × (new ≡ load)) → (ended ≡ true → IfOk result (TakesLast load new))
     → IfOk result (Answers (reading_of old before fed ended) (reading_of new rest fed ended))
@@ -200,12 +200,12 @@ whole_answers old load new before rest n fed ended statement way first taken mor
 pub left_whole : (load new : OpenLoad) (line rest : List ℕ) (ended : Bool) (statement : Statement) → TakesLine load new line (Whole statement) → IsLeft new rest ended
 left_whole load new line rest ended statement taken = rw taken.0 (λ more last may. refl)
 
-pub not_whole : (taken : Taken) → ((statement : Statement) → taken ≡ Whole statement → ⊥) → IsNotWhole taken
+pub not_whole : (taken : TakenLine) → ((statement : Statement) → taken ≡ Whole statement → ⊥) → IsNotWhole taken
 not_whole Passed other = tt
 not_whole Joined other = tt
 not_whole (Whole statement) other = absurd (other statement refl)
 
-pub last_err : (result : Result Next NoMemory) (old load new : OpenLoad) (before rest : List ℕ) (fed : ℕ) (ended : Bool) → GoesOn old before load rest ended
+pub last_err : (result : Result NextStatement NoMemory) (old load new : OpenLoad) (before rest : List ℕ) (fed : ℕ) (ended : Bool) → GoesOn old before load rest ended
     → OnErr result ((ended ≡ true) × (new ≡ load) × (0 < length load.line))
     → OnErr result (Wants (reading_of old before fed ended) (reading_of new rest fed ended))
 last_err (Ok next) old load new before rest fed ended way h = tt

@@ -23,6 +23,6 @@ statements_from_closing ended text rest (Dot len end) =
 statements_from_closing ended text rest Input = record { line = text; block = Unclosed rest } ∷ []
 
 -- the end of the block is one of the bytes
-abbrev pub IsWithin : List ℕ → Closing → Type 0
-IsWithin rest (Dot len end) = (len ≤ end) × (end ≤ length rest)
-IsWithin rest Input = Unit {0}
+abbrev pub ClosesWithin : List ℕ → Closing → Type 0
+ClosesWithin rest (Dot len end) = (len ≤ end) × (end ≤ length rest)
+ClosesWithin rest Input = Unit {0}

@@ -1,12 +1,12 @@
 -- What a line is to the statements, with the `load` whose block is open. The clauses of the private functions cite these.
 use Rattle.std.specs.Prelude.{◌≡◌, ◌≢◌, ℕ, ◌<◌, Bool, true, false, List, [], ◌∷◌, ◌++◌, length, take, drop, Option, Some, None}
 use Rattle.script_reader.specs.declared.open_load.OpenLoad.{OpenLoad}
-use Rattle.script_reader.specs.declared.open_load.Taken.{Taken}
-use Rattle.script_reader.specs.declared.open_load.Taken.TheVariants.{Passed, Joined, Whole}
+use Rattle.script_reader.specs.declared.open_load.TakenLine.{TakenLine}
+use Rattle.script_reader.specs.declared.open_load.TakenLine.TheVariants.{Passed, Joined, Whole}
 use Rattle.script_reader.specs.declared.statement.Statement.{Statement}
 use Rattle.script_reader.specs.declared.statement.Block.TheVariants.{Unclosed}
-use Rattle.script_reader.specs.declared.reader.Next.{Next}
-use Rattle.script_reader.specs.declared.reader.Next.TheVariants.{Got, NotYet, End}
+use Rattle.script_reader.specs.declared.reader.NextStatement.{NextStatement}
+use Rattle.script_reader.specs.declared.reader.NextStatement.TheVariants.{Got, NotYet, End}
 use Rattle.script_reader.specs.Reading.{May, Reading}
 use Rattle.script_reader.specs.Script.{is_ended, line_text, statements_in, statements_of, whole_lines}
 
@@ -32,7 +32,7 @@ abbrev pub statements_behind : (ended : Bool) → OpenLoad → List (List ℕ) �
 statements_behind ended load lines = statements_in ended (load_of load) lines
 
 -- a line is passed over, joins the `load`, or ends a statement
-abbrev pub TakesLine : OpenLoad → OpenLoad → (line : List ℕ) → Taken → Type 0
+abbrev pub TakesLine : OpenLoad → OpenLoad → (line : List ℕ) → TakenLine → Type 0
 TakesLine old new line Passed = (old ≡ none_open) × (new ≡ none_open)
     × ((ended : Bool) (lines : List (List ℕ)) → statements_behind ended old (line ∷ lines) ≡ statements_behind ended new lines)
 TakesLine old new line Joined = (0 < length new.line) × (bytes_of new ≡ bytes_of old ++ line)
@@ -65,7 +65,7 @@ abbrev pub reading_of : OpenLoad → (rest : List ℕ) → (fed : ℕ) → (ende
 reading_of load rest fed ended = record { waiting = bytes_of load ++ rest; fed = fed; ended = ended }
 
 -- at the end of the input an open block is an unclosed one, and else nothing is left
-abbrev pub TakesLast : OpenLoad → OpenLoad → Next → Type 0
+abbrev pub TakesLast : OpenLoad → OpenLoad → NextStatement → Type 0
 TakesLast old new (Got statement) = (new ≡ none_open) × (0 < length old.line)
     × (statement ≡ record { line = line_text old.line; block = Unclosed old.block })
 TakesLast old new NotYet = ⊥

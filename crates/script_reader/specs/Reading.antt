@@ -1,8 +1,8 @@
 -- A reader that is fed a script in pieces, and what its statements are.
 use Rattle.std.specs.Prelude.{◌≡◌, ◌≢◌, ℕ, ◌+◌, ◌-◌, min, Bool, true, false, List, [], ◌∷◌, ◌++◌, length, take}
 use Rattle.script_reader.specs.declared.reader.TheConstants.{SCRIPT_LIMIT}
-use Rattle.script_reader.specs.declared.reader.Next.{Next}
-use Rattle.script_reader.specs.declared.reader.Next.TheVariants.{Got, NotYet, End}
+use Rattle.script_reader.specs.declared.reader.NextStatement.{NextStatement}
+use Rattle.script_reader.specs.declared.reader.NextStatement.TheVariants.{Got, NotYet, End}
 use Rattle.script_reader.specs.declared.statement.Statement.{Statement}
 use Rattle.script_reader.specs.Script.{statements_of}
 
@@ -47,7 +47,7 @@ abbrev pub StaysFed : Reading → Reading → Type 0
 StaysFed old new = (new.fed ≡ old.fed) × (new.ended ≡ old.ended)
 
 -- what is answered of the first statement that waits
-abbrev pub Answers : Reading → Reading → Next → Type 0
+abbrev pub Answers : Reading → Reading → NextStatement → Type 0
 Answers old new (Got statement) = TakesFirst old new statement
 Answers old new NotYet =
     (old.ended ≡ false) × (statements_of false old.waiting ≡ []) × (statements_of false new.waiting ≡ []) × MeansTheSame old new

@@ -1,6 +1,6 @@
 //! Where the block of a `load` ends. Which lines have a block is in `lines`.
 ghost use Rattle.std.specs.Prelude.{◌≡◌, ℕ, List, [], IfNone, IfSome};
-ghost use Rattle.script_reader.specs.Cut.{statements_from_load, statements_from_closing, IsWithin};
+ghost use Rattle.script_reader.specs.Cut.{statements_from_load, statements_from_closing, ClosesWithin};
 ghost use Rattle.script_reader.specs.Coming.{StaysClosed};
 ghost use Rattle.script_reader.specs.Reach.{Closes};
 
@@ -21,7 +21,7 @@ pub fn first_closing(script: &[u8], ended: bool) -> Option<Closing>
     ensures some { IfSome result (λ closing. (text : List ℕ) →
         statements_from_load ended text script.now
         ≡ statements_from_closing ended text script.now closing) }
-    ensures within { IfSome result (IsWithin script.now) }
+    ensures within { IfSome result (ClosesWithin script.now) }
     ensures lines { IfSome result (Closes ended script.now) }
     ensures stays { IfSome result (StaysClosed ended script.now) }
 {

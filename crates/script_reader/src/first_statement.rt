@@ -14,7 +14,7 @@ use std::alloc::Global;
 
 /// A statement, and where the script goes on behind it.
 #[derive(Debug, Drop)]
-pub struct Taken {
+pub struct TakenStatement {
     pub statement: Statement,
     /// The bytes of the script up to the end of the statement's last line: its own, or for one with a
     /// block the dot line or the last line of the input.
@@ -26,7 +26,11 @@ pub struct Taken {
 /// Where the input has not ended, `None` says that no statement has come to its end yet, and a
 /// statement that has come is the same whatever comes behind it. The only error is want of memory,
 /// and it comes only where there is a statement.
-pub fn take_statement(alloc: Global, script: &[u8], ended: bool) -> Result<Option<Taken>, NoMemory>
+pub fn take_statement(
+    alloc: Global,
+    script: &[u8],
+    ended: bool,
+) -> Result<Option<TakenStatement>, NoMemory>
     ensures none { IfOk result (λ r. IfNone r (statements_of ended script.now ≡ [])) }
     ensures found { IfOk result (λ r. IfSome r (λ t.
         statements_of ended script.now ≡ t.statement ∷ statements_of ended (drop t.len script.now))) }
@@ -44,13 +48,13 @@ pub fn take_statement(alloc: Global, script: &[u8], ended: bool) -> Result<Optio
             line,
             block: Block::Absent,
         };
-        return Ok(Some(Taken {
+        return Ok(Some(TakenStatement {
             statement,
             len: opening.end,
         }));
     }
     match take_load(alloc, opening.text, &script[opening.end..], ended)? {
-        Some(Taken { statement, len }) => Ok(Some(Taken {
+        Some(TakenStatement { statement, len }) => Ok(Some(TakenStatement {
             statement,
             len: opening.end + len,
         })),
@@ -64,7 +68,7 @@ fn take_load(
     text: &[u8],
     rest: &[u8],
     ended: bool,
-) -> Result<Option<Taken>, NoMemory>
+) -> Result<Option<TakenStatement>, NoMemory>
     ensures none { IfOk result (λ r. IfNone r (statements_from_load ended text.now rest.now ≡ [])) }
     ensures found { IfOk result (λ r. IfSome r (λ t.
         statements_from_load ended text.now rest.now
@@ -84,14 +88,14 @@ fn take_load(
     match closing {
         Closing::Dot { len, end } => {
             let block = Block::Closed(copy_bytes(alloc, &rest[..len])?);
-            Ok(Some(Taken {
+            Ok(Some(TakenStatement {
                 statement: Statement { line, block },
                 len: end,
             }))
         }
         Closing::Input => {
             let block = Block::Unclosed(copy_bytes(alloc, rest)?);
-            Ok(Some(Taken {
+            Ok(Some(TakenStatement {
                 statement: Statement { line, block },
                 len: rest.len(),
             }))

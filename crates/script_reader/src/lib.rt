@@ -7,15 +7,15 @@ mod laws;
 mod lines;
 mod open_load;
 mod opening;
-mod pending;
+mod pending_bytes;
 mod reader;
 mod statement;
 
-pub use first_statement::{Taken, take_statement};
+pub use first_statement::{TakenStatement, take_statement};
 pub use laws::{
     block_ends_at_the_first_dot_line, line_ends_at_its_line_feed, lines_joined_are_the_script,
     scripts_have_their_limit, statements_come_in_order,
 };
 pub use lines::{first_line_len, line_text};
-pub use reader::{FeedFault, Next, SCRIPT_LIMIT, ScriptReader};
+pub use reader::{FeedFault, NextStatement, SCRIPT_LIMIT, ScriptReader};
 pub use statement::{Block, Statement};

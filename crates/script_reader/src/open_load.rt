@@ -1,4 +1,4 @@
-//! The `load` whose block is open, and what a line is to it. How lines are found is in `pending`.
+//! The `load` whose block is open, and what a line is to it. How lines are found is in `pending_bytes`.
 ghost use Rattle.std.specs.Prelude.{◌≡◌, ◌<◌, length, IfOk, OnErr, OnOk};
 ghost use Rattle.script_reader.specs.Open.{LeavesSome, TakesLine, none_open};
 ghost use Rattle.script_reader.specs.Script.{line_text};
@@ -21,7 +21,7 @@ pub(crate) struct OpenLoad {
 
 /// What a line is to the statements.
 #[derive(Debug, Drop)]
-pub(crate) enum Taken {
+pub(crate) enum TakenLine {
     /// It begins no statement.
     Passed,
     /// It is the line of a `load`, or one of its block.
@@ -41,7 +41,11 @@ pub(crate) fn none_open(alloc: Global) -> OpenLoad
 }
 
 /// Takes a line more.
-pub(crate) fn take_line(alloc: Global, load: &mut OpenLoad, line: &[u8]) -> Result<Taken, NoMemory>
+pub(crate) fn take_line(
+    alloc: Global,
+    load: &mut OpenLoad,
+    line: &[u8],
+) -> Result<TakenLine, NoMemory>
     requires some { 0 < length line.now }
     requires load { (length load.old.line ≡ 0) → load.old ≡ none_open }
     ensures taken { IfOk result (TakesLine load.old load.new line.now) }
@@ -55,7 +59,7 @@ pub(crate) fn take_line(alloc: Global, load: &mut OpenLoad, line: &[u8]) -> Resu
 }
 
 /// Takes a line where no block is open.
-fn take_first_line(alloc: Global, load: &mut OpenLoad, line: &[u8]) -> Result<Taken, NoMemory>
+fn take_first_line(alloc: Global, load: &mut OpenLoad, line: &[u8]) -> Result<TakenLine, NoMemory>
     requires some { 0 < length line.now }
     requires none { load.old ≡ none_open }
     ensures taken { IfOk result (TakesLine none_open load.new line.now) }
@@ -63,34 +67,34 @@ fn take_first_line(alloc: Global, load: &mut OpenLoad, line: &[u8]) -> Result<Ta
 {
     let text = line_text(line);
     if is_no_statement(text) {
-        return Ok(Taken::Passed);
+        return Ok(TakenLine::Passed);
     }
     if has_block(text) {
         load.line.extend_from_slice(line)?;
-        return Ok(Taken::Joined);
+        return Ok(TakenLine::Joined);
     }
     let line = copy_bytes(alloc, text)?;
-    Ok(Taken::Whole(Statement {
+    Ok(TakenLine::Whole(Statement {
         line,
         block: Block::Absent,
     }))
 }
 
 /// Takes a line of an open block, or the one that closes it.
-fn take_block_line(alloc: Global, load: &mut OpenLoad, line: &[u8]) -> Result<Taken, NoMemory>
+fn take_block_line(alloc: Global, load: &mut OpenLoad, line: &[u8]) -> Result<TakenLine, NoMemory>
     requires load { 0 < length load.old.line }
     ensures taken { IfOk result (TakesLine load.old load.new line.now) }
     ensures err { OnErr result ((load.new ≡ load.old) × LeavesSome load.old line.now) }
 {
     if is_dot_line(line) {
         let (line, block) = close(alloc, load)?;
-        return Ok(Taken::Whole(Statement {
+        return Ok(TakenLine::Whole(Statement {
             line,
             block: Block::Closed(block),
         }));
     }
     load.block.extend_from_slice(line)?;
-    Ok(Taken::Joined)
+    Ok(TakenLine::Joined)
 }
 
 /// Ends an open block: the text of its line, and the bytes of the block.

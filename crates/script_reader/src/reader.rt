@@ -1,12 +1,12 @@
-//! A reader of statements from pieces. What a line is to them is in `open_load`, where lines end in `pending`.
+//! A reader of statements from pieces. What a line is to them is in `open_load`, where lines end in `pending_bytes`.
 ghost use Rattle.std.specs.Prelude.{◌≡◌, ℕ, ◌<◌, ◌≤◌, false, length, take, true, IfOk, IsErrOf, Ok, OnErr, OnOk};
 ghost use Rattle.script_reader.specs.Open.{IsLeft, TakesLast, none_open, reading_of};
 ghost use Rattle.script_reader.specs.Reading.{Answers, StaysFed, Wants, after_piece, no_reading};
 ghost use Rattle.script_reader.specs.declared.reader.FeedFault.TheVariants.{Memory};
-ghost use Rattle.script_reader.specs.declared.reader.Next.TheVariants.{NotYet};
+ghost use Rattle.script_reader.specs.declared.reader.NextStatement.TheVariants.{NotYet};
 
-use crate::open_load::{OpenLoad, Taken, close, none_open, take_line};
-use crate::pending::Pending;
+use crate::open_load::{OpenLoad, TakenLine, close, none_open, take_line};
+use crate::pending_bytes::PendingBytes;
 use crate::statement::{Block, Statement};
 use star_values::NoMemory;
 use std::alloc::Global;
@@ -35,7 +35,7 @@ impl From<NoMemory> for FeedFault {
 
 /// What is answered of the statement that is to come next.
 #[derive(Debug, Drop)]
-pub enum Next {
+pub enum NextStatement {
     /// It is whole.
     Got(Statement),
 
@@ -54,7 +54,7 @@ pub enum Next {
 pub struct ScriptReader {
     alloc: Global,
     load: OpenLoad,
-    pending: Pending,
+    pending: PendingBytes,
     fed: usize,
     ended: bool,
 }
@@ -86,7 +86,7 @@ impl ScriptReader {
         ScriptReader {
             alloc,
             load: none_open(alloc),
-            pending: Pending::new(alloc),
+            pending: PendingBytes::new(alloc),
             fed: 0,
             ended: false,
         }
@@ -132,7 +132,7 @@ impl ScriptReader {
     ///
     /// `NotYet` says that the input has not ended and none is, and `End` that it has ended and none is left.
     /// Where memory is wanted no statement is lost.
-    pub fn next_statement(&mut self) -> Result<Next, NoMemory>
+    pub fn next_statement(&mut self) -> Result<NextStatement, NoMemory>
         ensures answers { IfOk result (Answers self.old self.new) }
         ensures wanted { OnErr result (Wants self.old self.new) }
         ensures stays { StaysFed self.old self.new }
@@ -156,9 +156,9 @@ fn within(bytes: &[u8], limit: usize) -> &[u8]
 fn take_next(
     alloc: Global,
     load: &mut OpenLoad,
-    pending: &mut Pending,
+    pending: &mut PendingBytes,
     ended: bool,
-) -> Result<Next, NoMemory>
+) -> Result<NextStatement, NoMemory>
     requires load { (length load.old.line ≡ 0) → load.old ≡ none_open }
     requires left { IsLeft load.old pending.old ended }
     ensures answers { (fed : ℕ) → IfOk result (Answers
@@ -175,27 +175,27 @@ fn take_next(
         let line = pending.as_slice().split_at(len).0;
         let taken = take_line(alloc, load, line)?;
         pending.take_front(len);
-        if let Taken::Whole(statement) = taken {
-            return Ok(Next::Got(statement));
+        if let TakenLine::Whole(statement) = taken {
+            return Ok(NextStatement::Got(statement));
         }
     }
 }
 
 /// What is answered where no further line has come.
-fn take_last(alloc: Global, load: &mut OpenLoad, ended: bool) -> Result<Next, NoMemory>
+fn take_last(alloc: Global, load: &mut OpenLoad, ended: bool) -> Result<NextStatement, NoMemory>
     requires load { (length load.old.line ≡ 0) → load.old ≡ none_open }
     ensures not_ended { ended ≡ false → (result ≡ Ok NotYet) × (load.new ≡ load.old) }
     ensures ended { ended ≡ true → IfOk result (TakesLast load.old load.new) }
     ensures err { OnErr result ((ended ≡ true) × (load.new ≡ load.old) × (0 < length load.old.line)) }
 {
     if !ended {
-        return Ok(Next::NotYet);
+        return Ok(NextStatement::NotYet);
     }
     if load.line.is_empty() {
-        return Ok(Next::End);
+        return Ok(NextStatement::End);
     }
     let (line, block) = close(alloc, load)?;
-    Ok(Next::Got(Statement {
+    Ok(NextStatement::Got(Statement {
         line,
         block: Block::Unclosed(block),
     }))

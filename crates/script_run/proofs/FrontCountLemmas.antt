@@ -1,5 +1,5 @@
 -- What the front counts: a statement more, and none once all queries came to their end; and what it knows of its core meanwhile.
-use Rattle.script_run.proofs.Words.{◌+◌, ◌<◌, ◌∙◌, ◌≡◌, ◌≢◌, ◌≤◌, ◌⊎◌, [], All, ap, AreIdle, arith, Beside, Bool, count_by, false, FrontParts, Gives, GoesRound, inl, inr, is_open, is_query, is_wait, IsCounted, IsOverOrWaits, IsTrue, KnowsCore, Lives, Pending, queries_awaited, refl, RunSettings, Scan, seat_at, State, state_of, Statement, subst, sym, ℕ, ⊎_elim}
+use Rattle.script_run.proofs.Words.{◌+◌, ◌<◌, ◌∙◌, ◌≡◌, ◌≢◌, ◌≤◌, ◌⊎◌, [], All, ap, AreIdle, arith, Beside, Bool, count_by, false, FrontParts, Gives, GoesRound, inl, inr, is_open, is_query, is_wait, IsCounted, IsOverOrWaits, IsTrue, KnowsCore, Lives, Pending, queries_awaited, refl, RunSettings, ScanState, seat_at, State, state_of, Statement, subst, sym, ℕ, ⊎_elim}
 use Rattle.core_state.specs.Rows.{sight_of}
 use Rattle.script_run.specs.Counted.{IsCalm, open_in}
 use Rattle.script_run.specs.Front.{Finishes}
@@ -95,8 +95,8 @@ pub round-beside : (old mid new : State) → GoesRound old mid → Beside mid ne
 round-beside old mid new round beside = record {
   settings = beside.settings ∙ round.settings;
   versions = keeps-versions mid new beside.entries ∙ round.versions;
-  none = λ none. ap (λ (scan : Scan). scan.cut) beside.scan ∙ round.none none;
-  once = let same : new.scan.cut ≡ mid.scan.cut = ap (λ (scan : Scan). scan.cut) beside.scan in let once = round.once in omega arith;
+  none = λ none. ap (λ (scan : ScanState). scan.cut) beside.scan ∙ round.none none;
+  once = let same : new.scan.cut ≡ mid.scan.cut = ap (λ (scan : ScanState). scan.cut) beside.scan in let once = round.once in omega arith;
 }
 
 -- the front waits for something where it waits for a query

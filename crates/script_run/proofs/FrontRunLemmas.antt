@@ -1,5 +1,5 @@
 -- The steps that a run makes: none, some and others behind them, a statement, a reply that is taken, and events of the driver.
-use Rattle.script_run.proofs.Words.{◌++◌, ◌<◌, ◌∙◌, ◌∷◌, ◌≡◌, [], Abandon, after_step, after_steps, after_submitting, after_taking, All, All-append, All-cons, All-head, All-nil, All-tail, ap, AreIdle, aside-outcome, Done, Event, fold-append, IsDriven, IsLed, IsOfRun, IsRun, IsSome, LeavesSeats, length, List, MayStep, MayStepAll, next_ready, None, outcome_of, refl, Replying, Scan, State, Statement, Step, Submit, subst, sym, tables_of, TookAll, Wanting}
+use Rattle.script_run.proofs.Words.{◌++◌, ◌<◌, ◌∙◌, ◌∷◌, ◌≡◌, [], Abandon, after_step, after_steps, after_submitting, after_taking, All, All-append, All-cons, All-head, All-nil, All-tail, ap, AreIdle, aside-outcome, Done, Event, fold-append, IsDriven, IsLed, IsOfRun, IsRun, IsSome, LeavesSeats, length, List, MayStep, MayStepAll, next_ready, None, outcome_of, refl, Replying, ScanState, State, Statement, Step, Submit, subst, sym, tables_of, TookAll, Wanting}
 use Rattle.core_state.specs.Events.{after_event}
 use Rattle.event_core.specs.Took.{AreOf, IsOf, StepsFor}
 use Rattle.core_driver.proofs.TakenLemmas.{driven-leaves}
@@ -81,7 +81,7 @@ scan-submitted statement state = (aside-outcome 0 (outcome_of (tables_of state) 
 
 -- where the scan is as it was, no batch is in a hand if none was
 pub idle-scan : (old new : State) → new.scan ≡ old.scan → AreIdle old → AreIdle new
-idle-scan old new same idle = subst (λ (scan : Scan). All (λ flight. flight.hand ≡ None) scan.flights) (sym same) idle
+idle-scan old new same idle = subst (λ (scan : ScanState). All (λ flight. flight.hand ≡ None) scan.flights) (sym same) idle
 
 -- nor where the front submitted a statement
 pub idle-submitted : (statement : Statement) (old new : State) → new ≡ after_submitting 0 statement old → AreIdle old → AreIdle new

@@ -1,5 +1,5 @@
 -- How far the scan goes by statements that are given to a core, and by letting queries come to their end.
-use Rattle.script_run.proofs.Words.{◌*◌, ◌++◌, ◌+◌, ◌/◌, ◌<◌, ◌∙◌, ◌∷◌, ◌≡◌, ◌≤◌, ◌⊎◌, [], ap, append-nil, arith, CountsOne, count_by, Entry, fold-append, GoesRound, is_query, is_wait, IsTrue, laps_of, LapsOn, List, meaning_of, means_wait, Memory, None, Ok, Option, outcome_by, Pending, placed, queries_awaited, refl, Refusal, Reply, Result, rows_of, seat_at, State, Statement, Store, subst, suc, sym, tables_by, take, versions_in, Waited, zero, ℕ, ⊎_elim}
+use Rattle.script_run.proofs.Words.{◌*◌, ◌++◌, ◌+◌, ◌/◌, ◌<◌, ◌∙◌, ◌∷◌, ◌≡◌, ◌≤◌, ◌⊎◌, [], ap, append-nil, arith, CountsOne, count_by, Entry, fold-append, GoesRound, is_query, is_wait, IsTrue, laps_of, LapsOn, List, meaning_of, means_wait, Memory, None, Ok, Option, outcome_by, Pending, placed, queries_awaited, refl, Refusal, Reply, Result, rows_needed, seat_at, State, Statement, Store, subst, suc, sym, tables_by, take, versions_in, Waited, zero, ℕ, ⊎_elim}
 use Rattle.std.proofs.Math.Nat.{mul-le-mul}
 use Rattle.star_parser.specs.Statement as written
 use Rattle.star_statement.specs.Outcome as outcome
@@ -182,7 +182,7 @@ pub waits-fill : (statement : Statement) (number point : ℕ) (old mid new : Sta
     → Settles mid new (due ++ Given number point statement ∷ []) replies → FillsRow mid.settings.slots replies
 waits-fill statement number point old mid new due more replies some waits asked is_due grows settles places =
     subst (λ list. places / slots + 1 ≤ places_of slots places list / slots) (sym came.all)
-    (row-behind slots places came.before came.last (rows_of slots (places_of slots places came.before)) some
+    (row-behind slots places came.before came.last (rows_needed slots (places_of slots places came.before)) some
     (ap (placed slots (places_of slots places came.before)) waited) (rows-next slots places (places_of slots places came.before) some more_places))
   where
     slots : ℕ
@@ -208,7 +208,7 @@ waits-fill statement number point old mid new due more replies some waits asked 
 lost-fills : (slots : ℕ) (replies : List Reply) → 0 < slots → FillsRow slots (replies ++ Memory ∷ [])
 lost-fills slots replies some places =
     let grows = places-grow slots places replies some in
-    row-behind slots places replies Memory (rows_of slots (places_of slots places replies + 1)) some refl
+    row-behind slots places replies Memory (rows_needed slots (places_of slots places replies + 1)) some refl
     (rows-next slots places (places_of slots places replies + 1) some (omega (arith, grows)))
 
 -- a statement for which no memory was left, behind queries that came to their end
@@ -227,8 +227,8 @@ pub laps-end : (first old new : State) (due : List Sent) (replies more : List Re
     → Settles old new due more
     → new.scan.cut ≤ versions_in new * laps_of first.settings.slots (replies ++ more)
 laps-end first old new due replies more some nothing laps round settles =
-    subst (λ n. new.scan.cut ≤ versions_in new * rows_of slots n) (sym (places-append slots 0 replies more))
-    (subst (λ v. new.scan.cut ≤ v * rows_of slots after) (sym round.versions) (by_count (queries_awaited old) refl))
+    subst (λ n. new.scan.cut ≤ versions_in new * rows_needed slots n) (sym (places-append slots 0 replies more))
+    (subst (λ v. new.scan.cut ≤ v * rows_needed slots after) (sym round.versions) (by_count (queries_awaited old) refl))
   where
     slots : ℕ
     slots = first.settings.slots
@@ -242,15 +242,15 @@ laps-end first old new due replies more some nothing laps round settles =
     low : old.scan.cut ≤ versions_in old * (before / slots)
     low = laps.cut 0 (omega (arith, nothing))
 
-    by_count : (n : ℕ) → queries_awaited old ≡ n → new.scan.cut ≤ versions_in old * rows_of slots after
+    by_count : (n : ℕ) → queries_awaited old ≡ n → new.scan.cut ≤ versions_in old * rows_needed slots after
     by_count zero none =
         let same = round.none none in
-        let grows = more-laps (versions_in old) (versions_in old) (before / slots) (rows_of slots after) (omega arith)
+        let grows = more-laps (versions_in old) (versions_in old) (before / slots) (rows_needed slots after) (omega arith)
         (rows-all slots before after some (places-grow slots before more some)) in
         omega (arith, low, same, grows)
     by_count (suc n) asked =
         let taken = places-due slots before old new due more some settles in
-        let most = lap-more (versions_in old) (before / slots) (rows_of slots after) old.scan.cut low
+        let most = lap-more (versions_in old) (before / slots) (rows_needed slots after) old.scan.cut low
         (rows-next slots before after some (omega (arith, taken, asked))) in
         let once = round.once in
         omega (arith, most, once)

@@ -1,5 +1,5 @@
 -- Replies in rows of places: how many places they take at least, and how many rows these fill.
-use Rattle.script_run.proofs.Words.{◌*◌, ◌+◌, ◌-◌, ◌/◌, ◌<◌, ◌∙◌, ◌∷◌, ◌≡◌, ◌≤◌, [], answer_reply, arith, awaited_by, count-cons, count_by, Entry, is_query, List, Memory, one_if, Pending, placed, Reply, rows_of, Store, subst, sym, tables_by, take, Told, Waited, ℕ, ⊎_elim}
+use Rattle.script_run.proofs.Words.{◌*◌, ◌+◌, ◌-◌, ◌/◌, ◌<◌, ◌∙◌, ◌∷◌, ◌≡◌, ◌≤◌, [], answer_reply, arith, awaited_by, count-cons, count_by, Entry, is_query, List, Memory, one_if, Pending, placed, Reply, rows_needed, Store, subst, sym, tables_by, take, Told, Waited, ℕ, ⊎_elim}
 use Rattle.std.proofs.Math.Nat.{lt-mul-div-succ, le-div_iff_mul-le, mul-div_left, mul_comm, div-mul-le_self}
 use Rattle.star_plan.specs.declared.answer.Answer as answers
 use Rattle.star_plan.specs.declared.answer.Answer.TheVariants as answer
@@ -11,9 +11,9 @@ one-more : (q s : ℕ) → (q + 1) * s ≡ q * s + s
 one-more q s = omega arith
 
 -- rows hold the places that they are for
-pub rows-hold : (slots places : ℕ) → 0 < slots → places ≤ rows_of slots places * slots
+pub rows-hold : (slots places : ℕ) → 0 < slots → places ≤ rows_needed slots places * slots
 rows-hold slots places some =
-    let q = rows_of slots places in
+    let q = rows_needed slots places in
     let low : places + (slots - 1) < slots * (q + 1) = lt-mul-div-succ (places + (slots - 1)) some in
     let e : slots * (q + 1) ≡ q * slots + slots = mul_comm slots (q + 1) ∙ one-more q slots in
     omega (arith, low, e)
@@ -29,7 +29,7 @@ pub rows-full : (slots rows : ℕ) → 0 < slots → rows * slots / slots ≡ ro
 rows-full slots rows some = mul-div_left rows some
 
 -- with a place more there is a row behind the full ones
-pub rows-next : (slots less more : ℕ) → 0 < slots → less < more → less / slots + 1 ≤ rows_of slots more
+pub rows-next : (slots less more : ℕ) → 0 < slots → less < more → less / slots + 1 ≤ rows_needed slots more
 rows-next slots less more some grows =
     (le-div_iff_mul-le {k = slots} {x = less / slots + 1} {y = more + (slots - 1)} some).1
     (let low = div-mul-le_self less slots in omega (arith, low, one-more (less / slots) slots))
@@ -41,7 +41,7 @@ rows-fill slots less more some grows =
     (let low = div-mul-le_self less slots in omega (arith, low, one-more (less / slots) slots))
 
 -- the full rows are no more than all
-pub rows-all : (slots less more : ℕ) → 0 < slots → less ≤ more → less / slots ≤ rows_of slots more
+pub rows-all : (slots less more : ℕ) → 0 < slots → less ≤ more → less / slots ≤ rows_needed slots more
 rows-all slots less more some grows =
     (le-div_iff_mul-le {k = slots} {x = less / slots} {y = more + (slots - 1)} some).1
     (let low = div-mul-le_self less slots in omega (arith, low))

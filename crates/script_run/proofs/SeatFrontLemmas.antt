@@ -12,7 +12,7 @@ use Rattle.event_core.specs.Parts.{Parts}
 use Rattle.worker_gate.specs.Turns.{sight_in}
 use Rattle.script_run.specs.Front.{EndsSo, PlaysOn}
 use Rattle.script_run.specs.SeatFront.{SeatPlays, SeatPlaysBy, TellsWaited}
-use Rattle.script_run.specs.SeatTurns.{Stays, Submitted, TellsTried, TookNext}
+use Rattle.script_run.specs.SeatTurns.{Stays, SendsOne, TellsTried, TookNext}
 use Rattle.script_run.specs.declared.seat_front.Waited.{Waited}
 use Rattle.script_run.specs.declared.seat_front.Waited.TheVariants as waited
 use Rattle.script_run.proofs.OnLemmas.{Eases, eases-none, eases-some, halts-proper, on-then, still-none, text-one, within-reply}
@@ -35,7 +35,7 @@ pub tried-behind : (taken : Bool) (statement : Statement) (old between new : Boa
     → TellsTried taken statement old new
 tried-behind true statement old between new same stays tells =
     submitted-behind statement (view_of old).number (sight_in (view_of old)) (sight_in (view_of between)) (sight_in (view_of new)) stays
-    (by-number (λ (number : ℕ). Submitted number statement (sight_in (view_of between)) (sight_in (view_of new))) old between same tells)
+    (by-number (λ (number : ℕ). SendsOne number statement (sight_in (view_of between)) (sight_in (view_of new))) old between same tells)
 tried-behind false statement old between new same stays tells = (
   stays-then (view_of old).number (sight_in (view_of old)) (sight_in (view_of between)) (sight_in (view_of new)) stays
       (by-number (λ (number : ℕ). Stays number (sight_in (view_of between)) (sight_in (view_of new))) old between same tells.0),
@@ -154,7 +154,7 @@ seat-none seat sight due taken waits = seat-stays seat sight sight due taken wai
 
 -- a statement was sent
 abbrev pub seat-sent : (seat : ℕ) (statement : Statement) (old new : Sight) (due : List Sent) (taken : Option (List ℕ)) → IsDue seat old due
-    → Submitted seat statement old new → SeatPlaysBy (Ok false) seat old due (statement ∷ []) ⊥ new taken taken
+    → SendsOne seat statement old new → SeatPlaysBy (Ok false) seat old due (statement ∷ []) ⊥ new taken taken
 seat-sent seat statement old new due taken waits submitted =
     seat-sends seat old new due (due ++ (submitted due waits).0 ∷ []) ((submitted due waits).0 ∷ []) (statement ∷ []) taken
     (ap (λ one. one ∷ []) (sym (submitted due waits).1)) (submitted due waits).3

@@ -5,16 +5,16 @@ use Rattle.core_state.specs.Rows.{Sight}
 use Rattle.core_state.specs.Sent.{IsGiven, statement_in, statements_in}
 use Rattle.core_state.proofs.FrontLemmas.{goes-then}
 use Rattle.script_reader.specs.Reading.{Answers}
-use Rattle.script_reader.specs.declared.reader.Next.{Next}
-use Rattle.script_reader.specs.declared.reader.Next.TheVariants.{Got}
+use Rattle.script_reader.specs.declared.reader.NextStatement.{NextStatement}
+use Rattle.script_reader.specs.declared.reader.NextStatement.TheVariants.{Got}
 use Rattle.script_run.specs.Front.{Reads}
 use Rattle.script_run.specs.SeatFront.{SeatPlays}
 use Rattle.script_run.specs.SeatRun.{ReadsNext, StopsAt, alone_at, alone_in, behind_at}
-use Rattle.script_run.specs.SeatTurns.{Stays, Submitted, SubmittedAll}
+use Rattle.script_run.specs.SeatTurns.{Stays, SendsOne, SendsAll}
 use Rattle.script_run.specs.declared.seat_run.Behind.{Behind}
 use Rattle.script_run.specs.declared.seat_run.Behind.TheVariants.{More, NoMemory as NoneLeft, Nothing}
-use Rattle.script_run.specs.declared.seat_run.RunEnd.{RunEnd}
-use Rattle.script_run.specs.declared.seat_run.RunEnd.TheVariants as ended
+use Rattle.script_run.specs.declared.seat_run.StatementRunEnd.{StatementRunEnd}
+use Rattle.script_run.specs.declared.seat_run.StatementRunEnd.TheVariants as ended
 use Rattle.script_run.proofs.SeatFrontLemmas.{seat-sends}
 use Rattle.script_run.proofs.SharedReadLemmas.{reads-all, reads-done, reads-first, reads-itself, reads-then}
 use Rattle.script_run.proofs.SharedWholeLemmas.{statements_left}
@@ -22,13 +22,13 @@ use Rattle.script_run.proofs.SharedWholeLemmas.{statements_left}
 -- What was sent.
 
 -- nothing yet
-pub many-none : (seat : ℕ) (old new : Sight) → Stays seat old new → SubmittedAll seat [] old new
+pub many-none : (seat : ℕ) (old new : Sight) → Stays seat old new → SendsAll seat [] old new
 many-none seat old new stays due waits =
     ([], refl, All-nil IsGiven, subst (λ still. Goes seat old due new still [] [] []) (sym (append-nil due)) (stays due waits))
 
 -- some, and behind them others
-many-then : (seat : ℕ) (statements others : List Statement) (old between new : Sight) → SubmittedAll seat statements old between
-    → SubmittedAll seat others between new → SubmittedAll seat (statements ++ others) old new
+many-then : (seat : ℕ) (statements others : List Statement) (old between new : Sight) → SendsAll seat statements old between
+    → SendsAll seat others between new → SendsAll seat (statements ++ others) old new
 many-then seat statements others old between new first second due waits =
     let before = first due waits in
     let behind = second (due ++ before.0) before.3.waits in (
@@ -42,33 +42,33 @@ many-then seat statements others old between new first second due waits =
     )
 
 -- one
-many-one : (seat : ℕ) (statement : Statement) (old new : Sight) → Submitted seat statement old new
-    → SubmittedAll seat (statement ∷ []) old new
+many-one : (seat : ℕ) (statement : Statement) (old new : Sight) → SendsOne seat statement old new
+    → SendsAll seat (statement ∷ []) old new
 many-one seat statement old new submitted due waits =
     let sent = submitted due waits in (sent.0 ∷ [], ap (λ one. one ∷ []) sent.1, All-cons IsGiven sent.0 [] sent.2 (All-nil IsGiven), sent.3)
 
 -- one more
 pub many-more : (seat : ℕ) (statements : List Statement) (statement : Statement) (old between new : Sight)
-    → SubmittedAll seat statements old between → Submitted seat statement between new
-    → SubmittedAll seat (statements ++ statement ∷ []) old new
+    → SendsAll seat statements old between → SendsOne seat statement between new
+    → SendsAll seat (statements ++ statement ∷ []) old new
 many-more seat statements statement old between new first second =
     many-then seat statements (statement ∷ []) old between new first (many-one seat statement between new second)
 
 -- what others did before and behind
 pub many-behind : (seat : ℕ) (statements : List Statement) (old between new : Sight) → Stays seat old between
-    → SubmittedAll seat statements between new → SubmittedAll seat statements old new
+    → SendsAll seat statements between new → SendsAll seat statements old new
 many-behind seat statements old between new stays second =
     many-then seat [] statements old between new (many-none seat old between stays) second
 
-pub many-stays : (seat : ℕ) (statements : List Statement) (old between new : Sight) → SubmittedAll seat statements old between
-    → Stays seat between new → SubmittedAll seat statements old new
+pub many-stays : (seat : ℕ) (statements : List Statement) (old between new : Sight) → SendsAll seat statements old between
+    → Stays seat between new → SendsAll seat statements old new
 many-stays seat statements old between new first stays =
-    subst (λ list. SubmittedAll seat list old new) (append-nil statements)
+    subst (λ list. SendsAll seat list old new) (append-nil statements)
     (many-then seat statements [] old between new first (many-none seat between new stays))
 
 -- no reply was taken meanwhile
 pub seat-sent-all : (seat : ℕ) (statements : List Statement) (old new : Sight) (taken : Option (List ℕ))
-    → SubmittedAll seat statements old new → SeatPlays (Ok false) seat old statements new taken taken
+    → SendsAll seat statements old new → SeatPlays (Ok false) seat old statements new taken taken
 seat-sent-all seat statements old new taken submitted due waits =
     let sent = submitted due waits in
     seat-sends seat old new due (due ++ sent.0) sent.0 statements taken (sym sent.1 ∙ sym (append-nil (statements_in sent.0))) sent.3
@@ -76,7 +76,7 @@ seat-sent-all seat statements old new taken submitted due waits =
 -- What was read.
 
 -- a statement that was put to those of a run, or is the one by itself
-pub reads-one : (ended : Option RunEnd) (statement : Statement) (waits waits' : Reading) (before after : List Statement)
+pub reads-one : (ended : Option StatementRunEnd) (statement : Statement) (waits waits' : Reading) (before after : List Statement)
     → TakesFirst waits waits' statement → after ++ alone_at ended ≡ before ++ statement ∷ [] → behind_at ended ≡ More
     → ReadsNext ended waits before waits' after
 reads-one ended statement waits waits' before after first are more = record {
@@ -87,7 +87,7 @@ reads-one ended statement waits waits' before after first are more = record {
 }
 
 -- none is whole
-pub reads-nothing : (next : Next) (waits waits' : Reading) (before : List Statement) → ((statement : Statement) → next ≢ Got statement)
+pub reads-nothing : (next : NextStatement) (waits waits' : Reading) (before : List Statement) → ((statement : Statement) → next ≢ Got statement)
     → Answers waits waits' next → StaysFed waits waits' → ReadsNext (Some ended.Last) waits before waits' before
 reads-nothing next waits waits' before never answers stays =
     let done = reads-done waits waits' next never answers stays in record {
@@ -117,7 +117,7 @@ stops-behind Nothing before read waits none = none
 stops-behind NoneLeft before read waits left = left
 
 -- one statement behind others
-pub run-next : (ended : Option RunEnd) (first waits waits' : Reading) (before after : List Statement) → Reads first before waits
+pub run-next : (ended : Option StatementRunEnd) (first waits waits' : Reading) (before after : List Statement) → Reads first before waits
     → StaysFed first waits → ReadsNext ended waits before waits' after
     → Reads first (after ++ alone_at ended) waits' × StopsAt (behind_at ended) (after ++ alone_at ended) waits'
 run-next ended first waits waits' before after reads stays next = (
@@ -152,7 +152,7 @@ run-starts waits statements none = subst (λ list. Reads waits list waits) (sym 
 -- Of a run.
 
 -- none is by itself
-pub not-alone : (plain : List Statement) (end : RunEnd) → ((statement : Statement) → end ≢ ended.Alone statement) → plain ++ alone_in end ≡ plain
+pub not-alone : (plain : List Statement) (end : StatementRunEnd) → ((statement : Statement) → end ≢ ended.Alone statement) → plain ++ alone_in end ≡ plain
 not-alone plain (ended.Alone statement) never = absurd (never statement refl)
 not-alone plain ended.Full never = append-nil plain
 not-alone plain ended.Last never = append-nil plain

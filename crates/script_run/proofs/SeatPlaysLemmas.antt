@@ -12,7 +12,7 @@ use Rattle.worker_gate.specs.Hands.{HasDoneIf}
 use Rattle.worker_gate.specs.Turns.{IsReady, sight_in}
 use Rattle.script_run.specs.Answer.{CountsHalt}
 use Rattle.script_run.specs.SeatFront.{PlaysAt, PlaysFirst, SeatPlays}
-use Rattle.script_run.specs.SeatTurns.{Stays, StaysReady, SubmittedAll, TakesNext}
+use Rattle.script_run.specs.SeatTurns.{Stays, StaysReady, SendsAll, TakesNext}
 use Rattle.script_run.proofs.OnLemmas.{halts-weaker}
 use Rattle.script_run.proofs.SeatFrontLemmas.{by-number, seat-behind, seat-err, seat-ok, seat-stays, seat-took-err, seat-took-ok, seat-wants}
 use Rattle.script_run.proofs.SeatManyLemmas.{seat-sent-all}
@@ -187,7 +187,7 @@ first-none board seat all rest to is ready = record { first = []; are = sym is; 
 -- some were sent in one turn, and the replies followed that were there
 pub first-turn : (board : BoardLock Parts) (result : Result Bool Halt) (n : ℕ) (old between new : BoardSeat Parts)
     (all rest : List Statement) (to to' : WritingSide) → StaysReady board old between
-    → SubmittedAll (view_of old).number (take n all) (sight_in (view_of old)) (sight_in (view_of between)) → rest ≡ drop n all
+    → SendsAll (view_of old).number (take n all) (sight_in (view_of old)) (sight_in (view_of between)) → rest ≡ drop n all
     → PlaysAt board result between new [] to to' → PlaysFirst board result old new all rest to to'
 first-turn board result n old between new all rest to to' seat sent is plays = record {
   first = take n all;

@@ -20,9 +20,9 @@ use Rattle.worker_gate.specs.Left.{LeavesAllLoans, MovesHand}
 use Rattle.worker_gate.specs.Turns.{IsOutWith, IsReady, IsSeated, own_row, sight_in}
 use Rattle.worker_gate.proofs.TurnLemmas.{FindsCore, hand-found, same-seat, same-then, seated-found, view-left}
 use Rattle.script_run.specs.Home.{Leaves, LetsGo}
-use Rattle.script_run.specs.SeatTurns.{KeepsHand, Stays, StaysOut, StaysReady, Submitted, TakesNext, TellsAsked, TellsGiven}
-use Rattle.script_run.specs.declared.seat_turn.Asked.{Asked}
-use Rattle.script_run.specs.declared.seat_turn.Asked.TheVariants.{Got, Nothing, NotYet, Looked}
+use Rattle.script_run.specs.SeatTurns.{KeepsHand, Stays, StaysOut, StaysReady, SendsOne, TakesNext, TellsAsked, TellsGiven}
+use Rattle.script_run.specs.declared.seat_turn.ReplyTurn.{ReplyTurn}
+use Rattle.script_run.specs.declared.seat_turn.ReplyTurn.TheVariants.{Got, Nothing, NotYet, Looked}
 use Rattle.script_run.specs.declared.seat_turn.Given.{Given as HowGiven}
 use Rattle.script_run.specs.declared.seat_turn.Given.TheVariants as given
 use Rattle.script_run.proofs.OnLemmas.{due-none, passes-itself}
@@ -92,7 +92,7 @@ stays-found view found finds = stays-passes view.number (sight_in view) (sight_o
 -- What is told behind what stays.
 
 pub submitted-behind : (statement : Statement) (seat : ℕ) (old between new : Sight) → Stays seat old between
-    → Submitted seat statement between new → Submitted seat statement old new
+    → SendsOne seat statement between new → SendsOne seat statement old new
 submitted-behind statement seat old between new stays submitted due waits =
     let before = stays due waits in
     let sent = submitted due before.waits in (
@@ -112,7 +112,7 @@ takes-behind ready seat old between new stays takes due reply waits is =
       goes = goes-then seat old between new due due took.rest [] [] [] (took.first ∷ []) [] (reply ∷ []) before took.goes;
     }
 
-pub asked-behind : (asked : Asked) (seat : ℕ) (old between new : Sight) → Stays seat old between → TellsAsked asked seat between new
+pub asked-behind : (asked : ReplyTurn) (seat : ℕ) (old between new : Sight) → Stays seat old between → TellsAsked asked seat between new
     → TellsAsked asked seat old new
 asked-behind (Got ready) seat old between new stays tells = takes-behind ready seat old between new stays tells
 asked-behind Nothing seat old between new stays tells = (stays-then seat old between new stays tells.0, tells.1)
@@ -336,7 +336,7 @@ mindful-submitted seat statement old new took =
     subst (IsMindful seat old) (sym (after-submitted seat statement old new took)) (submits-mindful old seat statement)
 
 pub submitted-took : (seat : ℕ) (statement : Statement) (old new : State) → Took (Submit seat statement) old new
-    → Submitted seat statement (sight_of old seat) (sight_of new seat)
+    → SendsOne seat statement (sight_of old seat) (sight_of new seat)
 submitted-took seat statement old new took due waits = (
   Given (old.numbers.statement + 1) (length old.entries) statement,
   refl,

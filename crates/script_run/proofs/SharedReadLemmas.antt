@@ -1,8 +1,8 @@
 -- What a reader gave to a core: nothing, one statement, and one part behind another.
 use Rattle.script_run.proofs.Words.{◌++◌, ◌∙◌, ◌∷◌, ◌≡◌, ◌≢◌, [], ap, append-nil, append_assoc, Bool, HasNoStatement, List, MayCome, Reading, refl, Statement, statements_of, StaysFed, subst, sym, TakesFirst, Wants, ℕ}
 use Rattle.script_reader.specs.Reading.{Answers}
-use Rattle.script_reader.specs.declared.reader.Next.{Next}
-use Rattle.script_reader.specs.declared.reader.Next.TheVariants.{Got, NotYet, End}
+use Rattle.script_reader.specs.declared.reader.NextStatement.{NextStatement}
+use Rattle.script_reader.specs.declared.reader.NextStatement.TheVariants.{Got, NotYet, End}
 use Rattle.script_run.specs.Front.{LeavesSome, Reads}
 
 -- what may come behind the bytes that wait may come behind those that wait then
@@ -37,7 +37,7 @@ pub leaves-wanting : (waits waits' : Reading) → Wants waits waits' → LeavesS
 leaves-wanting waits waits' wants ended = wants.0 ended
 
 -- no statement is left that is whole, and what waits means the same
-pub reads-done : (waits waits' : Reading) (next : Next) → ((statement : Statement) → next ≢ Got statement) → Answers waits waits' next → StaysFed waits waits'
+pub reads-done : (waits waits' : Reading) (next : NextStatement) → ((statement : Statement) → next ≢ Got statement) → Answers waits waits' next → StaysFed waits waits'
     → Reads waits [] waits' × HasNoStatement waits'
 reads-done waits waits' (Got statement) never answers stays = absurd (never statement refl)
 reads-done waits waits' NotYet never answers stays = (

@@ -1,8 +1,8 @@
 -- All statements that are whole: what was given to a core and written so far, and how that goes on and ends.
 use Rattle.script_run.proofs.Words.{◌++◌, ◌||◌, ◌∙◌, ◌∷◌, ◌≡◌, ◌≢◌, [], ap, Bool, Err, false, Halt, is_refusal, LapsOn, length, List, list_any, NoMemory, None, Ok, Option, Reading, refl, Some, State, Statement, statements_of, StaysFed, TakesFirst, Wants, ℕ}
 use Rattle.script_reader.specs.Reading.{Answers}
-use Rattle.script_reader.specs.declared.reader.Next.{Next}
-use Rattle.script_reader.specs.declared.reader.Next.TheVariants.{Got}
+use Rattle.script_reader.specs.declared.reader.NextStatement.{NextStatement}
+use Rattle.script_reader.specs.declared.reader.NextStatement.TheVariants.{Got}
 use Rattle.core_state.specs.Fronts.{IsDue}
 use Rattle.core_state.specs.Rows.{sight_of}
 use Rattle.core_state.specs.Sent.{Sent}
@@ -48,7 +48,7 @@ playing-then old between new due waits waits' waits'' refused some taken0 taken 
 }
 
 -- every statement that is whole was given
-pub whole-done : (old now : State) (due : List Sent) (first waits waits' : Reading) (next : Next) (refused : Bool) (taken0 taken : Option (List ℕ))
+pub whole-done : (old now : State) (due : List Sent) (first waits waits' : Reading) (next : NextStatement) (refused : Bool) (taken0 taken : Option (List ℕ))
     → IsPlaying old due now first waits refused taken0 taken → ((statement : Statement) → next ≢ Got statement) → Answers waits waits' next
     → StaysFed waits waits' → (reads : ReadsOn None old due first now waits' taken0 taken)
     × ((refused ≡ list_any is_refusal reads.plays.on.replies) × LapsOn old now reads.plays.on.replies)

@@ -44,7 +44,7 @@ pub use Rattle.core_state.specs.Events.{IsEnabled, LeavesSeats}
 pub use Rattle.core_state.specs.Found.{accepted_at}
 pub use Rattle.core_state.specs.Queries.{accepted_by, given_in, queries_among}
 pub use Rattle.core_state.specs.Sound.{empty_core, IsAwaited, IsSound, IsSoundQuery, IsSoundSeat}
-pub use Rattle.core_state.specs.State.{Accepted, Asked, Awaited, Entry, Pending, Replied, Scan, Seat, State, Taken}
+pub use Rattle.core_state.specs.State.{Accepted, Asked, Awaited, Entry, Pending, Replied, ScanState, Seat, State, Taken}
 pub use Rattle.core_state.specs.Steps.{after_step, after_steps, Done, MayStep, MayStepAll, Replying, Step, Wanting}
 pub use Rattle.core_state.specs.Submitting.{after_abandoning, after_outcome, after_submitting, after_taking, awaited_by, empty_seat, forgotten, next_ready, ready_to, seat_at, taken_by, with_change, with_query, with_seat, with_taken, without_pending}
 pub use Rattle.core_state.specs.Tables.{changes_of, tables_by, tables_of, versions_in}
@@ -62,7 +62,7 @@ pub use Rattle.script_run.specs.Answer.{HasNoStatement}
 pub use Rattle.script_run.specs.Counted.{Beside, CountsOne, FrontParts, GoesRound, is_query, IsCounted, IsOverOrWaits, KnowsCore, LapsOn, one_if, queries_awaited, told_of}
 pub use Rattle.script_run.specs.End.{end_of_all, end_of_halt}
 pub use Rattle.script_run.specs.Front.{Finishes, Gives, IsOfRun, IsRun}
-pub use Rattle.script_run.specs.Laps.{laps_of, placed, rows_of}
+pub use Rattle.script_run.specs.Laps.{laps_of, placed, rows_needed}
 pub use Rattle.script_run.specs.Pieces.{fed_with}
 pub use Rattle.script_run.specs.Replied.{AreReplied, HaltsBehind, IsReplied, Replies, RepliesFirst}
 pub use Rattle.script_run.specs.Run.{HasEnded, is_refusal, IsFront, IsProperFront, script_replies, script_text, some_refused, within_limit}

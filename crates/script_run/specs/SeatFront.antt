@@ -19,8 +19,8 @@ use Rattle.script_run.specs.Front.{LeavesSome, PlaysOn, Reads, UnlessHalted, hal
 use Rattle.script_run.specs.Run.{is_refusal}
 use Rattle.script_run.specs.SeatTurns.{Stays, StaysReady, TakesNext}
 use Rattle.script_run.specs.declared.halt.Halt.{Halt}
-use Rattle.script_run.specs.declared.seat_front.Turned.{Turned}
-use Rattle.script_run.specs.declared.seat_front.Turned.TheVariants as turned
+use Rattle.script_run.specs.declared.seat_front.AfterAsking.{AfterAsking}
+use Rattle.script_run.specs.declared.seat_front.AfterAsking.TheVariants as turned
 use Rattle.script_run.specs.declared.seat_front.Waited.{Waited}
 use Rattle.script_run.specs.declared.seat_front.Waited.TheVariants as waited
 
@@ -32,12 +32,12 @@ TellsWaited waited.NotYet seat old new = Stays seat old new
 TellsWaited waited.NoMemory seat old new = Stays seat old new × (new.row.pending ≢ [])
 
 -- what is told behind one of these turns, and the work that was taken in it
-abbrev pub TellsTurned : Turned → (seat : ℕ) → (old new : Sight) → Type 0
+abbrev pub TellsTurned : AfterAsking → (seat : ℕ) → (old new : Sight) → Type 0
 TellsTurned (turned.Goes next) seat old new = Stays seat old new
 TellsTurned (turned.Ends how) seat old new = TellsWaited how seat old new
 
 -- what is in the hand of the seat then: what the work is done for that is given back in the next turn, or nothing
-abbrev pub HasTurned : Turned → CoreRow → Type 0
+abbrev pub HasTurned : AfterAsking → CoreRow → Type 0
 HasTurned (turned.Goes done) row = HasDoneIf done row
 HasTurned (turned.Ends how) row = HasNothing row
 

@@ -7,33 +7,33 @@ use Rattle.script_run.specs.Answer.{HasNoStatement}
 use Rattle.script_run.specs.Front.{LeavesSome, Reads}
 use Rattle.script_run.specs.declared.seat_run.Behind.{Behind}
 use Rattle.script_run.specs.declared.seat_run.Behind.TheVariants as behind
-use Rattle.script_run.specs.declared.seat_run.Run.{Run}
-use Rattle.script_run.specs.declared.seat_run.RunEnd.{RunEnd}
-use Rattle.script_run.specs.declared.seat_run.RunEnd.TheVariants as ended
+use Rattle.script_run.specs.declared.seat_run.StatementRun.{StatementRun}
+use Rattle.script_run.specs.declared.seat_run.StatementRunEnd.{StatementRunEnd}
+use Rattle.script_run.specs.declared.seat_run.StatementRunEnd.TheVariants as ended
 
 -- the statement that was read and is given by itself, if one is
-abbrev pub alone_in : RunEnd → List Statement
+abbrev pub alone_in : StatementRunEnd → List Statement
 alone_in (ended.Alone statement) = statement ∷ []
 alone_in other = []
 
 -- none is where the run goes on
-abbrev pub alone_at : Option RunEnd → List Statement
+abbrev pub alone_at : Option StatementRunEnd → List Statement
 alone_at None = []
 alone_at (Some end) = alone_in end
 
 -- all that were read of a run
-abbrev pub statements_in_run : Run → List Statement
+abbrev pub statements_in_run : StatementRun → List Statement
 statements_in_run run = run.plain.items ++ alone_in run.end
 
 -- what there is to read behind a run
-abbrev pub behind_end : RunEnd → Behind
+abbrev pub behind_end : StatementRunEnd → Behind
 behind_end ended.Full = behind.More
 behind_end (ended.Alone statement) = behind.More
 behind_end ended.Last = behind.Nothing
 behind_end ended.NoMemory = behind.NoMemory
 
 -- the same where a run may go on
-abbrev pub behind_at : Option RunEnd → Behind
+abbrev pub behind_at : Option StatementRunEnd → Behind
 behind_at None = behind.More
 behind_at (Some end) = behind_end end
 
@@ -46,7 +46,7 @@ StopsAt behind.NoMemory read waits = LeavesSome waits
 
 -- the next statement was read, if there is one, and stands behind those of the run or is the one by
 -- itself
-pub record ReadsNext (ended : Option RunEnd) (waits : Reading) (before : List Statement)
+pub record ReadsNext (ended : Option StatementRunEnd) (waits : Reading) (before : List Statement)
     (waits' : Reading) (after : List Statement) : Type 0 where
   pub read : List Statement
   pub are : after ++ alone_at ended ≡ before ++ read
@@ -54,6 +54,6 @@ pub record ReadsNext (ended : Option RunEnd) (waits : Reading) (before : List St
   pub stops : StopsAt (behind_at ended) read waits'
 
 -- the statements of a run were read, and no others
-pub record ReadsRun (run : Run) (waits waits' : Reading) : Type 0 where
+pub record ReadsRun (run : StatementRun) (waits waits' : Reading) : Type 0 where
   pub reads : Reads waits (statements_in_run run) waits'
   pub stops : StopsAt (behind_end run.end) (statements_in_run run) waits'

@@ -22,8 +22,8 @@ use Rattle.worker_gate.specs.Left.{LeavesAllLoans}
 use Rattle.worker_gate.specs.Turns.{IsOutWith, sight_in}
 use Rattle.script_run.specs.declared.seat_turn.Given.{Given}
 use Rattle.script_run.specs.declared.seat_turn.Given.TheVariants as given
-use Rattle.script_run.specs.declared.seat_turn.Asked.{Asked}
-use Rattle.script_run.specs.declared.seat_turn.Asked.TheVariants.{Got, Nothing, NotYet, Looked}
+use Rattle.script_run.specs.declared.seat_turn.ReplyTurn.{ReplyTurn}
+use Rattle.script_run.specs.declared.seat_turn.ReplyTurn.TheVariants.{Got, Nothing, NotYet, Looked}
 
 -- behind turns of it a seat does not have the core, it is so with its row, its hand and what is lent beside it, and it is the same seat
 -- of the same team
@@ -47,19 +47,19 @@ abbrev pub Stays : (seat : ℕ) → (old new : Sight) → Type 0
 Stays seat old new = (due : List Sent) → IsDue seat old due → Goes seat old due new due [] [] []
 
 -- a seat sent this statement
-abbrev pub Submitted : (seat : ℕ) → Statement → (old new : Sight) → Type 0
-Submitted seat statement old new = (due : List Sent) → IsDue seat old due
+abbrev pub SendsOne : (seat : ℕ) → Statement → (old new : Sight) → Type 0
+SendsOne seat statement old new = (due : List Sent) → IsDue seat old due
     → (one : Sent) × (statement_in one ≡ statement) × IsGiven one × Goes seat old due new (due ++ one ∷ []) (one ∷ []) [] []
 
 -- a seat sent these statements, in this order
-abbrev pub SubmittedAll : (seat : ℕ) → List Statement → (old new : Sight) → Type 0
-SubmittedAll seat statements old new = (due : List Sent) → IsDue seat old due
+abbrev pub SendsAll : (seat : ℕ) → List Statement → (old new : Sight) → Type 0
+SendsAll seat statements old new = (due : List Sent) → IsDue seat old due
     → (sent : List Sent) × (statements_in sent ≡ statements) × All IsGiven sent
     × Goes seat old due new (due ++ sent) sent [] []
 
 -- what a turn tells in which a seat gave a statement to the core: it sent it, or nothing
 abbrev pub TellsGiven : Given → (seat : ℕ) → Statement → (old new : Sight) → Type 0
-TellsGiven given.Taken seat statement old new = Submitted seat statement old new
+TellsGiven given.Taken seat statement old new = SendsOne seat statement old new
 TellsGiven given.Lost seat statement old new = Stays seat old new
 TellsGiven given.Waits seat statement old new = Stays seat old new
 
@@ -69,7 +69,7 @@ LeftUnmarked view = IsSomeAnd view.last (λ core. core.marks.waiting ≡ false)
 
 -- what is told of a statement that a seat tried to give until it was taken, or there was no memory for it
 abbrev pub TellsTried : (taken : Bool) → Statement → (old new : BoardSeat Parts) → Type 0
-TellsTried true statement old new = Submitted (view_of old).number statement (sight_in (view_of old)) (sight_in (view_of new))
+TellsTried true statement old new = SendsOne (view_of old).number statement (sight_in (view_of old)) (sight_in (view_of new))
 TellsTried false statement old new =
     Stays (view_of old).number (sight_in (view_of old)) (sight_in (view_of new)) × LeftUnmarked (view_of new)
 
@@ -85,19 +85,19 @@ TakesNext ready seat old new = (due : List Sent) → (reply : Reply) → IsDue s
     → TookNext seat old due new reply
 
 -- what a turn tells in which a seat asked for its next reply
-abbrev pub TellsAsked : Asked → (seat : ℕ) → (old new : Sight) → Type 0
+abbrev pub TellsAsked : ReplyTurn → (seat : ℕ) → (old new : Sight) → Type 0
 TellsAsked (Got ready) seat old new = TakesNext ready seat old new
 TellsAsked Nothing seat old new = Stays seat old new × (new.row.pending ≡ [])
 TellsAsked NotYet seat old new = Stays seat old new
 TellsAsked (Looked look) seat old new = Stays seat old new × (new.row.pending ≢ [])
 
 -- what is in the hand of a seat behind such a turn: what it found to do, or nothing
-abbrev pub HasAsked : Asked → CoreRow → Type 0
+abbrev pub HasAsked : ReplyTurn → CoreRow → Type 0
 HasAsked (Looked look) row = HasLooked look row
 HasAsked other row = HasNothing row
 
 -- what a seat does with the core where it asks for its next reply
-pub record AsksCore (asked : Asked) (seat : ℕ) (old new : Parts) : Type 0 where
+pub record AsksCore (asked : ReplyTurn) (seat : ℕ) (old new : Parts) : Type 0 where
   pub tells : TellsAsked asked seat (sight_of (state_of old) seat) (sight_of (state_of new) seat)
   pub mindful : IsMindful seat (state_of old) (state_of new)
   pub others : LeavesLoans seat old new

@@ -6,7 +6,7 @@ ghost use Rattle.script_run.specs.Replied.{AnswersWhole, GivesNext};
 
 use crate::halt::Halt;
 use crate::reply::{is_refusal, reply_or_memory, text_of};
-use script_reader::{Next, ScriptReader};
+use script_reader::{NextStatement, ScriptReader};
 use star_io::{Sink, write_all};
 use star_store::Store;
 use star_values::{ByteText, NoMemory};
@@ -54,7 +54,7 @@ fn answer_next(
     ensures gives { GivesNext result (plain store.old) reader.old (plain store.new) reader.new }
     ensures stays { StaysFed reader.old reader.new }
 {
-    let Next::Got(statement) = reader.next_statement()? else {
+    let NextStatement::Got(statement) = reader.next_statement()? else {
         return Ok(None);
     };
     let reply = reply_or_memory(alloc, hash_keys, store, statement);

@@ -13,13 +13,13 @@ ghost use Rattle.script_run.specs.SeatFront.{HasTurned, PlaysAt, SeatPlaysWhole}
 ghost use Rattle.script_run.specs.SeatFront.{TellsTurned, TellsWaited};
 ghost use Rattle.script_run.specs.SeatTurns.{StaysOut, StaysReady, TellsAsked};
 ghost use Rattle.script_run.specs.Waiting.{is_wait as means_to_wait};
-ghost use Rattle.script_run.specs.declared.seat_turn.Asked.TheVariants as asked;
+ghost use Rattle.script_run.specs.declared.seat_turn.ReplyTurn.TheVariants as asked;
 
 use crate::front::write_reply;
 use crate::halt::Halt;
 use crate::pace::Pace;
 use crate::seat_run::Behind;
-use crate::seat_turn::{Asked, ask_turn, submit_turn};
+use crate::seat_turn::{ReplyTurn, ask_turn, submit_turn};
 use crate::waiting::is_wait;
 use board_lock::{BoardLock, BoardSeat};
 use event_core::{Core, Ready, Work};
@@ -60,7 +60,7 @@ pub(crate) enum Waited {
 
 /// What follows a turn in which the next reply was asked for.
 #[derive(Drop)]
-enum Turned {
+enum AfterAsking {
     /// Another turn, in which a work is given back if there is one.
     Goes(Option<Work>),
 
@@ -104,8 +104,8 @@ impl SeatFront {
         let mut done = None;
         'turns: for _ in rt.forever() {
             match ask_and_work(rt, board, &mut self.seat, gate, done, patient) {
-                Turned::Goes(next) => done = next,
-                Turned::Ends(waited) => return waited,
+                AfterAsking::Goes(next) => done = next,
+                AfterAsking::Ends(waited) => return waited,
             }
         }
         unreachable!()
@@ -242,35 +242,35 @@ fn ask_and_work<R: Wait, G: Gate>(
     gate: &G,
     done: Option<Work>,
     patient: bool,
-) -> Turned
+) -> AfterAsking
     requires { IsReady board.now done seat.old }
     ensures seat { StaysOut board.now (HasTurned result) seat.old seat.new }
     ensures tells { TellsTurned result (view_of seat.old).number
         (sight_in (view_of seat.old)) (sight_in (view_of seat.new)) }
-    ensures patient { IsTrue patient → result ≢ Turned.Ends Waited.NotYet }
+    ensures patient { IsTrue patient → result ≢ AfterAsking.Ends Waited.NotYet }
 {
     match ask_turn(rt, board, seat, done, patient) {
-        Asked::Got(ready) => Turned::Ends(Waited::Got(ready)),
-        Asked::Nothing => Turned::Ends(Waited::Nothing),
-        Asked::NotYet => Turned::Ends(Waited::NotYet),
-        Asked::Looked(look) => work_outside(seat, look, gate),
+        ReplyTurn::Got(ready) => AfterAsking::Ends(Waited::Got(ready)),
+        ReplyTurn::Nothing => AfterAsking::Ends(Waited::Nothing),
+        ReplyTurn::NotYet => AfterAsking::Ends(Waited::NotYet),
+        ReplyTurn::Looked(look) => work_outside(seat, look, gate),
     }
 }
 
 /// Outside of a turn: does the work of a batch that was taken or cut in it. Another turn follows,
 /// unless no memory was left.
-fn work_outside<G: Gate>(seat: &BoardSeat<Core>, look: Look, gate: &G) -> Turned
+fn work_outside<G: Gate>(seat: &BoardSeat<Core>, look: Look, gate: &G) -> AfterAsking
     requires { HasLooked look (own_row (view_of seat.now)) }
     ensures hand { HasTurned result (own_row (view_of seat.now)) }
     ensures tells { (number : ℕ) (old new : Sight) →
         TellsAsked (asked.Looked look) number old new → TellsTurned result number old new }
-    ensures not_yet { result ≢ Turned.Ends Waited.NotYet }
+    ensures not_yet { result ≢ AfterAsking.Ends Waited.NotYet }
 {
     match look {
-        Look::Got(carried) => Turned::Goes(Some(do_work(carried, seat.number(), gate))),
-        Look::Did(_) => Turned::Goes(None),
-        Look::Rest => Turned::Goes(None),
-        Look::Closed => Turned::Goes(None),
-        Look::Memory => Turned::Ends(Waited::NoMemory),
+        Look::Got(carried) => AfterAsking::Goes(Some(do_work(carried, seat.number(), gate))),
+        Look::Did(_) => AfterAsking::Goes(None),
+        Look::Rest => AfterAsking::Goes(None),
+        Look::Closed => AfterAsking::Goes(None),
+        Look::Memory => AfterAsking::Ends(Waited::NoMemory),
     }
 }

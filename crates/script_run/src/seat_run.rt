@@ -9,8 +9,8 @@ ghost use Rattle.worker_gate.specs.Turns.{IsReady, sight_in};
 ghost use Rattle.script_run.specs.SeatFront.{PlaysAt, PlaysFirst};
 ghost use Rattle.script_run.specs.SeatRun.{ReadsNext, ReadsRun, alone_at, behind_at, behind_end};
 ghost use Rattle.script_run.specs.SeatRun.{statements_in_run};
-ghost use Rattle.script_run.specs.SeatTurns.{KeepsHand, Stays, StaysReady, Submitted};
-ghost use Rattle.script_run.specs.SeatTurns.{SubmittedAll};
+ghost use Rattle.script_run.specs.SeatTurns.{KeepsHand, Stays, StaysReady, SendsOne};
+ghost use Rattle.script_run.specs.SeatTurns.{SendsAll};
 
 use crate::halt::Halt;
 use crate::seat_front::SeatFront;
@@ -18,7 +18,7 @@ use crate::seat_turn::{Given, one_or_all, submit, unmark_if_home};
 use crate::waiting::is_wait;
 use board_lock::{BoardLock, BoardSeat};
 use event_core::{Core, own_steps_keep_a_board};
-use script_reader::{Block, Next, ScriptReader, Statement};
+use script_reader::{Block, NextStatement, ScriptReader, Statement};
 use star_io::Sink;
 use star_statement::ReadStatement;
 use std::sync::Wait;
@@ -26,17 +26,17 @@ use worker_gate::Gate;
 
 /// Statements that were there at once.
 #[derive(Drop)]
-pub(crate) struct Run {
+pub(crate) struct StatementRun {
     /// Those that are given in one turn.
     plain: Vec<Statement>,
 
     /// Why there are no more of them.
-    end: RunEnd,
+    end: StatementRunEnd,
 }
 
 /// What ended a run of statements.
 #[derive(Drop)]
-pub(crate) enum RunEnd {
+pub(crate) enum StatementRunEnd {
     /// As many replies will be waited for as may be.
     Full,
 
@@ -64,60 +64,64 @@ pub(crate) enum Behind {
     NoMemory,
 }
 
-impl Run {
+impl StatementRun {
     /// What there is to read behind it.
     pub(crate) fn behind(&self) -> Behind
         ensures { result ≡ behind_end self.now.end }
     {
         match self.end {
-            RunEnd::Full | RunEnd::Alone(_) => Behind::More,
-            RunEnd::Last => Behind::Nothing,
-            RunEnd::NoMemory => Behind::NoMemory,
+            StatementRunEnd::Full | StatementRunEnd::Alone(_) => Behind::More,
+            StatementRunEnd::Last => Behind::Nothing,
+            StatementRunEnd::NoMemory => Behind::NoMemory,
         }
     }
 }
 
 impl SeatFront {
     /// Reads the statements that are there, as many as may be given in one turn.
-    pub(crate) fn read_run(&self, reader: &mut ScriptReader) -> Run
+    pub(crate) fn read_run(&self, reader: &mut ScriptReader) -> StatementRun
         ensures reads { ReadsRun result reader.old reader.new }
         ensures stays { StaysFed reader.old reader.new }
     {
         let mut plain = Vec::new(self.alloc);
         'statements: loop {
             if let Some(end) = self.read_next(reader, &mut plain) {
-                return Run { plain, end };
+                return StatementRun { plain, end };
             }
         }
     }
 
     /// Reads the next statement, and puts it to those of a run. Where the run ends, it tells why.
-    fn read_next(&self, reader: &mut ScriptReader, plain: &mut Vec<Statement>) -> Option<RunEnd>
+    fn read_next(
+        &self,
+        reader: &mut ScriptReader,
+        plain: &mut Vec<Statement>,
+    ) -> Option<StatementRunEnd>
         ensures reads { ReadsNext result reader.old plain.old.items reader.new plain.new.items }
         ensures stays { StaysFed reader.old reader.new }
     {
         let Ok(next) = reader.next_statement() else {
-            return Some(RunEnd::NoMemory);
+            return Some(StatementRunEnd::NoMemory);
         };
-        let Next::Got(statement) = next else {
-            return Some(RunEnd::Last);
+        let NextStatement::Got(statement) = next else {
+            return Some(StatementRunEnd::Last);
         };
         self.put(plain, statement)
     }
 
     /// Puts a statement to those of a run. Where the run ends, it tells why.
-    fn put(&self, plain: &mut Vec<Statement>, statement: Statement) -> Option<RunEnd>
+    fn put(&self, plain: &mut Vec<Statement>, statement: Statement) -> Option<StatementRunEnd>
         ensures are { plain.new.items ++ alone_at result ≡ plain.old.items ++ statement ∷ [] }
         ensures more { behind_at result ≡ Behind.More }
     {
         if !self.is_plain(&statement, plain.is_empty()) {
-            return Some(RunEnd::Alone(statement));
+            return Some(StatementRunEnd::Alone(statement));
         }
         if let Err(failed) = plain.push(statement) {
-            return Some(RunEnd::Alone(failed.value));
+            return Some(StatementRunEnd::Alone(failed.value));
         }
         if self.pace.is_full_with(plain.len()) {
-            return Some(RunEnd::Full);
+            return Some(StatementRunEnd::Full);
         }
         None
     }
@@ -141,7 +145,7 @@ impl SeatFront {
         rt: &R,
         board: &BoardLock<Core>,
         gate: &G,
-        run: Run,
+        run: StatementRun,
         sink: &mut K,
     ) -> Result<bool, Halt>
         requires { IsReady board.now None self.old.seat }
@@ -149,9 +153,9 @@ impl SeatFront {
             (K.writing sink.old) (K.writing sink.new) }
         ensures apart { K.reading_side sink.new ≡ K.reading_side sink.old }
     {
-        let Run { plain, end } = run;
+        let StatementRun { plain, end } = run;
         let mut refused = self.play_plain(rt, board, gate, plain, sink)?;
-        let RunEnd::Alone(statement) = end else {
+        let StatementRunEnd::Alone(statement) = end else {
             return Ok(refused);
         };
         let more = self.play(rt, board, gate, statement, sink)?;
@@ -251,7 +255,7 @@ fn submit_all_turn<R: Wait>(
     requires { IsReady board.now None seat.old }
     ensures seat { StaysReady board.now seat.old seat.new }
     ensures count { result ≤ length statements.now }
-    ensures submits { SubmittedAll (view_of seat.old).number (take result statements.now)
+    ensures submits { SendsAll (view_of seat.old).number (take result statements.now)
         (sight_in (view_of seat.old)) (sight_in (view_of seat.new)) }
 {
     // It is called for what it ensures.
@@ -271,7 +275,7 @@ fn submit_all_turn<R: Wait>(
 fn submit_all(core: &mut Core, seat: u32, statements: &[Statement]) -> usize
     ensures keeps { KeepsHand seat core.old core.new }
     ensures count { result ≤ length statements.now }
-    ensures submits { SubmittedAll seat (take result statements.now)
+    ensures submits { SendsAll seat (take result statements.now)
         (sight_of (state_of core.old) seat) (sight_of (state_of core.new) seat) }
 {
     let mut given = 0;
@@ -288,7 +292,7 @@ fn submit_all(core: &mut Core, seat: u32, statements: &[Statement]) -> usize
 /// changed.
 fn submit_unread(core: &mut Core, seat: u32, statement: &Statement) -> bool
     ensures keeps { KeepsHand seat core.old core.new }
-    ensures submits { IsTrue result → Submitted seat statement.now
+    ensures submits { IsTrue result → SendsOne seat statement.now
         (sight_of (state_of core.old) seat) (sight_of (state_of core.new) seat) }
     ensures stays { (result ≡ false) → Stays seat
         (sight_of (state_of core.old) seat) (sight_of (state_of core.new) seat) }

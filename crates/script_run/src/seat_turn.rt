@@ -43,7 +43,7 @@ pub(crate) enum Given {
 
 /// What came of a turn in which a seat asked for its next reply.
 #[derive(Debug, Drop)]
-pub(crate) enum Asked {
+pub(crate) enum ReplyTurn {
     /// The reply, which was taken.
     Got(Ready),
 
@@ -193,12 +193,12 @@ pub(crate) fn ask_turn<R: Wait>(
     seat: &mut BoardSeat<Core>,
     done: Option<Work>,
     patient: bool,
-) -> Asked
+) -> ReplyTurn
     requires { IsReady board.now done seat.old }
     ensures seat { StaysOut board.now (HasAsked result) seat.old seat.new }
     ensures asks { TellsAsked result (view_of seat.old).number
         (sight_in (view_of seat.old)) (sight_in (view_of seat.new)) }
-    ensures patient { IsTrue patient → result ≢ Asked.NotYet }
+    ensures patient { IsTrue patient → result ≢ ReplyTurn.NotYet }
 {
     // It is called for what it ensures.
     own_steps_keep_a_board();
@@ -212,11 +212,11 @@ pub(crate) fn ask_turn<R: Wait>(
 }
 
 /// What a seat that asks for its next reply does with the core while it has its turn.
-fn give_and_ask(core: &mut Core, seat: u32, done: Option<Work>, patient: bool) -> Asked
+fn give_and_ask(core: &mut Core, seat: u32, done: Option<Work>, patient: bool) -> ReplyTurn
     requires seat { seat < (state_of core.old).settings.seats }
     requires hand { HasDoneIf done (core_row core.old seat) }
     ensures asks { AsksCore result seat core.old core.new }
-    ensures patient { IsTrue patient → result ≢ Asked.NotYet }
+    ensures patient { IsTrue patient → result ≢ ReplyTurn.NotYet }
 {
     give_if_done(core, seat, done);
     ask(core, seat, patient)
@@ -224,59 +224,59 @@ fn give_and_ask(core: &mut Core, seat: u32, done: Option<Work>, patient: bool) -
 
 /// Takes the seat's next reply. Where it is not there yet and the seat is patient, it looks for
 /// work. Its hand is empty.
-fn ask(core: &mut Core, seat: u32, patient: bool) -> Asked
+fn ask(core: &mut Core, seat: u32, patient: bool) -> ReplyTurn
     requires seat { seat < (state_of core.old).settings.seats }
     requires empty { HasNothing (core_row core.old seat) }
     ensures asks { AsksCore result seat core.old core.new }
-    ensures patient { IsTrue patient → result ≢ Asked.NotYet }
+    ensures patient { IsTrue patient → result ≢ ReplyTurn.NotYet }
 {
     // All three are called for what they ensure.
     a_row_tells_the_reply();
     every_core_is_sound(core);
     what_is_beside_stays_lent();
     match core.take_reply(seat) {
-        Some(ready) => Asked::Got(ready),
+        Some(ready) => ReplyTurn::Got(ready),
         None => wait_or_look(core, seat, patient),
     }
 }
 
 /// What a seat does of which no reply may be taken. Its hand is empty.
-fn wait_or_look(core: &mut Core, seat: u32, patient: bool) -> Asked
+fn wait_or_look(core: &mut Core, seat: u32, patient: bool) -> ReplyTurn
     requires seat { seat < (state_of core.old).settings.seats }
     requires empty { HasNothing (core_row core.old seat) }
     requires none { next_ready (state_of core.old) seat ≡ None }
     ensures asks { AsksCore result seat core.old core.new }
-    ensures patient { IsTrue patient → result ≢ Asked.NotYet }
+    ensures patient { IsTrue patient → result ≢ ReplyTurn.NotYet }
 {
     // Both are called for what they ensure.
     a_reply_that_may_be_taken_is_right();
     every_core_is_sound(core);
     match core.first_pending(seat) {
         Some(_) => look_if_patient(core, seat, patient),
-        None => Asked::Nothing,
+        None => ReplyTurn::Nothing,
     }
 }
 
 /// Looks for work, if the seat is patient. It waits for a reply, and its hand is empty.
-fn look_if_patient(core: &mut Core, seat: u32, patient: bool) -> Asked
+fn look_if_patient(core: &mut Core, seat: u32, patient: bool) -> ReplyTurn
     requires seat { seat < (state_of core.old).settings.seats }
     requires empty { HasNothing (core_row core.old seat) }
     requires waits { (seat_at (state_of core.old) seat).pending ≢ [] }
     ensures asks { AsksCore result seat core.old core.new }
-    ensures patient { IsTrue patient → result ≢ Asked.NotYet }
+    ensures patient { IsTrue patient → result ≢ ReplyTurn.NotYet }
 {
     if !patient {
-        return Asked::NotYet;
+        return ReplyTurn::NotYet;
     }
-    Asked::Looked(worker_look(core, seat))
+    ReplyTurn::Looked(worker_look(core, seat))
 }
 
 /// Whom the turn wakes: as behind any look, where the seat looked for work. Else it goes on to
 /// something else, and leaves to others what there is to do.
-fn signal_of<R: Wait>(rt: &R, board: &BoardLock<Core>, core: &Core, asked: &Asked) -> Signal {
+fn signal_of<R: Wait>(rt: &R, board: &BoardLock<Core>, core: &Core, asked: &ReplyTurn) -> Signal {
     match asked {
-        Asked::Looked(look) => signal_behind(rt, board, core, look),
-        Asked::Got(_) | Asked::Nothing | Asked::NotYet => signal_if_more(board, core),
+        ReplyTurn::Looked(look) => signal_behind(rt, board, core, look),
+        ReplyTurn::Got(_) | ReplyTurn::Nothing | ReplyTurn::NotYet => signal_if_more(board, core),
     }
 }
 

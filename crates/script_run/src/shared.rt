@@ -22,7 +22,7 @@ use core_state::{
     only_abandon_abandons,
 };
 use event_core::Core;
-use script_reader::{Next, ScriptReader};
+use script_reader::{NextStatement, ScriptReader};
 use star_io::{RunEnd, Sink, Source};
 use star_values::NoMemory;
 use std::alloc::Global;
@@ -197,7 +197,7 @@ pub(crate) fn play_whole<R: Threads + Sync, K: Sink>(
 {
     let mut refused = false;
     'statements: loop {
-        let Next::Got(statement) = reader.next_statement()? else {
+        let NextStatement::Got(statement) = reader.next_statement()? else {
             return Ok(refused);
         };
         refused |= front.play(rt, statement, sink)?;

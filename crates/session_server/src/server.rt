@@ -27,7 +27,7 @@ type Channel<L> = (Sender<L>, Receiver<L>);
 
 /// What is asked of a door.
 #[derive(Clone, Copy)]
-struct Asked {
+struct DoorRequest {
     /// The port whose connections are to come.
     port: u16,
 
@@ -91,7 +91,7 @@ pub fn serve<R: Threads + Wait + Sync, D: Door, G: Gate + Sync>(
     let Ok(server) = open_server(alloc, hash_keys, settings) else {
         return ServeEnd::NoMemory;
     };
-    open_links(rt, alloc, server, Asked { port, accept }, door, gate)
+    open_links(rt, alloc, server, DoorRequest { port, accept }, door, gate)
 }
 
 /// Makes the way to the sessions, and listens. Where no memory is left for it, the door is
@@ -100,7 +100,7 @@ fn open_links<R: Threads + Wait + Sync, D: Door, G: Gate + Sync>(
     rt: &R,
     alloc: Global,
     server: Server,
-    asked: Asked,
+    asked: DoorRequest,
     door: &mut D,
     gate: &G,
 ) -> ServeEnd
@@ -126,7 +126,7 @@ fn listen<R: Threads + Wait + Sync, D: Door, G: Gate + Sync>(
     rt: &R,
     server: Server,
     channel: Channel<D::Link>,
-    asked: Asked,
+    asked: DoorRequest,
     door: &mut D,
     gate: &G,
 ) -> ServeEnd

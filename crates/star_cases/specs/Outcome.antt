@@ -2,9 +2,9 @@
 use Rattle.std.specs.Prelude.{◌≡◌, ℕ, ◌+◌, Bool, true, List, [], is_none}
 use Rattle.script_run.specs.Run.{script_text, some_refused}
 use Rattle.star_cases.specs.Judge.{has_refusal}
-use Rattle.star_cases.specs.declared.outcome.Outcome.{Outcome}
-use Rattle.star_cases.specs.declared.outcome.Way.{Way}
-use Rattle.star_cases.specs.declared.outcome.Way.TheVariants.{Alone, Shared, Worked}
+use Rattle.star_cases.specs.declared.outcome.CaseOutcome.{CaseOutcome}
+use Rattle.star_cases.specs.declared.outcome.RunWay.{RunWay}
+use Rattle.star_cases.specs.declared.outcome.RunWay.TheVariants.{Alone, Shared, Worked}
 use Rattle.core_state.specs.Settings.{AreWithin}
 
 -- the bytes are the replies, by what statements mean, to all statements of a script, with a refusal where those have one; where
@@ -14,11 +14,11 @@ Answers script replies = (wanted : List ℕ) × (replies ≡ script_text wanted 
     × (has_refusal replies ≡ some_refused wanted true script)
 
 -- nothing is wrong with the case
-abbrev pub is_right : Outcome → Bool
+abbrev pub is_right : CaseOutcome → Bool
 is_right outcome = is_none outcome.wrong
 
 -- the settings of a way are within the limits of a core, and where workers share it there is a seat for each and one more
-abbrev pub IsWithin : Way → Type 0
-IsWithin Alone = Unit {0}
-IsWithin (Shared settings) = AreWithin settings
-IsWithin (Worked settings) = AreWithin settings × (settings.seats ≡ settings.workers + 1)
+abbrev pub CanRun : RunWay → Type 0
+CanRun Alone = Unit {0}
+CanRun (Shared settings) = AreWithin settings
+CanRun (Worked settings) = AreWithin settings × (settings.seats ≡ settings.workers + 1)

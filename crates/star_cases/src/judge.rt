@@ -6,7 +6,7 @@ use star_io::RunEnd;
 
 /// What is wrong with a run.
 #[derive(Clone, Copy, Debug, PartialEq, Eq)]
-pub(crate) enum Fault {
+pub(crate) enum RunFault {
     /// This line of what was written, counted from 0, is not that of the replies.
     Line(usize),
     /// The run ended so.
@@ -41,14 +41,14 @@ fn wanted_end(replies: &[u8]) -> RunEnd
 }
 
 /// The first fault of a run that wrote these bytes and ended so.
-pub(crate) fn fault_of(written: &[u8], end: RunEnd, replies: &[u8]) -> Option<Fault>
+pub(crate) fn fault_of(written: &[u8], end: RunEnd, replies: &[u8]) -> Option<RunFault>
     ensures { IsNone result ↔ (written.now ≡ replies.now) × (end ≡ wanted_end replies.now) }
 {
     if written != replies {
-        return Some(Fault::Line(first_other_line(written, replies)));
+        return Some(RunFault::Line(first_other_line(written, replies)));
     }
     if end != wanted_end(replies) {
-        return Some(Fault::End(end));
+        return Some(RunFault::End(end));
     }
     None
 }

@@ -3,10 +3,10 @@ ghost use Rattle.std.specs.Prelude.{◌≡◌, ◌&&◌, ◌==◌, ◌<◌, ◌�
 ghost use Rattle.std.specs.List.{list_all};
 ghost use Rattle.core_state.specs.Settings.{AreWithin};
 ghost use Rattle.script_run.specs.Run.{AnswersScript};
-ghost use Rattle.star_cases.specs.Outcome.{Answers, IsWithin, is_right};
+ghost use Rattle.star_cases.specs.Outcome.{Answers, CanRun, is_right};
 
 use crate::case::{Case, read_case};
-use crate::judge::{Fault, fault_of};
+use crate::judge::{RunFault, fault_of};
 use core_state::RunSettings;
 use script_run::{RunDone, run_alone, run_on_one_thread, run_script};
 use star_io::{ListSink, PieceSource, RunEnd, Sink, Source};
@@ -25,7 +25,7 @@ const ALL_BYTES: usize = 65_536;
 
 /// How a script is run: each query by itself, in a core of these settings, or in one that workers share.
 #[derive(Clone, Copy, Debug)]
-enum Way {
+enum RunWay {
     Alone,
     Shared(RunSettings),
     Worked(RunSettings),
@@ -37,15 +37,15 @@ const CORE_WAYS: u32 = 5;
 /// The ways in a core, by their numbers: with the settings of the program, the same with rows that pass
 /// alone, a slot with rows that pass alone, some whose batches pass on several threads, and the same with
 /// two workers.
-fn core_way(number: u32) -> Way
-    ensures { IsWithin result }
+fn core_way(number: u32) -> RunWay
+    ensures { CanRun result }
 {
     match number {
-        0 => Way::Shared(settings(0, 64, 256, 1)),
-        1 => Way::Shared(settings(0, 64, 1, 1)),
-        2 => Way::Shared(settings(0, 1, 1, 1)),
-        3 => Way::Shared(settings(2, 3, 2, 1)),
-        _ => Way::Worked(settings(2, 3, 2, 3)),
+        0 => RunWay::Shared(settings(0, 64, 256, 1)),
+        1 => RunWay::Shared(settings(0, 64, 1, 1)),
+        2 => RunWay::Shared(settings(0, 1, 1, 1)),
+        3 => RunWay::Shared(settings(2, 3, 2, 1)),
+        _ => RunWay::Worked(settings(2, 3, 2, 3)),
     }
 }
 
@@ -68,12 +68,12 @@ fn settings(workers: u32, slots: u32, batch: u32, seats: u32) -> RunSettings
 
 /// A case, and what is wrong with it, if anything is.
 #[derive(Debug, Drop)]
-pub(crate) struct Outcome {
+pub(crate) struct CaseOutcome {
     name: String,
     wrong: Option<String>,
 }
 
-impl fmt::Display for Outcome {
+impl fmt::Display for CaseOutcome {
     fn fmt<W: fmt::Write>(&self, f: &mut fmt::Formatter<W>) -> fmt::Result {
         match &self.wrong {
             None => write!(f, "ok {}", self.name),
@@ -83,27 +83,27 @@ impl fmt::Display for Outcome {
 }
 
 /// Whether nothing is wrong with a case.
-fn is_right(outcome: &Outcome) -> bool
+fn is_right(outcome: &CaseOutcome) -> bool
     ensures { result ≡ is_right outcome.now }
 {
     outcome.wrong.is_none()
 }
 
 /// How many cases are right.
-pub(crate) fn count_right(outcomes: &[Outcome]) -> usize
+pub(crate) fn count_right(outcomes: &[CaseOutcome]) -> usize
     ensures { result ≡ count_by is_right outcomes.now }
 {
     outcomes.iter().filter(|outcome| is_right(*outcome)).count()
 }
 
-fn is_each_right(outcomes: &[Outcome]) -> bool
+fn is_each_right(outcomes: &[CaseOutcome]) -> bool
     ensures { result ≡ list_all is_right outcomes.now }
 {
     outcomes.iter().all(|outcome| is_right(outcome))
 }
 
 /// Whether there are cases, and all are right.
-pub(crate) fn are_all_right(outcomes: &[Outcome]) -> bool
+pub(crate) fn are_all_right(outcomes: &[CaseOutcome]) -> bool
     ensures { result ≡ not (length outcomes.now == 0) && list_all is_right outcomes.now }
 {
     !outcomes.is_empty() && is_each_right(outcomes)
@@ -115,12 +115,12 @@ pub(crate) fn check_case<R: Files + AllocGlobal + Threads + Wait + Sync>(
     hash_keys: RandomState,
     folder: &str,
     name: String,
-) -> Result<Outcome, AllocError> {
+) -> Result<CaseOutcome, AllocError> {
     let wrong = match read_case(rt, folder, name.as_str()) {
         Ok(case) => wrong_in(rt, hash_keys, &case)?,
         Err(error) => Some(format!(in rt.alloc(); "not read: {error}")?),
     };
-    Ok(Outcome { name, wrong })
+    Ok(CaseOutcome { name, wrong })
 }
 
 /// What is wrong with the first run of a case that is wrong: first each query by itself, then in a core.
@@ -132,7 +132,7 @@ fn wrong_in<R: AllocGlobal + Threads + Wait + Sync>(
     ensures { IfOk result
         (λ wrong. IsNone wrong → Answers case.now.script.items case.now.replies.items) }
 {
-    if let Some(wrong) = wrong_in_way(rt, hash_keys, case, Way::Alone)? {
+    if let Some(wrong) = wrong_in_way(rt, hash_keys, case, RunWay::Alone)? {
         return Ok(Some(wrong));
     }
     for number in 0..CORE_WAYS {
@@ -149,9 +149,9 @@ fn wrong_in_way<R: AllocGlobal + Threads + Wait + Sync>(
     rt: &R,
     hash_keys: RandomState,
     case: &Case,
-    way: Way,
+    way: RunWay,
 ) -> Result<Option<String>, AllocError>
-    requires { IsWithin way }
+    requires { CanRun way }
     ensures { IfOk result
         (λ wrong. IsNone wrong → Answers case.now.script.items case.now.replies.items) }
 {
@@ -168,11 +168,11 @@ fn wrong_in_pieces<R: AllocGlobal + Threads + Wait + Sync>(
     rt: &R,
     hash_keys: RandomState,
     case: &Case,
-    way: Way,
+    way: RunWay,
     piece: usize,
 ) -> Result<Option<String>, AllocError>
     requires piece { 0 < piece }
-    requires within { IsWithin way }
+    requires within { CanRun way }
     ensures { IfOk result
         (λ wrong. IsNone wrong → Answers case.now.script.items case.now.replies.items) }
 {
@@ -191,20 +191,20 @@ fn run<R: Threads + Wait + Sync, S: Source, K: Sink>(
     rt: &R,
     alloc: Global,
     hash_keys: RandomState,
-    way: Way,
+    way: RunWay,
     source: &mut S,
     sink: &mut K,
 ) -> RunEnd
-    requires { IsWithin way }
+    requires { CanRun way }
     ensures { AnswersScript result
         (S.reading source.old) (S.reading source.new) (K.writing sink.old) (K.writing sink.new) }
 {
     match way {
-        Way::Alone => run_alone(alloc, hash_keys, source, sink),
-        Way::Shared(settings) => {
+        RunWay::Alone => run_alone(alloc, hash_keys, source, sink),
+        RunWay::Shared(settings) => {
             end_of(run_on_one_thread(rt, alloc, hash_keys, settings, source, sink))
         }
-        Way::Worked(settings) => {
+        RunWay::Worked(settings) => {
             let gate = NoGate;
             end_of(run_script(rt, alloc, hash_keys, settings, source, sink, &gate))
         }
@@ -221,17 +221,17 @@ fn end_of(done: RunDone) -> RunEnd
 /// A fault in words, with the two lines that differ and the lengths of the two texts.
 fn told(
     alloc: Global,
-    fault: Fault,
-    way: Way,
+    fault: RunFault,
+    way: RunWay,
     piece: usize,
     written: &[u8],
     replies: &[u8],
 ) -> Result<String, AllocError> {
     match fault {
-        Fault::End(end) => {
+        RunFault::End(end) => {
             format!(in alloc; "{way:?} in pieces of {piece} bytes the run ends by {end:?}")
         }
-        Fault::Line(number) => {
+        RunFault::Line(number) => {
             let one = line_at(written, number);
             let other = line_at(replies, number);
             let (length, wanted) = (written.len(), replies.len());

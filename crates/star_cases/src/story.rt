@@ -10,7 +10,7 @@ use crate::question::question_of;
 use crate::told::{NO_MEMORY, NOT_UNDERSTOOD, outcome_of, tell_ran};
 use crate::unlent::UnlentCore;
 use core_state::{Event, RunSettings};
-use script_reader::{Next, ScriptReader};
+use script_reader::{NextStatement, ScriptReader};
 use star_values::NoMemory;
 use std::alloc::{AllocError, Global};
 use std::hash::RandomState;
@@ -82,10 +82,10 @@ impl Story {
             return "not read";
         }
         match self.script.next_statement() {
-            Ok(Next::Got(statement)) => {
+            Ok(NextStatement::Got(statement)) => {
                 outcome_of(self.core.step(Event::Submit { seat: 0, statement }))
             }
-            Ok(Next::NotYet | Next::End) => "",
+            Ok(NextStatement::NotYet | NextStatement::End) => "",
             Err(NoMemory) => NO_MEMORY,
         }
     }

@@ -29,11 +29,11 @@ use Rattle.star_history.proofs.ListLemmas.{all_pairs_head, all_pairs_tail}
 abbrev seen : (snapshot : ℕ) → PlainVersion → Bool
 seen snapshot version = is_visible version.begin version.end snapshot
 
-abbrev rows_of : List PlainVersion → List (List cell.Value)
-rows_of versions = map (λ version. version.row) versions
+abbrev rows_of_plain : List PlainVersion → List (List cell.Value)
+rows_of_plain versions = map (λ version. version.row) versions
 
 abbrev rows_seen : (snapshot : ℕ) → List PlainVersion → List (List cell.Value)
-rows_seen snapshot versions = rows_of (filter (seen snapshot) versions)
+rows_seen snapshot versions = rows_of_plain (filter (seen snapshot) versions)
 
 begun_later : (begin end snapshot : ℕ) → snapshot < begin → is_visible begin end snapshot ≡ false
 begun_later begin end snapshot later = grind (arith, nat_tests)
@@ -48,18 +48,18 @@ new_unseen snapshot commit (row ∷ rows) later = rw (begun_later commit 0 snaps
 seen_with_more : (snapshot commit : ℕ) (versions : List PlainVersion) (rows : List (List cell.Value)) → snapshot < commit
     → rows_seen snapshot (versions ++ versions_by commit rows) ≡ rows_seen snapshot versions
 seen_with_more snapshot commit versions rows later =
-    ap rows_of (filter-append (seen snapshot) versions (versions_by commit rows)
+    ap rows_of_plain (filter-append (seen snapshot) versions (versions_by commit rows)
     ∙ ap (λ more. filter (seen snapshot) versions ++ more) (new_unseen snapshot commit rows later)
     ∙ append-nil (filter (seen snapshot) versions))
 
 -- the rows are the same where the end of the first is not the same
 same_first : (is : Bool) (version : PlainVersion) (commit : ℕ) (rest : List PlainVersion)
-    → rows_of (cond is (record version { end = commit } ∷ rest) rest) ≡ rows_of (cond is (version ∷ rest) rest)
+    → rows_of_plain (cond is (record version { end = commit } ∷ rest) rest) ≡ rows_of_plain (cond is (version ∷ rest) rest)
 same_first true version commit rest = refl
 same_first false version commit rest = refl
 
-same_rest : (is : Bool) (version : PlainVersion) (rest others : List PlainVersion) → rows_of rest ≡ rows_of others
-    → rows_of (cond is (version ∷ rest) rest) ≡ rows_of (cond is (version ∷ others) others)
+same_rest : (is : Bool) (version : PlainVersion) (rest others : List PlainVersion) → rows_of_plain rest ≡ rows_of_plain others
+    → rows_of_plain (cond is (version ∷ rest) rest) ≡ rows_of_plain (cond is (version ∷ others) others)
 same_rest true version rest others same = ap (λ rows. version.row ∷ rows) same
 same_rest false version rest others same = same
 
@@ -71,7 +71,7 @@ seen_with_end : (snapshot commit : ℕ) (versions : List PlainVersion) (position
 seen_with_end snapshot commit [] position later live = refl
 seen_with_end snapshot commit (version ∷ versions) zero later live =
     let rest = filter (seen snapshot) versions in
-    ap (λ is. rows_of (cond is (record version { end = commit } ∷ rest) rest)) (ended_later version.begin version.end commit snapshot later live)
+    ap (λ is. rows_of_plain (cond is (record version { end = commit } ∷ rest) rest)) (ended_later version.begin version.end commit snapshot later live)
     ∙ same_first (seen snapshot version) version commit rest
 seen_with_end snapshot commit (version ∷ versions) (suc position) later live =
     same_rest (seen snapshot version) version (filter (seen snapshot) (with_end commit versions position)) (filter (seen snapshot) versions)

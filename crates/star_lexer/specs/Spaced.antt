@@ -1,8 +1,8 @@
 -- A line is its tokens with spaces and tabs between, said once more without the recursion that cuts it.
 use Rattle.std.specs.Prelude.{◌≡◌, ℕ, ◌+◌, ◌-◌, ◌<◌, ◌≤◌, true, List, [], ◌∷◌, length, take, drop, Option, Some, None}
 use Rattle.std.specs.List.{list_all}
-use Rattle.star_lexer.specs.declared.line.Next.{Next}
-use Rattle.star_lexer.specs.declared.line.Next.TheVariants as next
+use Rattle.star_lexer.specs.declared.line.NextToken.{NextToken}
+use Rattle.star_lexer.specs.declared.line.NextToken.TheVariants as next
 use Rattle.star_lexer.specs.declared.token.Token.{Token}
 use Rattle.star_lexer.specs.Token.{token_at}
 use Rattle.star_lexer.specs.Line.{is_blank}
@@ -35,7 +35,7 @@ AreSpaced place bytes (token ∷ tokens) bad =
     IsTokenAt place bytes token × AreSpaced (token.last + 1) (drop (token.last + 1 - place) bytes) tokens bad
 
 -- what comes next is behind blanks
-abbrev pub IsSpacedNext : ℕ → List ℕ → Next → Type 0
+abbrev pub IsSpacedNext : ℕ → List ℕ → NextToken → Type 0
 IsSpacedNext place bytes next.End = BeginsBlank (length bytes) bytes
 IsSpacedNext place bytes (next.Bad bad) = IsBadAt place bytes bad
 IsSpacedNext place bytes (next.Token token) = IsTokenAt place bytes token

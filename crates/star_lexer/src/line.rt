@@ -11,7 +11,7 @@ use star_values::NoMemory;
 use std::alloc::Global;
 
 /// What comes next in a line.
-pub(crate) enum Next {
+pub(crate) enum NextToken {
     /// Spaces and tabs to the end.
     End,
     /// A place where no token can be read.
@@ -39,9 +39,9 @@ fn lex_bytes(alloc: Global, line: &[u8]) -> Result<Tokens, NoMemory>
     let mut place = 0;
     'tokens: loop {
         match next_token(rest, place) {
-            Next::End => return Ok(Tokens::new(tokens, None)),
-            Next::Bad(bad) => return Ok(Tokens::new(tokens, Some(bad))),
-            Next::Token(token) => {
+            NextToken::End => return Ok(Tokens::new(tokens, None)),
+            NextToken::Bad(bad) => return Ok(Tokens::new(tokens, Some(bad))),
+            NextToken::Token(token) => {
                 tokens.push(token)?;
                 rest = rest.split_at((token.last + 1 - place) as usize).1;
                 place = token.last + 1;
@@ -51,7 +51,7 @@ fn lex_bytes(alloc: Global, line: &[u8]) -> Result<Tokens, NoMemory>
 }
 
 /// What comes next, where the bytes begin at this place of a line.
-fn next_token(bytes: &[u8], place: u32) -> Next
+fn next_token(bytes: &[u8], place: u32) -> NextToken
     requires { place + length bytes.now < 2 ^ 32 }
     ensures next { IsNext place bytes.now result }
     ensures spaced { IsSpacedNext place bytes.now result }
@@ -60,15 +60,15 @@ fn next_token(bytes: &[u8], place: u32) -> Next
     let rest = bytes.split_at(blanks).1;
     let first = place + blanks as u32;
     if rest.is_empty() {
-        return Next::End;
+        return NextToken::End;
     }
     match token_at(rest) {
-        Some((what, len)) => Next::Token(Token {
+        Some((what, len)) => NextToken::Token(Token {
             what,
             first,
             last: first + len as u32 - 1,
         }),
-        None => Next::Bad(first),
+        None => NextToken::Bad(first),
     }
 }
 

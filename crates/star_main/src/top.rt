@@ -54,7 +54,7 @@ pub struct TopDone {
 
 /// What came of the words, before anything that may wait.
 #[derive(Debug, Drop)]
-pub enum Words {
+pub enum WordsOutcome {
     /// A script or the made workload was run, or the words name no settings, or no memory was left for them.
     Ran(TopDone),
 
@@ -127,11 +127,13 @@ pub fn cjoin<R: Threads + Sync + Wait, S: Source, K: Sink, D: Door, G: Gate + Sy
         settings.workers ≡ 0 → IsRun (empty_core (run_settings_of settings)) (state_of core))) }
 {
     match run_words(rt, alloc, hash_keys, words, source, sink) {
-        Words::Ran(done) => done,
-        Words::Work(settings) => {
+        WordsOutcome::Ran(done) => done,
+        WordsOutcome::Work(settings) => {
             run_by_workers(rt, alloc, hash_keys, &settings, source, sink, gate)
         }
-        Words::Serve(settings) => serve_connections(rt, alloc, hash_keys, &settings, door, gate),
+        WordsOutcome::Serve(settings) => serve_connections(
+            rt, alloc, hash_keys, &settings, door, gate,
+        ),
     }
 }
 
@@ -145,7 +147,7 @@ pub fn run_words<R: Threads + Sync, S: Source, K: Sink>(
     words: &[String],
     source: &mut S,
     sink: &mut K,
-) -> Words
+) -> WordsOutcome
     ensures work { IfWork result (λ settings. (settings_of (map string_bytes words.now) ≡ Some settings)
         × (Works settings × AreInRange settings) × (source.new ≡ source.old) × (sink.new ≡ sink.old)) }
     ensures serve { IfServe result (λ settings. (settings_of (map string_bytes words.now) ≡ Some settings)
@@ -177,19 +179,21 @@ pub fn run_words<R: Threads + Sync, S: Source, K: Sink>(
     match read_words(alloc, words) {
         Ok(Some(settings)) => {
             if has_workers(&settings) {
-                return Words::Work(settings);
+                return WordsOutcome::Work(settings);
             }
             match settings.mode {
                 Mode::Run => {
-                    Words::Ran(run_shared(rt, alloc, hash_keys, &settings, source, sink))
+                    WordsOutcome::Ran(run_shared(rt, alloc, hash_keys, &settings, source, sink))
                 }
-                Mode::Alone => Words::Ran(run_each_alone(alloc, hash_keys, source, sink)),
-                Mode::Make => Words::Ran(run_workload(rt, alloc, hash_keys, &settings, sink)),
-                Mode::Serve => Words::Serve(settings),
+                Mode::Alone => WordsOutcome::Ran(run_each_alone(alloc, hash_keys, source, sink)),
+                Mode::Make => WordsOutcome::Ran(run_workload(
+                    rt, alloc, hash_keys, &settings, sink,
+                )),
+                Mode::Serve => WordsOutcome::Serve(settings),
             }
         }
-        Ok(None) => Words::Ran(without_core(FAULTY_WORDS)),
-        Err(NoMemory) => Words::Ran(without_core(OUT_OF_MEMORY)),
+        Ok(None) => WordsOutcome::Ran(without_core(FAULTY_WORDS)),
+        Err(NoMemory) => WordsOutcome::Ran(without_core(OUT_OF_MEMORY)),
     }
 }
 

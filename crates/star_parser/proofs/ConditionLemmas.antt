@@ -195,7 +195,7 @@ any_map : {P Q : Form Condition} → ((front : List Symbol) (a : Condition) → 
 any_map f front a m = (m.0, m.1, m.2, m.3, separated_map (symbol.Keyword key.Or) (all_map f) m.0 m.2 m.4, m.5)
 
 -- two steps from a value are one
-twice : {A B C : Type 0} (out : reader.Outcome A) (f : A → B) (g : B → C)
+twice : {A B C : Type 0} (out : reader.ReaderOutcome A) (f : A → B) (g : B → C)
     → reader.bind (reader.bind out (λ a. gives (f a))) (λ b. gives (g b)) ≡ reader.bind out (λ a. gives (g (f a)))
 twice (Some a, rest) f g = refl
 twice (None, rest) f g = refl

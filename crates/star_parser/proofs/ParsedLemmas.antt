@@ -8,7 +8,7 @@ use Rattle.star_lexer.specs.Limits.{IsOverLimit, is_over_limit}
 use Rattle.star_lexer.specs.Symbol.{Symbolic, symbolic, symbols_of}
 use Rattle.star_lexer.specs.Written.{IsWritable, line_of}
 use Rattle.star_parser.specs.Statement.{Statement}
-use Rattle.star_parser.specs.Reader.{Outcome}
+use Rattle.star_parser.specs.Reader.{ReaderOutcome}
 use Rattle.star_parser.specs.Reading.{sentence_at}
 use Rattle.star_parser.specs.Parsed.{Over, Stopped, Means, parsed_by, parsed_of}
 use Rattle.star_parser.specs.Grammar.{sentence}
@@ -46,7 +46,7 @@ AreReadBack = (symbols : List Symbol) → All IsWritable symbols → symbols_of 
 abbrev pub AreWhole : Type 0
 AreWhole = (symbols : List Symbol) → All IsWritable symbols → (symbolic (line_of symbols)).bad ≡ None
 
-parsed_when : (line : Symbolic) (end : ℕ) (meaning : Statement) (out : Outcome Statement) → out.0 ≡ Some meaning → line.bad ≡ None → parsed_by line end out ≡ Means meaning
+parsed_when : (line : Symbolic) (end : ℕ) (meaning : Statement) (out : ReaderOutcome Statement) → out.0 ≡ Some meaning → line.bad ≡ None → parsed_by line end out ≡ Means meaning
 parsed_when line end meaning (Some found, rest) e whole = ap (λ z. option_map_or Stopped z (Means found)) whole ∙ ap Means (some_same e)
 parsed_when line end meaning (None, rest) e whole = none_some e
 
@@ -80,7 +80,7 @@ limited : AreTested → (line : List ℕ) → Limited line
 limited tested line = limited_by tested line (is_over_limit line) refl
 
 -- what the reading of the symbols says
-read_means : (line : Symbolic) (end : ℕ) (out : Outcome Statement) (meaning : Statement) → sentence_at line.symbols ≡ out → parsed_by line end out ≡ Means meaning
+read_means : (line : Symbolic) (end : ℕ) (out : ReaderOutcome Statement) (meaning : Statement) → sentence_at line.symbols ≡ out → parsed_by line end out ≡ Means meaning
     → IsSentenceOf line meaning
 read_means line end (Some found, rest) meaning e means = by line.bad refl
   where
@@ -91,7 +91,7 @@ read_means line end (Some found, rest) meaning e means = by line.bad refl
     by (Some place) broken = absurd (cc (sym (ap (λ z. option_map_or Stopped z (Means found)) broken) ∙ means))
 read_means line end (None, rest) meaning e means = absurd (cc means)
 
-read_stopped : (line : Symbolic) (end place : ℕ) (out : Outcome Statement) → length line.places ≡ length line.symbols → sentence_at line.symbols ≡ out → parsed_by line end out ≡ Stopped place
+read_stopped : (line : Symbolic) (end place : ℕ) (out : ReaderOutcome Statement) → length line.places ≡ length line.symbols → sentence_at line.symbols ≡ out → parsed_by line end out ≡ Stopped place
     → IsStopOf line end place
 read_stopped line end place (Some found, rest) placed e stopped = by line.bad refl
   where
@@ -113,7 +113,7 @@ over_is tested line = (there, over_parsed tested line)
         by (inl h) = h.0
         by (inr h) = never (sentence_at (symbolic line).symbols) (sym h.1 ∙ is)
           where
-            never : (out : Outcome Statement) → parsed_by (symbolic line) (length line) out ≡ Over → IsOverLimit line
+            never : (out : ReaderOutcome Statement) → parsed_by (symbolic line) (length line) out ≡ Over → IsOverLimit line
             never (None, rest) e = absurd (cc e)
             never (Some found, rest) e = bad (symbolic line).bad e
               where

@@ -8,7 +8,7 @@ use Rattle.star_lexer.specs.declared.symbol.Symbol.TheVariants as symbol
 use Rattle.star_parser.specs.Form as form
 use Rattle.star_parser.specs.Form.{Form}
 use Rattle.star_parser.specs.Reader as reader
-use Rattle.star_parser.specs.Reader.{Outcome, Reader, begins, bind}
+use Rattle.star_parser.specs.Reader.{ReaderOutcome, Reader, begins, bind}
 use Rattle.star_parser.specs.Reads.{Reads, first_of, IsInhabited}
 
 if_some_map : {A : Type 0} {P Q : A → Type 0} (o : Option A) → ((a : A) → P a → Q a) → IfSome o P → IfSome o Q
@@ -37,7 +37,7 @@ Avoids {B = B} first form second =
     (value : B) (front back : List Symbol) → form front value → begins second back ≡ false → begins first (front ++ back) ≡ false
 
 -- the second of two parts was looked for
-bind_second : {A B : Type 0} {L1 M1 : Form A} {L2 M2 : A → Form B} {E1 E : Symbol → Bool} (symbols : List Symbol) (a : A) (rest : List Symbol) (out : Outcome B)
+bind_second : {A B : Type 0} {L1 M1 : Form A} {L2 M2 : A → Form B} {E1 E : Symbol → Bool} (symbols : List Symbol) (a : A) (rest : List Symbol) (out : ReaderOutcome B)
     → Reads L1 M1 E1 symbols (Some a, rest) → Reads (L2 a) (M2 a) E rest out → ((b : A) → Avoids E1 (M2 b) E)
     → Reads (form.◌>>=◌ L1 L2) (form.◌>>=◌ M1 M2) E symbols out
 bind_second {L1 = L1} {M2 = M2} symbols a rest out r s glue = record {
@@ -56,7 +56,7 @@ bind_second {L1 = L1} {M2 = M2} symbols a rest out r s glue = record {
 }
 
 -- a form, and behind it another
-pub bind_reads : {A B : Type 0} {L1 M1 : Form A} {L2 M2 : A → Form B} {E1 E : Symbol → Bool} (symbols : List Symbol) (out : Outcome A) (second : A → Reader B)
+pub bind_reads : {A B : Type 0} {L1 M1 : Form A} {L2 M2 : A → Form B} {E1 E : Symbol → Bool} (symbols : List Symbol) (out : ReaderOutcome A) (second : A → Reader B)
     → Reads L1 M1 E1 symbols out → ((a : A) (rest : List Symbol) → out ≡ (Some a, rest) → Reads (L2 a) (M2 a) E rest (second a rest))
     → ((b : A) → Avoids E1 (M2 b) E) → ((a : A) → IsInhabited (L2 a))
     → Reads (form.◌>>=◌ L1 L2) (form.◌>>=◌ M1 M2) E symbols (bind out second)
@@ -87,7 +87,7 @@ cons_same : {A : Type 0} {a b : A} {more others : List A} → a ∷ more ≡ b �
 cons_same e = cc e
 
 -- the same reading, of a form that says the same
-pub reads_by : {A : Type 0} {L M L2 M2 : Form A} {E : Symbol → Bool} (symbols : List Symbol) (out : Outcome A)
+pub reads_by : {A : Type 0} {L M L2 M2 : Form A} {E : Symbol → Bool} (symbols : List Symbol) (out : ReaderOutcome A)
     → ((front : List Symbol) (a : A) → L front a → L2 front a) → ((front : List Symbol) (a : A) → M2 front a → M front a)
     → Reads L M E symbols out → Reads L2 M2 E symbols out
 reads_by symbols out there back r = record {
@@ -99,7 +99,7 @@ reads_by symbols out there back r = record {
 }
 
 -- the same, where what goes on is more
-pub reads_wider : {A : Type 0} {L M : Form A} {E F : Symbol → Bool} (symbols : List Symbol) (out : Outcome A)
+pub reads_wider : {A : Type 0} {L M : Form A} {E F : Symbol → Bool} (symbols : List Symbol) (out : ReaderOutcome A)
     → ((back : List Symbol) → begins F back ≡ false → begins E back ≡ false) → Reads L M E symbols out → Reads L M F symbols out
 reads_wider symbols out within r = record {
   used = r.used;
@@ -132,7 +132,7 @@ head_of_after : {A : Type 0} (M : Form A) (s : Symbol) (front back symbols : Lis
 head_of_after M s front back symbols b m eq =
     (m.1, eq ∙ ap (λ z. z ++ back) m.3 ∙ ap (λ z. (z ++ m.1) ++ back) m.4, m.5)
 
-on_left : {A : Type 0} {L1 M1 L2 M2 : Form A} {E test : Symbol → Bool} {s : Symbol} (t : Symbol) (symbols : List Symbol) (out : Outcome A)
+on_left : {A : Type 0} {L1 M1 L2 M2 : Form A} {E test : Symbol → Bool} {s : Symbol} (t : Symbol) (symbols : List Symbol) (out : ReaderOutcome A)
     → Finds test s → test t ≡ true → Reads L1 M1 E symbols out → Avoids test M2 E
     → Reads (form.◌or◌ (after s L1) L2) (form.◌or◌ (after s M1) M2) E (t ∷ symbols) out
 on_left {A = A} {L1 = L1} {M1 = M1} {M2 = M2} {E = E} {test = test} {s = s} t symbols out finds e r avoid = record {
@@ -151,7 +151,7 @@ on_left {A = A} {L1 = L1} {M1 = M1} {M2 = M2} {E = E} {test = test} {s = s} t sy
     only_left other front back b same eq (inr m) ends =
         true_false (sym e ∙ ap (begins test) eq ∙ avoid b front back m ends)
 
-on_right : {A : Type 0} {L1 M1 L2 M2 : Form A} {E test : Symbol → Bool} {s : Symbol} (symbols : List Symbol) (out : Outcome A)
+on_right : {A : Type 0} {L1 M1 L2 M2 : Form A} {E test : Symbol → Bool} {s : Symbol} (symbols : List Symbol) (out : ReaderOutcome A)
     → Finds test s → begins test symbols ≡ false → Reads L2 M2 E symbols out
     → Reads (form.◌or◌ (after s L1) L2) (form.◌or◌ (after s M1) M2) E symbols out
 on_right {A = A} {M1 = M1} {M2 = M2} {E = E} {test = test} {s = s} symbols out finds e r = record {
@@ -364,19 +364,19 @@ or_there m = (m.0, m.1, inr m.2)
 -- Shapes that come often.
 
 -- a part that nothing goes on, and behind it another
-pub tight_reads : {A B : Type 0} {L1 M1 : Form A} {L2 M2 : A → Form B} {E : Symbol → Bool} (symbols : List Symbol) (out : Outcome A) (second : A → Reader B)
+pub tight_reads : {A B : Type 0} {L1 M1 : Form A} {L2 M2 : A → Form B} {E : Symbol → Bool} (symbols : List Symbol) (out : ReaderOutcome A) (second : A → Reader B)
     → Reads L1 M1 no_symbol symbols out → ((a : A) (rest : List Symbol) → out ≡ (Some a, rest) → Reads (L2 a) (M2 a) E rest (second a rest))
     → ((a : A) → IsInhabited (L2 a))
     → Reads (form.◌>>=◌ L1 L2) (form.◌>>=◌ M1 M2) E symbols (bind out second)
 tight_reads {M2 = M2} {E = E} symbols out second r s there = bind_reads symbols out second r s (λ b. avoids_none (M2 b) E) there
 
 -- what was read stands for another value
-pub as_reads : {A B : Type 0} {L M : Form A} {E : Symbol → Bool} (symbols : List Symbol) (out : Outcome A) (f : A → B) → Reads L M E symbols out
+pub as_reads : {A B : Type 0} {L M : Form A} {E : Symbol → Bool} (symbols : List Symbol) (out : ReaderOutcome A) (f : A → B) → Reads L M E symbols out
     → Reads (form.◌>>=◌ L (λ a. form.stands_for (f a))) (form.◌>>=◌ M (λ a. form.stands_for (f a))) E symbols (bind out (λ a. reader.gives (f a)))
 as_reads {E = E} symbols out f r =
     bind_reads symbols out (λ a. reader.gives (f a)) r (λ a rest e. gives_reads (f a) rest) (λ a. avoids_nothing E (f a) E (λ t h. h)) (λ a. nothing_there (f a))
 
-abbrev expect_as : Bool → Symbol → List Symbol → Outcome (Unit {0})
+abbrev expect_as : Bool → Symbol → List Symbol → ReaderOutcome (Unit {0})
 expect_as taken t symbols = if taken then (Some tt, symbols) else (None, t ∷ symbols)
 
 expect_length_by : (taken : Bool) (t : Symbol) (symbols rest : List Symbol) (u : Unit {0}) → expect_as taken t symbols ≡ (Some u, rest) → suc (length rest) ≡ suc (length symbols)

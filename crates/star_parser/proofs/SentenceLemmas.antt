@@ -10,7 +10,7 @@ use Rattle.star_parser.specs.declared.fault.ParseFault.TheVariants.{Syntax}
 use Rattle.star_parser.specs.Statement.{Statement}
 use Rattle.star_parser.specs.Grammar as grammar
 use Rattle.star_parser.specs.Reader as reader
-use Rattle.star_parser.specs.Reader.{Outcome, Reader, bind, gives, end_at}
+use Rattle.star_parser.specs.Reader.{ReaderOutcome, Reader, bind, gives, end_at}
 use Rattle.star_parser.specs.Reading as reading
 use Rattle.star_parser.specs.Reading.{sentence_at}
 use Rattle.star_parser.specs.Reads.{Reads}
@@ -25,7 +25,7 @@ end_leaves : {B : Type 0} (value b : B) (symbols rest : List Symbol) → bind (e
 end_leaves value b [] rest e = ap (λ z. z.1) (sym e)
 end_leaves value b (t ∷ symbols) rest e = none_some (ap (λ z. z.0) e)
 
-behind_leaves : {A B : Type 0} (out : Outcome A) (second : A → Reader B) (b : B) (rest : List Symbol) → ((a : A) (later : List Symbol) → second a later ≡ (Some b, rest) → rest ≡ [])
+behind_leaves : {A B : Type 0} (out : ReaderOutcome A) (second : A → Reader B) (b : B) (rest : List Symbol) → ((a : A) (later : List Symbol) → second a later ≡ (Some b, rest) → rest ≡ [])
     → bind out second ≡ (Some b, rest) → rest ≡ []
 behind_leaves (Some a, later) second b rest h e = h a later e
 behind_leaves (None, later) second b rest h e = none_some (ap (λ z. z.0) e)
@@ -44,7 +44,7 @@ sentence_read symbols meaning rest e =
     subst (λ z. grammar.sentence z meaning) (sym all) r.read
 
 -- a sentence is read as what it stands for
-pub sentence_only : (symbols : List Symbol) (meaning : Statement) (out : Outcome Statement) → sentence_at symbols ≡ out → grammar.sentence symbols meaning → out.0 ≡ Some meaning
+pub sentence_only : (symbols : List Symbol) (meaning : Statement) (out : ReaderOutcome Statement) → sentence_at symbols ≡ out → grammar.sentence symbols meaning → out.0 ≡ Some meaning
 sentence_only symbols meaning out e m =
     let r = subst (Reads grammar.sentence grammar.sentence any_symbol symbols) e (sentence_reads symbols) in
     (r.only out.1 symbols [] meaning refl (sym r.whole ∙ sym (append-nil symbols)) m refl).0
@@ -57,7 +57,7 @@ take_next : (used : List Symbol) (t : Symbol) (rest : List Symbol) → take (suc
 take_next [] t rest = refl
 take_next (s ∷ used) t rest = ap (λ z. s ∷ z) (take_next used t rest)
 
-pub sentence_shorter : (symbols : List Symbol) (out : Outcome Statement) → sentence_at symbols ≡ out → length out.1 ≤ length symbols
+pub sentence_shorter : (symbols : List Symbol) (out : ReaderOutcome Statement) → sentence_at symbols ≡ out → length out.1 ≤ length symbols
 sentence_shorter symbols out e = reads_length symbols out (subst (Reads grammar.sentence grammar.sentence any_symbol symbols) e (sentence_reads symbols))
 
 -- Where reading stops is the first place where the line is the front of no sentence.

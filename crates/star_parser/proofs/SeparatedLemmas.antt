@@ -5,12 +5,12 @@ use Rattle.star_lexer.specs.declared.symbol.Symbol.{Symbol}
 use Rattle.star_parser.specs.Form as form
 use Rattle.star_parser.specs.Form.{Form}
 use Rattle.star_parser.specs.Reader as reader
-use Rattle.star_parser.specs.Reader.{Outcome, Reader, begins, behind, bind, on, gives, separated_in, separated_at, with_front}
+use Rattle.star_parser.specs.Reader.{ReaderOutcome, Reader, begins, behind, bind, on, gives, separated_in, separated_at, with_front}
 use Rattle.star_parser.specs.Reads.{Reads}
 use Rattle.star_parser.proofs.ReadsLemmas.{Finds, after, bind_reads, on_reads, gives_reads, reads_by, avoids_or, avoids_symbol, avoids_nothing, or_there, nothing_there}
 use Rattle.star_parser.proofs.StepLemmas.{on_true}
 
-pub reads_length : {A : Type 0} {L M : Form A} {E : Symbol → Bool} (symbols : List Symbol) (out : Outcome A) → Reads L M E symbols out → length out.1 ≤ length symbols
+pub reads_length : {A : Type 0} {L M : Form A} {E : Symbol → Bool} (symbols : List Symbol) (out : ReaderOutcome A) → Reads L M E symbols out → length out.1 ≤ length symbols
 reads_length symbols out r =
     let whole : length symbols ≡ length (r.used ++ out.1) = ap length r.whole in
     omega (arith, whole, length-append r.used out.1)
@@ -86,7 +86,7 @@ on_same {A = A} test one other last (t ∷ symbols) same = by (test t)
     by true = same symbols refl
     by false = refl
 
-bind_same : {A B : Type 0} (out : Outcome A) (one other : A → Reader B) → ((a : A) (rest : List Symbol) → out ≡ (Some a, rest) → one a rest ≡ other a rest) → bind out one ≡ bind out other
+bind_same : {A B : Type 0} (out : ReaderOutcome A) (one other : A → Reader B) → ((a : A) (rest : List Symbol) → out ≡ (Some a, rest) → one a rest ≡ other a rest) → bind out one ≡ bind out other
 bind_same (Some a, rest) one other same = same a rest refl
 bind_same (None, rest) one other same = refl
 
@@ -102,7 +102,7 @@ separated_same test member shorter (suc most) (suc others) symbols few less =
     let short : length rest ≤ length symbols = subst (λ out. length out.1 ≤ length symbols) e (shorter symbols) in
     ap (λ out. bind out (λ values. gives (v ∷ values))) (separated_same test member shorter most others later (omega (arith, few, short, h)) (omega (arith, less, short, h)))))
 
-with_front-one : {A : Type 0} (front : List A) (v : A) (out : Outcome (List A)) → with_front (front ++ v ∷ []) out ≡ with_front front (bind out (λ values. gives (v ∷ values)))
+with_front-one : {A : Type 0} (front : List A) (v : A) (out : ReaderOutcome (List A)) → with_front (front ++ v ∷ []) out ≡ with_front front (bind out (λ values. gives (v ∷ values)))
 with_front-one front v (Some values, rest) = ap (λ z. (Some z, rest)) (append_assoc front (v ∷ []) values)
 with_front-one front v (None, rest) = refl
 
@@ -126,7 +126,7 @@ separated_step test member shorter front symbols v rest e taken =
 
 -- the same as a turn of a loop needs it
 pub separated_on : {A : Type 0} (test : Symbol → Bool) (member : Reader A) → ((rest : List Symbol) → length (member rest).1 ≤ length rest)
-    → (front values : List A) (symbols rest left : List Symbol) (v : A) (all : Outcome (List A)) → with_front front (separated_at test member symbols) ≡ all
+    → (front values : List A) (symbols rest left : List Symbol) (v : A) (all : ReaderOutcome (List A)) → with_front front (separated_at test member symbols) ≡ all
     → member symbols ≡ (Some v, rest) → begins test rest ≡ true → left ≡ behind test rest → values ≡ front ++ v ∷ []
     → with_front values (separated_at test member left) ≡ all
 separated_on test member shorter front values symbols rest left v all so_far e taken next pushed =
@@ -144,22 +144,22 @@ smaller_on test member shorter symbols rest left v e taken next =
     let same : length left ≡ length (behind test rest) = ap length next in
     omega (arith, short, less, same)
 
-with_front-none : {A : Type 0} (out : Outcome (List A)) → with_front [] out ≡ out
+with_front-none : {A : Type 0} (out : ReaderOutcome (List A)) → with_front [] out ≡ out
 with_front-none (Some values, rest) = refl
 with_front-none (None, rest) = refl
 
-with_front-flat : {A B : Type 0} (f : A → List B) (v : A) (out : Outcome (List A))
+with_front-flat : {A B : Type 0} (f : A → List B) (v : A) (out : ReaderOutcome (List A))
     → bind (with_front (v ∷ []) out) (λ values. gives (flat_map f values)) ≡ with_front (f v) (bind out (λ values. gives (flat_map f values)))
 with_front-flat f v (Some values, rest) = refl
 with_front-flat f v (None, rest) = refl
 
-with_front-both : {A : Type 0} (one other : List A) (out : Outcome (List A)) → with_front one (with_front other out) ≡ with_front (one ++ other) out
+with_front-both : {A : Type 0} (one other : List A) (out : ReaderOutcome (List A)) → with_front one (with_front other out) ≡ with_front (one ++ other) out
 with_front-both one other (Some values, rest) = ap (λ z. (Some z, rest)) (sym (append_assoc one other values))
 with_front-both one other (None, rest) = refl
 
 -- a turn of a loop that keeps what each member hands on
 pub flat_on : {A B : Type 0} (test : Symbol → Bool) (member : Reader A) (f : A → List B) → ((rest : List Symbol) → length (member rest).1 ≤ length rest)
-    → (front values : List B) (symbols rest left : List Symbol) (v : A) (all : Outcome (List B))
+    → (front values : List B) (symbols rest left : List Symbol) (v : A) (all : ReaderOutcome (List B))
     → with_front front (bind (separated_at test member symbols) (λ vs. gives (flat_map f vs))) ≡ all
     → member symbols ≡ (Some v, rest) → begins test rest ≡ true → left ≡ behind test rest → values ≡ front ++ f v
     → with_front values (bind (separated_at test member left) (λ vs. gives (flat_map f vs))) ≡ all

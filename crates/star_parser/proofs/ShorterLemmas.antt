@@ -7,7 +7,7 @@ use Rattle.star_lexer.specs.declared.sign.Sign.TheVariants as mark
 use Rattle.star_lexer.specs.declared.symbol.Symbol.{Symbol}
 use Rattle.star_parser.specs.Condition.{Condition, Either, Both, Negate, conjuncts, disjuncts, alone_or}
 use Rattle.star_parser.specs.Reader as reader
-use Rattle.star_parser.specs.Reader.{Outcome, Reader, begins, behind, bind, on, gives, expect, is_word, is_sign, separated_in, separated_at}
+use Rattle.star_parser.specs.Reader.{ReaderOutcome, Reader, begins, behind, bind, on, gives, expect, is_word, is_sign, separated_in, separated_at}
 use Rattle.star_parser.specs.Reading as reading
 use Rattle.star_parser.proofs.ReadsLemmas.{no_symbol, expect_reads}
 use Rattle.star_parser.proofs.TerminalLemmas.{finds_sign}
@@ -17,7 +17,7 @@ use Rattle.star_parser.proofs.ConditionLemmas.{test_reads}
 abbrev pub Shortens : {A : Type 0} → Reader A → Type 0
 Shortens member = (symbols : List Symbol) → length (member symbols).1 ≤ length symbols
 
-bind_shorter : {A B : Type 0} (out : Outcome A) (second : A → Reader B) (count : ℕ) → length out.1 ≤ count
+bind_shorter : {A B : Type 0} (out : ReaderOutcome A) (second : A → Reader B) (count : ℕ) → length out.1 ≤ count
     → ((a : A) → Shortens (second a)) → length (bind out second).1 ≤ count
 bind_shorter (Some a, rest) second count short h = omega (arith, short, h a rest)
 bind_shorter (None, rest) second count short h = short

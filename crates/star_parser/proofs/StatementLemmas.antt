@@ -27,7 +27,7 @@ or_both true b h k = true_false h
 or_both false b h k = k
 
 -- the same reading, where what goes on is more
-wider : {A : Type 0} {L M : Form A} {E F : Symbol → Bool} (symbols : List Symbol) (out : reader.Outcome A) → ((t : Symbol) → F t ≡ false → E t ≡ false)
+wider : {A : Type 0} {L M : Form A} {E F : Symbol → Bool} (symbols : List Symbol) (out : reader.ReaderOutcome A) → ((t : Symbol) → F t ≡ false → E t ≡ false)
     → Reads L M E symbols out → Reads L M F symbols out
 wider {E = E} {F = F} symbols out less r = reads_wider symbols out (λ back h. within_begins E F less back h) r
 

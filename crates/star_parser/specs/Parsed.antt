@@ -7,7 +7,7 @@ use Rattle.star_parser.specs.declared.ast.Ast.{Ast}
 use Rattle.star_parser.specs.declared.fault.ParseFault.{ParseFault}
 use Rattle.star_parser.specs.declared.fault.ParseFault.TheVariants.{Limit, Syntax, Memory}
 use Rattle.star_parser.specs.Statement.{Statement, statement_of}
-use Rattle.star_parser.specs.Reader.{Outcome}
+use Rattle.star_parser.specs.Reader.{ReaderOutcome}
 use Rattle.star_parser.specs.Reading.{sentence_at}
 use Rattle.star_parser.specs.Sentence.{place_of}
 
@@ -18,7 +18,7 @@ pub data Parsed : Type 0 where
   Means : Statement → Parsed
 
 -- what a line of these symbols and so many bytes is, by the reading of its symbols
-abbrev pub parsed_by : Symbolic → ℕ → Outcome Statement → Parsed
+abbrev pub parsed_by : Symbolic → ℕ → ReaderOutcome Statement → Parsed
 parsed_by line end (Some meaning, rest) = option_map_or Stopped line.bad (Means meaning)
 parsed_by line end (None, rest) = Stopped (place_of line (length rest) end)
 

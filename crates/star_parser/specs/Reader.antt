@@ -12,19 +12,19 @@ use Rattle.star_parser.specs.declared.parser.Stop.{Stop}
 use Rattle.star_parser.specs.declared.parser.Stop.TheVariants.{Memory, Unfit}
 
 -- what was read, or nothing where a symbol does not fit, and the symbols from there on
-abbrev pub Outcome : Type 0 → Type 0
-Outcome A = Option A × List Symbol
+abbrev pub ReaderOutcome : Type 0 → Type 0
+ReaderOutcome A = Option A × List Symbol
 
 -- what is read from the front of these symbols
 abbrev pub Reader : Type 0 → Type 0
-Reader A = List Symbol → Outcome A
+Reader A = List Symbol → ReaderOutcome A
 
 -- a value, with no symbol taken
 abbrev pub gives : {A : Type 0} → A → Reader A
 gives value symbols = (Some value, symbols)
 
 -- what the second reads behind a first outcome, unless that is nothing
-abbrev pub bind : {A B : Type 0} → Outcome A → (A → Reader B) → Outcome B
+abbrev pub bind : {A B : Type 0} → ReaderOutcome A → (A → Reader B) → ReaderOutcome B
 bind (Some value, rest) second = second value rest
 bind (None, rest) second = (None, rest)
 
@@ -114,12 +114,12 @@ abbrev pub separated_at : {A : Type 0} → (Symbol → Bool) → Reader A → Re
 separated_at separator member symbols = separated_in separator member (suc (length symbols)) symbols
 
 -- values that were read before those of an outcome
-abbrev pub with_front : {A : Type 0} → List A → Outcome (List A) → Outcome (List A)
+abbrev pub with_front : {A : Type 0} → List A → ReaderOutcome (List A) → ReaderOutcome (List A)
 with_front front (Some values, rest) = (Some (front ++ values), rest)
 with_front front (None, rest) = (None, rest)
 
 -- a function gave what reading gives, unless memory ran out: the value as it is seen, and the symbols that are left
-abbrev pub Gives : {X A : Type 0} → (X → A) → Result X Stop → List Symbol → Outcome A → Type 0
+abbrev pub Gives : {X A : Type 0} → (X → A) → Result X Stop → List Symbol → ReaderOutcome A → Type 0
 Gives view (Ok x) rest read = read ≡ (Some (view x), rest)
 Gives view (Err Memory) rest read = Unit {0}
 Gives view (Err Unfit) rest read = read ≡ (None, rest)

@@ -2,7 +2,7 @@
 use Rattle.std.specs.Prelude.{◌≡◌, Bool, false, List, [], ◌∷◌, ◌++◌, Option, Some, None, IfSome, IfNone}
 use Rattle.star_lexer.specs.declared.symbol.Symbol.{Symbol}
 use Rattle.star_parser.specs.Form.{Form}
-use Rattle.star_parser.specs.Reader.{Outcome, begins}
+use Rattle.star_parser.specs.Reader.{ReaderOutcome, begins}
 
 -- the first of a list, where it has one
 abbrev pub first_of : List Symbol → Option Symbol
@@ -12,7 +12,7 @@ first_of (s ∷ symbols) = Some s
 -- A form was read, or a symbol did not fit: the symbols before it are a front of what is of the form, and nothing
 -- that begins with them and that symbol is. Where what was read may go on by some symbols, other readings end before one of them.
 -- The forms found and known differ only in how deep they may nest.
-pub record Reads {A : Type 0} (found known : Form A) (extends : Symbol → Bool) (symbols : List Symbol) (outcome : Outcome A) : Type 0 where
+pub record Reads {A : Type 0} (found known : Form A) (extends : Symbol → Bool) (symbols : List Symbol) (outcome : ReaderOutcome A) : Type 0 where
   pub used : List Symbol
   pub whole : symbols ≡ used ++ outcome.1
   pub read : IfSome outcome.0 (found used)

@@ -30,7 +30,7 @@ use Rattle.csv_load.specs.Rows.{typed_rows}
 use Rattle.star_history.specs.History.{Change, Loaded, Ended}
 use Rattle.star_history.specs.Store.{PlainVersion, Store, rows_in}
 use Rattle.star_store.specs.Deletes.{delete_change, is_ended_by, positions_of}
-use Rattle.star_store.specs.Done.{rows_of}
+use Rattle.star_store.specs.Done.{changed_rows}
 use Rattle.star_store.specs.Loads.{count_in, dangles, load_change, loaded_records, loaded_rows, most_in, repeats_a_key}
 use Rattle.reply_text.specs.Formed.{IsRefusal}
 use Rattle.star_statement.specs.Text.{IsWhole, IsWithin, StopsAt, meaning_of}
@@ -89,7 +89,7 @@ delete-reason schema name conjuncts = in-reason (fact_alone schema) name conjunc
 -- ---- commits
 
 abbrev CommitIs : Store → Result Change Refusal → Type 0
-CommitIs store (Ok change) = IsSmall store change × (rows_of change < 2 ^ 64)
+CommitIs store (Ok change) = IsSmall store change × (changed_rows change < 2 ^ 64)
 CommitIs store (Err reason) = IsRefusal reason
 
 pub record IsCommit (store : Store) (result : Result Change Refusal) : Type 0 where

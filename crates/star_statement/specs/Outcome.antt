@@ -17,7 +17,7 @@ use Rattle.star_binder.specs.Table.{declared_table}
 use Rattle.star_history.specs.History.{Change, DimensionDeclared, FactDeclared}
 use Rattle.star_history.specs.Store.{Store}
 use Rattle.star_store.specs.Deletes.{delete_change}
-use Rattle.star_store.specs.Done.{rows_of}
+use Rattle.star_store.specs.Done.{changed_rows}
 use Rattle.star_store.specs.Loads.{load_change}
 use Rattle.reply_text.specs.declared.reply.Reply.{Reply}
 use Rattle.reply_text.specs.declared.reply.Reply.TheVariants as reply
@@ -49,7 +49,7 @@ declared change name (Err reason) = refused reason
 -- a change that is the next commit, or refused for this reason
 abbrev pub committed : Store → Result Change Refusal → Outcome
 committed store (Ok change) =
-    record { change = Some change; told = Replied (reply.Commit (store.commits + 1) (rows_of change)) }
+    record { change = Some change; told = Replied (reply.Commit (store.commits + 1) (changed_rows change)) }
 committed store (Err reason) = refused reason
 
 -- the bytes behind a line

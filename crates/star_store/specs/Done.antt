@@ -9,17 +9,17 @@ use Rattle.star_values.specs.declared.statement_fault.StatementFault.{StatementF
 use Rattle.star_values.specs.declared.statement_fault.StatementFault.TheVariants.{Refused, Memory}
 
 -- how many rows a change loads, or how many versions it ends
-abbrev pub rows_of : Change → ℕ
-rows_of (DimensionDeclared table) = 0
-rows_of (FactDeclared table) = 0
-rows_of (Loaded table rows) = length rows
-rows_of (Ended positions) = length positions
+abbrev pub changed_rows : Change → ℕ
+changed_rows (DimensionDeclared table) = 0
+changed_rows (FactDeclared table) = 0
+changed_rows (Loaded table rows) = length rows
+changed_rows (Ended positions) = length positions
 
 -- at Ok nothing refuses the load or delete, the tables are those after its change, and the answer has the number of the
 -- next commit and the rows; else the tables are as they were, and there is the reason that refuses it, or no memory
 abbrev pub Commits : Result Change Refusal → KeyedStore → KeyedStore → Result Done StatementFault → Type 0
 Commits found old new (Ok done) = IsOkAnd found (λ change.
-    (plain new ≡ after_change (plain old) change) × (done ≡ record { commit = old.commits + 1; rows = rows_of change }))
+    (plain new ≡ after_change (plain old) change) × (done ≡ record { commit = old.commits + 1; rows = changed_rows change }))
 Commits found old new (Err (Refused reason)) = (found ≡ Err reason) × (new ≡ old)
 Commits found old new (Err Memory) = new ≡ old
 

@@ -15,8 +15,8 @@ use Rattle.worker_gate.specs.Hands.{HasNothing, HasWork}
 use Rattle.worker_gate.specs.Managed.{IsFirstOf, IsToClear, Manages, NoneIsLeft, managed_kinds}
 use Rattle.worker_gate.specs.declared.carried.Carried.{Carried}
 use Rattle.worker_gate.specs.declared.carried.Carried.TheVariants as carried
-use Rattle.worker_gate.specs.declared.working.Taken.{Taken}
-use Rattle.worker_gate.specs.declared.working.Taken.TheVariants as taken
+use Rattle.worker_gate.specs.declared.working.TakenWork.{TakenWork}
+use Rattle.worker_gate.specs.declared.working.TakenWork.TheVariants as taken
 use Rattle.worker_gate.specs.declared.looking.Look.{Look}
 use Rattle.worker_gate.specs.declared.looking.Look.TheVariants as look
 
@@ -34,7 +34,7 @@ pub record Takes (work : Work) (worker : ℕ) (old new : Parts) : Type 0 where
   pub marks : new.marks ≡ old.marks
 
 -- what `take_work` tells
-abbrev pub TellsTaken : Taken → (worker : ℕ) → (old new : Parts) → Type 0
+abbrev pub TellsTaken : TakenWork → (worker : ℕ) → (old new : Parts) → Type 0
 TellsTaken (taken.Got work) worker old new = Takes work worker old new
 TellsTaken taken.Nothing worker old new = (new ≡ old) × NoneWants (state_of old)
 

@@ -20,4 +20,4 @@ pub use looping::{WorkerEnd, give_if_done, worker_loop};
 pub use managing::{Managed, manage_one};
 pub use passing::{Gate, NoGate, do_work};
 pub use signal::{Signal, signal_behind, signal_if_more};
-pub use working::{Taken, give_work, take_work};
+pub use working::{TakenWork, give_work, take_work};

@@ -10,8 +10,8 @@ ghost use Rattle.worker_gate.specs.Looks.{HasLooked, IsToManage, TellsLook};
 ghost use Rattle.worker_gate.specs.Managed.{IsFirstOf, managed_kinds};
 
 use crate::carried::Carried;
-use crate::managing::{Managed, Next, make_next, next_managed};
-use crate::working::{Taken, take_work};
+use crate::managing::{Managed, NextEvent, make_next, next_managed};
+use crate::working::{TakenWork, take_work};
 use core_state::{a_step_moves_one_row, a_work_stays_right, every_step_keeps_a_core_sound};
 use event_core::{Core, EventKind, every_core_is_sound, what_is_beside_stays_lent};
 
@@ -45,8 +45,8 @@ pub fn worker_look(core: &mut Core, worker: u32) -> Look
     ensures others { LeavesLoans worker core.old core.new }
 {
     match take_work(core, worker) {
-        Taken::Got(work) => Look::Got(Carried::Written(work)),
-        Taken::Nothing => look_on(core, worker),
+        TakenWork::Got(work) => Look::Got(Carried::Written(work)),
+        TakenWork::Nothing => look_on(core, worker),
     }
 }
 
@@ -65,7 +65,7 @@ fn look_on(core: &mut Core, worker: u32) -> Look
 }
 
 /// Makes the first event that may come, as `manage_one` does, but that a batch is cut for the worker.
-fn make_first(core: &mut Core, worker: u32, next: Next) -> Look
+fn make_first(core: &mut Core, worker: u32, next: NextEvent) -> Look
     requires manages { IsToManage worker core.old }
     requires first { IsFirstOf managed_kinds (state_of core.old) next.kind next.event }
     ensures tells { TellsLook result worker core.old core.new }

@@ -38,7 +38,7 @@ pub enum Managed {
 
 /// An event that may come, and its kind.
 #[derive(Drop)]
-pub(crate) struct Next {
+pub(crate) struct NextEvent {
     pub(crate) kind: EventKind,
     pub(crate) event: Event,
 }
@@ -58,7 +58,7 @@ pub fn manage_one(core: &mut Core) -> Managed
 }
 
 /// The event to make, or `None` where none may come.
-pub(crate) fn next_managed(core: &Core) -> Option<Next>
+pub(crate) fn next_managed(core: &Core) -> Option<NextEvent>
     ensures first { IfSome result (λ next. IsFirstOf managed_kinds (state_of core.now) next.kind next.event) }
     ensures none { result ≡ None → NoneIsLeft (state_of core.now) }
 {
@@ -66,20 +66,20 @@ pub(crate) fn next_managed(core: &Core) -> Option<Next>
 }
 
 /// An event of the first of these kinds of which one may come.
-fn next_of(core: &Core, kinds: &[EventKind]) -> Option<Next>
+fn next_of(core: &Core, kinds: &[EventKind]) -> Option<NextEvent>
     ensures first { IfSome result (λ next. IsFirstOf kinds.now (state_of core.now) next.kind next.event) }
     ensures none { result ≡ None → All (λ each. NoneMayCome each (state_of core.now)) kinds.now }
 {
     for kind in kinds {
         if let Some(event) = core.next_event(*kind) {
-            return Some(Next { kind: *kind, event });
+            return Some(NextEvent { kind: *kind, event });
         }
     }
     None
 }
 
 /// Makes an event that may come, and counts it.
-pub(crate) fn make_next(core: &mut Core, next: Next) -> Managed
+pub(crate) fn make_next(core: &mut Core, next: NextEvent) -> Managed
     requires { IsFirstOf managed_kinds (state_of core.old) next.kind next.event }
     ensures tells { TellsManaged result core.old core.new }
     ensures leaves { LeavesRows (state_of core.old) (state_of core.new) }
@@ -89,7 +89,7 @@ pub(crate) fn make_next(core: &mut Core, next: Next) -> Managed
     every_core_is_sound(core);
     a_step_moves_one_row();
     what_is_beside_stays_lent();
-    let Next { kind, event } = next;
+    let NextEvent { kind, event } = next;
     match core.step(event) {
         Ok(()) => {
             count(core, kind);

@@ -17,7 +17,7 @@ use event_core::{Core, Work, every_core_is_sound};
 
 /// What a worker found that asked for a batch.
 #[derive(Debug, Drop)]
-pub enum Taken {
+pub enum TakenWork {
     /// A batch, and the versions of the filters that it is to pass.
     Got(Work),
 
@@ -27,7 +27,7 @@ pub enum Taken {
 
 /// Takes a batch that has a bit left and did not pass every filter, with the present versions of all that it did not pass,
 /// and with what its rows are folded with outside, if there is memory for that. The worker's hand is empty.
-pub fn take_work(core: &mut Core, worker: u32) -> Taken
+pub fn take_work(core: &mut Core, worker: u32) -> TakenWork
     requires seat { worker < (state_of core.old).settings.seats }
     requires empty { held_by (state_of core.old).scan.flights worker ≡ None }
     ensures tells { TellsTaken result worker core.old core.new }
@@ -37,8 +37,8 @@ pub fn take_work(core: &mut Core, worker: u32) -> Taken
     // It is called for what it ensures.
     every_core_is_sound(core);
     match core.next_take() {
-        Some(batch) => Taken::Got(carry_batch(core, worker, batch)),
-        None => Taken::Nothing,
+        Some(batch) => TakenWork::Got(carry_batch(core, worker, batch)),
+        None => TakenWork::Nothing,
     }
 }
 

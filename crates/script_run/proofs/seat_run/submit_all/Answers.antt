@@ -2,7 +2,7 @@
 use Rattle.script_run.proofs.Words.{◌+◌, ◌<◌, ◌∙◌, ap, arith, get_or, length, refl, state_of, subst, sym, take}
 use Rattle.std.proofs.lemmas.List.{take_more}
 use Rattle.core_state.specs.Rows.{sight_of}
-use Rattle.script_run.specs.SeatTurns.{Submitted, SubmittedAll}
+use Rattle.script_run.specs.SeatTurns.{SendsOne, SendsAll}
 use Rattle.script_run.proofs.SeatManyLemmas.{many-more, many-none, many-stays}
 use Rattle.script_run.proofs.SeatTurnLemmas.{keeps-same, keeps-then, stays-none}
 use Rattle.script_run.proofs.seat_run.submit_all.Goals as goal
@@ -30,12 +30,12 @@ statements-preserved c =
           c.submit_unread.ensures.keeps;
       given = ap (λ n. n + 1) same;
       count = omega arith;
-      submits = subst (λ list. SubmittedAll c.args.seat list (sight_of old c.args.seat) (sight_of new c.args.seat))
+      submits = subst (λ list. SendsAll c.args.seat list (sight_of old c.args.seat) (sight_of new c.args.seat))
           (sym (take_more statements given c.statement-item.result within)
           ∙ ap (λ n. take n statements) (omega arith))
           (many-more c.args.seat (take given statements) _ (sight_of old c.args.seat) (sight_of mid c.args.seat) (sight_of new c.args.seat)
           c.statements.invariant.submits
-          (subst (λ statement. Submitted c.args.seat statement (sight_of mid c.args.seat) (sight_of new c.args.seat))
+          (subst (λ statement. SendsOne c.args.seat statement (sight_of mid c.args.seat) (sight_of new c.args.seat))
           (c.statement-item.is ∙ ap (λ n. get_or statements n c.statement-item.result) (sym same))
           (c.if-not-submit_unread.ensures.submits refl)));
     }

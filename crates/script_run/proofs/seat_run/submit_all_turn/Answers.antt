@@ -4,7 +4,7 @@ use Rattle.board_lock.specs.Seats.{view_of}
 use Rattle.core_state.specs.Rows.{sight_of}
 use Rattle.core_state.specs.State.{State}
 use Rattle.worker_gate.proofs.TurnLemmas.{view-left}
-use Rattle.script_run.specs.SeatTurns.{SubmittedAll}
+use Rattle.script_run.specs.SeatTurns.{SendsAll}
 use Rattle.script_run.proofs.SeatManyLemmas.{many-behind}
 use Rattle.script_run.proofs.SeatTurnLemmas.{keeps-marked, turn-keeps-hand, turn-stays-ready, turn-tells}
 use Rattle.script_run.proofs.seat_run.submit_all_turn.Goals as goal
@@ -27,12 +27,12 @@ returns-clause-seat g c =
 pub returns-clause-submits : goal.returns-clause-submits
 returns-clause-submits g c =
     let statements = take c.submit_all-given.result c.args.statements.now in
-    turn-tells (λ seat old new. SubmittedAll seat statements old new)
+    turn-tells (λ seat old new. SendsAll seat statements old new)
     (λ seat old between new. many-behind seat statements old between new) c.args.seat.now c.leave.new.seat c.enter-core.result
     c.unmark_if_home.new.core c.number-own.result
     (view-left (view_of c.args.seat.now) (view_of c.enter-core.new.seat) (view_of c.leave.new.seat) c.enter-core.result
     c.unmark_if_home.new.core c.enter-core.ensures.inside.1 c.leave.ensures.outside.1)
     c.enter-core.ensures.finds c.number-own.ensures
-    (subst (λ (state : State). SubmittedAll c.number-own.result statements
+    (subst (λ (state : State). SendsAll c.number-own.result statements
     (sight_of (state_of c.enter-core.result) c.number-own.result) (sight_of state c.number-own.result))
     (sym c.unmark_if_home.ensures.state) c.submit_all-given.ensures.submits)

@@ -4,7 +4,7 @@ use Rattle.board_lock.specs.Seats.{view_of}
 use Rattle.script_reader.specs.declared.statement.Statement.{Statement}
 use Rattle.worker_gate.specs.Hands.{HasDoneIf}
 use Rattle.worker_gate.specs.Turns.{sight_in}
-use Rattle.script_run.specs.SeatTurns.{Stays, Submitted}
+use Rattle.script_run.specs.SeatTurns.{Stays, SendsOne}
 use Rattle.script_run.proofs.SeatFrontLemmas.{by-number, tried-behind}
 use Rattle.script_run.proofs.SeatTurnLemmas.{out-none, out-then, stays-none, stays-then}
 use Rattle.script_run.proofs.seat_turn.give_turn.Goals as goal
@@ -41,7 +41,7 @@ returns-in-Taken-clause-tells g c =
     let new = view_of c.try_turn.new.seat in
     tried-behind true c.args.statement.now c.args.seat.now c.tries.seat c.try_turn.new.seat c.tries.invariant.seat.same
     c.tries.invariant.stays
-    (subst (λ (statement : Statement). Submitted mid.number statement (sight_in mid) (sight_in new)) c.tries.invariant.statement
+    (subst (λ (statement : Statement). SendsOne mid.number statement (sight_in mid) (sight_in new)) c.tries.invariant.statement
     c.in-Taken.ensures.tells)
 
 pub returns-in-Lost-clause-seat : goal.returns-in-Lost-clause-seat

@@ -5,7 +5,7 @@ use Rattle.worker_gate.specs.Hands.{HasDoneIf}
 use Rattle.worker_gate.specs.Turns.{sight_in}
 use Rattle.script_run.specs.SeatFront.{TellsWaited}
 use Rattle.script_run.specs.SeatTurns.{Stays}
-use Rattle.script_run.specs.declared.seat_front.Turned.TheVariants.{Ends}
+use Rattle.script_run.specs.declared.seat_front.AfterAsking.TheVariants.{Ends}
 use Rattle.script_run.proofs.SeatFrontLemmas.{by-number, waited-behind}
 use Rattle.script_run.proofs.SeatTurnLemmas.{out-none, out-then, stays-none, stays-then}
 use Rattle.script_run.proofs.seat_front.SeatFront.next_reply.Goals as goal
