@@ -23,7 +23,8 @@ AreWords words = (k : ℕ) → get_or words k 0 < 2 ^ 64
 
 -- word k is the first that is not 0
 abbrev pub IsFirstWord : List ℕ → ℕ → Type 0
-IsFirstWord words k = (k < length words) × (0 < get_or words k 0) × ((j : ℕ) → j < k → get_or words j 0 ≡ 0)
+IsFirstWord words k =
+    (k < length words) × (0 < get_or words k 0) × ((j : ℕ) → j < k → get_or words j 0 ≡ 0)
 
 -- a word in front of others
 in_front : (word set n : ℕ) (words : List ℕ) → word < 2 ^ 64 → words_of n set ≡ words
@@ -34,9 +35,11 @@ in_front word set n words below same =
     ∙ ap (λ ws. word ∷ ws) same
 
 -- the words of what words hold are those words
-pub words_of-set_of : (n : ℕ) (words : List ℕ) → length words ≡ n → AreWords words → words_of n (set_of words) ≡ words
+pub words_of-set_of : (n : ℕ) (words : List ℕ) → length words ≡ n → AreWords words
+    → words_of n (set_of words) ≡ words
 words_of-set_of zero [] same below = refl
 words_of-set_of zero (word ∷ words) same below = absurd (omega arith)
 words_of-set_of (suc n) [] same below = absurd (omega arith)
 words_of-set_of (suc n) (word ∷ words) same below =
-    in_front word (set_of words) n words (below 0) (words_of-set_of n words (omega arith) (λ k. below (suc k)))
+    in_front word (set_of words) n words (below 0) (words_of-set_of n words (omega arith) (λ k.
+    below (suc k)))

@@ -26,7 +26,8 @@ impl<const W: usize> Model for Bits<W> {
 
     ghost inverse = { λ set. record { words = words_of W set } };
 
-    ghost inverse_ok = { λ set kept i. record { words = words_of-set_of W set.words kept.0 kept.1 i } };
+    ghost inverse_ok = { λ set kept i.
+        record { words = words_of-set_of W set.words kept.0 kept.1 i } };
 }
 
 impl<const W: usize> Bits<W> {

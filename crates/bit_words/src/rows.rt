@@ -21,7 +21,8 @@ pub fn and_all<const W: usize>(rows: &mut [u64], vector: &Bits<W>)
 
 /// Leaves in each word the bits that one word has too, eight words at a time.
 fn and_lanes(words: &mut [u64], word: u64)
-    ensures { (k : ℕ) → k < length words.old → slice_index words.new k ≡ bit_and (slice_index words.old k) word }
+    ensures { (k : ℕ) → k < length words.old →
+        slice_index words.new k ≡ bit_and (slice_index words.old k) word }
 {
     let lanes = u64x8::splat(word);
     for n in 0..words.len() / 8 {
@@ -33,11 +34,13 @@ fn and_lanes(words: &mut [u64], word: u64)
     }
 }
 
-/// Leaves in each word the bits that one of the others has too. Behind the last of them the first comes again.
+/// Leaves in each word the bits that one of the others has too. Behind the last of
+/// them the first comes again.
 fn and_words(words: &mut [u64], others: &[u64])
     requires { 1 ≤ length others.now }
     ensures { (k : ℕ) → k < length words.old →
-        slice_index words.new k ≡ bit_and (slice_index words.old k) (slice_index others.now (k % length others.now)) }
+        slice_index words.new k
+        ≡ bit_and (slice_index words.old k) (slice_index others.now (k % length others.now)) }
 {
     for k in 0..words.len() {
         words[k] &= others[k % others.len()];

@@ -65,7 +65,8 @@ IsHome {S} turn homes views home =
 -- the table of a board: what each live seat knows is so, and numbers that no seat has yet have
 -- empty rows
 pub record IsBoard {S Row Entry Fixed : Type 0} (row : S → ℕ → Row) (empty : Row)
-    (commits : S → List Entry) (fixed : S → Fixed) (table : State (Option S) (View S)) : Type 0 where
+    (commits : S → List Entry) (fixed : S → Fixed)
+    (table : State (Option S) (View S)) : Type 0 where
   pub turn : ℕ
   pub home : S
   pub words : table.words ≡ turn ∷ []

@@ -33,7 +33,8 @@ impl Bell {
     }
 
     pub fn read<R: Wait>(&self, rt: &R) -> u32 {
-        // Counted while the reader has the turn: who has it next, and changes something, finds the count.
+        // Counted while the reader has the turn: who has it next, and changes
+        // something, finds the count.
         self.resting.fetch_add(1, SeqCst);
         let number: &Mutex<u32> = &self.number;
         *number.lock(rt)

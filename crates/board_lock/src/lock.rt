@@ -68,8 +68,8 @@ fn table_of<S: Board>(alloc: Global, state: S) -> Result<(StateTable<S>, SeatTok
 }
 
 impl<S: Board> BoardLock<S> {
-    /// Lends a state to at most `seats` seats, from 1 to `MAX_SEATS`, and gives the first of them. Where no
-    /// memory is left the state comes back.
+    /// Lends a state to at most `seats` seats, from 1 to `MAX_SEATS`, and gives the first of them.
+    /// Where no memory is left the state comes back.
     pub fn new(
         alloc: Global,
         state: S,
@@ -113,7 +113,8 @@ impl<S: Board> BoardLock<S> {
         self.table.shared.load::<FirstLook>(seat, 0);
     }
 
-    /// Makes the next seat, which any thread may have: of `seats` seats, where there are fewer so far.
+    /// Makes the next seat, which any thread may have: of `seats` seats,
+    /// where there are fewer so far.
     pub fn split(&self, seat: &mut BoardSeat<S>) -> BoardSeat<S>
         requires own { IsOf self.now seat.old }
         requires first { (view_of seat.old).number ≡ 0 }
@@ -181,7 +182,8 @@ impl<S: Board> BoardLock<S> {
         ensures same { IsSameSeat seat.old seat.new }
         ensures took { (state : S)
             × (seat.new.seat.me ≡ (entered (view_of seat.old) state, (0, Some state) ∷ []))
-            × Finds S.Board.row S.Board.empty S.Board.commits S.Board.fixed (view_of seat.old) state }
+            × Finds S.Board.row S.Board.empty S.Board.commits S.Board.fixed
+            (view_of seat.old) state }
     {
         for _ in rt.forever() {
             let found = self.spin(seat);
@@ -210,7 +212,8 @@ impl<S: Board> BoardLock<S> {
         slot.unwrap()
     }
 
-    /// Puts a state back, for the next seat. It changed nothing but the seat's own row and the list, which goes on.
+    /// Puts a state back, for the next seat. It changed nothing but the seat's own row and
+    /// the list, which goes on.
     pub fn leave(&self, seat: &mut BoardSeat<S>, state: S)
         requires own { IsOf self.now seat.old }
         requires inside { IsInside seat.old }
@@ -227,7 +230,8 @@ impl<S: Board> BoardLock<S> {
         }
     }
 
-    // Learns which of the two lists is longer, that of the first seat or of the one that it joined last.
+    // Learns which of the two lists is longer, that of the first seat or of the
+    // one that it joined last.
     fn compare(&self, seat: &mut SeatToken<S>)
         requires own { seat.old.table_id ≡ self.now.table.shared.table_id }
         requires live { seat.old.me.0.live ≡ true }
@@ -291,8 +295,8 @@ impl<S: Board> BoardLock<S> {
         self.bell.read(rt)
     }
 
-    /// Whether somebody rests or is about to. Where nobody does between an `enter` and its `leave`, no
-    /// ring is needed for what is left to do then: who rests later has looked later.
+    /// Whether somebody rests or is about to. Where nobody does between an `enter` and its `leave`,
+    /// no ring is needed for what is left to do then: who rests later has looked later.
     pub fn has_resting(&self) -> bool {
         self.bell.has_resting()
     }

@@ -12,7 +12,8 @@ use std::sync::atomic::AtomicU64;
 /// The most seats that one lock lends its state to, the first one counted.
 pub const MAX_SEATS: u32 = 128;
 
-// One word, the turn: 0, or 1 more than the number of the seat that has the state. One slot, for the state.
+// One word, the turn: 0, or 1 more than the number of the seat that has the state.
+// One slot, for the state.
 pub(crate) type StateTable<S> = Table<Option<S>, View<S>, Snapshot<S>, Turns, Global>;
 
 /// A state, and the turn to have it.

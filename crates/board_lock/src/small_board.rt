@@ -1,5 +1,5 @@
-//! A small board: the last statement of each of three seats, and a list of all. Tests and edits show on it what the
-//! lock promises.
+//! A small board: the last statement of each of three seats, and a list of all. Tests and edits
+//! show on it what the lock promises.
 ghost use Rattle.std.specs.Prelude.{◌≡◌, ◌≢◌, ℕ, ◌<◌, ◌++◌, ◌∷◌, [], IfOk, IfErr, slice_set};
 ghost use mathlib.Core.List.{IsPrefix};
 ghost use Rattle.board_lock.specs.Views.{row_in, list_in};
@@ -12,7 +12,8 @@ use star_values::NoMemory;
 use std::alloc::Global;
 use std::sync::Wait;
 
-/// What three seats did: the last statement of each, where 0 is none, and all statements in their order.
+/// What three seats did: the last statement of each, where 0 is none, and all
+/// statements in their order.
 #[derive(Debug, Drop)]
 pub struct SmallBoard {
     pub name: u32,

@@ -1,10 +1,12 @@
-//! What a seat knows, and what each step on the table tells it. Values of these types exist in proofs alone.
+//! What a seat knows, and what each step on the table tells it. Values of these
+//! types exist in proofs alone.
 use crate::board::Board;
 use atomic_table::{Join, Play, Split, TableRule};
 use std::collections::LinkedList;
 use std::snapshot::Snapshot;
 
-/// A seat that was joined: its number, the state that it left last, and the one whose commits it had seen.
+/// A seat that was joined: its number, the state that it left last, and the one
+/// whose commits it had seen.
 pub struct Parted<S> {
     pub number: u64,
     pub last: Option<S>,
@@ -13,7 +15,8 @@ pub struct Parted<S> {
 
 /// What a seat knows.
 ///
-/// It notes whole states, of which only its own row, the list and the fixed value are known to stay true.
+/// It notes whole states, of which only its own row, the list and the fixed
+/// value are known to stay true.
 pub struct View<S> {
     /// It is false once the seat was joined.
     pub live: bool,

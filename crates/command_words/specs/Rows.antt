@@ -12,7 +12,10 @@ rule_named name = record (new_rule name) { long = Some name }
 
 -- a command without options, to which the first word is as good as any, and which gives no help
 abbrev pub bare_app : App
-bare_app = on_top (λ s. record s { no_binary_name = true; disable_help_flag = true; disable_version_flag = true }) (new_app (codes "cjoin"))
+bare_app =
+    on_top (λ s.
+    record s { no_binary_name = true; disable_help_flag = true; disable_version_flag = true })
+    (new_app (codes "cjoin"))
 
 abbrev pub with_name : App → Text → App
 with_name app name = with_rule app (rule_named name)

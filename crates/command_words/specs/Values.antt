@@ -26,14 +26,16 @@ mode_or (Some text) = mode_in text
 
 -- one to seven decimal digits and nothing else
 abbrev pub is_number : Text → Bool
-is_number text = not (length text == 0) && (nat_le (length text) MAX_DIGITS && list_all is_ascii_digit text)
+is_number text =
+    not (length text == 0) && (nat_le (length text) MAX_DIGITS && list_all is_ascii_digit text)
 
 abbrev pub number_of : Text → Option ℕ
 number_of text = if is_number text then Some (digits_value 10 text) else None
 
 -- the number, where it is in the range of the option
 abbrev pub within : OptionNumbers → ℕ → Option ℕ
-within numbers number = if nat_le numbers.least number && nat_le number numbers.greatest then Some number else None
+within numbers number =
+    if nat_le numbers.least number && nat_le number numbers.greatest then Some number else None
 
 abbrev pub number_in : OptionNumbers → Text → Option ℕ
 number_in numbers text = option_and_then (within numbers) (number_of text)

@@ -13,7 +13,8 @@ use std::alloc::Global;
 
 /// A command with an option for each name, each of one value, and with no other.
 pub(crate) fn command_of<'a>(alloc: Global, names: &'a [&'a str]) -> Result<Command<'a>, NoMemory>
-    ensures { IfOk result (λ command. app_of command ≡ app_with (map (λ name. name.now) names.now)) }
+    ensures { IfOk result (λ command.
+        app_of command ≡ app_with (map (λ name. name.now) names.now)) }
 {
     let mut command = bare_command(alloc);
     for name in names {

@@ -16,13 +16,14 @@ static OPTIONS: [&str; 8] = [
     "mode", "workers", "slots", "batch", "seed", "rows", "port", "accept",
 ];
 
-/// The settings that the words name. Each option stands at most once, in any order, as `--name value` in
-/// two words or as `--name=value` in one, and what is left out has its default. There are no settings
-/// where a word is `--`, an option is unknown, repeated or without its value, a value is not one that
-/// the option takes, or a word belongs to no option; `--help` and `--version` are unknown, and so is an
-/// abbreviated name. The only error is want of memory.
+/// The settings that the words name. Each option stands at most once, in any order, as `--name
+/// value` in two words or as `--name=value` in one, and what is left out has its default. There are
+/// no settings where a word is `--`, an option is unknown, repeated or without its value, a value
+/// is not one that the option takes, or a word belongs to no option; `--help` and `--version` are
+/// unknown, and so is an abbreviated name. The only error is want of memory.
 pub fn read_words(alloc: Global, words: &[String]) -> Result<Option<Settings>, NoMemory>
-    ensures settings { IfOk result (λ settings. settings ≡ settings_of (map string_bytes words.now)) }
+    ensures settings { IfOk result (λ settings.
+        settings ≡ settings_of (map string_bytes words.now)) }
     ensures range { IfOk result (λ settings. IfSome settings AreInRange) }
 {
     // `clap` would end the options at this word, and take what follows as values of none.

@@ -14,7 +14,8 @@ one_over query length = after_start 0 query 1 length length (new_scan 1)
 
 -- three queries over five rows: the second starts behind three of them, and the third at the end
 abbrev pub second_of_three : StarQuery → Scanning
-second_of_three query = after_start 1 query 1 5 5 (after_cut 5 3 (after_start 0 query 1 5 5 (new_scan 3)))
+second_of_three query =
+    after_start 1 query 1 5 5 (after_cut 5 3 (after_start 0 query 1 5 5 (new_scan 3)))
 
 abbrev pub third_of_three : StarQuery → Scanning
 third_of_three query = after_start 2 query 1 5 5 (after_cut 5 4 (second_of_three query))

@@ -32,5 +32,6 @@ place_in_lap first extent position =
 -- stands at this position, is the first of its lap that is not yet cut
 pub record IsInStep (position : ℕ) (query : Running) : Type 0 where
   pub some : 1 ≤ query.left
-  pub next : place_in_lap (lap_start query.start query.extent) query.extent (next_below position query.extent)
+  pub next : place_in_lap (lap_start query.start query.extent) query.extent
+      (next_below position query.extent)
       + query.left ≡ query.extent

@@ -1,4 +1,5 @@
--- What the contracts of this crate, and of those above it, say of a scan and of the batches that it cuts.
+-- What the contracts of this crate, and of those above it, say of a scan and of
+-- the batches that it cuts.
 pub mod Scanning
 pub mod Lap
 pub mod Range

@@ -16,7 +16,8 @@ ghost use Rattle.continuous_scan.specs.Examples.{range_of, one_over, second_of_t
 use bit_words::numbers_go_in_and_out;
 
 /// Whatever calls are made of a new scan: what was cut of the extent of a running query since it
-/// started, and then what is left of its lap, is its whole lap. At the cut that ends it, what was cut is.
+/// started, and then what is left of its lap, is its whole lap. At the cut that
+/// ends it, what was cut is.
 pub fn each_position_is_cut_once()
     ensures running { (slots slot : ℕ) (calls : List Call) (query : Running) →
         CanCallAll (new_scan slots) calls →
@@ -34,8 +35,8 @@ pub fn each_position_is_cut_once()
         ≡ lap query.start query.extent }
 {}
 
-/// A cut ends behind its first position, at the nearest of its bounds: its size, the end of the table,
-/// and the starts of running queries above its first position.
+/// A cut ends behind its first position, at the nearest of its bounds: its size, the end of the
+/// table, and the starts of running queries above its first position.
 pub fn a_cut_ends_at_its_nearest_bound()
     ensures { (scan : Scanning) (length size : ℕ) →
         AreInStep scan → CanCut length size scan → IsTrue (some_run scan.running) →
@@ -54,26 +55,28 @@ pub fn a_cut_takes_no_more_than_is_left()
         covered (first_in length scan) (end_in length size scan) query.extent ≤ query.left }
 {}
 
-/// A slot is in the roster where a query runs in it, and among the bits of a version where that query
-/// takes the version.
+/// A slot is in the roster where a query runs in it, and among the bits of a version where that
+/// query takes the version.
 pub fn bits_are_those_of_slots()
     ensures roster { (running : List (Option Running)) (slot : ℕ) →
         Has (roster_of running) slot ↔ IsTrue (is_some (slice_index_or running slot None)) }
     ensures bits { (running : List (Option Running)) (version : Version) (slot : ℕ) →
-        Has (bits_of running version) slot ↔ IsTrue (takes_version version (slice_index_or running slot None)) }
+        Has (bits_of running version) slot
+        ↔ IsTrue (takes_version version (slice_index_or running slot None)) }
 {
     numbers_go_in_and_out();
 }
 
-/// The rows of a batch hang on what is asked for each slot, and on nothing else of the queries that run,
-/// and of the table on the versions at their positions. What may be tested may be asked.
+/// The rows of a batch hang on what is asked for each slot, and on nothing else of the queries that
+/// run, and of the table on the versions at their positions. What may be tested may be asked.
 pub fn rows_go_by_what_is_asked()
     ensures rows { (first end number room : ℕ) (running other : List (Option Running))
         (versions : List Version) → asked_by running ≡ asked_by other →
         batch_over first end number room running versions
         ≡ batch_over first end number room other versions }
     ensures later { (first end number room : ℕ) (running : List (Option Running))
-        (versions later : List Version) → versions_from first end versions ≡ versions_from first end later →
+        (versions later : List Version) →
+        versions_from first end versions ≡ versions_from first end later →
         batch_over first end number room running versions
         ≡ batch_over first end number room running later }
     ensures tests { (running : List (Option Running)) (version : Version) →
@@ -84,10 +87,14 @@ pub fn rows_go_by_what_is_asked()
 pub fn cuts_are_computed()
     ensures whole { (query : StarQuery) → range_of 1000 1024 (one_over query 1000) ≡ (0, 1000) }
     ensures first_of_two { (query : StarQuery) → range_of 5 4 (one_over query 5) ≡ (0, 4) }
-    ensures second_of_two { (query : StarQuery) → range_of 5 4 (after_cut 5 4 (one_over query 5)) ≡ (4, 5) }
+    ensures second_of_two { (query : StarQuery) →
+        range_of 5 4 (after_cut 5 4 (one_over query 5)) ≡ (4, 5) }
     ensures before_second { (query : StarQuery) → range_of 5 4 (second_of_three query) ≡ (3, 5) }
     ensures to_second { (query : StarQuery) → range_of 5 4 (third_of_three query) ≡ (0, 3) }
-    ensures to_end { (query : StarQuery) → range_of 5 4 (after_cut 5 4 (third_of_three query)) ≡ (3, 5) }
-    ensures ends { (query : StarQuery) → (after_cut 5 4 (after_cut 5 4 (third_of_three query))).running ≡ (None ∷ None ∷ None ∷ []) }
-    ensures three { (query : StarQuery) → range_of 3 1 (after_cut 3 1 (after_cut 3 1 (one_over query 3))) ≡ (2, 3) }
+    ensures to_end { (query : StarQuery) →
+        range_of 5 4 (after_cut 5 4 (third_of_three query)) ≡ (3, 5) }
+    ensures ends { (query : StarQuery) →
+        (after_cut 5 4 (after_cut 5 4 (third_of_three query))).running ≡ (None ∷ None ∷ None ∷ []) }
+    ensures three { (query : StarQuery) →
+        range_of 3 1 (after_cut 3 1 (after_cut 3 1 (one_over query 3))) ≡ (2, 3) }
 {}

@@ -1,4 +1,5 @@
-//! Which positions of the fact table come next. What is done to the rows of a batch is in the crates above.
+//! Which positions of the fact table come next. What is done to the rows of a
+//! batch is in the crates above.
 #![tactic(auto)]
 
 mod blank;

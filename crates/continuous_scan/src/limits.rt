@@ -1,5 +1,5 @@
-//! Which integers stand for all others where the range tests of a column are asked. What these let pass
-//! is in `by_value`.
+//! Which integers stand for all others where the range tests of a column are asked. What these
+//! let pass is in `by_value`.
 ghost use Rattle.std.specs.Prelude.{◌≡◌, ◌==◌, All, IfSome};
 ghost use Rattle.continuous_scan.specs.ByValue.{IsConditionInside, IsInside, IsTestInside, IsWider, Surrounds};
 
@@ -129,8 +129,9 @@ pub(crate) fn limits_of(conditions: &[Condition], column: u8) -> Limits
     limits
 }
 
-/// The integers from one below limits to one above them, if the column is to be met by value. No range
-/// test tells what is below them from the first of these, or what is above them from the last.
+/// The integers from one below limits to one above them, if the column is to be met by
+/// value. No range test tells what is below them from the first of these, or what is
+/// above them from the last.
 pub(crate) fn range_of(limits: &Limits) -> Option<ValueRange>
     ensures { IfSome result (Surrounds limits.now) }
 {

@@ -185,7 +185,8 @@ pub(crate) fn roster_of(running: &[Option<Runner>]) -> Bits<1>
     roster
 }
 
-/// Lowers what is left of the query in a slot, if one runs there, and ends it where nothing is left.
+/// Lowers what is left of the query in a slot, if one runs there, and ends
+/// it where nothing is left.
 fn cut_slot(slot: &mut Option<Runner>, first: u32, end: u32)
     ensures { slot.new ≡ cut_slot first end slot.old }
 {
@@ -198,8 +199,8 @@ fn cut_slot(slot: &mut Option<Runner>, first: u32, end: u32)
     }
 }
 
-/// Lowers what is left of each query as the positions from `first` to before `end` are cut. None runs
-/// in a slot from `used` on.
+/// Lowers what is left of each query as the positions from `first` to before `end` are cut. None
+/// runs in a slot from `used` on.
 fn cut_slots(running: &mut [Option<Runner>], used: usize, first: u32, end: u32)
     requires { RunBelow used running.old }
     ensures { running.new ≡ map (cut_slot first end) running.old }

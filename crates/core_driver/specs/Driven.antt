@@ -42,7 +42,8 @@ pub record MayWantOne (kinds : List EventKind) (state : State) : Type 0 where
 abbrev pub MayClear : State → Type 0
 MayClear state = (slot : ℕ) × (dimension : ℕ) × IsEnabled state (Clear slot dimension)
 
--- an event by which no query begins to run, none is submitted, none is abandoned, and no worker carries a batch
+-- an event by which no query begins to run, none is submitted, none is abandoned, and
+-- no worker carries a batch
 abbrev pub IsOfRound : Event → Type 0
 IsOfRound (Submit seat statement) = ⊥
 IsOfRound (Reserve query slot) = ⊥
@@ -59,7 +60,8 @@ IsOfAdmission (Build query dimension) = Unit {0}
 IsOfAdmission (Start query) = Unit {0}
 IsOfAdmission other = ⊥
 
--- an event that the driver may take: no statement is submitted, no query abandoned, and no batch carried
+-- an event that the driver may take: no statement is submitted, no query
+-- abandoned, and no batch carried
 abbrev pub IsDriven : Event → Type 0
 IsDriven event = IsOfAdmission event ⊎ IsOfRound event
 
@@ -100,7 +102,8 @@ IsFreeOrUnderWay lives Free = Unit {0}
 IsFreeOrUnderWay lives (Held query built) = IsSomeAnd (life_of lives query) IsUnderWay
 IsFreeOrUnderWay lives (Clearing left) = ⊥
 
--- no batch is in flight, no slot is being cleared, and every query that holds a slot is built for or runs
+-- no batch is in flight, no slot is being cleared, and every query that holds a
+-- slot is built for or runs
 pub record IsLanded (state : State) : Type 0 where
   pub landed : state.scan.flights ≡ []
   pub slots : All (IsFreeOrUnderWay state.lives) state.lives.slots
@@ -118,13 +121,16 @@ pub record IsFinished (state : State) : Type 0 where
 
 -- the query that waited the longest, where a slot was free, does not wait any more
 abbrev pub AdmitsOldest : (old new : State) → Type 0
-AdmitsOldest old new = (query : ℕ) → oldest_waiting old.lives ≡ Some query → IsSome (free_slot old.lives) →
+AdmitsOldest old new =
+    (query : ℕ) → oldest_waiting old.lives ≡ Some query → IsSome (free_slot old.lives) →
     ¬ (life_of new.lives query ≡ Some Waiting)
 
 -- a query may be admitted, or a batch cut
 abbrev pub MayGoOn : State → Type 0
 MayGoOn state =
-    (event : Event) × (IsOfSome (kind.Reserve ∷ kind.Build ∷ kind.Start ∷ kind.Cut ∷ []) event × IsEnabled state event)
+    (event : Event)
+    × (IsOfSome (kind.Reserve ∷ kind.Build ∷ kind.Start ∷ kind.Cut ∷ []) event
+    × IsEnabled state event)
 
 -- a count is greater than it was, or at its greatest value
 abbrev pub Rises : (old new : ℕ) → Type 0
@@ -133,7 +139,9 @@ Rises old new = (old < new) ⊎ (new ≡ last_number)
 -- every query that might still be answered is answered, or found no memory
 abbrev pub AnswersAll : (old new : State) → Type 0
 AnswersAll old new = All (λ entry. IsTrue (is_open entry.life) →
-    (life_of new.lives entry.query ≡ Some Answered) ⊎ (life_of new.lives entry.query ≡ Some Spoiled)) old.lives.queries
+    (life_of new.lives entry.query ≡ Some Answered)
+    ⊎ (life_of new.lives entry.query ≡ Some Spoiled))
+    old.lives.queries
 
 -- queries were admitted, as far as they can be
 pub record Admits (old new : State) : Type 0 where
@@ -166,7 +174,8 @@ pub record IsWholeTurn (old new : State) : Type 0 where
   pub admits : Admits old mid
   pub round : IsRound mid new
 
--- a turn: queries are admitted, as far as they can be, and a round follows, which ends where memory is wanted
+-- a turn: queries are admitted, as far as they can be, and a round follows, which
+-- ends where memory is wanted
 abbrev pub IsTurn : (old new : State) → Type 0
 IsTurn old new = (mid : State) × (Admits old mid × IsLed IsOfRound mid new)
 

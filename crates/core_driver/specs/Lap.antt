@@ -47,17 +47,20 @@ abbrev pub BeganAt : (start : ℕ) → Life → Type 0
 BeganAt start (Running other left) = other ≡ start
 BeganAt start rest = Unit {0}
 
--- where the scan ends its way, once it came round: behind the last version, or where all queries that run began, above 0
+-- where the scan ends its way, once it came round: behind the last version, or where all
+-- queries that run began, above 0
 pub record IsEnd (end : ℕ) (state : State) : Type 0 where
   pub within : end ≤ versions_in state
-  pub is : (end ≡ versions_in state) ⊎ ((0 < end) × All (λ entry. BeganAt end entry.life) state.lives.queries)
+  pub is : (end ≡ versions_in state)
+      ⊎ ((0 < end) × All (λ entry. BeganAt end entry.life) state.lives.queries)
 
 -- what is left of a query that runs lies between a position and an end
 abbrev pub IsLeftBetween : (first end extent : ℕ) → Life → Type 0
 IsLeftBetween first end extent (Running start left) = first + left ≤ min end extent
 IsLeftBetween first end extent other = Unit {0}
 
--- the scan goes on to the last version, comes round, and goes on to an end: so many positions at most
+-- the scan goes on to the last version, comes round, and goes on to an end:
+-- so many positions at most
 pub record IsToComeRound (end most : ℕ) (state : State) : Type 0 where
   pub is_end : IsEnd end state
   pub enough : (versions_in state - first_in state) + end ≤ most
@@ -65,12 +68,14 @@ pub record IsToComeRound (end most : ℕ) (state : State) : Type 0 where
 -- the scan came round, and goes on to an end: so many positions at most
 pub record CameRound (end most : ℕ) (state : State) : Type 0 where
   pub is_end : IsEnd end state
-  pub left : All (λ entry. IsLeftBetween (first_in state) end entry.extent entry.life) state.lives.queries
+  pub left : All (λ entry. IsLeftBetween (first_in state) end entry.extent entry.life)
+      state.lives.queries
   pub enough : end - first_in state ≤ most
 
 -- at most so many positions are cut until no query runs, if none begins to
 abbrev pub IsOnItsWay : (end most : ℕ) → State → Type 0
-IsOnItsWay end most state = (SomeRuns state → ⊥) ⊎ (IsToComeRound end most state ⊎ CameRound end most state)
+IsOnItsWay end most state =
+    (SomeRuns state → ⊥) ⊎ (IsToComeRound end most state ⊎ CameRound end most state)
 
 -- the scan is on its way, at whose end at most so many positions more were cut
 pub record EndsWithin (left : ℕ) (state : State) : Type 0 where
@@ -81,9 +86,11 @@ pub record EndsWithin (left : ℕ) (state : State) : Type 0 where
 
 -- how many positions are cut of this table at most: twice its versions, or once, if no query runs
 abbrev pub IsBound : (bound : ℕ) → State → Type 0
-IsBound bound state = (bound ≡ 2 * versions_in state) ⊎ ((bound ≡ versions_in state) × (SomeRuns state → ⊥))
+IsBound bound state =
+    (bound ≡ 2 * versions_in state) ⊎ ((bound ≡ versions_in state) × (SomeRuns state → ⊥))
 
--- the lap, in which at most so many positions are cut, is to begin: there is a slot for each query that waits
+-- the lap, in which at most so many positions are cut, is to begin: there is a slot
+-- for each query that waits
 pub record IsToBegin (left : ℕ) (state : State) : Type 0 where
   pub slots : HasSlotsForAll state
   pub is_bound : IsBound left state
@@ -106,7 +113,8 @@ positions_of other state = 0
 abbrev pub TookCutting : List Event → (cut : ℕ) → (old new : State) → Type 0
 TookCutting [] cut old new = (cut ≡ 0) × (new ≡ old)
 TookCutting (event ∷ events) cut old new =
-    (next : State) × (rest : ℕ) × (cut ≡ positions_of event old + rest) × Took event old next × TookCutting events rest next new
+    (next : State) × (rest : ℕ) × (cut ≡ positions_of event old + rest) × Took event old next
+    × TookCutting events rest next new
 
 -- events of which each is one of these were taken, which cut so many positions together
 pub record IsLedCutting (IsOne : Event → Type 0) (cut : ℕ) (old new : State) : Type 0 where
@@ -114,9 +122,9 @@ pub record IsLedCutting (IsOne : Event → Type 0) (cut : ℕ) (old new : State)
   pub each : All IsOne events
   pub took : TookCutting events cut old new
 
--- the driver's events, and how many positions their cuts hold until every query is answered: none where no query waits, is
--- built for or runs; where these are no more than the slots, as many as the table has versions at most, or twice as many
--- where a query runs
+-- the driver's events, and how many positions their cuts hold until every query is answered: none
+-- where no query waits, is built for or runs; where these are no more than the slots, as many as
+-- the table has versions at most, or twice as many where a query runs
 pub record SharesLap (old new : State) : Type 0 where
   pub cut : ℕ
   pub led : IsLedCutting IsDriven cut old new

@@ -21,7 +21,8 @@ to_cut extent other = 0
 abbrev pub all_to_cut : List QueryLife → ℕ
 all_to_cut queries = sum_by (λ entry. to_cut entry.extent entry.life) queries
 
--- the most steps until a query with this life runs: those of its slot, too, which it does not have yet
+-- the most steps until a query with this life runs: those of its slot, too,
+-- which it does not have yet
 abbrev pub steps_to_run : Life → ℕ
 steps_to_run Waiting = 20
 steps_to_run Building = 1
@@ -31,15 +32,19 @@ steps_to_run other = 0
 abbrev pub size_of : (set : ℕ) → ℕ
 size_of set = count_by (λ dimension. bit_at set dimension == 1) (range_with_len 0 8)
 
--- the most steps until a slot in this state is free: what is not built yet may still be, and what is built is to be cleared
+-- the most steps until a slot in this state is free: what is not built yet may still be, and what
+-- is built is to be cleared
 abbrev pub steps_to_free : SlotState → ℕ
 steps_to_free Free = 0
 steps_to_free (Held query built) = 18 - size_of built
 steps_to_free (Clearing left) = 1 + size_of left
 
--- the most cuts that are still to come: each of them leaves fewer positions to cut, or comes nearer to the last version
+-- the most cuts that are still to come: each of them leaves fewer positions to cut, or comes
+-- nearer to the last version
 abbrev pub cuts_in : State → ℕ
-cuts_in state = all_to_cut state.lives.queries * (versions_in state + 1) + (versions_in state - state.scan.position)
+cuts_in state =
+    all_to_cut state.lives.queries * (versions_in state + 1)
+    + (versions_in state - state.scan.position)
 
 -- the work that is left: each cut makes a batch, which is to be distributed
 abbrev pub work_in : State → ℕ

@@ -18,10 +18,12 @@ use std::thread::Threads;
 /// By these a query is admitted: it gets a slot, its filters are built, and it begins to run.
 const ADMISSION: [EventKind; 3] = [EventKind::Reserve, EventKind::Build, EventKind::Start];
 
-/// By these a slot is free again: it is taken from its query, each filter is cleared of it, and it is released.
+/// By these a slot is free again: it is taken from its query, each filter is cleared
+/// of it, and it is released.
 const RETIREMENT: [EventKind; 3] = [EventKind::Finish, EventKind::Clear, EventKind::Release];
 
-/// Without one of these that may come, no query waits, is built for or runs, once nothing is in flight.
+/// Without one of these that may come, no query waits, is built for or runs,
+/// once nothing is in flight.
 const GOING_ON: [EventKind; 4] = [
     EventKind::Reserve,
     EventKind::Build,
@@ -29,10 +31,11 @@ const GOING_ON: [EventKind; 4] = [
     EventKind::Cut,
 ];
 
-/// One turn: admits the queries that can be admitted, cuts batches while a frame is free and a query runs, lets them pass
-/// the filters and distributes them, answers the queries whose lap is over, frees their slots, and orders the filters.
-/// No batch is in a hand, before and after it. Only a filter that is cleared of a slot may find no memory: the core is
-/// then as the events before that leave it.
+/// One turn: admits the queries that can be admitted, cuts batches while a frame is free and a
+/// query runs, lets them pass the filters and distributes them, answers the queries whose lap
+/// is over, frees their slots, and orders the filters. No batch is in a hand, before and after
+/// it. Only a filter that is cleared of a slot may find no memory: the core is then as the
+/// events before that leave it.
 pub fn turn<R: Threads + Sync>(rt: &R, core: &mut Core) -> Result<(), NoMemory>
     requires { AreIdle (state_of core.old) }
     ensures driven { IsLed IsDriven (state_of core.old) (state_of core.new) }
@@ -40,8 +43,10 @@ pub fn turn<R: Threads + Sync>(rt: &R, core: &mut Core) -> Result<(), NoMemory>
     ensures whole { OnOk result (IsWholeTurn (state_of core.old) (state_of core.new)) }
     ensures settled { OnOk result (IsSettled (state_of core.new)) }
     ensures admits { AdmitsOldest (state_of core.old) (state_of core.new) }
-    ensures cuts { MayCut (state_of core.old) → Rises (state_of core.old).scan.cut (state_of core.new).scan.cut }
-    ensures less { MayGoOn (state_of core.old) → work_in (state_of core.new) < work_in (state_of core.old) }
+    ensures cuts { MayCut (state_of core.old) →
+        Rises (state_of core.old).scan.cut (state_of core.new).scan.cut }
+    ensures less { MayGoOn (state_of core.old) →
+        work_in (state_of core.new) < work_in (state_of core.old) }
     ensures memory { OnErr result (MayClear (state_of core.new)) }
     ensures idle { AreIdle (state_of core.new) }
     ensures beside { beside_of core.new ≡ beside_of core.old }
@@ -53,9 +58,10 @@ pub fn turn<R: Threads + Sync>(rt: &R, core: &mut Core) -> Result<(), NoMemory>
     go_round(rt, core)
 }
 
-/// Lets every query come to its end: each that waits, is built for, runs or is ending is answered, or found no memory,
-/// and every slot is free. Queries that can have slots together share one lap. No batch is in a hand, before and after
-/// it. Only a filter that is cleared of a slot may find no memory: the core is then as the events before that leave it.
+/// Lets every query come to its end: each that waits, is built for, runs or is ending is answered,
+/// or found no memory, and every slot is free. Queries that can have slots together share one lap.
+/// No batch is in a hand, before and after it. Only a filter that is cleared of a slot may find no
+/// memory: the core is then as the events before that leave it.
 pub fn finish_all<R: Threads + Sync>(rt: &R, core: &mut Core) -> Result<(), NoMemory>
     requires { AreIdle (state_of core.old) }
     ensures driven { IsLed IsDriven (state_of core.old) (state_of core.new) }
@@ -87,14 +93,17 @@ fn admit(core: &mut Core)
     take_all(core, &ADMISSION);
 }
 
-/// The scan goes on by as many batches as there are frames, what is in flight lands, and the filters are ordered.
+/// The scan goes on by as many batches as there are frames, what is in flight lands, and
+/// the filters are ordered.
 fn go_round<R: Threads + Sync>(rt: &R, core: &mut Core) -> Result<(), NoMemory>
     requires { AreIdle (state_of core.old) }
     ensures led { IsLed IsOfRound (state_of core.old) (state_of core.new) }
     ensures round { OnOk result (IsRound (state_of core.old) (state_of core.new)) }
     ensures landed { OnOk result (IsLanded (state_of core.new)) }
-    ensures cuts { MayCut (state_of core.old) → Rises (state_of core.old).scan.cut (state_of core.new).scan.cut }
-    ensures less { MayCut (state_of core.old) → work_in (state_of core.new) < work_in (state_of core.old) }
+    ensures cuts { MayCut (state_of core.old) →
+        Rises (state_of core.old).scan.cut (state_of core.new).scan.cut }
+    ensures less { MayCut (state_of core.old) →
+        work_in (state_of core.new) < work_in (state_of core.old) }
     ensures memory { OnErr result (MayClear (state_of core.new)) }
     ensures idle { AreIdle (state_of core.new) }
     ensures beside { beside_of core.new ≡ beside_of core.old }
@@ -111,8 +120,10 @@ fn go_round<R: Threads + Sync>(rt: &R, core: &mut Core) -> Result<(), NoMemory>
 /// Cuts batches while a frame is free and a query runs.
 fn cut(core: &mut Core)
     ensures all { CutsAll (state_of core.old) (state_of core.new) }
-    ensures cuts { MayCut (state_of core.old) → Rises (state_of core.old).scan.cut (state_of core.new).scan.cut }
-    ensures less { MayCut (state_of core.old) → work_in (state_of core.new) < work_in (state_of core.old) }
+    ensures cuts { MayCut (state_of core.old) →
+        Rises (state_of core.old).scan.cut (state_of core.new).scan.cut }
+    ensures less { MayCut (state_of core.old) →
+        work_in (state_of core.new) < work_in (state_of core.old) }
     ensures idle { AreIdle (state_of core.old) → AreIdle (state_of core.new) }
     ensures beside { beside_of core.new ≡ beside_of core.old }
 {
@@ -122,7 +133,8 @@ fn cut(core: &mut Core)
     take_all(core, &[EventKind::Cut]);
 }
 
-/// What is in flight passes the filters and is distributed, and slots whose queries are over are freed.
+/// What is in flight passes the filters and is distributed, and slots whose
+/// queries are over are freed.
 fn land<R: Threads + Sync>(rt: &R, core: &mut Core) -> Result<(), NoMemory>
     requires { AreIdle (state_of core.old) }
     ensures led { IsLed IsOfLanding (state_of core.old) (state_of core.new) }

@@ -22,11 +22,13 @@ pub(crate) fn take_all(core: &mut Core, kinds: &[EventKind])
     ensures idle { AreIdle (state_of core.old) → AreIdle (state_of core.new) }
     ensures beside { beside_of core.new ≡ beside_of core.old }
 {
-    // An event that finds no memory would be left, and those behind it: of these kinds there is none.
+    // An event that finds no memory would be left, and those behind it: of
+    // these kinds there is none.
     let _ = try_take_all(core, kinds);
 }
 
-/// Takes events of these kinds, as long as one of them may come. Where memory is wanted for one, those before it were taken.
+/// Takes events of these kinds, as long as one of them may come. Where memory is wanted for one,
+/// those before it were taken.
 pub(crate) fn try_take_all(core: &mut Core, kinds: &[EventKind]) -> Result<(), NoMemory>
     ensures led { IsLed (IsOfSome kinds.now) (state_of core.old) (state_of core.new) }
     ensures none { OnOk result (NoneOfMayCome kinds.now (state_of core.new)) }
@@ -39,11 +41,15 @@ pub(crate) fn try_take_all(core: &mut Core, kinds: &[EventKind]) -> Result<(), N
     Ok(())
 }
 
-/// Takes an event of one of these kinds, and tells whether one might come. Where memory is wanted for it, it may still come.
+/// Takes an event of one of these kinds, and tells whether one might come. Where memory is wanted
+/// for it, it may still come.
 fn take_one(core: &mut Core, kinds: &[EventKind]) -> Result<bool, NoMemory>
-    ensures taken { result ≡ Ok true → (event : Event) × (IsOfSome kinds.now event × Took event (state_of core.old) (state_of core.new)) }
+    ensures taken { result ≡ Ok true →
+        (event : Event)
+        × (IsOfSome kinds.now event × Took event (state_of core.old) (state_of core.new)) }
     ensures less { result ≡ Ok true → work_in (state_of core.new) < work_in (state_of core.old) }
-    ensures none { result ≡ Ok false → (core.new ≡ core.old) × NoneOfMayCome kinds.now (state_of core.old) }
+    ensures none { result ≡ Ok false →
+        (core.new ≡ core.old) × NoneOfMayCome kinds.now (state_of core.old) }
     ensures err { OnErr result (core.new ≡ core.old) }
     ensures memory { OnErr result (MayWantOne kinds.now (state_of core.new)) }
     ensures beside { beside_of core.new ≡ beside_of core.old }

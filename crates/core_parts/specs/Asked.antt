@@ -35,7 +35,10 @@ with_kept_at number kept asked = map (with_kept number kept) asked
 
 -- what is known of the accepted queries
 abbrev pub known_in : List AskedQuery → List Known
-known_in asked = map (λ entry. record { number = entry.number; query = query_of entry.query; snapshot = entry.snapshot }) asked
+known_in asked =
+    map (λ entry.
+    record { number = entry.number; query = query_of entry.query; snapshot = entry.snapshot })
+    asked
 
 -- the same as it is held: while it was not handed on, it is whole
 pub record AskedEntry : Type 0 where
@@ -49,10 +52,11 @@ asked_in entries = map (λ entry. entry.asked) entries
 -- and the numbers of those that were handed on
 abbrev pub handed_in : List AskedEntry → List ℕ
 handed_in entries =
-    map (λ (key : ℕ × Bool). key.0) (filter (λ key. not key.1) (map (λ entry. (entry.asked.number, entry.whole)) entries))
+    map (λ (key : ℕ × Bool). key.0)
+    (filter (λ key. not key.1) (map (λ entry. (entry.asked.number, entry.whole)) entries))
 
--- all accepted queries, those of them that were let go, the numbers of those that were handed on, and how many more can be put
--- behind them without fail
+-- all accepted queries, those of them that were let go, the numbers of those that were handed on,
+-- and how many more can be put behind them without fail
 pub record AskedQueries : Type 0 where
   pub items : List AskedQuery
   pub gone : List AskedQuery

@@ -15,4 +15,5 @@ holder_of (Clearing left) = None
 
 -- a scan that stops what runs for a query, where the query holds a slot
 abbrev pub stopped_for : Lives → (query : ℕ) → Scanning → Scanning
-stopped_for lives query scan = option_map_or (λ slot. after_stop slot scan) (slot_of lives query) scan
+stopped_for lives query scan =
+    option_map_or (λ slot. after_stop slot scan) (slot_of lives query) scan

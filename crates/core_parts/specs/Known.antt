@@ -25,4 +25,5 @@ reaches_in queries = map (λ entry. record { number = entry.query; extent = entr
 
 -- the extent of the query of this number, 0 where there is none
 abbrev pub reach_at : List Reach → (number : ℕ) → ℕ
-reach_at reaches number = option_map_or (λ reach. reach.extent) (find (λ reach. reach.number == number) reaches) 0
+reach_at reaches number =
+    option_map_or (λ reach. reach.extent) (find (λ reach. reach.number == number) reaches) 0

@@ -13,7 +13,8 @@ use Rattle.core_parts.specs.Known.{Known, known_at}
 -- what a seat waits for where it waits for the query of this number
 abbrev pub asked_as : List Known → (number : ℕ) → Awaited
 asked_as known number =
-    option_map_or (λ entry. Asked entry.query entry.snapshot) (known_at known number) (Replied reply.Memory)
+    option_map_or (λ entry. Asked entry.query entry.snapshot)
+    (known_at known number) (Replied reply.Memory)
 
 -- what a seat waits for as the reply to a statement of this number, if it still waits
 abbrev pub awaited_as : List Known → (number : ℕ) → Standing → Option Awaited
@@ -31,7 +32,10 @@ pending_as known submitted =
 abbrev pub took_as : List Known → (number : ℕ) → Standing → Option Taken
 took_as known number IsTaken = Some (record { statement = number; query = None })
 took_as known number IsAnswered =
-    Some (record { statement = number; query = option_map (λ entry. (entry.query, entry.snapshot)) (known_at known number) })
+    Some (record {
+      statement = number;
+      query = option_map (λ entry. (entry.query, entry.snapshot)) (known_at known number);
+    })
 took_as known number other = None
 
 -- a seat
@@ -68,11 +72,13 @@ standing_as standing submitted = record submitted { standing = standing }
 
 -- none of the first statements is waited for, of which there are so many
 abbrev pub NoneIsWaited : (count : ℕ) → List Submitted → Type 0
-NoneIsWaited count statements = All (λ submitted. is_waited submitted.standing ≡ false) (take count statements)
+NoneIsWaited count statements =
+    All (λ submitted. is_waited submitted.standing ≡ false) (take count statements)
 
 -- of the statements from this place on the reply to none was taken
 abbrev pub NoneIsTaken : (place : ℕ) → List Submitted → Type 0
-NoneIsTaken place statements = All (λ submitted. is_taken submitted.standing ≡ false) (drop place statements)
+NoneIsTaken place statements =
+    All (λ submitted. is_taken submitted.standing ≡ false) (drop place statements)
 
 -- none of the statements that were let go is waited for
 abbrev pub AreGone : List Submitted → Type 0
@@ -90,7 +96,8 @@ is_waited_as number submitted = submitted.number == number && is_waited submitte
 
 -- no statement of this number is waited for
 abbrev pub NoneIsWaitedAs : (number : ℕ) → List Submitted → Type 0
-NoneIsWaitedAs number statements = All (λ submitted. is_waited_as number submitted ≡ false) statements
+NoneIsWaitedAs number statements =
+    All (λ submitted. is_waited_as number submitted ≡ false) statements
 
 -- the statement at this place has this number and is waited for
 pub record IsWaitedAt (number place : ℕ) (statements : List Submitted) : Type 0 where
@@ -99,4 +106,5 @@ pub record IsWaitedAt (number place : ℕ) (statements : List Submitted) : Type 
 
 -- whether a statement is waited for and is a query that may still be answered
 abbrev pub is_open_in : Lives → Submitted → Bool
-is_open_in lives submitted = is_waited submitted.standing && option_map_or is_open (life_of lives submitted.number) false
+is_open_in lives submitted =
+    is_waited submitted.standing && option_map_or is_open (life_of lives submitted.number) false

@@ -10,7 +10,8 @@ use Rattle.core_parts.specs.declared.lent.Seen.TheVariants as seen
 
 -- the batch that is to be written, for the queries that run in these slots, of these versions
 abbrev pub written : Unwritten → List (Option Running) → List Version → Rows
-written blank running versions = batch_over blank.first blank.end blank.number blank.room running versions
+written blank running versions =
+    batch_over blank.first blank.end blank.number blank.room running versions
 
 -- the batch
 abbrev pub seen_of : Seen → Rows

@@ -16,7 +16,8 @@ use std::sync::Arc;
 
 /// A query that was accepted.
 ///
-/// Its bound form is handed on to the scan as the query starts, or let go where it never does: contracts go on seeing it.
+/// Its bound form is handed on to the scan as the query starts, or let go where it never does:
+/// contracts go on seeing it.
 #[derive(Drop)]
 pub struct AcceptedQuery {
     /// Its number, which is that of its statement.
@@ -34,7 +35,8 @@ pub struct AcceptedQuery {
     /// The last commit that it sees.
     snapshot: u64,
 
-    /// The groups of its rows, while none are attached for it at a slot and they may still be asked for.
+    /// The groups of its rows, while none are attached for it at a slot and
+    /// they may still be asked for.
     kept: Option<Groups>,
 }
 
@@ -61,7 +63,8 @@ impl Model for AcceptedQuery {
       whole = is_some asked.query;
     } };
 
-    ghost invariant = { λ asked. IfSome asked.query (λ query. arc_value query ≡ arc_value asked.seen.value) };
+    ghost invariant = { λ asked.
+        IfSome asked.query (λ query. arc_value query ≡ arc_value asked.seen.value) };
 }
 
 impl AcceptedQuery {
@@ -147,7 +150,8 @@ impl AcceptedQuery {
 
     /// Lets the query go, and what is kept beside it.
     pub fn give_up(&mut self)
-        ensures { self.new ≡ record { asked = record self.old.asked { kept = None }; whole = false } }
+        ensures { self.new
+            ≡ record { asked = record self.old.asked { kept = None }; whole = false } }
     {
         self.query = None;
         self.kept = None;
@@ -163,7 +167,8 @@ impl AcceptedQuery {
     /// Takes the groups away that are kept, if some are.
     pub fn take_kept(&mut self) -> Option<Groups>
         ensures groups { result ≡ self.old.asked.kept }
-        ensures left { self.new ≡ record self.old { asked = record self.old.asked { kept = None } } }
+        ensures left { self.new
+            ≡ record self.old { asked = record self.old.asked { kept = None } } }
     {
         self.kept.take()
     }

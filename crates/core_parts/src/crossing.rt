@@ -1,4 +1,5 @@
-//! That batches in flight, seats and accepted queries may cross to other threads, and that filters may be shared with them.
+//! That batches in flight, seats and accepted queries may cross to other threads, and that filters
+//! may be shared with them.
 use crate::flights::Flights;
 use crate::queries::Queries;
 use crate::seat::Seat;

@@ -14,8 +14,9 @@ use std::fmt;
 use std::marker::Model;
 use std::snapshot::Snapshot;
 
-/// What the core keeps of a batch that is lent, and of the hand that it is in: what is read of them meanwhile. Contracts go on
-/// seeing the batch, and the versions in the hand, which have no bytes here.
+/// What the core keeps of a batch that is lent, and of the hand that it is in: what is
+/// read of them meanwhile. Contracts go on seeing the batch, and the versions in the hand,
+/// which have no bytes here.
 #[derive(Drop)]
 pub(crate) struct Lent {
     worker: u32,

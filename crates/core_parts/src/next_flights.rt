@@ -31,9 +31,11 @@ pub fn is_through(filters: &Filters, flight: &Flight) -> bool
 
 /// The number of a batch that is idle and has passed every filter or has no bit left.
 pub fn next_through(filters: &Filters, flights: &[Flight]) -> Option<u64>
-    requires apart { AllPairs (λ flight other. flight.batch.number ≢ other.batch.number) flights.now }
+    requires apart { AllPairs (λ flight other. flight.batch.number ≢ other.batch.number)
+        flights.now }
     ensures some { IfSome result (λ number.
-        IsSomeAnd (find (λ flight. flight.batch.number == number) flights.now) (Through filters.now)) }
+        IsSomeAnd (find (λ flight. flight.batch.number == number) flights.now)
+        (Through filters.now)) }
     ensures none { result ≡ None → All (λ flight. Through filters.now flight → ⊥) flights.now }
 {
     for flight in flights {
@@ -46,9 +48,11 @@ pub fn next_through(filters: &Filters, flights: &[Flight]) -> Option<u64>
 
 /// The number of a batch that is idle, has a bit left and did not pass every filter.
 pub fn next_wanting(filters: &Filters, flights: &[Flight]) -> Option<u64>
-    requires apart { AllPairs (λ flight other. flight.batch.number ≢ other.batch.number) flights.now }
+    requires apart { AllPairs (λ flight other. flight.batch.number ≢ other.batch.number)
+        flights.now }
     ensures some { IfSome result (λ number.
-        IsSomeAnd (find (λ flight. flight.batch.number == number) flights.now) (Wants filters.now)) }
+        IsSomeAnd (find (λ flight. flight.batch.number == number) flights.now)
+        (Wants filters.now)) }
     ensures none { result ≡ None → All (λ flight. Wants filters.now flight → ⊥) flights.now }
 {
     for flight in flights {
@@ -62,9 +66,12 @@ pub fn next_wanting(filters: &Filters, flights: &[Flight]) -> Option<u64>
 /// A slot whose query is over and that is on no roster of a batch in flight.
 pub fn next_finish(manager: &Manager, flights: &[Flight]) -> Option<u32>
     ensures some { IfSome result (λ slot.
-        CanEnd slot manager.now × (list_any (λ flight. bit_at flight.batch.roster slot == 1) flights.now ≡ false)) }
+        CanEnd slot manager.now
+        × (list_any (λ flight. bit_at flight.batch.roster slot == 1) flights.now ≡ false)) }
     ensures none { result ≡ None → (slot : ℕ) →
-        CanEnd slot manager.now × (list_any (λ flight. bit_at flight.batch.roster slot == 1) flights.now ≡ false) → ⊥ }
+        CanEnd slot manager.now
+        × (list_any (λ flight. bit_at flight.batch.roster slot == 1) flights.now ≡ false) →
+        ⊥ }
 {
     for slot in 0..manager.used() {
         if may_end(manager, slot) && !is_on_some_roster(flights, slot) {

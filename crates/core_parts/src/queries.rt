@@ -1,4 +1,5 @@
-//! The accepted queries in the order of their numbers, which rise. One query is in `accepted_query`.
+//! The accepted queries in the order of their numbers, which rise. One query is in
+//! `accepted_query`.
 ghost use Rattle.std.specs.Prelude.{◌≡◌, ◌+◌, ◌<◌, ◌≤◌, ◌==◌, [], ◌∷◌, ◌++◌, All, Contains, find, length, position, slice_get, take, true, IsSome, IsTrue, IfSome, None, Some, OnOk};
 ghost use Rattle.std.specs.Arc.{arc_value};
 ghost use Rattle.std.specs.List.Sorted.{IsPartitionPoint};
@@ -15,16 +16,17 @@ use std::alloc::Global;
 use std::marker::Model;
 use std::sync::Arc;
 
-/// The accepted queries, in the order of their numbers. A query is handed on as it starts. Those at the front that are over, and
-/// beside which nothing is kept, are let go: contracts go on seeing them, and they have no bytes.
+/// The accepted queries, in the order of their numbers. A query is handed on as it starts. Those at
+/// the front that are over, and beside which nothing is kept, are let go: contracts go on seeing
+/// them, and they have no bytes.
 ///
 /// Only `reserve` takes memory.
 #[derive(Debug, Drop)]
 pub struct Queries {
     asked: Fading<AcceptedQuery>,
 
-    /// How often queries were to be let go since the front was looked at. It is looked at once for as many as a half of those
-    /// that stand, so that all looks together take time in their number.
+    /// How often queries were to be let go since the front was looked at. It is looked at once for
+    /// as many as a half of those that stand, so that all looks together take time in their number.
     calls: usize,
 }
 
@@ -109,7 +111,8 @@ impl Queries {
         requires there { IsSome (asked_at self.old.items number) }
         requires stands { IsNotAmong self.old.gone number }
         requires whole { IsNoneOf self.old.handed number }
-        ensures query { IfSome (asked_at self.old.items number) (λ entry. arc_value result ≡ entry.query) }
+        ensures query { IfSome (asked_at self.old.items number) (λ entry.
+            arc_value result ≡ entry.query) }
         ensures items { self.new.items ≡ self.old.items }
         ensures gone { self.new.gone ≡ self.old.gone }
         ensures handed { All (Contains (number ∷ self.old.handed)) self.new.handed }
@@ -140,8 +143,10 @@ impl Queries {
     /// Takes what is kept beside the query of a number away, if something is.
     pub fn take_kept(&mut self, number: u64) -> Option<Groups>
         requires { AreRising self.old.items }
-        ensures groups { result ≡ option_and_then (λ entry. entry.kept) (asked_at self.old.items number) }
-        ensures left { self.new ≡ record self.old { items = with_kept_at number None self.old.items } }
+        ensures groups { result
+            ≡ option_and_then (λ entry. entry.kept) (asked_at self.old.items number) }
+        ensures left { self.new
+            ≡ record self.old { items = with_kept_at number None self.old.items } }
     {
         take_kept(self.asked.rest_mut(), number)
     }
@@ -159,7 +164,8 @@ impl Queries {
 fn place_of(asked: &[AcceptedQuery], number: u64) -> Option<usize>
     requires { AreRising (asked_in asked.now) }
     ensures place { result ≡ position (λ entry. entry.asked.number == number) asked.now }
-    ensures there { option_and_then (slice_get asked.now) result ≡ find (λ entry. entry.asked.number == number) asked.now }
+    ensures there { option_and_then (slice_get asked.now) result
+        ≡ find (λ entry. entry.asked.number == number) asked.now }
 {
     let place = first_from(asked, number);
     if place < asked.len() && asked[place].number() == number {
@@ -173,7 +179,8 @@ fn place_of(asked: &[AcceptedQuery], number: u64) -> Option<usize>
 fn first_from(asked: &[AcceptedQuery], number: u64) -> usize
     requires { AreRising (asked_in asked.now) }
     ensures bound { result ≤ length asked.now }
-    ensures halves { IsPartitionPoint (λ entry. entry.asked.number < number) (λ entry. number ≤ entry.asked.number) asked.now result }
+    ensures halves { IsPartitionPoint (λ entry. entry.asked.number < number)
+        (λ entry. number ≤ entry.asked.number) asked.now result }
 {
     asked.partition_point(|entry| entry.number() < number)
 }
@@ -192,7 +199,8 @@ fn asked_of(asked: &[AcceptedQuery], number: u64) -> &AcceptedQuery
 /// The snapshot of an accepted query, 0 where none has this number.
 fn snapshot_of(asked: &[AcceptedQuery], number: u64) -> u64
     requires { AreRising (asked_in asked.now) }
-    ensures { result ≡ option_map_or (λ entry. entry.snapshot) (asked_at (asked_in asked.now) number) 0 }
+    ensures { result
+        ≡ option_map_or (λ entry. entry.snapshot) (asked_at (asked_in asked.now) number) 0 }
 {
     match place_of(asked, number) {
         None => 0,
@@ -205,7 +213,8 @@ fn hand_on(asked: &mut [AcceptedQuery], number: u64) -> Arc<StarQuery, Global>
     requires rising { AreRising (asked_in asked.old) }
     requires there { IsSome (asked_at (asked_in asked.old) number) }
     requires whole { IsNoneOf (handed_in asked.old) number }
-    ensures query { IfSome (asked_at (asked_in asked.old) number) (λ entry. arc_value result ≡ entry.query) }
+    ensures query { IfSome (asked_at (asked_in asked.old) number) (λ entry.
+        arc_value result ≡ entry.query) }
     ensures length { length asked.new ≡ length asked.old }
     ensures items { asked_in asked.new ≡ asked_in asked.old }
     ensures handed { All (Contains (number ∷ handed_in asked.old)) (handed_in asked.new) }
@@ -241,7 +250,8 @@ fn keep(asked: &mut [AcceptedQuery], number: u64, kept: Option<Groups>)
 /// Takes what is kept beside the query of a number away, if something is.
 fn take_kept(asked: &mut [AcceptedQuery], number: u64) -> Option<Groups>
     requires { AreRising (asked_in asked.old) }
-    ensures groups { result ≡ option_and_then (λ entry. entry.kept) (asked_at (asked_in asked.old) number) }
+    ensures groups { result
+        ≡ option_and_then (λ entry. entry.kept) (asked_at (asked_in asked.old) number) }
     ensures length { length asked.new ≡ length asked.old }
     ensures items { asked_in asked.new ≡ with_kept_at number None (asked_in asked.old) }
     ensures handed { handed_in asked.new ≡ handed_in asked.old }

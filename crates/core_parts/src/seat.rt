@@ -18,14 +18,15 @@ use std::alloc::Global;
 use std::marker::Model;
 use std::mem;
 
-/// The statements that a seat submitted, in their order. Replies are taken in that order, and a statement that is not waited for
-/// any more costs nothing once those before it are not either.
+/// The statements that a seat submitted, in their order. Replies are taken in that order, and a
+/// statement that is not waited for any more costs nothing once those before it are not either.
 #[derive(Debug, Drop)]
 pub struct Seat {
     statements: Fading<Submitted>,
 
-    /// How many statements at the front of those that were not let go are known not to be waited for. With each reply it comes to
-    /// the next statement that is waited for, so no search begins at the front.
+    /// How many statements at the front of those that were not let go are known not to be
+    /// waited for. With each reply it comes to the next statement that is waited for, so no
+    /// search begins at the front.
     next: usize,
 }
 
@@ -37,9 +38,11 @@ impl Model for Seat {
 
     ghost Value = { Roomy Submitted };
 
-    ghost view = { λ seat. record { items = items_of seat.statements; room = seat.statements.room } };
+    ghost view = { λ seat.
+        record { items = items_of seat.statements; room = seat.statements.room } };
 
-    ghost invariant = { λ seat. AreInTurn seat.next seat.statements.rest × AreGone seat.statements.gone };
+    ghost invariant = { λ seat.
+        AreInTurn seat.next seat.statements.rest × AreGone seat.statements.gone };
 }
 
 impl Seat {
@@ -64,7 +67,8 @@ impl Seat {
     pub fn submit(&mut self, number: u64, standing: Standing)
         requires room { 0 < self.old.room }
         requires waited { is_waited standing ≡ true }
-        ensures { self.new.items ≡ self.old.items ++ record { number = number; standing = standing } ∷ [] }
+        ensures { self.new.items
+            ≡ self.old.items ++ record { number = number; standing = standing } ∷ [] }
     {
         self.statements
             .push_reserved(Submitted { number, standing });
@@ -72,20 +76,25 @@ impl Seat {
 
     /// The first statement that is waited for, if any is.
     pub fn first(&self) -> Option<&Submitted>
-        ensures first { option_map (λ submitted. submitted.now) result ≡ find (λ submitted. is_waited submitted.standing) self.now.items }
-        ensures pending { (known : List Known) → option_and_then (pending_as known) (option_map (λ submitted. submitted.now) result)
+        ensures first { option_map (λ submitted. submitted.now) result
+            ≡ find (λ submitted. is_waited submitted.standing) self.now.items }
+        ensures pending { (known : List Known) →
+            option_and_then (pending_as known) (option_map (λ submitted. submitted.now) result)
             ≡ slice_get (seat_as known self.now.items).pending 0 }
     {
         first_in(self.statements.rest(), self.next)
     }
 
-    /// Takes the reply to the first statement that is waited for, and gives how that statement stood.
+    /// Takes the reply to the first statement that is waited for, and gives
+    /// how that statement stood.
     pub fn take(&mut self) -> Standing
         requires { IsSome (find (λ submitted. is_waited submitted.standing) self.old.items) }
         ensures first { IfSome (find (λ submitted. is_waited submitted.standing) self.old.items)
             (λ submitted. submitted.standing ≡ result) }
-        ensures taken { (known : List Known) → seat_as known self.new.items ≡ with_taken (seat_as known self.old.items) }
-        ensures numbers { map (λ submitted. submitted.number) self.new.items ≡ map (λ submitted. submitted.number) self.old.items }
+        ensures taken { (known : List Known) →
+            seat_as known self.new.items ≡ with_taken (seat_as known self.old.items) }
+        ensures numbers { map (λ submitted. submitted.number) self.new.items
+            ≡ map (λ submitted. submitted.number) self.old.items }
     {
         let place = first_waited(self.statements.rest(), self.next);
         let standing = take_at(&mut self.statements, place);
@@ -96,26 +105,31 @@ impl Seat {
 
     /// Gives up the statement of this number, if it is waited for: nobody waits for it any more.
     pub fn abandon(&mut self, number: u64)
-        requires rising { AllPairs (λ statement later. statement < later) (map (λ submitted. submitted.number) self.old.items) }
-        ensures abandoned { (known : List Known) → seat_as known self.new.items ≡ without_pending number (seat_as known self.old.items) }
-        ensures numbers { map (λ submitted. submitted.number) self.new.items ≡ map (λ submitted. submitted.number) self.old.items }
+        requires rising { AllPairs (λ statement later. statement < later)
+            (map (λ submitted. submitted.number) self.old.items) }
+        ensures abandoned { (known : List Known) →
+            seat_as known self.new.items ≡ without_pending number (seat_as known self.old.items) }
+        ensures numbers { map (λ submitted. submitted.number) self.new.items
+            ≡ map (λ submitted. submitted.number) self.old.items }
     {
         abandon_in(&mut self.statements, number);
         self.next = first_waited(self.statements.rest(), self.next);
         settle(&mut self.statements, &mut self.next);
     }
 
-    /// The number of the first statement that is waited for and is a query that may still be answered.
+    /// The number of the first statement that is waited for and is a query
+    /// that may still be answered.
     pub fn first_open(&self, manager: &Manager) -> Option<u64>
         ensures { (known : List Known) → result ≡ option_map (λ pending. pending.statement)
-            (find (λ pending. option_map_or is_open (life_of manager.now pending.statement) false) (seat_as known self.now.items).pending) }
+            (find (λ pending. option_map_or is_open (life_of manager.now pending.statement) false)
+            (seat_as known self.now.items).pending) }
     {
         first_open_in(self.statements.rest(), self.next, manager)
     }
 }
 
-/// Lets the first statements go, so many, none of which is waited for, once they are as many as those behind them: no more are
-/// moved than let go.
+/// Lets the first statements go, so many, none of which is waited for, once they are as many as
+/// those behind them: no more are moved than let go.
 fn settle(statements: &mut Fading<Submitted>, next: &mut usize)
     requires turn { AreInTurn next.old statements.old.rest }
     requires gone { AreGone statements.old.gone }
@@ -134,7 +148,8 @@ fn settle(statements: &mut Fading<Submitted>, next: &mut usize)
 fn first_waited(statements: &[Submitted], from: usize) -> usize
     requires { AreInTurn from statements.now }
     ensures turn { AreInTurn result statements.now }
-    ensures waited { slice_get statements.now result ≡ find (λ submitted. is_waited submitted.standing) statements.now }
+    ensures waited { slice_get statements.now result
+        ≡ find (λ submitted. is_waited submitted.standing) statements.now }
 {
     for place in from..statements.len() {
         if is_waited(&statements[place].standing) {
@@ -166,7 +181,8 @@ fn when_taken(standing: &Standing) -> Standing
 /// The first statement that is waited for, if any is. None in front of `from` is.
 fn first_in(statements: &[Submitted], from: usize) -> Option<&Submitted>
     requires { AreInTurn from statements.now }
-    ensures { option_map (λ submitted. submitted.now) result ≡ find (λ submitted. is_waited submitted.standing) statements.now }
+    ensures { option_map (λ submitted. submitted.now) result
+        ≡ find (λ submitted. is_waited submitted.standing) statements.now }
 {
     statements.get(first_waited(statements, from))
 }
@@ -178,9 +194,11 @@ fn replace_standing(
     standing: Standing,
 ) -> Standing
     requires { place < length statements.old.rest }
-    ensures before { (d : Submitted) → result ≡ (slice_index_or statements.old.rest place d).standing }
+    ensures before { (d : Submitted) →
+        result ≡ (slice_index_or statements.old.rest place d).standing }
     ensures after { (d : Submitted) → statements.new.rest
-        ≡ slice_set statements.old.rest place (standing_as standing (slice_index_or statements.old.rest place d)) }
+        ≡ slice_set statements.old.rest place
+        (standing_as standing (slice_index_or statements.old.rest place d)) }
     ensures gone { statements.new.gone ≡ statements.old.gone }
 {
     mem::replace(&mut statements.rest_mut()[place].standing, standing)
@@ -189,9 +207,11 @@ fn replace_standing(
 /// Takes the reply to the statement at a place, and gives how the statement stood.
 fn take_at(statements: &mut Fading<Submitted>, place: usize) -> Standing
     requires { place < length statements.old.rest }
-    ensures before { (d : Submitted) → result ≡ (slice_index_or statements.old.rest place d).standing }
+    ensures before { (d : Submitted) →
+        result ≡ (slice_index_or statements.old.rest place d).standing }
     ensures after { (d : Submitted) → statements.new.rest ≡ slice_set statements.old.rest place
-        (standing_as (when_taken (slice_index_or statements.old.rest place d).standing) (slice_index_or statements.old.rest place d)) }
+        (standing_as (when_taken (slice_index_or statements.old.rest place d).standing)
+        (slice_index_or statements.old.rest place d)) }
     ensures gone { statements.new.gone ≡ statements.old.gone }
 {
     let standing = when_taken(&statements.rest()[place].standing);
@@ -200,10 +220,15 @@ fn take_at(statements: &mut Fading<Submitted>, place: usize) -> Standing
 
 /// Gives up the statement of this number, if it is waited for.
 fn abandon_in(statements: &mut Fading<Submitted>, number: u64)
-    requires { AllPairs (λ statement later. statement < later) (map (λ submitted. submitted.number) statements.old.rest) }
-    ensures seat { (known : List Known) → seat_as known statements.new.rest ≡ without_pending number (seat_as known statements.old.rest) }
-    ensures numbers { map (λ submitted. submitted.number) statements.new.rest ≡ map (λ submitted. submitted.number) statements.old.rest }
-    ensures turn { (next : ℕ) → AreInTurn next statements.old.rest → AreInTurn next statements.new.rest }
+    requires { AllPairs (λ statement later. statement < later)
+        (map (λ submitted. submitted.number) statements.old.rest) }
+    ensures seat { (known : List Known) →
+        seat_as known statements.new.rest
+        ≡ without_pending number (seat_as known statements.old.rest) }
+    ensures numbers { map (λ submitted. submitted.number) statements.new.rest
+        ≡ map (λ submitted. submitted.number) statements.old.rest }
+    ensures turn { (next : ℕ) → AreInTurn next statements.old.rest →
+        AreInTurn next statements.new.rest }
     ensures gone { statements.new.gone ≡ statements.old.gone }
 {
     if let Some(place) = waited_place(statements.rest(), number) {
@@ -213,7 +238,8 @@ fn abandon_in(statements: &mut Fading<Submitted>, number: u64)
 
 /// The place of the statement of this number, if it is waited for.
 fn waited_place(statements: &[Submitted], number: u64) -> Option<usize>
-    requires { AllPairs (λ statement later. statement < later) (map (λ submitted. submitted.number) statements.now) }
+    requires { AllPairs (λ statement later. statement < later)
+        (map (λ submitted. submitted.number) statements.now) }
     ensures none { IfNone result (NoneIsWaitedAs number statements.now) }
     ensures there { IfSome result (λ place. IsWaitedAt number place statements.now) }
 {
@@ -227,8 +253,10 @@ fn waited_place(statements: &[Submitted], number: u64) -> Option<usize>
 
 /// The place of the first statement with this number or a greater one.
 fn first_from(statements: &[Submitted], number: u64) -> usize
-    requires { AllPairs (λ statement later. statement < later) (map (λ submitted. submitted.number) statements.now) }
-    ensures { IsPartitionPoint (λ submitted. submitted.number < number) (λ submitted. number ≤ submitted.number) statements.now result }
+    requires { AllPairs (λ statement later. statement < later)
+        (map (λ submitted. submitted.number) statements.now) }
+    ensures { IsPartitionPoint (λ submitted. submitted.number < number)
+        (λ submitted. number ≤ submitted.number) statements.now result }
 {
     statements.partition_point(|submitted| submitted.number < number)
 }
@@ -247,7 +275,9 @@ fn is_waited_at(statements: &[Submitted], place: usize, number: u64) -> bool
 /// None in front of `from` is waited for.
 fn first_open_in(statements: &[Submitted], from: usize, manager: &Manager) -> Option<u64>
     requires { AreInTurn from statements.now }
-    ensures { result ≡ option_map (λ submitted. submitted.number) (find (is_open_in manager.now) statements.now) }
+    ensures { result
+        ≡ option_map (λ submitted. submitted.number)
+        (find (is_open_in manager.now) statements.now) }
 {
     for place in from..statements.len() {
         let submitted = &statements[place];

@@ -1,4 +1,5 @@
--- What becomes of the core where a query gets a slot, its filters and its start, and where it leaves them.
+-- What becomes of the core where a query gets a slot, its filters and its start,
+-- and where it leaves them.
 use Rattle.std.specs.Prelude.{ℕ, ◌==◌, List, map, flat_map, slice_index_or, if◌then◌else◌}
 use Rattle.std.specs.Option.{option_map_or}
 use Rattle.star_plan.specs.Test.{Query, Selection, Unnamed}
@@ -30,7 +31,8 @@ with_version dimension change state =
     record state {
       filters = record state.filters {
         versions = map (λ version. if version.filter.dimension == dimension
-            then record { number = number; filter = change version.filter } else version) state.filters.versions;
+            then record { number = number; filter = change version.filter }
+            else version) state.filters.versions;
       };
       numbers = record state.numbers { version = last_after state.numbers.version };
     }
@@ -44,7 +46,9 @@ abbrev pub with_built : (query dimension : ℕ) → State → State
 with_built query dimension state = option_map_or
     (λ slot. option_map_or
     (λ accepted. with_version dimension
-    (filter_with slot (selection_in accepted.query dimension) (rows_in (tables_of state).dimensions dimension)) state)
+    (filter_with slot (selection_in accepted.query dimension)
+    (rows_in (tables_of state).dimensions dimension))
+    state)
     (accepted_at state.accepted query) state)
     (slot_of state.lives query) state
 
@@ -64,7 +68,9 @@ after_build_wants query state = record state {
 -- `start`: the query begins its lap where the scan stands
 abbrev pub after_start : (query : ℕ) → State → State
 after_start query state =
-    record state { lives = after_run query (first_of state.scan.position (versions_in state)) state.lives }
+    record state {
+      lives = after_run query (first_of state.scan.position (versions_in state)) state.lives;
+    }
 
 -- `finish`: the slot is taken from its query, and is to be cleared
 abbrev pub after_finish : (slot : ℕ) → State → State

@@ -1,4 +1,5 @@
--- What of a core reads its tables, beside its seats: rows that are loaded, and versions that are ended, leave it sound.
+-- What of a core reads its tables, beside its seats: rows that are loaded, and versions that
+-- are ended, leave it sound.
 use Rattle.std.specs.Prelude.{ℕ, [], ◌∷◌, ◌++◌}
 use Rattle.star_history.specs.History.{Change, DimensionDeclared, FactDeclared, Loaded, Ended}
 use Rattle.core_state.specs.Sound.{AreSoundBatches, AreSoundFilters, AreSoundHands, AreSoundNumbers, AreSoundQueries, AreSoundSlots, IsQuietBefore, IsSoundOrder, IsSoundScan, IsSoundStore}
@@ -14,7 +15,10 @@ IsOfRows (Ended positions) = Unit {0}
 -- the core with one entry more
 abbrev pub with_entry : (seat statement : ℕ) → Change → State → State
 with_entry seat statement change state =
-    record state { entries = state.entries ++ record { seat = seat; statement = statement; change = change } ∷ [] }
+    record state {
+      entries = state.entries
+          ++ record { seat = seat; statement = statement; change = change } ∷ [];
+    }
 
 -- all of soundness that reads the tables, and nothing of the seats and the numbers of statements
 pub record IsSoundBeside (state : State) : Type 0 where

@@ -56,7 +56,8 @@ pub record MayDistribute (batch : ℕ) (state : State) : Type 0 where
 
 -- a query gets rows of a batch: it is on its roster, and Running or Ending
 pub record IsFed (batch query : ℕ) (state : State) : Type 0 where
-  pub on : IsSomeAnd (flight_at state.scan.flights batch) (λ flight. Any (λ entry. entry.number ≡ query) flight.roster)
+  pub on : IsSomeAnd (flight_at state.scan.flights batch) (λ flight.
+      Any (λ entry. entry.number ≡ query) flight.roster)
   pub gets : IsTrue (option_map_or gets_rows (life_of state.lives query) false)
 
 -- queries that may find no memory for the rows of a batch: each once, and each gets rows of it
@@ -64,7 +65,8 @@ pub record AreFed (batch : ℕ) (queries : List ℕ) (state : State) : Type 0 wh
   pub apart : AllPairs (λ query other. query ≢ other) queries
   pub each : All (λ query. IsFed batch query state) queries
 
--- the slot is held by a query that is to be answered or has no answer, and no batch in flight has it on its roster
+-- the slot is held by a query that is to be answered or has no answer, and no batch in
+-- flight has it on its roster
 pub record MayFinish (slot : ℕ) (state : State) : Type 0 where
   pub over : CanEnd slot state.lives
   pub landed : All (λ flight. is_on_roster slot flight ≡ false) state.scan.flights
@@ -103,8 +105,9 @@ after_event (Release slot) state = after_release slot state
 after_event Reorder state = after_reorder state
 after_event (Abandon query) state = after_abandoning query state
 
--- the core after an event for which memory was wanted: a statement and a clearing change nothing, a query that finds no
--- memory as its filter is built, or its rows are folded, is spoiled; the other events want none
+-- the core after an event for which memory was wanted: a statement and a clearing change
+-- nothing, a query that finds no memory as its filter is built, or its rows are folded, is
+-- spoiled; the other events want none
 unfoldable pub after_want : Event → (spoiled : List ℕ) → State → State
 after_want (Build query dimension) spoiled state = after_build_wants query state
 after_want (Distribute batch) spoiled state = after_distribute batch spoiled state

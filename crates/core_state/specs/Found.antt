@@ -33,12 +33,16 @@ has_passed flight dimension = bit_at flight.rows.passed dimension == 1
 -- the next filter of a batch: the first of the present order that it did not pass
 abbrev pub next_filter : Filters → Flight → Option FilterVersion
 next_filter filters flight =
-    option_and_then (version_at filters.versions) (find (λ dimension. not (has_passed flight dimension)) filters.order)
+    option_and_then (version_at filters.versions)
+    (find (λ dimension. not (has_passed flight dimension)) filters.order)
 
--- what a batch has still to pass: the present versions of the filters that it did not pass, in their present order
+-- what a batch has still to pass: the present versions of the filters that it did not
+-- pass, in their present order
 abbrev pub filters_left : Filters → Flight → List FilterVersion
 filters_left filters flight = filter_map
-    (λ dimension. if has_passed flight dimension then None else version_at filters.versions dimension) filters.order
+    (λ dimension.
+    if has_passed flight dimension then None else version_at filters.versions dimension)
+    filters.order
 
 -- whether no row of a batch has a bit left
 abbrev pub is_empty : Flight → Bool
@@ -59,7 +63,8 @@ start_in other = None
 
 -- where the lap of the query in a slot began, if one runs there
 abbrev pub start_at : Lives → (slot : ℕ) → Option ℕ
-start_at lives slot = option_and_then start_in (option_and_then (life_of lives) (holder_of (slot_at lives slot)))
+start_at lives slot =
+    option_and_then start_in (option_and_then (life_of lives) (holder_of (slot_at lives slot)))
 
 -- the slots of a query's life: what a roster says of it
 abbrev pub entry_of : Lives → (slot : ℕ) → Accepted → OnRoster

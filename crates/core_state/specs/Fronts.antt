@@ -1,4 +1,5 @@
--- A seat as a queue: what it sends, what it waits for, and the replies that it takes, whatever others do meanwhile.
+-- A seat as a queue: what it sends, what it waits for, and the replies that it takes,
+-- whatever others do meanwhile.
 use Rattle.std.specs.Prelude.{◌≡◌, ℕ, ◌≤◌, List, ◌∷◌, [], ◌++◌, All, length}
 use Rattle.script_reader.specs.declared.statement.Statement.{Statement}
 use Rattle.reply_text.specs.declared.reply.Reply.{Reply}
@@ -12,17 +13,18 @@ abbrev pub IsPointWithin : (count : ℕ) → Sent → Type 0
 IsPointWithin count (Lost statement) = Unit {0}
 IsPointWithin count (Given number point statement) = point ≤ count
 
--- a seat waits for the replies to these, which have numbers, since a lost statement is replied to at once, behind all earlier replies;
--- and its row has the entries that it made
+-- a seat waits for the replies to these, which have numbers, since a lost statement is replied to
+-- at once, behind all earlier replies; and its row has the entries that it made
 pub record IsDue (seat : ℕ) (sight : Sight) (due : List Sent) : Type 0 where
   pub pending : sight.row.pending ≡ pendings_of sight.seen due
   pub points : All (IsPointWithin (length sight.seen)) due
   pub given : All IsGiven due
   pub made : sight.row.made ≡ made_by seat sight.seen
 
--- from one sight of a seat that waits for these to another, at which it waits for those, it sent these statements, and took these replies
--- to those that it said
-pub record Goes (seat : ℕ) (old : Sight) (due : List Sent) (new : Sight) (due' sent said : List Sent) (replies : List Reply) : Type 0 where
+-- from one sight of a seat that waits for these to another, at which it waits for those, it sent
+-- these statements, and took these replies to those that it said
+pub record Goes (seat : ℕ) (old : Sight) (due : List Sent) (new : Sight)
+    (due' sent said : List Sent) (replies : List Reply) : Type 0 where
   pub since : List Entry
   pub seen : new.seen ≡ old.seen ++ since
   pub entries : AreEntriesOf seat old.seen sent since
@@ -32,7 +34,8 @@ pub record Goes (seat : ℕ) (old : Sight) (due : List Sent) (new : Sight) (due'
   pub answered : AreRepliesTo new.seen said replies
   pub waits : IsDue seat new due'
 
--- nothing was sent, no reply was taken, and no entry that came is of the seat; the hand may have changed
+-- nothing was sent, no reply was taken, and no entry that came is of the seat;
+-- the hand may have changed
 pub record Passes (old new : Sight) : Type 0 where
   pub submitted : new.row.submitted ≡ old.row.submitted
   pub made : new.row.made ≡ old.row.made

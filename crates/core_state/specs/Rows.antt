@@ -1,11 +1,12 @@
--- What a seat knows of a core between two times that it has it: its row, and the entries that it has seen.
+-- What a seat knows of a core between two times that it has it: its row, and the
+-- entries that it has seen.
 use Rattle.std.specs.Prelude.{◌≡◌, ◌≢◌, ℕ, ◌==◌, List, [], ◌++◌, All, filter, map, Option, None}
 use Rattle.core_state.specs.Found.{held_by}
 use Rattle.core_state.specs.State.{Entry, Flight, Pending, State, Taken}
 use Rattle.core_state.specs.Submitting.{seat_at}
 
--- what stands in a core for a seat: the numbers of the statements that it submitted, and of those that made an entry, what it waits
--- for, the replies that it took, and the batch in its hand, whole
+-- what stands in a core for a seat: the numbers of the statements that it submitted, and of those
+-- that made an entry, what it waits for, the replies that it took, and the batch in its hand, whole
 pub record SeatRow : Type 0 where
   pub submitted : List ℕ
   pub made : List ℕ
@@ -40,7 +41,8 @@ pub record Sight : Type 0 where
 abbrev pub sight_of : State → (seat : ℕ) → Sight
 sight_of state seat = record { row = row_of state seat; seen = state.entries }
 
--- from a core that a seat has to one that it may leave to others: each other row is as it was, and its own are the entries that came
+-- from a core that a seat has to one that it may leave to others: each other row is as it was, and
+-- its own are the entries that came
 pub record IsMindful (seat : ℕ) (old new : State) : Type 0 where
   pub rows : (other : ℕ) → other ≢ seat → row_of new other ≡ row_of old other
   pub since : List Entry

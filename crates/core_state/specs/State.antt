@@ -16,8 +16,8 @@ pub record Entry : Type 0 where
   pub statement : ℕ
   pub change : Change
 
--- an accepted query: its number, which is that of its statement, its seat, the query, its snapshot, and what is kept of
--- its rows, as long as they may still be asked for
+-- an accepted query: its number, which is that of its statement, its seat, the query, its snapshot,
+-- and what is kept of its rows, as long as they may still be asked for
 pub record Accepted : Type 0 where
   pub number : ℕ
   pub seat : ℕ
@@ -25,8 +25,8 @@ pub record Accepted : Type 0 where
   pub snapshot : ℕ
   pub groups : Option Grouped
 
--- where the scan stands, the batches in flight in the order in which they were cut, how many frames are free for more,
--- and how many positions were cut in all
+-- where the scan stands, the batches in flight in the order in which they were cut, how many frames
+-- are free for more, and how many positions were cut in all
 pub record ScanState : Type 0 where
   pub position : ℕ
   pub flights : List Flight

@@ -6,14 +6,15 @@ use Rattle.core_state.specs.Events.{AreFed, IsEnabled, after_event, after_want}
 use Rattle.core_state.specs.State.{Awaited, State}
 use Rattle.core_state.specs.Submitting.{after_taking, next_ready, seat_at}
 
--- a step: an event for which there was memory, one for which memory was wanted, where these queries found none, or a reply
--- that a seat takes
+-- a step: an event for which there was memory, one for which memory was wanted, where these queries
+-- found none, or a reply that a seat takes
 pub data Step : Type 0 where
   Done : Event → Step
   Wanting : Event → (spoiled : List ℕ) → Step
   Replying : (seat : ℕ) → Step
 
--- which queries may find no memory at an event: at Distribute those that the batch brings rows; the others do not ask
+-- which queries may find no memory at an event: at Distribute those that the batch brings
+-- rows; the others do not ask
 abbrev pub MaySpoil : State → Event → (spoiled : List ℕ) → Type 0
 MaySpoil state (Distribute batch) spoiled = AreFed batch spoiled state
 MaySpoil state other spoiled = Unit {0}
@@ -42,4 +43,5 @@ after_steps steps state = fold (λ now step. after_step step now) state steps
 -- what a seat waits for as the reply to a statement of this number
 abbrev pub awaited_at : State → (seat statement : ℕ) → Option Awaited
 awaited_at state seat statement =
-    option_map (λ pending. pending.awaited) (find (λ pending. pending.statement == statement) (seat_at state seat).pending)
+    option_map (λ pending. pending.awaited)
+    (find (λ pending. pending.statement == statement) (seat_at state seat).pending)

@@ -1,5 +1,6 @@
--- Two queries over four sales, event by event: one counts all sales, and one, which starts in mid-table, those in Oslo; by batches
--- that are taken, and by batches that are carried. And one query over two dimensions, whose batches are carried through two filters.
+-- Two queries over four sales, event by event: one counts all sales, and one, which starts in
+-- mid-table, those in Oslo; by batches that are taken, and by batches that are carried. And one
+-- query over two dimensions, whose batches are carried through two filters.
 use Rattle.std.specs.Prelude.{ℕ, pos, List, [], ◌∷◌, map, fold, codes, None, Some}
 use Rattle.std.specs.Option.{option_map_or}
 use Rattle.star_values.specs.declared.value.Kind.TheVariants as kind
@@ -30,10 +31,12 @@ small = record { workers = 1; slots = 2; batch = 2; seats = 2 }
 abbrev pub after_events : List Event → State → State
 after_events events state = fold (λ before event. after_event event before) state events
 
--- commit 1 loads two stores, and commit 2 four sales; these were the first four statements of seat 0
+-- commit 1 loads two stores, and commit 2 four sales; these were the first
+-- four statements of seat 0
 abbrev pub loaded : State
 loaded =
-    let stores = (Int (pos 1) ∷ Str (codes "Oslo") ∷ []) ∷ (Int (pos 2) ∷ Str (codes "Rome") ∷ []) ∷ [] in
+    let stores =
+    (Int (pos 1) ∷ Str (codes "Oslo") ∷ []) ∷ (Int (pos 2) ∷ Str (codes "Rome") ∷ []) ∷ [] in
     let sold = sale 1 5 ∷ sale 2 1 ∷ sale 1 10 ∷ sale 2 3 ∷ [] in
     let first = with_change 0 1 (DimensionDeclared store) (empty_core small) in
     let second = with_change 0 2 (FactDeclared sales) first in
@@ -62,10 +65,12 @@ asking query state = after_outcome 0 (only_tells (Accepted query 2)) state
 abbrev pub first_cut : State
 first_cut = after_events (Reserve 5 0 ∷ Build 5 0 ∷ Start 5 ∷ Cut ∷ []) (asking all_sales loaded)
 
--- statement 6 is the second query: worker 0 takes the batch, the query starts in slot 1, and the batch is distributed
+-- statement 6 is the second query: worker 0 takes the batch, the query starts in slot 1, and
+-- the batch is distributed
 abbrev pub second_started : State
 second_started =
-    after_events (Reserve 6 1 ∷ Take 0 1 ∷ Build 6 0 ∷ Start 6 ∷ Give 0 ∷ Distribute 1 ∷ []) (asking oslo_sales first_cut)
+    after_events (Reserve 6 1 ∷ Take 0 1 ∷ Build 6 0 ∷ Start 6 ∷ Give 0 ∷ Distribute 1 ∷ [])
+    (asking oslo_sales first_cut)
 
 -- the second batch is cut, and the first query is ending
 abbrev pub second_cut : State
@@ -87,17 +92,22 @@ third_passed = after_events (Take 0 3 ∷ Clear 0 0 ∷ Give 0 ∷ []) third_cut
 abbrev pub both_answered : State
 both_answered = after_events (Release 0 ∷ Distribute 3 ∷ Finish 1 ∷ []) third_passed
 
--- the same with batches that are carried: seat 0 carries the first while the second query is built and starts
+-- the same with batches that are carried: seat 0 carries the first while the second
+-- query is built and starts
 abbrev pub first_carried : State
-first_carried = after_events (Reserve 6 1 ∷ Carry 0 1 ∷ Build 6 0 ∷ Start 6 ∷ []) (asking oslo_sales first_cut)
+first_carried =
+    after_events (Reserve 6 1 ∷ Carry 0 1 ∷ Build 6 0 ∷ Start 6 ∷ []) (asking oslo_sales first_cut)
 
 -- it comes home, and seat 1 carries the second batch
 abbrev pub second_carried : State
 second_carried = after_events (Give 0 ∷ Distribute 1 ∷ Cut ∷ Carry 1 2 ∷ []) first_carried
 
--- the second comes home, the first query is answered, and slot 0 is cleared while seat 0 carries the third batch
+-- the second comes home, the first query is answered, and slot 0 is cleared while seat
+-- 0 carries the third batch
 abbrev pub third_carried : State
-third_carried = after_events (Give 1 ∷ Distribute 2 ∷ Finish 0 ∷ Cut ∷ Carry 0 3 ∷ Clear 0 0 ∷ []) second_carried
+third_carried =
+    after_events (Give 1 ∷ Distribute 2 ∷ Finish 0 ∷ Cut ∷ Carry 0 3 ∷ Clear 0 0 ∷ [])
+    second_carried
 
 -- the third comes home, and both queries are answered
 abbrev pub both_carried : State
@@ -119,11 +129,14 @@ orders = record {
       ∷ record { name = codes "goods_id"; kind = kind.Int; target = Some 1 } ∷ [];
 }
 
--- commits 1 and 2 load two stores and two kinds of goods, and commit 3 four orders; these were the first six statements of seat 0
+-- commits 1 and 2 load two stores and two kinds of goods, and commit 3 four orders; these were the
+-- first six statements of seat 0
 abbrev pub ordered : State
 ordered =
-    let stores = (Int (pos 1) ∷ Str (codes "Oslo") ∷ []) ∷ (Int (pos 2) ∷ Str (codes "Rome") ∷ []) ∷ [] in
-    let kinds = (Int (pos 1) ∷ Str (codes "tea") ∷ []) ∷ (Int (pos 2) ∷ Str (codes "salt") ∷ []) ∷ [] in
+    let stores =
+    (Int (pos 1) ∷ Str (codes "Oslo") ∷ []) ∷ (Int (pos 2) ∷ Str (codes "Rome") ∷ []) ∷ [] in
+    let kinds =
+    (Int (pos 1) ∷ Str (codes "tea") ∷ []) ∷ (Int (pos 2) ∷ Str (codes "salt") ∷ []) ∷ [] in
     let sold = sale 1 1 ∷ sale 1 2 ∷ sale 2 1 ∷ sale 1 1 ∷ [] in
     let first = with_change 0 1 (DimensionDeclared store) (empty_core small) in
     let second = with_change 0 2 (DimensionDeclared goods) first in
@@ -133,11 +146,13 @@ ordered =
     let sixth = with_change 0 6 (Loaded Fact sold) fifth in
     record sixth { numbers = record sixth.numbers { statement = 6 } }
 
--- select count(*) from orders, store, goods where store_id = store.id and city = 'Oslo' and goods_id = goods.id and kind = 'tea'
+-- select count(*) from orders, store, goods where store_id = store.id and city = 'Oslo' and
+-- goods_id = goods.id and kind = 'tea'
 abbrev pub tea_in_oslo : Query
 tea_in_oslo = record {
   fact = None;
-  choices = Chosen (Compare 1 Eq (Str (codes "Oslo"))) ∷ Chosen (Compare 1 Eq (Str (codes "tea"))) ∷ [];
+  choices =
+      Chosen (Compare 1 Eq (Str (codes "Oslo"))) ∷ Chosen (Compare 1 Eq (Str (codes "tea"))) ∷ [];
   groups = [];
   items = CountAll ∷ [];
 }
@@ -159,7 +174,8 @@ order_turned = after_events (Give 1 ∷ Distribute 1 ∷ Cut ∷ Carry 0 2 ∷ R
 abbrev pub order_answered : State
 order_answered = after_events (Give 0 ∷ Distribute 2 ∷ Finish 0 ∷ []) order_turned
 
--- statement 8 asks the same again: it runs in slot 1, and seat 1 carries its first batch in the new order
+-- statement 8 asks the same again: it runs in slot 1, and seat 1 carries its
+-- first batch in the new order
 abbrev pub order_again : State
 order_again = after_events (Reserve 8 1 ∷ Build 8 0 ∷ Build 8 1 ∷ Start 8 ∷ Cut ∷ Carry 1 3 ∷ [])
     (after_outcome 0 (only_tells (Accepted tea_in_oslo 3)) order_answered)
@@ -171,7 +187,8 @@ in_hands state = map (λ flight. numbers_in_hand flight.hand) state.scan.flights
 -- the first position, the number of rows, the roster and the bits of each batch in flight
 abbrev pub flying : State → List (ℕ × ℕ × ℕ × List ℕ)
 flying state =
-    map (λ flight. (flight.rows.first, flight.rows.count, flight.rows.roster, flight.rows.bits)) state.scan.flights
+    map (λ flight. (flight.rows.first, flight.rows.count, flight.rows.roster, flight.rows.bits))
+    state.scan.flights
 
 -- what is kept for a query
 abbrev pub kept_for : State → (query : ℕ) → List (List Tally)

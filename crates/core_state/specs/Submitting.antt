@@ -1,4 +1,5 @@
--- What becomes of the core where a statement is submitted, its reply is taken, or its query is abandoned.
+-- What becomes of the core where a statement is submitted, its reply is taken,
+-- or its query is abandoned.
 use Rattle.std.specs.Prelude.{ℕ, ◌+◌, ◌==◌, List, [], ◌∷◌, ◌++◌, length, map, fold, take, slice_get, replicate, slice_set, slice_index_or, Option, Some, None, option_map, if◌then◌else◌}
 use Rattle.std.specs.Option.{option_and_then, option_map_or}
 use Rattle.script_reader.specs.declared.statement.Statement.{Statement}
@@ -35,7 +36,9 @@ with_statement statement told seat = record seat {
 -- the core of which a seat is changed
 abbrev pub with_seat : (seat : ℕ) → (Seat → Seat) → State → State
 with_seat seat change state =
-    record state { seats = slice_set state.seats seat (change (slice_index_or state.seats seat empty_seat)) }
+    record state {
+      seats = slice_set state.seats seat (change (slice_index_or state.seats seat empty_seat));
+    }
 
 -- the core with a filter for each of these dimensions, in the order of their numbers
 abbrev pub with_filters : (dimensions : List ℕ) → State → State
@@ -49,17 +52,21 @@ with_filters dimensions state = record state {
   numbers = record state.numbers { version = counted state.numbers.version (length dimensions) };
 }
 
--- the core with the filters that a change asks for: the fact table, as it is declared, has one for each dimension that
--- it references
+-- the core with the filters that a change asks for: the fact table, as it is declared, has one for
+-- each dimension that it references
 abbrev pub filters_by : Change → State → State
-filters_by (FactDeclared table) state = with_filters (filter_dimensions (tables_of state).schema) state
+filters_by (FactDeclared table) state =
+    with_filters (filter_dimensions (tables_of state).schema) state
 filters_by other state = state
 
 -- the core with the change of a statement
 abbrev pub with_change : (seat statement : ℕ) → Change → State → State
 with_change seat statement change state =
     filters_by change
-    (record state { entries = state.entries ++ record { seat = seat; statement = statement; change = change } ∷ [] })
+    (record state {
+      entries = state.entries
+          ++ record { seat = seat; statement = statement; change = change } ∷ [];
+    })
 
 -- the core with an accepted query, which waits
 abbrev pub with_query : (seat statement : ℕ) → Told → State → State
@@ -91,11 +98,13 @@ after_outcome seat found state =
 
 -- `submit`: the statement has its effect at once; a query waits with its snapshot and its extent
 abbrev pub after_submitting : (seat : ℕ) → Statement → State → State
-after_submitting seat statement state = after_outcome seat (outcome_of (tables_of state) statement) state
+after_submitting seat statement state =
+    after_outcome seat (outcome_of (tables_of state) statement) state
 
 -- a query of which nothing is kept any more
 abbrev pub forgotten : (query : ℕ) → Accepted → Accepted
-forgotten query accepted = if accepted.number == query then record accepted { groups = None } else accepted
+forgotten query accepted =
+    if accepted.number == query then record accepted { groups = None } else accepted
 
 -- `abandon`: nobody waits for the query, and nothing is kept of its rows
 abbrev pub after_abandoning : (query : ℕ) → State → State
@@ -112,7 +121,8 @@ pub data Ready : Type 0 where
 
 -- the groups that are kept for a query
 abbrev pub groups_in : State → (query : ℕ) → Option Grouped
-groups_in state query = option_map_or (λ accepted. accepted.groups) (accepted_at state.accepted query) None
+groups_in state query =
+    option_map_or (λ accepted. accepted.groups) (accepted_at state.accepted query) None
 
 -- what a query with this life replies, where it replies yet
 abbrev pub ready_by : State → (query snapshot : ℕ) → Life → Option Ready
@@ -133,14 +143,18 @@ seat_at state seat = slice_index_or state.seats seat empty_seat
 -- the reply that a seat may take: that to the first statement that it waits for
 abbrev pub next_ready : State → (seat : ℕ) → Option Ready
 next_ready state seat =
-    option_and_then (λ pending. ready_to state pending.statement pending.awaited) (slice_get (seat_at state seat).pending 0)
+    option_and_then (λ pending. ready_to state pending.statement pending.awaited)
+    (slice_get (seat_at state seat).pending 0)
 
 -- nothing is kept any more of the queries of these statements
 abbrev pub without_groups : List Pending → List Accepted → List Accepted
-without_groups pending accepted = fold (λ kept asked. map (forgotten asked.statement) kept) accepted pending
+without_groups pending accepted =
+    fold (λ kept asked. map (forgotten asked.statement) kept) accepted pending
 
 -- the reply of a seat's first statement is taken
 abbrev pub after_taking : (seat : ℕ) → State → State
 after_taking seat state =
     with_seat seat with_taken
-    (record state { accepted = without_groups (take 1 (seat_at state seat).pending) state.accepted })
+    (record state {
+      accepted = without_groups (take 1 (seat_at state seat).pending) state.accepted;
+    })

@@ -25,7 +25,8 @@ tables_of state = tables_by state.entries
 abbrev pub versions_in : State → ℕ
 versions_in state = length (tables_of state).versions
 
--- the key number of a fact row for a dimension: the place of the row with its foreign key, and 0 where it has none
+-- the key number of a fact row for a dimension: the place of the row with its foreign
+-- key, and 0 where it has none
 abbrev pub key_number : Store → List cell.Value → (dimension : ℕ) → ℕ
 key_number store = number_by_key store.schema store.dimensions
 

@@ -22,7 +22,8 @@ pub enum Event {
     /// A worker takes a batch, with the present version of the filter that it meets next.
     Take { worker: u32, batch: u64 },
 
-    /// A worker takes a batch, with the present versions of all filters that it did not pass, in their present order.
+    /// A worker takes a batch, with the present versions of all filters that it did not
+    /// pass, in their present order.
     Carry { worker: u32, batch: u64 },
 
     /// A worker gives back its batch, which has passed the versions in its hand.

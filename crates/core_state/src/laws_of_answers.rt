@@ -18,16 +18,17 @@ use star_history::{accepted_histories_are_settled, later_changes_are_not_seen};
 use star_plan::answers_ignore_the_order_of_rows;
 use star_statement::outcomes_fit_the_tables;
 
-/// What a seat may take is right: the reply that it was told, `memory` to a query that found none, and to an
-/// answered query groups that answer it as it is alone at its snapshot; such groups are kept for every
-/// answered query until its reply is taken. A seat has to wait for a query that may still be answered, and for
-/// nothing else.
+/// What a seat may take is right: the reply that it was told, `memory` to a query that found none,
+/// and to an answered query groups that answer it as it is alone at its snapshot; such groups are
+/// kept for every answered query until its reply is taken. A seat has to wait for a query that may
+/// still be answered, and for nothing else.
 pub fn a_reply_that_may_be_taken_is_right()
     ensures right { (state : State) (seat : ℕ) (pending : Pending) (ready : Ready) → IsSound state →
-        slice_get (seat_at state seat).pending 0 ≡ Some pending → next_ready state seat ≡ Some ready →
+        slice_get (seat_at state seat).pending 0 ≡ Some pending →
+        next_ready state seat ≡ Some ready →
         IsRight state pending.statement pending.awaited ready }
-    ensures kept { (state : State) (accepted : Accepted) → IsSound state → Contains state.accepted accepted →
-        life_of state.lives accepted.number ≡ Some Answered →
+    ensures kept { (state : State) (accepted : Accepted) → IsSound state →
+        Contains state.accepted accepted → life_of state.lives accepted.number ≡ Some Answered →
         ((accepted.groups ≡ None) × HasTaken state.seats accepted)
         ⊎ ((groups : Grouped) × (accepted.groups ≡ Some groups)
         × AnswersAlone (tables_of state) accepted.query accepted.snapshot groups) }
@@ -41,9 +42,10 @@ pub fn a_reply_that_may_be_taken_is_right()
 
 /// No later step changes the answer of a query alone at a snapshot that came before it.
 pub fn later_steps_change_no_answer()
-    ensures { (steps : List Step) (state : State) (query : Query) (snapshot : ℕ) → MayStepAll state steps →
-        IsSound state → snapshot ≤ (tables_of state).commits →
-        alone (tables_of (after_steps steps state)) query snapshot ≡ alone (tables_of state) query snapshot }
+    ensures { (steps : List Step) (state : State) (query : Query) (snapshot : ℕ) →
+        MayStepAll state steps → IsSound state → snapshot ≤ (tables_of state).commits →
+        alone (tables_of (after_steps steps state)) query snapshot
+        ≡ alone (tables_of state) query snapshot }
 {
     accepted_histories_are_settled();
     later_changes_are_not_seen();

@@ -15,15 +15,19 @@ ghost use Rattle.core_state.specs.Submitting.{after_abandoning, after_taking, gr
 ghost use Rattle.core_state.specs.declared.event.Event.{Event};
 ghost use Rattle.core_state.specs.declared.settings.RunSettings.{RunSettings};
 
-/// What a distributor of the core has at each slot, through the events: nothing of an empty core; Start attaches
-/// the groups of no rows at the slot of a query that begins its lap, where nothing was; Finish and Abandon detach what the
-/// query of the slot had; what is detached as a query is answered is what the core keeps as its answer; the other events
-/// leave all as it is, also where memory is wanted for a filter, and so does a reply that is taken.
+/// What a distributor of the core has at each slot, through the events: nothing of an empty core;
+/// Start attaches the groups of no rows at the slot of a query that begins its lap, where nothing
+/// was; Finish and Abandon detach what the query of the slot had; what is detached as a query is
+/// answered is what the core keeps as its answer; the other events leave all as it is, also where
+/// memory is wanted for a filter, and so does a reply that is taken.
 pub fn a_distributor_follows_the_core()
-    ensures empty { (settings : RunSettings) → attached_to (empty_core settings) ≡ replicate settings.slots None }
-    ensures start { (state : State) (query slot : ℕ) (accepted : Accepted) → IsSound state → CanRun query state.lives →
-        slot_of state.lives query ≡ Some slot → accepted_at state.accepted query ≡ Some accepted →
-        (attached_to (after_start query state) ≡ slice_set (attached_to state) slot (Some (grouped_of accepted.query [])))
+    ensures empty { (settings : RunSettings) →
+        attached_to (empty_core settings) ≡ replicate settings.slots None }
+    ensures start { (state : State) (query slot : ℕ) (accepted : Accepted) → IsSound state →
+        CanRun query state.lives → slot_of state.lives query ≡ Some slot →
+        accepted_at state.accepted query ≡ Some accepted →
+        (attached_to (after_start query state)
+        ≡ slice_set (attached_to state) slot (Some (grouped_of accepted.query [])))
         × (slice_get (attached_to state) slot ≡ Some None) }
     ensures finish { (state : State) (slot : ℕ) → IsSound state → MayFinish slot state →
         attached_to (after_finish slot state) ≡ slice_set (attached_to state) slot None }
@@ -35,8 +39,10 @@ pub fn a_distributor_follows_the_core()
         × (groups_in (after_finish slot state) query ≡ accepted.groups)
         × (life_of (after_finish slot state).lives query ≡ Some Answered) }
     ensures abandon { (state : State) (query : ℕ) → IsSound state → CanAbandon query state.lives →
-        attached_to (after_abandoning query state) ≡ detached_for state.lives query (attached_to state) }
-    ensures others { (state : State) (event : Event) → IsSound state → IsEnabled state event → LeavesAttached event →
+        attached_to (after_abandoning query state)
+        ≡ detached_for state.lives query (attached_to state) }
+    ensures others { (state : State) (event : Event) → IsSound state → IsEnabled state event →
+        LeavesAttached event →
         attached_to (after_event event state) ≡ attached_to state }
     ensures wants { (state : State) (query dimension : ℕ) → CanBuild query dimension state.lives →
         attached_to (after_build_wants query state) ≡ attached_to state }

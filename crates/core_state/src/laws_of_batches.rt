@@ -21,19 +21,22 @@ pub fn a_carried_batch_keeps_a_core_sound()
         IsSound (after_carry worker batch state) }
 {}
 
-/// A batch that a worker gives back keeps a core sound: each bit that is left of it says what its query keeps,
-/// as far as the batch has passed filters.
+/// A batch that a worker gives back keeps a core sound: each bit that is left of it says what its
+/// query keeps, as far as the batch has passed filters.
 pub fn a_given_batch_keeps_a_core_sound()
-    ensures { (worker : ℕ) (state : State) → IsSome (held_by state.scan.flights worker) → IsSound state →
+    ensures { (worker : ℕ) (state : State) → IsSome (held_by state.scan.flights worker) →
+        IsSound state →
         IsSound (after_give worker state) }
 {
     accepted_histories_are_settled();
 }
 
-/// A batch that is distributed keeps a core sound, whichever of the queries that get its rows find no
-/// memory for them: what is kept of each other query is what it keeps of the rows that were folded.
+/// A batch that is distributed keeps a core sound, whichever of the queries that get its
+/// rows find no memory for them: what is kept of each other query is what it keeps of
+/// the rows that were folded.
 pub fn a_distributed_batch_keeps_a_core_sound()
-    ensures { (batch : ℕ) (spoiled : List ℕ) (state : State) → MayDistribute batch state → AreFed batch spoiled state →
+    ensures { (batch : ℕ) (spoiled : List ℕ) (state : State) → MayDistribute batch state →
+        AreFed batch spoiled state →
         IsSound state → IsSound (after_distribute batch spoiled state) }
 {
     one_row_more_is_folded();

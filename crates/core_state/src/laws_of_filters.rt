@@ -7,12 +7,14 @@ ghost use Rattle.core_state.specs.State.{State};
 
 /// A filter that is built for a query keeps a core sound.
 pub fn a_build_keeps_a_core_sound()
-    ensures { (query dimension : ℕ) (state : State) → CanBuild query dimension state.lives → IsSound state →
+    ensures { (query dimension : ℕ) (state : State) → CanBuild query dimension state.lives →
+        IsSound state →
         IsSound (after_build query dimension state) }
 {}
 
 /// A filter that is cleared of a slot keeps a core sound.
 pub fn a_clearing_keeps_a_core_sound()
-    ensures { (slot dimension : ℕ) (state : State) → CanClear slot dimension state.lives → IsSound state →
+    ensures { (slot dimension : ℕ) (state : State) → CanClear slot dimension state.lives →
+        IsSound state →
         IsSound (after_clear slot dimension state) }
 {}

@@ -18,11 +18,13 @@ ghost use Rattle.core_state.specs.Tables.{tables_of};
 use aggregations::{one_row_more_is_folded, values_by_key_fold_the_same};
 use star_history::accepted_histories_are_settled;
 
-/// The rows of a batch that go into the groups of a query on its roster, read by key numbers, are those that
-/// the core folds, joined by keys.
+/// The rows of a batch that go into the groups of a query on its roster, read by key numbers, are
+/// those that the core folds, joined by keys.
 pub fn a_distributor_folds_what_the_core_folds()
-    ensures { (state : State) (tables : KeyedStore) (dims : List (Roomy DimensionRow)) (flight : Flight) (entry : OnRoster) (rows : List Joined) →
-        IsSound state → AreKeyedTablesOf state tables dims → Contains state.scan.flights flight → Contains flight.roster entry →
+    ensures { (state : State) (tables : KeyedStore) (dims : List (Roomy DimensionRow))
+        (flight : Flight) (entry : OnRoster) (rows : List Joined) → IsSound state →
+        AreKeyedTablesOf state tables dims → Contains state.scan.flights flight →
+        Contains flight.roster entry →
         with_batch dims flight.rows tables.versions entry.slot (grouped_of entry.query rows)
         ≡ with_rows (rows_for (tables_of state) flight.rows entry) (grouped_of entry.query rows) }
 {
@@ -30,35 +32,44 @@ pub fn a_distributor_folds_what_the_core_folds()
     values_by_key_fold_the_same();
 }
 
-/// What a distributor has after a batch, where some slots found no memory, is what the core keeps after it, where
-/// the queries of these slots found none; so too where it has more than the core keeps. Each of these queries gets
-/// rows of the batch, and where no slot was without memory there is none.
+/// What a distributor has after a batch, where some slots found no memory, is what the core
+/// keeps after it, where the queries of these slots found none; so too where it has more than
+/// the core keeps. Each of these queries gets rows of the batch, and where no slot was
+/// without memory there is none.
 pub fn spoiled_slots_are_spoiled_queries()
-    ensures groups { (state : State) (tables : KeyedStore) (dims : List (Roomy DimensionRow)) (batch : ℕ) (flight : Flight) (spoiled : ℕ) →
-        IsSound state → AreKeyedTablesOf state tables dims → flight_at state.scan.flights batch ≡ Some flight →
+    ensures groups { (state : State) (tables : KeyedStore) (dims : List (Roomy DimensionRow))
+        (batch : ℕ) (flight : Flight) (spoiled : ℕ) → IsSound state →
+        AreKeyedTablesOf state tables dims → flight_at state.scan.flights batch ≡ Some flight →
         after_batch dims flight.rows tables.versions spoiled (attached_to state)
         ≡ attached_to (after_distribute batch (fed_in state spoiled) state) }
-    ensures others { (state : State) (tables : KeyedStore) (dims : List (Roomy DimensionRow)) (batch : ℕ) (flight : Flight) (spoiled : ℕ)
+    ensures others { (state : State) (tables : KeyedStore) (dims : List (Roomy DimensionRow))
+        (batch : ℕ) (flight : Flight) (spoiled : ℕ)
         (attached : List (Option Grouped)) →
-        IsSound state → AreKeyedTablesOf state tables dims → flight_at state.scan.flights batch ≡ Some flight →
-        HasWhatIsKept state attached →
-        HasWhatIsKept (after_distribute batch (fed_in state spoiled) state) (after_batch dims flight.rows tables.versions spoiled attached) }
+        IsSound state → AreKeyedTablesOf state tables dims →
+        flight_at state.scan.flights batch ≡ Some flight → HasWhatIsKept state attached →
+        HasWhatIsKept (after_distribute batch (fed_in state spoiled) state)
+        (after_batch dims flight.rows tables.versions spoiled attached) }
     ensures fed { (state : State) (batch : ℕ) (flight : Flight) (spoiled : ℕ) →
-        IsSound state → flight_at state.scan.flights batch ≡ Some flight → HaveRows spoiled flight.rows.bits →
+        IsSound state → flight_at state.scan.flights batch ≡ Some flight →
+        HaveRows spoiled flight.rows.bits →
         AreFed batch (fed_in state spoiled) state }
     ensures none { (state : State) → fed_in state 0 ≡ [] }
 {
     a_distributor_folds_what_the_core_folds();
 }
 
-/// What is kept of a query has room for the rows of each batch in flight, whose positions are in the table.
+/// What is kept of a query has room for the rows of each batch in flight, whose
+/// positions are in the table.
 pub fn folded_rows_are_few()
-    ensures within { (state : State) (tables : KeyedStore) (dims : List (Roomy DimensionRow)) (flight : Flight) → IsSound state →
-        AreKeyedTablesOf state tables dims → Contains state.scan.flights flight →
+    ensures within { (state : State) (tables : KeyedStore) (dims : List (Roomy DimensionRow))
+        (flight : Flight) →
+        IsSound state → AreKeyedTablesOf state tables dims → Contains state.scan.flights flight →
         flight.rows.first + flight.rows.count ≤ length tables.versions }
     ensures kept { (state : State) (flight : Flight) (accepted : Accepted) → IsSound state →
-        Contains state.scan.flights flight → Contains state.accepted accepted → HaveRoom flight.rows.count accepted.groups }
-    ensures attached { (state : State) (flight : Flight) → IsSound state → Contains state.scan.flights flight →
+        Contains state.scan.flights flight → Contains state.accepted accepted →
+        HaveRoom flight.rows.count accepted.groups }
+    ensures attached { (state : State) (flight : Flight) → IsSound state →
+        Contains state.scan.flights flight →
         All (HaveRoom flight.rows.count) (attached_to state) }
 {
     accepted_histories_are_settled();

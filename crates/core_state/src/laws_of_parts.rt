@@ -27,82 +27,99 @@ ghost use Rattle.core_state.specs.declared.settings.RunSettings.{RunSettings};
 use star_history::{accepted_histories_are_settled, key_numbers_are_found_by_keys};
 use star_plan::rows_fit_by_their_kinds;
 
-/// A scan that has what runs in the core, and tables with key numbers that are the core's: the scan may cut, some query
-/// runs in it, it cuts the positions and the batch that the core cuts, and has what runs in the core behind that cut.
+/// A scan that has what runs in the core, and tables with key numbers that are the core's: the scan
+/// may cut, some query runs in it, it cuts the positions and the batch that the core cuts, and has
+/// what runs in the core behind that cut.
 pub fn a_scan_cuts_what_the_core_cuts()
-    ensures may { (state : State) (scan : Scanning) (keyed : KeyedStore) → IsSound state → IsScannedAs state scan →
-        AreTablesOf state keyed → AreInStep scan × CanCut (length keyed.versions) state.settings.batch scan }
-    ensures tests { (state : State) (scan : Scanning) (keyed : KeyedStore) → IsSound state → IsScannedAs state scan →
-        AreTablesOf state keyed → All (CanTestAll scan.running) keyed.versions }
-    ensures room { (state : State) → state.settings.batch * (1 + KEYS_IN_A_ROW) ≤ frame_words state }
-    ensures runs { (state : State) (scan : Scanning) → MayCut state → IsSound state → IsScannedAs state scan →
-        IsTrue (some_run scan.running) }
-    ensures range { (state : State) (scan : Scanning) (keyed : KeyedStore) → IsSound state → IsScannedAs state scan →
+    ensures may { (state : State) (scan : Scanning) (keyed : KeyedStore) → IsSound state →
+        IsScannedAs state scan →
         AreTablesOf state keyed →
+        AreInStep scan × CanCut (length keyed.versions) state.settings.batch scan }
+    ensures tests { (state : State) (scan : Scanning) (keyed : KeyedStore) → IsSound state →
+        IsScannedAs state scan →
+        AreTablesOf state keyed → All (CanTestAll scan.running) keyed.versions }
+    ensures room { (state : State) →
+        state.settings.batch * (1 + KEYS_IN_A_ROW) ≤ frame_words state }
+    ensures runs { (state : State) (scan : Scanning) → MayCut state → IsSound state →
+        IsScannedAs state scan →
+        IsTrue (some_run scan.running) }
+    ensures range { (state : State) (scan : Scanning) (keyed : KeyedStore) → IsSound state →
+        IsScannedAs state scan → AreTablesOf state keyed →
         (scanned.first_in (length keyed.versions) scan ≡ first_in state)
         × (scanned.end_in (length keyed.versions) state.settings.batch scan ≡ end_in state) }
-    ensures batch { (state : State) (scan : Scanning) (keyed : KeyedStore) → IsSound state → IsScannedAs state scan →
-        AreTablesOf state keyed →
-        let number = next_number state.numbers.batch (map (λ flight. flight.rows.number) state.scan.flights) in
-        batch_of state.settings.batch number (frame_words state) scan keyed.versions ≡ rows_to_cut state }
-    ensures after { (state : State) (scan : Scanning) (keyed : KeyedStore) → MayCut state → IsSound state →
+    ensures batch { (state : State) (scan : Scanning) (keyed : KeyedStore) → IsSound state →
         IsScannedAs state scan → AreTablesOf state keyed →
-        IsScannedAs (after_cutting state) (scanned.after_cut (length keyed.versions) state.settings.batch scan) }
+        let number = next_number state.numbers.batch
+        (map (λ flight. flight.rows.number) state.scan.flights) in
+        batch_of state.settings.batch number (frame_words state) scan keyed.versions
+        ≡ rows_to_cut state }
+    ensures after { (state : State) (scan : Scanning) (keyed : KeyedStore) → MayCut state →
+        IsSound state → IsScannedAs state scan → AreTablesOf state keyed →
+        IsScannedAs (after_cutting state)
+        (scanned.after_cut (length keyed.versions) state.settings.batch scan) }
 {
     accepted_histories_are_settled();
     key_numbers_are_found_by_keys();
     rows_fit_by_their_kinds();
 }
 
-/// A query that starts in the core may start in the slot that it holds, and the scan has it as the core has it; one that
-/// has no position to come leaves the scan as it is.
+/// A query that starts in the core may start in the slot that it holds, and the scan has it as the
+/// core has it; one that has no position to come leaves the scan as it is.
 pub fn a_scan_starts_what_the_core_starts()
-    ensures may { (state : State) (scan : Scanning) (keyed : KeyedStore) (query slot : ℕ) (accepted : Accepted) →
-        IsSound state → CanRun query state.lives → IsScannedAs state scan → AreTablesOf state keyed →
-        slot_of state.lives query ≡ Some slot → accepted_at state.accepted query ≡ Some accepted →
-        extent_in state.lives.queries query ≢ 0 →
+    ensures may { (state : State) (scan : Scanning) (keyed : KeyedStore) (query slot : ℕ)
+        (accepted : Accepted) → IsSound state → CanRun query state.lives → IsScannedAs state scan →
+        AreTablesOf state keyed → slot_of state.lives query ≡ Some slot →
+        accepted_at state.accepted query ≡ Some accepted → extent_in state.lives.queries query ≢ 0 →
         CanStart slot (extent_in state.lives.queries query) (length keyed.versions) scan }
-    ensures some { (state : State) (scan : Scanning) (keyed : KeyedStore) (query slot : ℕ) (accepted : Accepted) (asked : StarQuery) →
-        IsSound state → CanRun query state.lives → IsScannedAs state scan → AreTablesOf state keyed →
-        slot_of state.lives query ≡ Some slot → accepted_at state.accepted query ≡ Some accepted →
-        query_of asked ≡ accepted.query → extent_in state.lives.queries query ≢ 0 →
+    ensures some { (state : State) (scan : Scanning) (keyed : KeyedStore) (query slot : ℕ)
+        (accepted : Accepted) (asked : StarQuery) → IsSound state → CanRun query state.lives →
+        IsScannedAs state scan → AreTablesOf state keyed → slot_of state.lives query ≡ Some slot →
+        accepted_at state.accepted query ≡ Some accepted → query_of asked ≡ accepted.query →
+        extent_in state.lives.queries query ≢ 0 →
         IsScannedAs (after_start query state)
-        (scanned.after_start slot asked accepted.snapshot (extent_in state.lives.queries query) (length keyed.versions) scan) }
+        (scanned.after_start slot asked accepted.snapshot
+        (extent_in state.lives.queries query) (length keyed.versions) scan) }
     ensures none { (state : State) (scan : Scanning) (query slot : ℕ) →
         IsSound state → CanRun query state.lives → IsScannedAs state scan →
         slot_of state.lives query ≡ Some slot → extent_in state.lives.queries query ≡ 0 →
         IsScannedAs (after_start query state) scan }
 {}
 
-/// Where a query that holds a slot has no answer any more, the scan that stops what runs in the slot has what runs in the
-/// core; where it holds none, the scan has it as it is.
+/// Where a query that holds a slot has no answer any more, the scan that stops what runs in the
+/// slot has what runs in the core; where it holds none, the scan has it as it is.
 pub fn a_scan_stops_what_the_core_stops()
     ensures may { (state : State) (scan : Scanning) (query slot : ℕ) → IsScannedAs state scan →
         slot_of state.lives query ≡ Some slot → slot < length scan.running }
-    ensures spoiled { (state : State) (scan : Scanning) (query slot : ℕ) → IsSound state → IsScannedAs state scan →
-        slot_of state.lives query ≡ Some slot →
-        IsScannedAs (record state { lives = after_spoil query state.lives }) (scanned.after_stop slot scan) }
-    ensures abandoned { (state : State) (scan : Scanning) (query slot : ℕ) → IsSound state → IsScannedAs state scan →
-        slot_of state.lives query ≡ Some slot →
-        IsScannedAs (record state { lives = after_abandon query state.lives }) (scanned.after_stop slot scan) }
-    ensures unheld { (state : State) (scan : Scanning) (query : ℕ) → IsSound state → IsScannedAs state scan →
-        slot_of state.lives query ≡ None →
+    ensures spoiled { (state : State) (scan : Scanning) (query slot : ℕ) → IsSound state →
+        IsScannedAs state scan → slot_of state.lives query ≡ Some slot →
+        IsScannedAs (record state { lives = after_spoil query state.lives })
+        (scanned.after_stop slot scan) }
+    ensures abandoned { (state : State) (scan : Scanning) (query slot : ℕ) → IsSound state →
+        IsScannedAs state scan → slot_of state.lives query ≡ Some slot →
+        IsScannedAs (record state { lives = after_abandon query state.lives })
+        (scanned.after_stop slot scan) }
+    ensures unheld { (state : State) (scan : Scanning) (query : ℕ) → IsSound state →
+        IsScannedAs state scan → slot_of state.lives query ≡ None →
         IsScannedAs (record state { lives = after_spoil query state.lives }) scan
         × IsScannedAs (record state { lives = after_abandon query state.lives }) scan }
-    ensures abandoning { (state : State) (scan : Scanning) (query : ℕ) → IsSound state → CanAbandon query state.lives →
-        IsScannedAs state scan → IsScannedAs (after_abandoning query state) (stopped_for state.lives query scan) }
-    ensures distributing { (state : State) (scan : Scanning) (batch : ℕ) (spoiled : List ℕ) → IsSound state →
-        IsSome (flight_at state.scan.flights batch) → IsScannedAs state scan →
+    ensures abandoning { (state : State) (scan : Scanning) (query : ℕ) → IsSound state →
+        CanAbandon query state.lives →
+        IsScannedAs state scan →
+        IsScannedAs (after_abandoning query state) (stopped_for state.lives query scan) }
+    ensures distributing { (state : State) (scan : Scanning) (batch : ℕ) (spoiled : List ℕ) →
+        IsSound state → IsSome (flight_at state.scan.flights batch) → IsScannedAs state scan →
         IsScannedAs (after_distribute batch spoiled state)
         (fold (λ now query. stopped_for state.lives query now) scan spoiled) }
 {}
 
-/// Every other event leaves a scan that has what runs in the core as one that has it, also where memory is wanted, and
-/// so does a reply that is taken.
+/// Every other event leaves a scan that has what runs in the core as one that has it, also where
+/// memory is wanted, and so does a reply that is taken.
 pub fn other_events_leave_a_scan()
-    ensures event { (state : State) (scan : Scanning) (event : Event) → IsSound state → IsEnabled state event →
+    ensures event { (state : State) (scan : Scanning) (event : Event) → IsSound state →
+        IsEnabled state event →
         LeavesScan event → IsScannedAs state scan → IsScannedAs (after_event event state) scan }
-    ensures wants { (state : State) (scan : Scanning) (query dimension : ℕ) → CanBuild query dimension state.lives →
+    ensures wants { (state : State) (scan : Scanning) (query dimension : ℕ) →
+        CanBuild query dimension state.lives →
         IsScannedAs state scan → IsScannedAs (after_build_wants query state) scan }
     ensures taken { (state : State) (scan : Scanning) (seat : ℕ) → IsScannedAs state scan →
         IsScannedAs (after_taking seat state) scan }
@@ -110,5 +127,6 @@ pub fn other_events_leave_a_scan()
 
 /// A new scan has what runs in an empty core: nothing.
 pub fn a_new_scan_is_that_of_an_empty_core()
-    ensures { (settings : RunSettings) → IsScannedAs (empty_core settings) (new_scan settings.slots) }
+    ensures { (settings : RunSettings) →
+        IsScannedAs (empty_core settings) (new_scan settings.slots) }
 {}

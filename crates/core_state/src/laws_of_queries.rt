@@ -12,7 +12,8 @@ pub fn an_abandoned_query_keeps_a_core_sound()
         IsSound (after_abandoning query state) }
 {}
 
-/// A query that finds no memory keeps a core sound: nothing is kept of its rows, and its seat still waits.
+/// A query that finds no memory keeps a core sound: nothing is kept of its rows,
+/// and its seat still waits.
 pub fn a_query_without_memory_keeps_a_core_sound()
     ensures { (query : ℕ) (state : State) → CanSpoil query state.lives → IsSound state →
         IsSound (after_build_wants query state) }

@@ -24,10 +24,11 @@ use crate::laws_of_slots::{
 use crate::laws_of_statements::a_statement_keeps_a_core_sound;
 use crate::laws_of_the_scan::a_cut_keeps_a_core_sound;
 
-/// Each step keeps a core sound: each event that may come, whether there is memory for it or not, and each
-/// reply that is taken.
+/// Each step keeps a core sound: each event that may come, whether there is memory for it or not,
+/// and each reply that is taken.
 pub fn every_step_keeps_a_core_sound()
-    ensures { (step : Step) (state : State) → MayStep state step → IsSound state → IsSound (after_step step state) }
+    ensures { (step : Step) (state : State) → MayStep state step → IsSound state →
+        IsSound (after_step step state) }
 {
     a_statement_keeps_a_core_sound();
     a_reservation_keeps_a_core_sound();
@@ -47,7 +48,8 @@ pub fn every_step_keeps_a_core_sound()
     a_taken_reply_keeps_a_core_sound();
 }
 
-/// Whatever steps came one after the other, from no tables on, the core is sound; and so from any sound core.
+/// Whatever steps came one after the other, from no tables on, the core is sound;
+/// and so from any sound core.
 pub fn every_core_is_sound()
     ensures on { (steps : List Step) (state : State) → MayStepAll state steps → IsSound state →
         IsSound (after_steps steps state) }

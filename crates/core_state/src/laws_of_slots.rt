@@ -18,8 +18,8 @@ pub fn a_start_keeps_a_core_sound()
         IsSound (after_start query state) }
 {}
 
-/// A slot that is taken from its query keeps a core sound. A query that was Ending is Answered: what is
-/// kept for it is then what its rows give.
+/// A slot that is taken from its query keeps a core sound. A query that was Ending is Answered:
+/// what is kept for it is then what its rows give.
 pub fn a_finish_keeps_a_core_sound()
     ensures { (slot : ℕ) (state : State) → MayFinish slot state → IsSound state →
         IsSound (after_finish slot state) }

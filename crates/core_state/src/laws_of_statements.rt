@@ -13,8 +13,8 @@ use crate::laws_of_tables::a_change_of_rows_keeps_what_is_kept;
 use star_history::accepted_histories_are_settled;
 use star_statement::outcomes_fit_the_tables;
 
-/// A declaration that the tables take leaves everything sound that a core keeps beside its seats; that of
-/// the fact table makes its filters.
+/// A declaration that the tables take leaves everything sound that a core keeps beside its seats;
+/// that of the fact table makes its filters.
 pub fn a_declaration_keeps_what_is_kept()
     ensures { (seat statement : ℕ) (change : Change) (state : State) → (IsOfRows change → ⊥) →
         Accepts (tables_of state) change → IsSound state →
@@ -25,7 +25,8 @@ pub fn a_declaration_keeps_what_is_kept()
 
 /// A statement that a seat submits keeps a core sound, whatever it is and whatever is told of it.
 pub fn a_statement_keeps_a_core_sound()
-    ensures { (seat : ℕ) (statement : Statement) (state : State) → seat < length state.seats → IsSound state →
+    ensures { (seat : ℕ) (statement : Statement) (state : State) → seat < length state.seats →
+        IsSound state →
         IsSound (after_submitting seat statement state) }
 {
     a_change_of_rows_keeps_what_is_kept();

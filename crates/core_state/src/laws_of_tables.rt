@@ -9,10 +9,12 @@ ghost use Rattle.core_state.specs.Tables.{tables_of};
 
 use star_history::{accepted_histories_are_settled, later_changes_are_not_seen};
 
-/// Rows that are loaded, and versions that are ended, leave everything sound that a core keeps beside its seats.
+/// Rows that are loaded, and versions that are ended, leave everything sound that a
+/// core keeps beside its seats.
 pub fn a_change_of_rows_keeps_what_is_kept()
     ensures { (seat statement : ℕ) (change : Change) (state : State) → IsOfRows change →
-        Accepts (tables_of state) change → IsSound state → IsSoundBeside (with_entry seat statement change state) }
+        Accepts (tables_of state) change → IsSound state →
+        IsSoundBeside (with_entry seat statement change state) }
 {
     accepted_histories_are_settled();
     later_changes_are_not_seen();

@@ -16,8 +16,8 @@ ghost use Rattle.core_state.specs.declared.settings.RunSettings.{RunSettings};
 use crate::laws_of_runs::every_core_is_sound;
 use star_history::accepted_histories_are_settled;
 
-/// The changes of a history follow from its tables and the kinds of its changes, where each delete names
-/// its positions ascending.
+/// The changes of a history follow from its tables and the kinds of its changes, where each delete
+/// names its positions ascending.
 pub fn changes_follow_from_the_tables()
     ensures { (history : List Change) → AcceptsAll empty_store history → All EndsAscending history →
         changes_told (store_of history) 0 1 (map kind_of_change history) ≡ history }
@@ -31,9 +31,11 @@ pub fn deletes_name_ascending_positions()
         IfSome (outcome_of store statement).change EndsAscending }
 {}
 
-/// The history of every core follows from its tables and the kinds of its changes, whatever steps led to it.
+/// The history of every core follows from its tables and the kinds of its changes,
+/// whatever steps led to it.
 pub fn every_history_follows_from_its_tables()
-    ensures { (settings : RunSettings) (steps : List Step) → AreWithin settings → MayStepAll (empty_core settings) steps →
+    ensures { (settings : RunSettings) (steps : List Step) → AreWithin settings →
+        MayStepAll (empty_core settings) steps →
         changes_told (tables_of (after_steps steps (empty_core settings))) 0 1
         (map kind_of_change (changes_of (after_steps steps (empty_core settings)).entries))
         ≡ changes_of (after_steps steps (empty_core settings)).entries }

@@ -6,8 +6,8 @@ ghost use Rattle.core_state.specs.State.{State};
 
 use star_history::accepted_histories_are_settled;
 
-/// A batch that the scan cuts keeps a core sound: it has the bits and keys of its rows, and less is left of each
-/// query that runs.
+/// A batch that the scan cuts keeps a core sound: it has the bits and keys of its rows, and less is
+/// left of each query that runs.
 pub fn a_cut_keeps_a_core_sound()
     ensures { (state : State) → MayCut state → IsSound state → IsSound (after_cutting state) }
 {

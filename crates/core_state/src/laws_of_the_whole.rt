@@ -14,10 +14,11 @@ ghost use Rattle.core_state.specs.declared.settings.RunSettings.{RunSettings};
 
 use crate::laws_of_runs::{every_core_is_sound, every_step_keeps_a_core_sound};
 
-/// No step loses a statement: each one that was submitted is still waited for, or its reply was taken, or its query was abandoned; and
-/// so it is in every sound core.
+/// No step loses a statement: each one that was submitted is still waited for, or its reply was
+/// taken, or its query was abandoned; and so it is in every sound core.
 pub fn no_step_loses_a_statement()
-    ensures step { (step : Step) (state : State) → MayStep state step → IsSound state → LosesNone state → LosesNone (after_step step state) }
+    ensures step { (step : Step) (state : State) → MayStep state step → IsSound state →
+        LosesNone state → LosesNone (after_step step state) }
     ensures sound { (state : State) → IsSound state → LosesNone state }
     ensures first { (settings : RunSettings) → LosesNone (empty_core settings) }
 {
@@ -26,7 +27,8 @@ pub fn no_step_loses_a_statement()
 
 /// Whatever steps came one after the other, from no tables on, no statement is lost.
 pub fn no_core_has_lost_a_statement()
-    ensures { (settings : RunSettings) (steps : List Step) → AreWithin settings → MayStepAll (empty_core settings) steps →
+    ensures { (settings : RunSettings) (steps : List Step) → AreWithin settings →
+        MayStepAll (empty_core settings) steps →
         LosesNone (after_steps steps (empty_core settings)) }
 {
     every_core_is_sound();
@@ -42,13 +44,15 @@ pub fn only_abandon_abandons()
 
 /// A query's number, its query and its snapshot never change, and it is never dropped.
 pub fn no_step_changes_what_is_asked()
-    ensures { (step : Step) (state : State) (number : ℕ) (query : Query) (snapshot : ℕ) → MayStep state step → IsSound state →
-        HasAccepted state.accepted number query snapshot →
+    ensures { (step : Step) (state : State) (number : ℕ) (query : Query) (snapshot : ℕ) →
+        MayStep state step → IsSound state → HasAccepted state.accepted number query snapshot →
         HasAccepted (after_step step state).accepted number query snapshot }
 {}
 
 /// No step takes a statement back: what a seat submitted it has submitted after it.
 pub fn no_step_takes_a_statement_back()
-    ensures { (step : Step) (state : State) (seat statement : ℕ) → MayStep state step → IsSound state →
-        Contains (seat_at state seat).submitted statement → Contains (seat_at (after_step step state) seat).submitted statement }
+    ensures { (step : Step) (state : State) (seat statement : ℕ) → MayStep state step →
+        IsSound state →
+        Contains (seat_at state seat).submitted statement →
+        Contains (seat_at (after_step step state) seat).submitted statement }
 {}

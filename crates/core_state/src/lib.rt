@@ -1,4 +1,5 @@
-//! Which states the core can be in, and what each event does: definitions, in `specs/`, and their laws.
+//! Which states the core can be in, and what each event does: definitions, in
+//! `specs/`, and their laws.
 #![tactic(auto)]
 
 mod event;

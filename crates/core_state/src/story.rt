@@ -10,9 +10,10 @@ ghost use Rattle.core_state.specs.Story.{after_events, first_carried, second_car
 ghost use Rattle.core_state.specs.Story.{order_cut, order_carried, order_turned, order_answered, order_again};
 ghost use Rattle.core_state.specs.declared.event.Event.TheVariants.{Give, Take};
 
-/// A query that counts all four sales and one that counts those in Oslo, which starts when two are cut,
-/// share three batches of two: each sees its lap, and the first slot is cleared while the last batch is in
-/// a hand. Both counts are right, and the filter was asked for four rows and dropped one.
+/// A query that counts all four sales and one that counts those in Oslo, which starts when
+/// two are cut, share three batches of two: each sees its lap, and the first slot is cleared
+/// while the last batch is in a hand. Both counts are right, and the filter was asked for
+/// four rows and dropped one.
 pub fn two_queries_share_a_scan()
     ensures first_cut { flying first_cut ≡ (0, 2, 1, 1 ∷ 1 ∷ []) ∷ [] }
     ensures second_started { life_of second_started.lives 6 ≡ Some (Running 2 4) }

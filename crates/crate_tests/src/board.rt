@@ -1,4 +1,5 @@
-//! Seats that take turns over one board: what each finds, and that no entry is lost where two threads submit.
+//! Seats that take turns over one board: what each finds, and that no entry is lost
+//! where two threads submit.
 ghost use Rattle.std.specs.Prelude.{◌<◌};
 ghost use Rattle.board_lock.specs.Seats.{view_of, IsOutside, IsSameSeat, IsOf};
 ghost use Rattle.board_lock.specs.Small.{IsSameTeam};

@@ -32,7 +32,8 @@ load sales
 .
 ";
 
-/// A statement of each form with its reply, those of the first example in front. A comment has none.
+/// A statement of each form with its reply, those of the first example in
+/// front. A comment has none.
 const STEPS: [(&str, &str); 10] = [
     ("dimension store (id int key, city text)\n", "table store\n"),
     (

@@ -1,5 +1,5 @@
-//! A batch that is out with a worker, and written and folded there, while the slot of a query that is
-//! over is cleared and another query takes it.
+//! A batch that is out with a worker, and written and folded there, while the slot of a query that
+//! is over is cleared and another query takes it.
 ghost use Rattle.std.specs.Prelude.{◌≡◌, ◌<◌, None};
 ghost use Rattle.core_state.specs.Found.{held_by};
 ghost use Rattle.core_state.specs.Rows.{IsMindful};
@@ -221,8 +221,8 @@ fn come(core: &mut Core, script: &mut ScriptReader, meanwhile: Meanwhile) -> boo
 }
 
 /// Lets things come while a work is out, then does it and gives it back. Says whether all came,
-/// whether these are the bits of its rows then, and whether they were folded outside, unless the core
-/// is marked waiting.
+/// whether these are the bits of its rows then, and whether they were folded outside, unless
+/// the core is marked waiting.
 fn do_behind(
     core: &mut Core,
     script: &mut ScriptReader,
@@ -333,8 +333,8 @@ fn finish_the_first(core: &mut Core, script: &mut ScriptReader) -> bool
     all & go_on(core, script, 0, &[EventKind::Finish])
 }
 
-/// The third batch is of the second query, and is out while a third takes the slot of the first: only
-/// then its rows are written.
+/// The third batch is of the second query, and is out while a third takes the slot of the first:
+/// only then its rows are written.
 fn finish_the_second(core: &mut Core, script: &mut ScriptReader) -> bool
     requires seat { 1 < (state_of core.old).settings.seats }
     requires empty { held_by (state_of core.old).scan.flights 1 ≡ None }

@@ -12,7 +12,8 @@ use std::sync::Wait;
 use std::thread::{Threads, join_mut, yield_now};
 use worker_gate::NoGate;
 
-/// Fails at its second call, with an error at which std's own loops try again, and gives or takes two bytes at each other.
+/// Fails at its second call, with an error at which std's own loops try again, and gives or takes
+/// two bytes at each other.
 #[derive(Drop)]
 struct FailsOnce {
     calls: u32,

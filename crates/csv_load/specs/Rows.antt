@@ -19,10 +19,12 @@ typed_row [] [] = Some []
 typed_row [] (field ∷ fields) = None
 typed_row (kind ∷ kinds) [] = None
 typed_row (kind ∷ kinds) (field ∷ fields) =
-    option_and_then (λ value. option_map (λ row. value ∷ row) (typed_row kinds fields)) (field_value kind field)
+    option_and_then (λ value. option_map (λ row. value ∷ row) (typed_row kinds fields))
+    (field_value kind field)
 
 -- the rows of records, where each record is a row
 abbrev pub typed_rows : List Kind → List (List (List ℕ)) → Option (List (List Value))
 typed_rows kinds [] = Some []
 typed_rows kinds (fields ∷ records) =
-    option_and_then (λ row. option_map (λ rows. row ∷ rows) (typed_rows kinds records)) (typed_row kinds fields)
+    option_and_then (λ row. option_map (λ rows. row ∷ rows) (typed_rows kinds records))
+    (typed_row kinds fields)

@@ -47,9 +47,11 @@ pub fn read_block(
     header: bool,
     kinds: &[Kind],
 ) -> Result<LoadRows, BlockFault>
-    ensures rows { IfOk result (λ rows. typed_rows kinds.now (records_in header block.now) ≡ Some rows) }
+    ensures rows { IfOk result (λ rows.
+        typed_rows kinds.now (records_in header block.now) ≡ Some rows) }
     ensures kinds { IfOk result (λ rows. All (λ row. kinds_in row ≡ kinds.now) rows) }
-    ensures bad { IsErrOf result BlockFault.BadRecord → typed_rows kinds.now (records_in header block.now) ≡ None }
+    ensures bad { IsErrOf result BlockFault.BadRecord →
+        typed_rows kinds.now (records_in header block.now) ≡ None }
 {
     rows_have_the_kinds();
     let mut reader = BlockReader::new(alloc, block, header)?;

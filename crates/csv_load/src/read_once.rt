@@ -85,7 +85,9 @@ impl<'a> ReadBlock<'a> {
 
     /// The rows of the block, where each of its records is one.
     pub fn into_rows(self) -> Option<LoadRows>
-        ensures { result ≡ typed_rows self.entry.form.kinds (records_in self.entry.form.header self.entry.block.now) }
+        ensures { result
+            ≡ typed_rows self.entry.form.kinds
+            (records_in self.entry.form.header self.entry.block.now) }
     {
         self.rows
     }

@@ -54,7 +54,8 @@ impl<'a> BlockReader<'a> {
 
     /// Reads the next record over the last one. It answers whether there was one.
     pub(crate) fn read(&mut self, into: &mut ByteRecord) -> Result<bool, NoMemory>
-        ensures found { IfOk result (λ found. found ≡ true → self.old ≡ fields_of into.new ∷ self.new) }
+        ensures found { IfOk result (λ found.
+            found ≡ true → self.old ≡ fields_of into.new ∷ self.new) }
         ensures ended { IfOk result (λ found. found ≡ false → self.old ≡ []) }
         ensures left { OnOk result (self.new ≡ drop 1 self.old) }
     {
@@ -83,7 +84,8 @@ fn csv_reader(alloc: Global, block: &[u8]) -> Reader<&[u8]>
 fn read_next(reader: &mut Reader<&[u8]>, into: &mut ByteRecord) -> Result<bool, NoMemory>
     requires { IsBetweenRecords reader.old }
     ensures between { IfOk result (λ found. found ≡ true → IsBetweenRecords reader.new) }
-    ensures found { IfOk result (λ found. found ≡ true → records_left reader.old ≡ fields_of into.new ∷ records_left reader.new) }
+    ensures found { IfOk result (λ found.
+        found ≡ true → records_left reader.old ≡ fields_of into.new ∷ records_left reader.new) }
     ensures ended { IfOk result (λ found. found ≡ false → records_left reader.old ≡ []) }
 {
     let Ok(found) = reader.read_byte_record(into) else {

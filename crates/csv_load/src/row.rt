@@ -8,15 +8,16 @@ use csv::ByteRecord;
 use star_values::{Kind, Row, SmallText, TextFault, Value, read_int, small_text_rule_is_tested};
 use std::alloc::Global;
 
-/// The row of a record, where it has as many fields as there are kinds and each field writes a value
-/// of its kind.
+/// The row of a record, where it has as many fields as there are kinds and each field
+/// writes a value of its kind.
 pub(crate) fn typed_row(
     alloc: Global,
     fields: &ByteRecord,
     kinds: &[Kind],
 ) -> Result<Row, BlockFault>
     ensures ok { IfOk result (λ row. typed_row kinds.now (fields_of fields.now) ≡ Some row) }
-    ensures bad { IsErrOf result BlockFault.BadRecord → typed_row kinds.now (fields_of fields.now) ≡ None }
+    ensures bad { IsErrOf result BlockFault.BadRecord →
+        typed_row kinds.now (fields_of fields.now) ≡ None }
 {
     // A record of another length is refused before any of its fields is read.
     if fields.len() != kinds.len() {

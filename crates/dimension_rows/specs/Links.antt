@@ -1,4 +1,5 @@
--- Places that are found by their hash: from the newest place of a hash, link by link, to the oldest.
+-- Places that are found by their hash: from the newest place of a hash, link by link, to the
+-- oldest.
 use Rattle.std.specs.Prelude.{◌≡◌, ◌≢◌, ℕ, suc, ◌<◌, ◌≤◌, List, length, slice_index, slice_index_or, IfSome, Option, Some, None}
 
 -- how many places there are up to a link, its own included
@@ -6,7 +7,8 @@ abbrev pub link_end : Option ℕ → ℕ
 link_end None = 0
 link_end (Some place) = suc place
 
--- of the first places, so many, the link leads to the last with this hash, or there is none where none has it
+-- of the first places, so many, the link leads to the last with this hash, or there
+-- is none where none has it
 pub record IsLast (hashes : List ℕ) (count hash : ℕ) (link : Option ℕ) : Type 0 where
   pub within : link_end link ≤ count
   pub there : IfSome link (λ place. slice_index hashes place ≡ hash)

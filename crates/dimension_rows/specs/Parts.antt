@@ -8,7 +8,8 @@ use Rattle.dimension_rows.specs.Hash.{hashes_of}
 use Rattle.dimension_rows.specs.Links.{AreLinked, AreNewest}
 
 -- there are few enough rows, their keys name them, and the links find each of them
-pub record AreIndexed (hash_keys : RandomState) (rows : List DimensionRow) (older : List (Option ℕ)) (newest : ℕ → Option ℕ) : Type 0 where
+pub record AreIndexed (hash_keys : RandomState) (rows : List DimensionRow) (older : List (Option ℕ))
+    (newest : ℕ → Option ℕ) : Type 0 where
   pub few : length rows ≤ MAX_DIMENSION_ROWS
   pub keyed : AreKeyed rows
   pub linked : AreLinked (hashes_of hash_keys rows) older

@@ -27,7 +27,8 @@ pub(crate) fn row_hash(hash_keys: RandomState, row: &Row) -> u64
     }
 }
 
-/// SipHash-1-3 over bytes. Texts that collide in a hash without keys would collide in any map over it.
+/// SipHash-1-3 over bytes. Texts that collide in a hash without keys would
+/// collide in any map over it.
 fn bytes_hash(hash_keys: RandomState, bytes: &[u8]) -> u64
     ensures { result ≡ text_hash hash_keys bytes.now }
 {

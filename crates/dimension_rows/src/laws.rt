@@ -24,9 +24,11 @@ pub fn a_new_row_moves_no_other()
         key_of entry.row ≡ Some key → index_of rows key ≡ None →
         index_of (rows ++ entry ∷ []) key ≡ Some (length rows) }
     ensures others { (rows : List DimensionRow) (entry : DimensionRow) (key : Value) →
-        key_of entry.row ≢ Some key → index_of rows key ≡ None → index_of (rows ++ entry ∷ []) key ≡ None }
+        key_of entry.row ≢ Some key → index_of rows key ≡ None →
+        index_of (rows ++ entry ∷ []) key ≡ None }
     ensures keyed { (rows : List DimensionRow) (entry : DimensionRow) (key : Value) →
-        AreKeyed rows → key_of entry.row ≡ Some key → index_of rows key ≡ None → AreKeyed (rows ++ entry ∷ []) }
+        AreKeyed rows → key_of entry.row ≡ Some key → index_of rows key ≡ None →
+        AreKeyed (rows ++ entry ∷ []) }
 {}
 
 /// The most rows of a dimension.

@@ -1,4 +1,5 @@
-//! The parts that rows, their index and their columns consist of, and how one more row goes into each.
+//! The parts that rows, their index and their columns consist of, and how one
+//! more row goes into each.
 ghost use Rattle.std.specs.Prelude.{◌≡◌, ℕ, ◌≤◌, ◌<◌, ◌+◌, [], ◌∷◌, ◌++◌, List, length, nat_eq, IsSome, IfSome, None, OnOk};
 ghost use Rattle.std.specs.HashMap.{get, spare};
 ghost use Rattle.std.specs.declared.random_state.RandomState.{RandomState};
@@ -20,16 +21,18 @@ pub(crate) type OlderRows = ListWithRoom<Option<u32>>;
 /// For each hash of a key the newest row that has it.
 pub(crate) type NewestRows = HashMap<u64, u32, RandomState>;
 
-/// Puts the integers of a row, before which there are so many, and the codes of its texts behind those of
-/// their columns. Where one finds no memory the others are put there even so.
+/// Puts the integers of a row, before which there are so many, and the codes of its texts behind
+/// those of their columns. Where one finds no memory the others are put there even so.
 fn append_to_columns(
     integers: &mut IntegerColumns,
     codes: &mut CodeColumns,
     before: usize,
     row: &Row,
 ) -> Result<(), NoMemory>
-    ensures columns { (rows : List DimensionRow) → length rows ≡ before → AreColumns rows integers.old codes.old
-        → (commit : ℕ) → AreColumns (rows ++ record { row = row.now; commit = commit } ∷ []) integers.new codes.new }
+    ensures columns { (rows : List DimensionRow) → length rows ≡ before →
+        AreColumns rows integers.old codes.old
+        → (commit : ℕ) →
+        AreColumns (rows ++ record { row = row.now; commit = commit } ∷ []) integers.new codes.new }
     ensures kept { OnOk result (KeepIntegers before row.now integers.old integers.new
         × KeepCodes before row.now codes.old codes.new) }
 {
@@ -38,8 +41,9 @@ fn append_to_columns(
     of_integers.and(of_codes)
 }
 
-/// Puts a row behind all others, into the room that each part has, and its integers and the codes of its
-/// texts into the columns. An `Err` says that some of those found no memory, and nothing of the row.
+/// Puts a row behind all others, into the room that each part has, and its integers and
+/// the codes of its texts into the columns. An `Err` says that some of those found no
+/// memory, and nothing of the row.
 pub(crate) fn push_row(
     hash_keys: RandomState,
     rows: &mut ListWithRoom<DimensionRow>,
@@ -56,8 +60,10 @@ pub(crate) fn push_row(
     requires fresh { IfSome (key_of entry.row) (λ key. index_of rows.old.items key ≡ None) }
     ensures items { rows.new.items ≡ rows.old.items ++ entry ∷ [] }
     ensures indexed { AreIndexed hash_keys rows.new.items older.new.items (get nat_eq newest.new) }
-    ensures columns { AreColumns rows.old.items integers.old codes.old → AreColumns rows.new.items integers.new codes.new }
-    ensures kept { OnOk result (KeepIntegers (length rows.old.items) entry.row integers.old integers.new
+    ensures columns { AreColumns rows.old.items integers.old codes.old →
+        AreColumns rows.new.items integers.new codes.new }
+    ensures kept { OnOk result
+        (KeepIntegers (length rows.old.items) entry.row integers.old integers.new
         × KeepCodes (length rows.old.items) entry.row codes.old codes.new) }
     ensures rows_room { rows.new.room + 1 ≡ rows.old.room }
     ensures older_room { older.new.room + 1 ≡ older.old.room }
@@ -82,10 +88,12 @@ pub(crate) fn reserve_rows(
     more: usize,
 ) -> Result<(), NoMemory>
     ensures items { rows.new.items ≡ rows.old.items }
-    ensures indexed { (hash_keys : RandomState) → AreIndexed hash_keys rows.old.items older.old.items (get nat_eq newest.old)
+    ensures indexed { (hash_keys : RandomState) →
+        AreIndexed hash_keys rows.old.items older.old.items (get nat_eq newest.old)
         → AreIndexed hash_keys rows.new.items older.new.items (get nat_eq newest.new) }
     ensures enough { OnOk result (HaveRoom more rows.new.room older.new.room (spare newest.new)) }
-    ensures grows { (room : ℕ) → HaveRoom room rows.old.room older.old.room (spare newest.old) → HaveRoom room rows.new.room older.new.room (spare newest.new) }
+    ensures grows { (room : ℕ) → HaveRoom room rows.old.room older.old.room (spare newest.old) →
+        HaveRoom room rows.new.room older.new.room (spare newest.new) }
 {
     newest.reserve(more)?;
     older.reserve(more)?;

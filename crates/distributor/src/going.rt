@@ -15,8 +15,8 @@ use std::hash::RandomState;
 use std::mem;
 use std::snapshot::Snapshot;
 
-/// Sees to what a seat has at a slot before it goes out: groups where these are wanted and there are some at home, and
-/// else nothing. Nothing that is seen changes, also where memory is wanting.
+/// Sees to what a seat has at a slot before it goes out: groups where these are wanted and there
+/// are some at home, and else nothing. Nothing that is seen changes, also where memory is wanting.
 fn prepare_slot(
     alloc: Global,
     hash_keys: RandomState,
@@ -99,7 +99,8 @@ fn own_of(alloc: Global, slots: u32, seat: SeatGroups) -> Option<Distributor>
     }
 }
 
-/// Lends a seat that has nothing with it groups of its own for some slots. There are none where memory is wanting.
+/// Lends a seat that has nothing with it groups of its own for some slots. There are none
+/// where memory is wanting.
 pub(crate) fn lend_to_seat(
     alloc: Global,
     hash_keys: RandomState,

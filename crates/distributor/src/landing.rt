@@ -17,7 +17,8 @@ use star_values::NoMemory;
 use std::mem;
 use std::snapshot::Snapshot;
 
-/// Takes what a seat has at a slot into the groups at home, if it has texts. After an `Err` there are none at home.
+/// Takes what a seat has at a slot into the groups at home, if it has texts. After an
+/// `Err` there are none at home.
 fn settle(home: &mut Distributor, own: &mut Distributor, slot: u32) -> Result<(), NoMemory>
     requires slot { slot < length home.old }
     requires long { length own.old ≡ length home.old }
@@ -40,8 +41,8 @@ fn settle(home: &mut Distributor, own: &mut Distributor, slot: u32) -> Result<()
     taken
 }
 
-/// Makes the groups at home that a seat has at a slot from a number on, and takes those in that may not stay with it.
-/// Says whether there was no memory for that.
+/// Makes the groups at home that a seat has at a slot from a number on, and takes those in that may
+/// not stay with it. Says whether there was no memory for that.
 fn spoils_slot(
     home: &mut Distributor,
     own: &mut Distributor,

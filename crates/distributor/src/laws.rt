@@ -13,7 +13,8 @@ ghost use Rattle.distributor.specs.Folded.{versions_for, with_versions};
 
 use aggregations::{codes_are_of_one_key, parts_may_come_in_any_order, rows_may_be_folded_apart};
 
-/// A row goes into the groups of exactly those slots whose bit it has, and behind the rows before it.
+/// A row goes into the groups of exactly those slots whose bit it has, and
+/// behind the rows before it.
 pub fn rows_go_where_their_bits_say()
     ensures members { (slot : ℕ) (bits : List ℕ) (versions : List Version) (version : Version) →
         length bits ≡ length versions →
@@ -37,8 +38,8 @@ pub fn batches_may_be_folded_in_parts()
         ≡ versions_for slot bits versions ++ versions_for slot more others }
 {}
 
-/// Rows of one kind may wait, and be taken at once: they are of one group, and what they come to may be added at any
-/// time, alone or with others.
+/// Rows of one kind may wait, and be taken at once: they are of one group, and what they come to
+/// may be added at any time, alone or with others.
 pub(crate) fn kinds_may_wait()
     ensures codes { CodesAreOfOneKey }
     ensures commute { PartsCommute }

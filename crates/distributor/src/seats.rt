@@ -1,5 +1,5 @@
-//! What seats have of a shared distributor: groups of their own, at home or out with them. How these go out is in
-//! `going`, and how they come home in `landing`.
+//! What seats have of a shared distributor: groups of their own, at home or out with them. How
+//! these go out is in `going`, and how they come home in `landing`.
 ghost use Rattle.std.specs.Prelude.{◌≡◌, ◌<◌, [], All, IfSome, None, length, slice_set, map};
 ghost use Rattle.bit_words.specs.Sets.{Has};
 ghost use Rattle.distributor.specs.Apart.{HasMoved, IsPair, LeavesOthers, at_slot};
@@ -23,8 +23,8 @@ pub(crate) enum SeatGroups {
     Away(LentGroups),
 }
 
-/// What is known at home of groups that are out: for which slots they are, and how many there were at each, all of
-/// which are at home too. Contracts go on seeing what went out.
+/// What is known at home of groups that are out: for which slots they are, and how many there were
+/// at each, all of which are at home too. Contracts go on seeing what went out.
 #[derive(Drop)]
 pub(crate) struct LentGroups {
     pub(crate) slots: Bits<1>,
@@ -39,7 +39,8 @@ pub(crate) fn put_seat(seat: &mut SeatGroups, new: SeatGroups)
     *seat = new;
 }
 
-/// Takes what a seat has at a slot into the groups at home, if there are some, and else drops it. No memory is taken.
+/// Takes what a seat has at a slot into the groups at home, if there are some, and else
+/// drops it. No memory is taken.
 pub(crate) fn take_back(home: &mut Distributor, own: &mut Distributor, slot: u32)
     requires home { slot < length home.old }
     requires own { slot < length own.old }

@@ -1,4 +1,5 @@
--- What a core is to the lock that lends it: a row for each seat, the entries of its history, and its settings.
+-- What a core is to the lock that lends it: a row for each seat, the entries of its
+-- history, and its settings.
 use Rattle.std.specs.Prelude.{ℕ, List, Option, None}
 use Rattle.core_state.specs.Rows.{SeatRow, empty_row, row_of}
 use Rattle.core_state.specs.State.{Entry}

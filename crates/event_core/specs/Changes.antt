@@ -52,7 +52,9 @@ unbuilt query parts = record parts {
 -- the scan with a query in a slot, where it has a position to come
 abbrev pub scan_with : (slot extent : ℕ) → AskedQuery → Parts → Parts
 scan_with slot extent asked parts = if extent == 0 then parts else record parts {
-  scan = scanned.after_start slot asked.query asked.snapshot extent (length parts.tables.versions) parts.scan;
+  scan =
+      scanned.after_start slot asked.query asked.snapshot extent
+      (length parts.tables.versions) parts.scan;
 }
 
 -- `start` of a query in its slot, with the groups that are kept for it
@@ -67,7 +69,8 @@ started query slot asked groups parts =
     }
 
 -- `cut` into a frame that was taken from the pool
-abbrev pub cut_into : (holders frame : List ℕ) → (inside : List (List ℕ)) → (number : ℕ) → Parts → Parts
+abbrev pub cut_into : (holders frame : List ℕ) → (inside : List (List ℕ)) → (number : ℕ) → Parts
+    → Parts
 cut_into holders frame inside number parts =
     let versions = parts.tables.versions in
     let size = parts.settings.batch in
@@ -91,17 +94,20 @@ cut_into holders frame inside number parts =
 abbrev pub with_flight_at : (place : ℕ) → Flight → Parts → Parts
 with_flight_at place flight parts = record parts { flights = slice_set parts.flights place flight }
 
--- the batch at a place in a worker's hand, with these versions: `take` with one, `carry` with all that are left
+-- the batch at a place in a worker's hand, with these versions: `take` with one,
+-- `carry` with all that are left
 abbrev pub taken : (place worker : ℕ) → Flight → List state.FilterVersion → Parts → Parts
 taken place worker flight versions parts =
-    with_flight_at place (record flight { hand = Some (record { worker = worker; versions = versions }) }) parts
+    with_flight_at place
+    (record flight { hand = Some (record { worker = worker; versions = versions }) }) parts
 
 -- `give` of the batch at a place, which is in a hand
 abbrev pub given : (place : ℕ) → Flight → state.Hand → Parts → Parts
 given place flight hand parts = record parts {
   flights = slice_set parts.flights place (passed_in hand flight);
   filters = record parts.filters {
-    tallies = tallies_through hand.versions flight.batch parts.filters.versions parts.filters.tallies;
+    tallies =
+        tallies_through hand.versions flight.batch parts.filters.versions parts.filters.tallies;
   };
 }
 
@@ -109,8 +115,10 @@ given place flight hand parts = record parts {
 abbrev pub without_place : {A : Type 0} → (place : ℕ) → List A → List A
 without_place place list = take place list ++ drop (place + 1) list
 
--- `distribute` of the batch at a place, where the queries in these slots, of these numbers, find no memory
-abbrev pub distributed : (place : ℕ) → Flight → (dims : List (Roomy DimensionRow)) → (slots : ℕ) → (spoiled frame : List ℕ) → Parts → Parts
+-- `distribute` of the batch at a place, where the queries in these slots, of
+-- these numbers, find no memory
+abbrev pub distributed : (place : ℕ) → Flight → (dims : List (Roomy DimensionRow)) → (slots : ℕ)
+    → (spoiled frame : List ℕ) → Parts → Parts
 distributed place flight dims slots spoiled frame parts = record parts {
   attached = after_batch dims flight.batch parts.tables.versions slots parts.attached;
   lives = fold (λ lives query. after_spoil query lives) parts.lives spoiled;
@@ -174,27 +182,31 @@ with_first_filters dimensions parts = record parts {
 
 -- the filters that a change of this kind asks for
 abbrev pub with_filters_for : ChangeKind → Parts → Parts
-with_filters_for DeclaresFact parts = with_first_filters (filter_dimensions parts.tables.schema) parts
+with_filters_for DeclaresFact parts =
+    with_first_filters (filter_dimensions parts.tables.schema) parts
 with_filters_for other parts = parts
 
 -- `submit` of a statement that changes the tables
 abbrev pub changed : (seat statement : ℕ) → List Submitted → ChangeKind → KeyedStore → Parts → Parts
 changed seat statement statements kind tables parts =
-    with_filters_for kind (logged (record { seat = seat; statement = statement; kind = kind }) tables
+    with_filters_for kind
+    (logged (record { seat = seat; statement = statement; kind = kind }) tables
     (submitted seat statement statements parts))
 
 -- `submit` of a query that is accepted
 abbrev pub accepted : (seat statement : ℕ) → List Submitted → AskedQuery → Parts → Parts
-accepted seat statement statements asked parts = record (submitted seat statement statements parts) {
-  asked = parts.asked ++ asked ∷ [];
-  lives = after_submit statement (length parts.tables.versions) parts.lives;
-}
+accepted seat statement statements asked parts =
+    record (submitted seat statement statements parts) {
+      asked = parts.asked ++ asked ∷ [];
+      lives = after_submit statement (length parts.tables.versions) parts.lives;
+    }
 
 -- the statements of a seat by its number
 abbrev pub statements_at : List (List Submitted) → (seat : ℕ) → List Submitted
 statements_at seats seat = slice_index_or seats seat []
 
--- a reply is taken by a seat, which has these statements left, and nothing is kept beside the query of a number
+-- a reply is taken by a seat, which has these statements left, and nothing is kept
+-- beside the query of a number
 abbrev pub forgotten_at : (seat query : ℕ) → List Submitted → Parts → Parts
 forgotten_at seat query statements parts = record parts {
   seats = slice_set parts.seats seat statements;
@@ -203,7 +215,11 @@ forgotten_at seat query statements parts = record parts {
 
 -- `finish` of a slot whose query has no answer
 abbrev pub unheld : (slot : ℕ) → Parts → Parts
-unheld slot parts = record parts { attached = slice_set parts.attached slot None; lives = after_end slot parts.lives }
+unheld slot parts =
+    record parts {
+      attached = slice_set parts.attached slot None;
+      lives = after_end slot parts.lives;
+    }
 
 -- the parts of a core before its first event
 abbrev pub first_parts : RunSettings → KeyedStore → (inside : List (List ℕ)) → Parts

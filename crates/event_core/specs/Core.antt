@@ -28,15 +28,17 @@ use Rattle.core_parts.specs.Lent.{Flight}
 use Rattle.event_core.specs.Parts.{Parts}
 use Rattle.event_core.specs.Seen.{attached_for, state_of}
 
--- the state is sound, and the parts fit it: the tables are those of its history; the scan has what runs; at the slots the
--- groups of the queries that get rows are attached, and then nothing is kept beside; and the frames are as many and as long
--- as the settings say
+-- the state is sound, and the parts fit it: the tables are those of its history; the scan has what
+-- runs; at the slots the groups of the queries that get rows are attached, and then nothing is kept
+-- beside; and the frames are as many and as long as the settings say
 pub record IsCore (parts : Parts) : Type 0 where
   pub sound : IsSound (state_of parts)
   pub tables : AreTablesOf (state_of parts) parts.tables
   pub scanned : IsScannedAs (state_of parts) parts.scan
   pub attached : parts.attached ≡ attached_to (state_of parts)
-  pub beside : All (λ asked. IsSome (attached_for parts.lives parts.attached asked.number) → asked.kept ≡ None) parts.asked
+  pub beside : All (λ asked.
+      IsSome (attached_for parts.lives parts.attached asked.number) → asked.kept ≡ None)
+      parts.asked
   pub frames : parts.pool.made ≡ frames_of parts.settings
   pub words : parts.pool.words ≡ frame_words (state_of parts)
 
@@ -49,9 +51,10 @@ pub record Becomes (parts : Parts) (after : State) : Type 0 where
   pub state : state_of parts ≡ after
   pub core : IsCore parts
 
--- a filter may have a query in a slot: no row has the slot, only rows of the dimension are stored, and what the query takes
--- may be asked of each of these
-pub record CanAdd (slot : ℕ) (selection : Selection) (rows : List DimensionRow) (filter : Filter) : Type 0 where
+-- a filter may have a query in a slot: no row has the slot, only rows of the dimension are stored,
+-- and what the query takes may be asked of each of these
+pub record CanAdd (slot : ℕ) (selection : Selection) (rows : List DimensionRow)
+    (filter : Filter) : Type 0 where
   pub few : slot < 64
   pub clear_complement : ¬ (Has filter.complement slot)
   pub clear : (key : ℕ) → ¬ (Has (vector_of filter key) slot)
@@ -62,17 +65,21 @@ pub record CanAdd (slot : ℕ) (selection : Selection) (rows : List DimensionRow
 pub record AreHolders (lives : Lives) (holders : List ℕ) : Type 0 where
   pub count : length lives.slots ≤ length holders
   pub each : (slot : ℕ) → slot < length lives.slots →
-      slice_index_or holders slot 0 ≡ option_map_or (λ number. number) (holder_of (slot_at lives slot)) 0
+      slice_index_or holders slot 0
+      ≡ option_map_or (λ number. number) (holder_of (slot_at lives slot)) 0
 
--- a batch may be cut: a frame is free, and long enough; the scan and the lives of the queries can go on by its positions
+-- a batch may be cut: a frame is free, and long enough; the scan and the lives of the queries
+-- can go on by its positions
 pub record CanCutNext (parts : Parts) : Type 0 where
   pub frame : parts.pool.inside ≢ []
   pub words : parts.settings.batch * (1 + KEYS_IN_A_ROW) ≤ parts.pool.words
   pub scan : CanCut (length parts.tables.versions) parts.settings.batch parts.scan
   pub tests : All (CanTestAll parts.scan.running) parts.tables.versions
   pub runs : IsTrue (some_run parts.scan.running)
-  pub first : first_in (length parts.tables.versions) parts.scan < end_in (length parts.tables.versions) parts.settings.batch parts.scan
-  pub last : end_in (length parts.tables.versions) parts.settings.batch parts.scan ≤ length parts.tables.versions
+  pub first : first_in (length parts.tables.versions) parts.scan
+      < end_in (length parts.tables.versions) parts.settings.batch parts.scan
+  pub last : end_in (length parts.tables.versions) parts.settings.batch parts.scan
+      ≤ length parts.tables.versions
   pub lives : managed.CanCut (first_in (length parts.tables.versions) parts.scan)
       (end_in (length parts.tables.versions) parts.settings.batch parts.scan - 1) parts.lives
   pub few : length parts.flights < frames_of parts.settings
@@ -86,9 +93,12 @@ pub record LeavesRest (old new : Parts) : Type 0 where
   pub made : new.pool.made ≡ old.pool.made
   pub words : new.pool.words ≡ old.pool.words
   pub entries : (state_of new).entries ≡ (state_of old).entries
-  pub beside : All (λ asked. IsSome (attached_for new.lives new.attached asked.number) → asked.kept ≡ None) new.asked
+  pub beside : All (λ asked.
+      IsSome (attached_for new.lives new.attached asked.number) → asked.kept ≡ None)
+      new.asked
 
 -- the queries that hold the slots of a set, where one does
 abbrev pub holders_in : Lives → (slots : ℕ) → List ℕ
 holders_in lives slots = filter_map
-    (λ slot. if bit_at slots slot == 1 then holder_of (slot_at lives slot) else None) (range_with_len 0 (length lives.slots))
+    (λ slot. if bit_at slots slot == 1 then holder_of (slot_at lives slot) else None)
+    (range_with_len 0 (length lives.slots))

@@ -18,10 +18,10 @@ use Rattle.event_core.specs.declared.logged.Logged.{Logged}
 use Rattle.event_core.specs.declared.marks.Marks.{Marks}
 use Rattle.core_parts.specs.declared.submitted.Submitted.{Submitted}
 
--- the settings, the tables with a log of the kinds of their changes, the statements of each seat, the accepted queries,
--- their lives, the filters, the scan and what it gives rows to, the groups at the slots, what of them went out with each
--- seat, the batches in flight, the free frames, how many positions were cut, the last numbers given, and the marks, which
--- are no part of the state
+-- the settings, the tables with a log of the kinds of their changes, the statements of each seat,
+-- the accepted queries, their lives, the filters, the scan and what it gives rows to, the groups at
+-- the slots, what of them went out with each seat, the batches in flight, the free frames, how many
+-- positions were cut, the last numbers given, and the marks, which are no part of the state
 pub record Parts : Type 0 where
   pub settings : RunSettings
   pub tables : KeyedStore
@@ -40,28 +40,32 @@ pub record Parts : Type 0 where
   pub marks : Marks
 
 -- the parts, of which some have room for more
-abbrev pub parts_by : RunSettings → KeyedStore → List Logged → List (Roomy Submitted) → AskedQueries → Lives → state.Filters
-    → Scanning → SharedGroups → Roomy Flight → Stock → (cut statement batch version : ℕ) → Marks → Parts
-parts_by settings tables log seats asked lives filters scan groups flights pool cut statement batch version marks = record {
-  settings = settings;
-  tables = tables;
-  log = log;
-  seats = map (λ seat. seat.items) seats;
-  asked = asked.items;
-  lives = lives;
-  filters = filters;
-  scan = scan;
-  attached = groups.attached;
-  out = groups.out;
-  flights = flights.items;
-  pool = pool;
-  cut = cut;
-  numbers = record { statement = statement; batch = batch; version = version };
-  marks = marks;
-}
+abbrev pub parts_by : RunSettings → KeyedStore → List Logged → List (Roomy Submitted) → AskedQueries
+    → Lives → state.Filters
+    → Scanning → SharedGroups → Roomy Flight → Stock → (cut statement batch version : ℕ) → Marks
+    → Parts
+parts_by settings tables log seats asked lives filters scan
+    groups flights pool cut statement batch version marks =
+    record {
+      settings = settings;
+      tables = tables;
+      log = log;
+      seats = map (λ seat. seat.items) seats;
+      asked = asked.items;
+      lives = lives;
+      filters = filters;
+      scan = scan;
+      attached = groups.attached;
+      out = groups.out;
+      flights = flights.items;
+      pool = pool;
+      cut = cut;
+      numbers = record { statement = statement; batch = batch; version = version };
+      marks = marks;
+    }
 
--- a batch that is lent, as far as what is lent beside it rests on it: to whom, its roster, and the filters that it will
--- have passed
+-- a batch that is lent, as far as what is lent beside it rests on it: to whom, its roster, and the
+-- filters that it will have passed
 pub record LentBatch : Type 0 where
   pub worker : ℕ
   pub roster : ℕ
@@ -72,8 +76,8 @@ pub record Fixed : Type 0 where
   pub tables : KeyedStore
   pub filters : ℕ
 
--- what is beside the state: the workers to which batches are lent, these batches, what went out with each seat, what stays
--- as it is meanwhile, and the marks
+-- what is beside the state: the workers to which batches are lent, these batches, what went out
+-- with each seat, what stays as it is meanwhile, and the marks
 pub record Beside : Type 0 where
   pub lent : List ℕ
   pub batches : List LentBatch
@@ -81,7 +85,8 @@ pub record Beside : Type 0 where
   pub fixed : Option Fixed
   pub marks : Marks
 
--- what rests on a batch, if it is lent: whose hand it is in, its roster, and the filters that it will have passed
+-- what rests on a batch, if it is lent: whose hand it is in, its roster, and the filters
+-- that it will have passed
 abbrev pub lent_as : Flight → Option LentBatch
 lent_as flight = if flight.lent then option_map (λ hand. record {
   worker = hand.worker;
@@ -112,9 +117,10 @@ beside_of parts = record {
   marks = parts.marks;
 }
 
--- what is out with a seat rests on a batch that is lent to it: it has the slots of its roster, and the batch will have
--- passed every filter
-pub record IsBackedBy (seat : ℕ) (lending : Lending) (fixed : Option Fixed) (batch : LentBatch) : Type 0 where
+-- what is out with a seat rests on a batch that is lent to it: it has the slots of its roster, and
+-- the batch will have passed every filter
+pub record IsBackedBy (seat : ℕ) (lending : Lending) (fixed : Option Fixed)
+    (batch : LentBatch) : Type 0 where
   pub own : batch.worker ≡ seat
   pub slots : lending.slots ≡ batch.roster
   pub filters : IfSome fixed
@@ -129,7 +135,8 @@ IsBacked beside seat lending =
 abbrev pub AreBacked : Beside → Type 0
 AreBacked beside = (seat : ℕ) → IfSome (slice_index_or beside.out seat None) (IsBacked beside seat)
 
--- what a seat has of the core beside its batch: the groups that went out with it at some slots, and the tables
+-- what a seat has of the core beside its batch: the groups that went out with it at
+-- some slots, and the tables
 pub record Loan : Type 0 where
   pub slots : ℕ
   pub groups : List (Option Grouped)

@@ -15,9 +15,10 @@ all_passed parts = record parts {
   flights = map (flight_behind parts.filters) parts.flights;
 }
 
--- the parts are then those of a core to which the front led by taking batches and giving them back, and each batch has
--- passed every filter or has no bit left
+-- the parts are then those of a core to which the front led by taking batches and giving them back,
+-- and each batch has passed every filter or has no bit left
 pub record AllPass (parts : Parts) : Type 0 where
   pub core : IsCore (all_passed parts)
   pub led : IsLed IsPassing (state_of parts) (state_of (all_passed parts))
-  pub through : All (IsThrough (state_of (all_passed parts)).filters) (state_of (all_passed parts)).scan.flights
+  pub through : All (IsThrough (state_of (all_passed parts)).filters)
+      (state_of (all_passed parts)).scan.flights

@@ -20,12 +20,13 @@ abbrev pub ready_of : Ready → state.Ready
 ready_of (Whole reply) = state.Whole reply
 ready_of (Grouped snapshot groups) = state.Grouping snapshot groups
 
--- the reply that a taken one is: a whole one as it is, or the answer of its groups at its snapshot, whichever rows they are
--- of; where that finds no memory it is `memory`
+-- the reply that a taken one is: a whole one as it is, or the answer of its groups at its snapshot,
+-- whichever rows they are of; where that finds no memory it is `memory`
 abbrev pub IsReplyOf : Ready → Reply → Type 0
 IsReplyOf (Whole ready) reply = reply ≡ ready
 IsReplyOf (Grouped snapshot groups) reply = (reply ≡ Memory) ⊎
-    ((query : Query) (rows : List Joined) → groups ≡ grouped_of query rows → reply ≡ answer_reply snapshot (answer_of query rows))
+    ((query : Query) (rows : List Joined) → groups ≡ grouped_of query rows
+    → reply ≡ answer_reply snapshot (answer_of query rows))
 
 -- the number of the first query that a seat waits for and that may still be answered
 abbrev pub first_open : Lives → Seat → Option ℕ

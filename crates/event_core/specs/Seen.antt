@@ -18,7 +18,8 @@ use Rattle.core_parts.specs.Seats.{seat_as}
 
 -- the groups that are attached at the slot that a query holds, if it holds one and some are
 abbrev pub attached_for : Lives → (attached : List (Option Grouped)) → (query : ℕ) → Option Grouped
-attached_for lives attached query = option_and_then (λ slot. slice_index_or attached slot None) (slot_of lives query)
+attached_for lives attached query =
+    option_and_then (λ slot. slice_index_or attached slot None) (slot_of lives query)
 
 -- the groups that are attached, and else those that are kept beside
 abbrev pub attached_or : (attached kept : Option Grouped) → Option Grouped
@@ -36,7 +37,8 @@ accepted_as lives attached asked = record {
 }
 
 -- the accepted queries
-abbrev pub accepted_in : Lives → (attached : List (Option Grouped)) → List AskedQuery → List Accepted
+abbrev pub accepted_in : Lives → (attached : List (Option Grouped)) → List AskedQuery
+    → List Accepted
 accepted_in lives attached asked = map (accepted_as lives attached) asked
 
 -- the entries of a log with their changes, in order
@@ -44,7 +46,8 @@ abbrev pub entries_with : List Logged → List Change → List Entry
 entries_with [] changes = []
 entries_with (logged ∷ log) [] = []
 entries_with (logged ∷ log) (change ∷ changes) =
-    record { seat = logged.seat; statement = logged.statement; change = change } ∷ entries_with log changes
+    record { seat = logged.seat; statement = logged.statement; change = change }
+    ∷ entries_with log changes
 
 -- the entries of a log, whose changes the tables tell
 abbrev pub entries_as : Store → List Logged → List Entry
@@ -71,4 +74,5 @@ state_with parts accepted known reaches = record {
 -- the state
 abbrev pub state_of : Parts → State
 state_of parts =
-    state_with parts (accepted_in parts.lives parts.attached parts.asked) (known_in parts.asked) (reaches_in parts.lives.queries)
+    state_with parts (accepted_in parts.lives parts.attached parts.asked)
+    (known_in parts.asked) (reaches_in parts.lives.queries)

@@ -29,7 +29,8 @@ abbrev pub ready_with : Standing → (snapshot : ℕ) → (kept : Option Grouped
 ready_with (Waits answer) snapshot kept = Whole answer
 ready_with other snapshot kept = groups_or_memory snapshot kept
 
--- whether the reply to a statement that stands so may be taken: it is no query that may still be answered
+-- whether the reply to a statement that stands so may be taken: it is no query
+-- that may still be answered
 abbrev pub may_be_taken : Lives → (number : ℕ) → Standing → Bool
 may_be_taken lives number IsAsked = not (option_map_or is_open (life_of lives number) false)
 may_be_taken lives number other = true
@@ -42,4 +43,5 @@ number_to_take lives submitted =
 -- the number of the first of these statements that is waited for, if the reply to it may be taken
 abbrev pub next_number : Lives → List Submitted → Option ℕ
 next_number lives statements =
-    option_and_then (number_to_take lives) (find (λ submitted. is_waited submitted.standing) statements)
+    option_and_then (number_to_take lives)
+    (find (λ submitted. is_waited submitted.standing) statements)

@@ -17,11 +17,13 @@ use Rattle.event_core.specs.declared.stepping.SubmitFault.{SubmitFault}
 use Rattle.event_core.specs.declared.stepping.SubmitFault.TheVariants as submit
 use Rattle.event_core.specs.declared.work.Folding.{Folding}
 
--- at an event queries found no memory: the query that is built, or some of those that get rows of the batch
+-- at an event queries found no memory: the query that is built, or some of those
+-- that get rows of the batch
 abbrev pub IsSpoilt : Event → (old new : State) → Type 0
 IsSpoilt (Build query dimension) old new = new ≡ after_want (Build query dimension) [] old
 IsSpoilt (Distribute batch) old new =
-    (spoiled : List ℕ) × AreFed batch spoiled old × (new ≡ after_want (Distribute batch) spoiled old)
+    (spoiled : List ℕ) × AreFed batch spoiled old
+    × (new ≡ after_want (Distribute batch) spoiled old)
 IsSpoilt other old new = ⊥
 
 -- the event was done, or queries found no memory at it
@@ -59,7 +61,9 @@ AreOf (event ∷ events) (step ∷ steps) = IsOf event step × AreOf events step
 
 -- steps of these events, each of which might come, lead from one state to the other
 abbrev pub StepsFor : List Event → (old new : State) → Type 0
-StepsFor events old new = (steps : List Step) × (MayStepAll old steps × (AreOf events steps × (new ≡ after_steps steps old)))
+StepsFor events old new =
+    (steps : List Step)
+    × (MayStepAll old steps × (AreOf events steps × (new ≡ after_steps steps old)))
 
 -- the event may find no memory: a statement is submitted, or a filter is cleared of a slot
 abbrev pub MayWantMemory : Event → Type 0
@@ -72,9 +76,11 @@ abbrev pub IsRefused : StepFault → State → Event → Type 0
 IsRefused NotEnabled state event = IsEnabled state event → ⊥
 IsRefused Memory state event = IsEnabled state event × MayWantMemory event
 
--- what a call leaves that takes the submission of a statement, as far as it does so, and what it tells. Where batches are
--- lent it may tell a statement that may change the tables to wait until they are home
-pub record Submits (seat : ℕ) (statement : Statement) (old new : Parts) (result : Result (Unit {0}) SubmitFault) : Type 0 where
+-- what a call leaves that takes the submission of a statement, as far as it does so, and
+-- what it tells. Where batches are lent it may tell a statement that may change the tables
+-- to wait until they are home
+pub record Submits (seat : ℕ) (statement : Statement) (old new : Parts)
+    (result : Result (Unit {0}) SubmitFault) : Type 0 where
   pub disabled : IsErrOf result submit.NotEnabled
       ↔ (IsEnabled (state_of old) (Submit seat statement) → ⊥)
   pub taken : OnOk result (Took (Submit seat statement) (state_of old) (state_of new))

@@ -57,12 +57,15 @@ impl Core {
         }
     }
 
-    /// The number of a batch that is idle, has a bit left and did not pass every filter, or `None` where there is none.
+    /// The number of a batch that is idle, has a bit left and did not pass every filter, or
+    /// `None` where there is none.
     pub fn next_take(&self) -> Option<u64>
         ensures some { IfSome result (λ batch.
-            IsSomeAnd (flight_at (state_of self.now).scan.flights batch) (IsWanting (state_of self.now).filters)) }
+            IsSomeAnd (flight_at (state_of self.now).scan.flights batch)
+            (IsWanting (state_of self.now).filters)) }
         ensures none { result ≡ None →
-            All (λ flight. IsWanting (state_of self.now).filters flight → ⊥) (state_of self.now).scan.flights }
+            All (λ flight. IsWanting (state_of self.now).filters flight → ⊥)
+            (state_of self.now).scan.flights }
     {
         next_wanting(&self.filters, self.flights.as_slice())
     }

@@ -21,13 +21,15 @@ use core_state::{
     a_cut_keeps_a_core_sound, a_distributor_follows_the_core, a_scan_cuts_what_the_core_cuts,
 };
 
-/// Where the core may cut, the scan and the manager may, and a frame is free; the batch that is cut has its number.
+/// Where the core may cut, the scan and the manager may, and a frame is free; the batch
+/// that is cut has its number.
 pub(crate) fn cuts_follow_the_core()
     ensures may { (parts : Parts) → IsCore parts → MayCut (state_of parts) → CanCutNext parts }
-    ensures done { (parts : Parts) (holders frame : List ℕ) (inside : List (List ℕ)) → IsCore parts →
-        MayCut (state_of parts) → parts.pool.inside ≡ inside ++ frame ∷ [] → length frame ≡ parts.pool.words →
-        AreHolders parts.lives holders →
-        Becomes (cut_into holders frame inside (next_number parts.numbers.batch (map (λ flight. flight.batch.number) parts.flights)) parts)
+    ensures done { (parts : Parts) (holders frame : List ℕ) (inside : List (List ℕ)) →
+        IsCore parts → MayCut (state_of parts) → parts.pool.inside ≡ inside ++ frame ∷ [] →
+        length frame ≡ parts.pool.words → AreHolders parts.lives holders →
+        Becomes (cut_into holders frame inside
+        (next_number parts.numbers.batch (map (λ flight. flight.batch.number) parts.flights)) parts)
         (after_cutting (state_of parts)) }
 {
     a_scan_cuts_what_the_core_cuts();
@@ -38,26 +40,35 @@ pub(crate) fn cuts_follow_the_core()
     a_distributor_follows_the_core();
 }
 
-/// A batch that is taken or carried gets a hand, and one that is given back has passed the versions in it, which are of
-/// different filters, none of which it had passed.
+/// A batch that is taken or carried gets a hand, and one that is given back has passed the versions
+/// in it, which are of different filters, none of which it had passed.
 pub(crate) fn hands_follow_the_core()
-    ensures taken { (parts : Parts) (worker batch place : ℕ) (flight : Flight) (version : state.FilterVersion) → IsCore parts →
-        MayTake worker batch (state_of parts) → position (λ flight. flight.batch.number == batch) parts.flights ≡ Some place →
-        slice_get parts.flights place ≡ Some flight → next_of parts.filters flight.batch ≡ Some version →
-        Becomes (taken place worker flight (version ∷ []) parts) (after_take worker batch (state_of parts)) }
-    ensures carried { (parts : Parts) (worker batch place : ℕ) (flight : Flight) → IsCore parts →
-        MayCarry worker batch (state_of parts) → position (λ flight. flight.batch.number == batch) parts.flights ≡ Some place →
+    ensures taken { (parts : Parts) (worker batch place : ℕ) (flight : Flight)
+        (version : state.FilterVersion) →
+        IsCore parts → MayTake worker batch (state_of parts) →
+        position (λ flight. flight.batch.number == batch) parts.flights ≡ Some place →
         slice_get parts.flights place ≡ Some flight →
-        Becomes (taken place worker flight (versions_left parts.filters flight.batch) parts) (after_carry worker batch (state_of parts)) }
+        next_of parts.filters flight.batch ≡ Some version →
+        Becomes (taken place worker flight (version ∷ []) parts)
+        (after_take worker batch (state_of parts)) }
+    ensures carried { (parts : Parts) (worker batch place : ℕ) (flight : Flight) → IsCore parts →
+        MayCarry worker batch (state_of parts) →
+        position (λ flight. flight.batch.number == batch) parts.flights ≡ Some place →
+        slice_get parts.flights place ≡ Some flight →
+        Becomes (taken place worker flight (versions_left parts.filters flight.batch) parts)
+        (after_carry worker batch (state_of parts)) }
     ensures may { (parts : Parts) (place : ℕ) (flight : Flight) (hand : state.Hand) → IsCore parts →
         slice_get parts.flights place ≡ Some flight → flight.hand ≡ Some hand →
         All (λ version. ¬ (Has flight.batch.passed version.filter.dimension)) hand.versions }
-    ensures apart { (parts : Parts) (place : ℕ) (flight : Flight) (hand : state.Hand) → IsCore parts →
-        slice_get parts.flights place ≡ Some flight → flight.hand ≡ Some hand →
-        AllPairs (λ version other. version.filter.dimension ≢ other.filter.dimension) hand.versions }
-    ensures given { (parts : Parts) (worker place : ℕ) (flight : Flight) (hand : state.Hand) → IsCore parts →
-        position (λ flight. option_map_or (λ hand. hand.worker == worker) flight.hand false) parts.flights ≡ Some place →
-        slice_get parts.flights place ≡ Some flight → flight.hand ≡ Some hand →
+    ensures apart { (parts : Parts) (place : ℕ) (flight : Flight) (hand : state.Hand) →
+        IsCore parts → slice_get parts.flights place ≡ Some flight → flight.hand ≡ Some hand →
+        AllPairs (λ version other. version.filter.dimension ≢ other.filter.dimension)
+        hand.versions }
+    ensures given { (parts : Parts) (worker place : ℕ) (flight : Flight) (hand : state.Hand) →
+        IsCore parts →
+        position (λ flight. option_map_or (λ hand. hand.worker == worker) flight.hand false)
+        parts.flights
+        ≡ Some place → slice_get parts.flights place ≡ Some flight → flight.hand ≡ Some hand →
         Becomes (given place flight hand parts) (after_give worker (state_of parts)) }
 {
     quiet_events_leave_a_core();

@@ -7,8 +7,8 @@ ghost use Rattle.event_core.specs.Board.{core_entries, core_row, core_settings, 
 ghost use Rattle.event_core.specs.Parts.{LeavesLoans, Parts, beside_of, loan_of};
 ghost use Rattle.event_core.specs.Seen.{state_of};
 
-/// A core that a seat found may be put back by it where steps of that seat alone have changed it, and each other seat has
-/// what it had.
+/// A core that a seat found may be put back by it where steps of that seat alone have changed it,
+/// and each other seat has what it had.
 pub fn own_steps_keep_a_board()
     ensures { (view : View Parts) (found core : Parts) → view.last ≡ Some found →
         IsMindful view.number (state_of found) (state_of core) →

@@ -21,11 +21,13 @@ use core_state::{
     every_step_keeps_a_core_sound, other_events_leave_a_scan,
 };
 
-/// Where an event touches neither the scan nor what is attached, and the state is the one after it, the parts are still
-/// those of a core.
+/// Where an event touches neither the scan nor what is attached, and the state is the one after it,
+/// the parts are still those of a core.
 pub(crate) fn quiet_events_leave_a_core()
-    ensures { (old new : Parts) (event : Event) → IsCore old → IsEnabled (state_of old) event → LeavesScan event →
-        LeavesAttached event → state_of new ≡ after_event event (state_of old) → LeavesRest old new → IsCore new }
+    ensures { (old new : Parts) (event : Event) → IsCore old → IsEnabled (state_of old) event →
+        LeavesScan event →
+        LeavesAttached event → state_of new ≡ after_event event (state_of old) →
+        LeavesRest old new → IsCore new }
 {
     other_events_leave_a_scan();
     a_distributor_follows_the_core();
@@ -35,7 +37,8 @@ pub(crate) fn quiet_events_leave_a_core()
 /// The parts of a new core stand for an empty one.
 pub(crate) fn a_new_core_is_empty()
     ensures { (settings : RunSettings) (frames : List (List ℕ)) (tables : KeyedStore) →
-        AreWithin settings → frames ≡ replicate (frames_of settings) (replicate (frame_words (empty_core settings)) 0) →
+        AreWithin settings →
+        frames ≡ replicate (frames_of settings) (replicate (frame_words (empty_core settings)) 0) →
         plain tables ≡ empty_store → IsKeyed tables →
         Becomes (first_parts settings tables frames) (empty_core settings) }
 {

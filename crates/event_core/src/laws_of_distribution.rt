@@ -19,16 +19,20 @@ use core_state::{
     a_scan_stops_what_the_core_stops, folded_rows_are_few, spoiled_slots_are_spoiled_queries,
 };
 
-/// A batch that is distributed has room in the groups and in the pool, and the slots that find no memory are held by queries
-/// that may be spoiled.
+/// A batch that is distributed has room in the groups and in the pool, and the slots that find no
+/// memory are held by queries that may be spoiled.
 pub(crate) fn distributions_follow_the_core()
-    ensures within { (parts : Parts) (place : ℕ) (flight : Flight) → IsCore parts → slice_get parts.flights place ≡ Some flight →
+    ensures within { (parts : Parts) (place : ℕ) (flight : Flight) → IsCore parts →
+        slice_get parts.flights place ≡ Some flight →
         flight.batch.first + flight.batch.count ≤ length parts.tables.versions }
-    ensures room { (parts : Parts) (place : ℕ) (flight : Flight) → IsCore parts → slice_get parts.flights place ≡ Some flight →
+    ensures room { (parts : Parts) (place : ℕ) (flight : Flight) → IsCore parts →
+        slice_get parts.flights place ≡ Some flight →
         All (HaveRoom flight.batch.count) parts.attached }
-    ensures frame { (parts : Parts) (place : ℕ) (flight : Flight) → IsCore parts → slice_get parts.flights place ≡ Some flight →
+    ensures frame { (parts : Parts) (place : ℕ) (flight : Flight) → IsCore parts →
+        slice_get parts.flights place ≡ Some flight →
         (length parts.pool.inside < parts.pool.made) × (flight.batch.room ≡ parts.pool.words) }
-    ensures holders { (parts : Parts) (slots : ℕ) → IsCore parts → AreAttached slots parts.attached →
+    ensures holders { (parts : Parts) (slots : ℕ) → IsCore parts →
+        AreAttached slots parts.attached →
         holders_in parts.lives slots ≡ fed_in (state_of parts) slots }
     ensures begun { (parts : Parts) (slots : ℕ) → IsCore parts → AreAttached slots parts.attached →
         All (λ query. CanSpoil query parts.lives) (holders_in parts.lives slots) }
@@ -36,11 +40,13 @@ pub(crate) fn distributions_follow_the_core()
         position (λ flight. flight.batch.number == batch) parts.flights ≡ Some place →
         slice_get parts.flights place ≡ Some flight → HaveRows slots flight.batch.bits →
         AreFed batch (fed_in (state_of parts) slots) (state_of parts) }
-    ensures done { (parts : Parts) (batch place slots : ℕ) (flight : Flight) (dims : List (Roomy DimensionRow)) (frame : List ℕ) →
-        IsCore parts → MayDistribute batch (state_of parts) →
+    ensures done { (parts : Parts) (batch place slots : ℕ) (flight : Flight)
+        (dims : List (Roomy DimensionRow)) (frame : List ℕ) → IsCore parts →
+        MayDistribute batch (state_of parts) →
         position (λ flight. flight.batch.number == batch) parts.flights ≡ Some place →
         slice_get parts.flights place ≡ Some flight → rows_of_all dims ≡ parts.tables.dimensions →
-        AreAttached slots parts.attached → HaveRows slots flight.batch.bits → length frame ≡ parts.pool.words →
+        AreAttached slots parts.attached → HaveRows slots flight.batch.bits →
+        length frame ≡ parts.pool.words →
         Becomes (distributed place flight dims slots (fed_in (state_of parts) slots) frame parts)
         (after_distribute batch (fed_in (state_of parts) slots) (state_of parts)) }
 {

@@ -24,24 +24,33 @@ use core_state::{
 use star_history::accepted_histories_are_settled;
 use star_plan::rows_fit_by_their_kinds;
 
-/// A query that is built holds a slot, and may be added in it to the filter; the next version has it. Where no memory is
-/// found, nothing is kept of it.
+/// A query that is built holds a slot, and may be added in it to the filter; the next version has
+/// it. Where no memory is found, nothing is kept of it.
 pub(crate) fn builds_follow_the_core()
-    ensures there { (parts : Parts) (query dimension : ℕ) → IsCore parts → CanBuild query dimension parts.lives →
-        (dimension < 8) × IsSome (slot_of parts.lives query) × IsSome (version_at parts.filters.versions dimension)
+    ensures there { (parts : Parts) (query dimension : ℕ) → IsCore parts →
+        CanBuild query dimension parts.lives →
+        (dimension < 8) × IsSome (slot_of parts.lives query)
+        × IsSome (version_at parts.filters.versions dimension)
         × IsSome (asked_at parts.asked query) }
-    ensures may { (parts : Parts) (query dimension slot : ℕ) (asked : AskedQuery) (old : FilterVersion) → IsCore parts →
-        CanBuild query dimension parts.lives → slot_of parts.lives query ≡ Some slot →
-        asked_at parts.asked query ≡ Some asked → version_at parts.filters.versions dimension ≡ Some old →
-        CanAdd slot (selection_in (query_of asked.query) dimension) (rows_in parts.tables.dimensions dimension) old.filter }
-    ensures done { (parts : Parts) (query dimension slot : ℕ) (asked : AskedQuery) (old version : FilterVersion) →
-        IsCore parts → CanBuild query dimension parts.lives → slot_of parts.lives query ≡ Some slot →
-        asked_at parts.asked query ≡ Some asked → version_at parts.filters.versions dimension ≡ Some old →
-        version.number ≡ next_number parts.numbers.version (versions_in_hands (state_of parts).scan.flights) →
+    ensures may { (parts : Parts) (query dimension slot : ℕ) (asked : AskedQuery)
+        (old : FilterVersion) →
+        IsCore parts → CanBuild query dimension parts.lives →
+        slot_of parts.lives query ≡ Some slot → asked_at parts.asked query ≡ Some asked →
+        version_at parts.filters.versions dimension ≡ Some old →
+        CanAdd slot (selection_in (query_of asked.query) dimension)
+        (rows_in parts.tables.dimensions dimension) old.filter }
+    ensures done { (parts : Parts) (query dimension slot : ℕ) (asked : AskedQuery)
+        (old version : FilterVersion) → IsCore parts → CanBuild query dimension parts.lives →
+        slot_of parts.lives query ≡ Some slot → asked_at parts.asked query ≡ Some asked →
+        version_at parts.filters.versions dimension ≡ Some old →
+        version.number
+        ≡ next_number parts.numbers.version (versions_in_hands (state_of parts).scan.flights) →
         version.filter ≡ filter_with slot (selection_in (query_of asked.query) dimension)
         (rows_in parts.tables.dimensions dimension) old.filter →
-        Becomes (built query dimension version parts) (after_build query dimension (state_of parts)) }
-    ensures wants { (parts : Parts) (query dimension : ℕ) → IsCore parts → CanBuild query dimension parts.lives →
+        Becomes (built query dimension version parts)
+        (after_build query dimension (state_of parts)) }
+    ensures wants { (parts : Parts) (query dimension : ℕ) → IsCore parts →
+        CanBuild query dimension parts.lives →
         Becomes (unbuilt query parts) (after_build_wants query (state_of parts)) }
 {
     quiet_events_leave_a_core();
@@ -54,13 +63,17 @@ pub(crate) fn builds_follow_the_core()
 
 /// A filter that is cleared of a slot is there; the next version is without it.
 pub(crate) fn clearings_follow_the_core()
-    ensures there { (parts : Parts) (slot dimension : ℕ) → IsCore parts → CanClear slot dimension parts.lives →
+    ensures there { (parts : Parts) (slot dimension : ℕ) → IsCore parts →
+        CanClear slot dimension parts.lives →
         (slot < 64) × (dimension < 8) × IsSome (version_at parts.filters.versions dimension) }
-    ensures done { (parts : Parts) (slot dimension : ℕ) (old version : FilterVersion) → IsCore parts →
-        CanClear slot dimension parts.lives → version_at parts.filters.versions dimension ≡ Some old →
-        version.number ≡ next_number parts.numbers.version (versions_in_hands (state_of parts).scan.flights) →
+    ensures done { (parts : Parts) (slot dimension : ℕ) (old version : FilterVersion) →
+        IsCore parts → CanClear slot dimension parts.lives →
+        version_at parts.filters.versions dimension ≡ Some old →
+        version.number
+        ≡ next_number parts.numbers.version (versions_in_hands (state_of parts).scan.flights) →
         version.filter ≡ filter_without slot old.filter →
-        Becomes (cleared slot dimension version parts) (after_clear slot dimension (state_of parts)) }
+        Becomes (cleared slot dimension version parts)
+        (after_clear slot dimension (state_of parts)) }
 {
     quiet_events_leave_a_core();
 }

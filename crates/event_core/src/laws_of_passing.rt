@@ -7,8 +7,8 @@ ghost use Rattle.event_core.specs.Seen.{state_of};
 
 use crate::laws_of_core::quiet_events_leave_a_core;
 
-/// Where no batch is in a hand, all batches go through the filters as if the front took each of them and gave it back, one
-/// filter after the other.
+/// Where no batch is in a hand, all batches go through the filters as if the front took each of
+/// them and gave it back, one filter after the other.
 pub(crate) fn passes_follow_the_core()
     ensures { (parts : Parts) → IsCore parts → AreIdle (state_of parts) → AllPass parts }
 {

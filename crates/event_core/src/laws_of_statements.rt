@@ -35,29 +35,38 @@ use core_state::{
 use star_history::accepted_histories_are_settled;
 use star_statement::outcomes_fit_the_tables;
 
-/// A statement that a seat submits stands behind its others, with what is told of it; a change is logged, and a query
-/// waits.
+/// A statement that a seat submits stands behind its others, with what is told of it; a change is
+/// logged, and a query waits.
 pub(crate) fn submissions_follow_the_core()
-    ensures tables { (parts : Parts) → IsCore parts → plain parts.tables ≡ tables_of (state_of parts) }
-    ensures replied { (parts : Parts) (seat : ℕ) (statement : Statement) (reply : Reply) → IsCore parts →
-        seat < length parts.seats →
-        outcome_of (tables_of (state_of parts)) statement ≡ outcome.only_tells (outcome.Replied reply) →
-        Becomes (submitted seat (parts.numbers.statement + 1)
-        (statements_at parts.seats seat ++ record { number = parts.numbers.statement + 1; standing = Waits reply } ∷ []) parts)
-        (after_submitting seat statement (state_of parts)) }
-    ensures changed { (parts : Parts) (seat : ℕ) (statement : Statement) (reply : Reply) (change : Change) (tables : KeyedStore) →
+    ensures tables { (parts : Parts) → IsCore parts →
+        plain parts.tables ≡ tables_of (state_of parts) }
+    ensures replied { (parts : Parts) (seat : ℕ) (statement : Statement) (reply : Reply) →
         IsCore parts → seat < length parts.seats →
-        outcome_of (tables_of (state_of parts)) statement ≡ record { change = Some change; told = outcome.Replied reply } →
+        outcome_of (tables_of (state_of parts)) statement
+        ≡ outcome.only_tells (outcome.Replied reply) →
+        Becomes (submitted seat (parts.numbers.statement + 1)
+        (statements_at parts.seats seat
+        ++ record { number = parts.numbers.statement + 1; standing = Waits reply } ∷ [])
+        parts)
+        (after_submitting seat statement (state_of parts)) }
+    ensures changed { (parts : Parts) (seat : ℕ) (statement : Statement) (reply : Reply)
+        (change : Change) (tables : KeyedStore) → IsCore parts → seat < length parts.seats →
+        outcome_of (tables_of (state_of parts)) statement
+        ≡ record { change = Some change; told = outcome.Replied reply } →
         plain tables ≡ after_change (tables_of (state_of parts)) change → IsKeyed tables →
         Becomes (changed seat (parts.numbers.statement + 1)
-        (statements_at parts.seats seat ++ record { number = parts.numbers.statement + 1; standing = Waits reply } ∷ [])
+        (statements_at parts.seats seat
+        ++ record { number = parts.numbers.statement + 1; standing = Waits reply } ∷ [])
         (kind_of_change change) tables parts)
         (after_submitting seat statement (state_of parts)) }
-    ensures accepted { (parts : Parts) (seat : ℕ) (statement : Statement) (query : StarQuery) (snapshot : ℕ) → IsCore parts →
-        seat < length parts.seats →
-        outcome_of (tables_of (state_of parts)) statement ≡ outcome.only_tells (outcome.Accepted (query_of query) snapshot) →
+    ensures accepted { (parts : Parts) (seat : ℕ) (statement : Statement) (query : StarQuery)
+        (snapshot : ℕ) →
+        IsCore parts → seat < length parts.seats →
+        outcome_of (tables_of (state_of parts)) statement
+        ≡ outcome.only_tells (outcome.Accepted (query_of query) snapshot) →
         Becomes (accepted seat (parts.numbers.statement + 1)
-        (statements_at parts.seats seat ++ record { number = parts.numbers.statement + 1; standing = IsAsked } ∷ [])
+        (statements_at parts.seats seat
+        ++ record { number = parts.numbers.statement + 1; standing = IsAsked } ∷ [])
         (record {
           number = parts.numbers.statement + 1;
           seat = seat;
@@ -77,41 +86,48 @@ pub(crate) fn submissions_follow_the_core()
     every_step_keeps_a_core_sound();
 }
 
-/// The reply that a seat may take is that to its first statement that is waited for: the reply that waits, `memory` where the
-/// query found none, or the groups that are kept beside an answered query. It may be taken unless the statement is a query
-/// that may still be answered.
+/// The reply that a seat may take is that to its first statement that is waited for: the reply that
+/// waits, `memory` where the query found none, or the groups that are kept beside an answered
+/// query. It may be taken unless the statement is a query that may still be answered.
 pub(crate) fn taken_replies_follow_the_core()
     ensures nothing { (parts : Parts) (seat : ℕ) → IsCore parts →
         find (λ submitted. is_waited submitted.standing) (statements_at parts.seats seat) ≡ None →
         next_ready (state_of parts) seat ≡ None }
     ensures reply { (parts : Parts) (seat : ℕ) (first : Submitted) (reply : Reply) → IsCore parts →
-        find (λ submitted. is_waited submitted.standing) (statements_at parts.seats seat) ≡ Some first →
+        find (λ submitted. is_waited submitted.standing) (statements_at parts.seats seat)
+        ≡ Some first →
         first.standing ≡ Waits reply → next_ready (state_of parts) seat ≡ Some (Whole reply) }
     ensures open { (parts : Parts) (seat : ℕ) (first : Submitted) → IsCore parts →
-        find (λ submitted. is_waited submitted.standing) (statements_at parts.seats seat) ≡ Some first →
-        first.standing ≡ IsAsked → option_map_or is_open (life_of parts.lives first.number) false ≡ true →
+        find (λ submitted. is_waited submitted.standing) (statements_at parts.seats seat)
+        ≡ Some first → first.standing ≡ IsAsked →
+        option_map_or is_open (life_of parts.lives first.number) false ≡ true →
         next_ready (state_of parts) seat ≡ None }
     ensures closed { (parts : Parts) (seat : ℕ) (first : Submitted) → IsCore parts →
-        find (λ submitted. is_waited submitted.standing) (statements_at parts.seats seat) ≡ Some first →
-        (first.standing ≡ IsAsked → option_map_or is_open (life_of parts.lives first.number) false ≡ false) →
+        find (λ submitted. is_waited submitted.standing) (statements_at parts.seats seat)
+        ≡ Some first →
+        (first.standing ≡ IsAsked →
+        option_map_or is_open (life_of parts.lives first.number) false ≡ false) →
         next_ready (state_of parts) seat
-        ≡ Some (ready_with first.standing (snapshot_for parts.asked first.number) (kept_for parts.asked first.number)) }
+        ≡ Some (ready_with first.standing (snapshot_for parts.asked first.number)
+        (kept_for parts.asked first.number)) }
     ensures spoiled { (parts : Parts) (seat : ℕ) (first : Submitted) → IsCore parts →
-        find (λ submitted. is_waited submitted.standing) (statements_at parts.seats seat) ≡ Some first →
-        first.standing ≡ IsAsked → life_of parts.lives first.number ≡ Some Spoiled →
+        find (λ submitted. is_waited submitted.standing) (statements_at parts.seats seat)
+        ≡ Some first → first.standing ≡ IsAsked → life_of parts.lives first.number ≡ Some Spoiled →
         next_ready (state_of parts) seat ≡ Some (Whole Memory) }
     ensures answered { (parts : Parts) (seat : ℕ) (first : Submitted) → IsCore parts →
-        find (λ submitted. is_waited submitted.standing) (statements_at parts.seats seat) ≡ Some first →
-        first.standing ≡ IsAsked → life_of parts.lives first.number ≡ Some Answered →
+        find (λ submitted. is_waited submitted.standing) (statements_at parts.seats seat)
+        ≡ Some first → first.standing ≡ IsAsked → life_of parts.lives first.number ≡ Some Answered →
         (asked : AskedQuery) × (asked_at parts.asked first.number ≡ Some asked) × (groups : Grouped)
         × (asked.kept ≡ Some groups)
         × (next_ready (state_of parts) seat ≡ Some (Grouping asked.snapshot groups)) }
-    ensures done { (parts : Parts) (seat : ℕ) (first : Submitted) (statements : List Submitted) → IsCore parts →
-        find (λ submitted. is_waited submitted.standing) (statements_at parts.seats seat) ≡ Some first →
-        IsSome (next_ready (state_of parts) seat) →
+    ensures done { (parts : Parts) (seat : ℕ) (first : Submitted) (statements : List Submitted) →
+        IsCore parts →
+        find (λ submitted. is_waited submitted.standing) (statements_at parts.seats seat)
+        ≡ Some first → IsSome (next_ready (state_of parts) seat) →
         seat_as (known_in parts.asked) statements
         ≡ with_taken (seat_as (known_in parts.asked) (statements_at parts.seats seat)) →
-        Becomes (forgotten_at seat first.number statements parts) (after_taking seat (state_of parts)) }
+        Becomes (forgotten_at seat first.number statements parts)
+        (after_taking seat (state_of parts)) }
 {
     a_reply_that_may_be_taken_is_right();
     a_distributor_follows_the_core();

@@ -24,8 +24,9 @@ pub fn idle_cores_lend_nothing(core: &Core)
     let _ = &core.settings;
 }
 
-/// Events that a core took are steps of the core, each of which might come, and lead to the same state. So all that holds
-/// of every list of steps holds of them.
+/// Events that a core took are steps of the core, each of which might come, and lead to the same
+/// state. So all that holds of every list of steps holds of them.
 pub fn taken_events_are_steps()
-    ensures { (events : List Event) (old new : State) → TookAll events old new → StepsFor events old new }
+    ensures { (events : List Event) (old new : State) → TookAll events old new →
+        StepsFor events old new }
 {}

@@ -1,5 +1,5 @@
-//! The core of the shared scan in code: what each event makes of it. When an event may come, and what it changes, is
-//! defined in `core_state`.
+//! The core of the shared scan in code: what each event makes of it. When an event may come, and
+//! what it changes, is defined in `core_state`.
 #![tactic(auto)]
 
 mod batches;

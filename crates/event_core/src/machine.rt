@@ -33,8 +33,8 @@ use std::alloc::Global;
 use std::hash::RandomState;
 use std::marker::Model;
 
-/// The core of the shared scan: the tables, the queries that were asked of them, and the scan that gives rows to those
-/// that run.
+/// The core of the shared scan: the tables, the queries that were asked of them, and the scan that
+/// gives rows to those that run.
 #[derive(Debug)]
 pub struct Core {
     pub(crate) alloc: Global,
@@ -49,18 +49,21 @@ pub struct Core {
     pub(crate) log: Trail<Logged>,
     pub(crate) seats: ListOf<Seat>,
 
-    /// The accepted queries. Their numbers rise. Those that were handed on have begun, and those that were let go are over.
+    /// The accepted queries. Their numbers rise. Those that were handed on have begun, and those
+    /// that were let go are over.
     pub(crate) asked: Queries,
 
     /// Their lives, and which of them holds which slot.
     pub(crate) manager: Manager,
     pub(crate) filters: Filters,
 
-    /// For each filter and each seat a reference to the present version, while it is not in the seat's hand.
+    /// For each filter and each seat a reference to the present version, while it
+    /// is not in the seat's hand.
     pub(crate) spares: Spares,
     pub(crate) scan: Scan,
 
-    /// At the slot of each query that runs or is ending, the groups of its rows, of which some may be out with seats.
+    /// At the slot of each query that runs or is ending, the groups of its rows, of which
+    /// some may be out with seats.
     pub(crate) distributor: SharedDistributor,
     pub(crate) flights: Flights,
 
@@ -93,21 +96,28 @@ impl Model for Core {
 
     ghost coded = { Prim.hlevel (codes, star_query.the_row.coded) };
 
-    ghost view = { λ core. parts_by core.settings core.tables core.log core.seats core.asked core.manager core.filters core.scan
-        core.distributor core.flights core.pool core.cut core.last_statement core.last_batch core.last_version core.marks };
+    ghost view = { λ core.
+        parts_by core.settings core.tables core.log core.seats
+        core.asked core.manager core.filters core.scan
+        core.distributor core.flights core.pool core.cut
+        core.last_statement core.last_batch core.last_version core.marks };
 
     ghost invariant = { λ core.
-        IsCore (parts_by core.settings core.tables core.log core.seats core.asked core.manager core.filters core.scan
-        core.distributor core.flights core.pool core.cut core.last_statement core.last_batch core.last_version core.marks)
+        IsCore (parts_by core.settings core.tables core.log
+        core.seats core.asked core.manager core.filters core.scan
+        core.distributor core.flights core.pool core.cut
+        core.last_statement core.last_batch core.last_version core.marks)
         × HasRoom core.settings core.flights × AreFinished core.manager core.asked
         × AreSpare core.settings.seats core.filters.versions core.flights.items core.spares
-        × AreBacked (beside_of (parts_by core.settings core.tables core.log core.seats core.asked core.manager core.filters core.scan
-        core.distributor core.flights core.pool core.cut core.last_statement core.last_batch core.last_version core.marks))
+        × AreBacked (beside_of (parts_by core.settings core.tables
+        core.log core.seats core.asked core.manager core.filters core.scan
+        core.distributor core.flights core.pool core.cut
+        core.last_statement core.last_batch core.last_version core.marks))
         × (length core.distributor.out ≡ core.settings.seats) };
 }
 
-/// By hand, so that a core goes by one call, wherever it falls, and the crates above prove nothing of its parts: a derived drop
-/// is proved anew in each of them, with those of all parts.
+/// By hand, so that a core goes by one call, wherever it falls, and the crates above prove nothing
+/// of its parts: a derived drop is proved anew in each of them, with those of all parts.
 impl Drop for Core {
     fn drop(self) {
         let Self {
@@ -157,7 +167,8 @@ impl Core {
         ensures beside { IfOk result (λ core. beside_of core ≡ first_beside settings.seats) }
     {
         a_new_core_is_empty();
-        // All that may find no memory comes first: each `?` takes down again what was made before it.
+        // All that may find no memory comes first: each `?` takes down again
+        // what was made before it.
         let seats = empty_seats(alloc, settings.seats)?;
         let (flights, pool) = free_frames(alloc, settings)?;
         let (manager, scan, distributor) = free_slots(alloc, hash_keys, settings)?;
@@ -204,7 +215,8 @@ impl Core {
         (seat as usize) < self.seats.len()
     }
 
-    /// The seat's earliest query that is Waiting, Building, Running or Ending. A seat that is not there has none.
+    /// The seat's earliest query that is Waiting, Building, Running or Ending. A seat
+    /// that is not there has none.
     pub fn first_pending(&self, seat: u32) -> Option<u64>
         ensures { result ≡ first_open (state_of self.now).lives (seat_at (state_of self.now) seat) }
     {
@@ -278,7 +290,8 @@ fn empty_seats(alloc: Global, count: u32) -> Result<ListOf<Seat>, NoMemory>
     Ok(seats)
 }
 
-/// All slots, which no query holds: nothing runs in them, nothing gets rows, and no seat has groups with it.
+/// All slots, which no query holds: nothing runs in them, nothing gets rows, and no
+/// seat has groups with it.
 fn free_slots(
     alloc: Global,
     hash_keys: RandomState,

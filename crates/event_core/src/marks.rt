@@ -56,7 +56,8 @@ impl Core {
     /// Adds one to a number that goes from 0 to 15 and round again, and gives it.
     pub fn count_up(&mut self) -> u32
         ensures count { result ≡ (self.old.marks.distributed + 1) % 16 }
-        ensures marks { self.new ≡ record self.old { marks = record self.old.marks { distributed = result } } }
+        ensures marks { self.new
+            ≡ record self.old { marks = record self.old.marks { distributed = result } } }
     {
         self.marks.distributed = next_in_round(self.marks.distributed);
         self.marks.distributed

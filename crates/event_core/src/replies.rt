@@ -31,15 +31,18 @@ pub enum Ready {
 }
 
 impl Core {
-    /// Takes the next reply of a seat, in the order of its statements. `None` where the seat waits for nothing, as one that is
-    /// not there, or the first statement that it waits for is a query that may still be answered. No memory is taken.
+    /// Takes the next reply of a seat, in the order of its statements. `None` where the seat waits
+    /// for nothing, as one that is not there, or the first statement that it waits for is a query
+    /// that may still be answered. No memory is taken.
     pub fn take_reply(&mut self, seat: u32) -> Option<Ready>
         ensures ready { option_map ready_of result ≡ next_ready (state_of self.old) seat }
         ensures taken { IsSome result → state_of self.new ≡ after_taking seat (state_of self.old) }
         ensures none { result ≡ None → self.new ≡ self.old }
         ensures beside { beside_of self.new ≡ beside_of self.old }
-        ensures right { IfSome result (λ ready. IfSome (slice_get (seat_at (state_of self.old) seat).pending 0)
-            (λ pending. IsRight (state_of self.old) pending.statement pending.awaited (ready_of ready))) }
+        ensures right { IfSome result (λ ready.
+            IfSome (slice_get (seat_at (state_of self.old) seat).pending 0)
+            (λ pending.
+            IsRight (state_of self.old) pending.statement pending.awaited (ready_of ready))) }
         ensures sound { IsSound (state_of self.new) }
     {
         let _ = &self.settings;
@@ -57,8 +60,10 @@ impl Core {
         ensures taken { IsSome result → state_of self.new ≡ after_taking seat (state_of self.old) }
         ensures none { result ≡ None → self.new ≡ self.old }
         ensures beside { beside_of self.new ≡ beside_of self.old }
-        ensures right { IfSome result (λ ready. IfSome (slice_get (seat_at (state_of self.old) seat).pending 0)
-            (λ pending. IsRight (state_of self.old) pending.statement pending.awaited (ready_of ready))) }
+        ensures right { IfSome result (λ ready.
+            IfSome (slice_get (seat_at (state_of self.old) seat).pending 0)
+            (λ pending.
+            IsRight (state_of self.old) pending.statement pending.awaited (ready_of ready))) }
         ensures sound { IsSound (state_of self.new) }
     {
         taken_replies_follow_the_core();
@@ -72,7 +77,8 @@ impl Core {
     }
 }
 
-/// The number of the first statement that a seat waits for, unless that is a query that may still be answered.
+/// The number of the first statement that a seat waits for, unless that is a query
+/// that may still be answered.
 fn next_number(seat: &Seat, manager: &Manager) -> Option<u64>
     ensures { result ≡ next_number manager.now seat.now.items }
 {
@@ -94,16 +100,20 @@ fn may_be_taken(submitted: &Submitted, manager: &Manager) -> bool
     }
 }
 
-/// Takes the reply to the first statement that a seat waits for, and gives how that statement stood.
+/// Takes the reply to the first statement that a seat waits for, and gives
+/// how that statement stood.
 fn take_first(seats: &mut ListOf<Seat>, seat: usize) -> Standing
     requires there { seat < length seats.old }
     requires waited { IsSome (find (λ submitted. is_waited submitted.standing)
         (statements_at (map (λ seat. seat.items) seats.old) seat)) }
     ensures first { IfSome (find (λ submitted. is_waited submitted.standing)
-        (statements_at (map (λ seat. seat.items) seats.old) seat)) (λ submitted. submitted.standing ≡ result) }
-    ensures taken { (known : List Known) → seat_as known (statements_at (map (λ seat. seat.items) seats.new) seat)
+        (statements_at (map (λ seat. seat.items) seats.old) seat)) (λ submitted.
+        submitted.standing ≡ result) }
+    ensures taken { (known : List Known) →
+        seat_as known (statements_at (map (λ seat. seat.items) seats.new) seat)
         ≡ with_taken (seat_as known (statements_at (map (λ seat. seat.items) seats.old) seat)) }
-    ensures others { map (λ seat. seat.items) seats.new ≡ slice_set (map (λ seat. seat.items) seats.old) seat
+    ensures others { map (λ seat. seat.items) seats.new
+        ≡ slice_set (map (λ seat. seat.items) seats.old) seat
         (statements_at (map (λ seat. seat.items) seats.new) seat) }
 {
     seats.as_mut_slice()[seat].take()

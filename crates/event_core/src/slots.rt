@@ -44,7 +44,8 @@ impl Core {
         self.manager.reserve(slot);
     }
 
-    /// A query for which every filter is built begins its lap. Its bound form is handed on to the scan.
+    /// A query for which every filter is built begins its lap. Its bound form
+    /// is handed on to the scan.
     pub(crate) fn start(&mut self, query: u64)
         requires { CanRun query (state_of self.old).lives }
         ensures after { state_of self.new ≡ after_start query (state_of self.old) }
@@ -63,8 +64,8 @@ impl Core {
         self.manager.run(query, start);
     }
 
-    /// A slot is taken from its query, which no batch in flight has on its roster. The groups of one that is answered are
-    /// kept.
+    /// A slot is taken from its query, which no batch in flight has on its roster. The groups of
+    /// one that is answered are kept.
     pub(crate) fn finish(&mut self, slot: u32)
         requires { MayFinish slot (state_of self.old) }
         ensures after { state_of self.new ≡ after_finish slot (state_of self.old) }
@@ -129,7 +130,8 @@ fn start_scan(
 )
     requires { extent ≢ 0 → CanStart slot extent length scan.old }
     ensures none { extent ≡ 0 → scan.new ≡ scan.old }
-    ensures some { extent ≢ 0 → scan.new ≡ scanned.after_start slot (arc_value query) snapshot extent length scan.old }
+    ensures some { extent ≢ 0 →
+        scan.new ≡ scanned.after_start slot (arc_value query) snapshot extent length scan.old }
 {
     if extent > 0 {
         scan.start(slot, query, snapshot, extent, length);
@@ -140,7 +142,8 @@ fn start_scan(
 fn keep_ending(asked: &mut Queries, query: u64, life: Option<Life>, groups: Option<Groups>)
     requires rising { AreRising asked.old.items }
     requires stands { life ≡ Some Ending → IsNotAmong asked.old.gone query }
-    ensures ending { life ≡ Some Ending → asked.new ≡ record asked.old { items = with_kept_at query groups asked.old.items } }
+    ensures ending { life ≡ Some Ending →
+        asked.new ≡ record asked.old { items = with_kept_at query groups asked.old.items } }
     ensures others { life ≢ Some Ending → asked.new ≡ asked.old }
     ensures gone { asked.new.gone ≡ asked.old.gone }
     ensures handed { asked.new.handed ≡ asked.old.handed }
@@ -161,10 +164,14 @@ fn is_ending(life: Option<Life>) -> bool
 fn give_up(seats: &mut ListOf<Seat>, seat: u32, query: u64)
     requires there { seat < length seats.old }
     requires rising { AllPairs (λ statement later. statement < later)
-        (map (λ submitted. submitted.number) (statements_at (map (λ seat. seat.items) seats.old) seat)) }
-    ensures seat { (known : List Known) → seat_as known (statements_at (map (λ seat. seat.items) seats.new) seat)
-        ≡ without_pending query (seat_as known (statements_at (map (λ seat. seat.items) seats.old) seat)) }
-    ensures others { map (λ seat. seat.items) seats.new ≡ slice_set (map (λ seat. seat.items) seats.old) seat
+        (map (λ submitted. submitted.number)
+        (statements_at (map (λ seat. seat.items) seats.old) seat)) }
+    ensures seat { (known : List Known) →
+        seat_as known (statements_at (map (λ seat. seat.items) seats.new) seat)
+        ≡ without_pending query
+        (seat_as known (statements_at (map (λ seat. seat.items) seats.old) seat)) }
+    ensures others { map (λ seat. seat.items) seats.new
+        ≡ slice_set (map (λ seat. seat.items) seats.old) seat
         (statements_at (map (λ seat. seat.items) seats.new) seat) }
 {
     seats.as_mut_slice()[seat as usize].abandon(query);
@@ -174,7 +181,8 @@ fn give_up(seats: &mut ListOf<Seat>, seat: u32, query: u64)
 fn drop_at(distributor: &mut SharedDistributor, slot: Option<u32>)
     requires { IfSome slot (λ slot. slot < length distributor.old.attached) }
     ensures attached { distributor.new.attached ≡
-        option_map_or (λ slot. slice_set distributor.old.attached slot None) slot distributor.old.attached }
+        option_map_or (λ slot. slice_set distributor.old.attached slot None)
+        slot distributor.old.attached }
     ensures out { distributor.new.out ≡ distributor.old.out }
 {
     if let Some(slot) = slot {

@@ -1,4 +1,5 @@
-//! Which queries hold the slots, and what becomes of those that find no memory for the rows of a batch.
+//! Which queries hold the slots, and what becomes of those that find no memory
+//! for the rows of a batch.
 ghost use Rattle.std.specs.Prelude.{◌≡◌, ◌==◌, if◌then◌else◌, ◌<◌, fold, length, All, None};
 ghost use Rattle.std.specs.Int.{bit_at};
 ghost use Rattle.pipeline_manager.specs.Changes.{after_spoil};
@@ -26,7 +27,8 @@ fn query_at(manager: &Manager, slot: u32) -> Option<u64>
     }
 }
 
-/// For each slot the number of the query that holds it, and 0 where none does. Only the slots in use are read.
+/// For each slot the number of the query that holds it, and 0 where none does. Only
+/// the slots in use are read.
 pub(crate) fn holders_of(manager: &Manager) -> [u64; MAX_SLOTS]
     ensures { AreHolders manager.now result }
 {
@@ -41,20 +43,24 @@ pub(crate) fn holders_of(manager: &Manager) -> [u64; MAX_SLOTS]
 fn query_in(manager: &Manager, slots: Bits<1>, slot: u32) -> Option<u64>
     requires there { slot < length manager.now.slots }
     requires few { slot < 64 }
-    ensures query { result ≡ if bit_at slots slot == 1 then holder_of (slot_at manager.now slot) else None }
+    ensures query { result
+        ≡ if bit_at slots slot == 1 then holder_of (slot_at manager.now slot) else None }
     ensures sound { IsSound manager.now }
 {
     let holder = query_at(manager, slot);
     if slots.has(slot) { holder } else { None }
 }
 
-/// Spoils the queries that hold the slots of a set, which all have begun and may still be answered, and ends what runs there.
-/// Only the slots in use are gone over.
+/// Spoils the queries that hold the slots of a set, which all have begun and may still be answered,
+/// and ends what runs there. Only the slots in use are gone over.
 pub(crate) fn spoil_holders(manager: &mut Manager, scan: &mut Scan, slots: Bits<1>)
     requires begun { All (λ query. CanSpoil query manager.old) (holders_in manager.old slots) }
     requires slots { length manager.old.slots ≡ length scan.old.running }
-    ensures lives { manager.new ≡ fold (λ lives query. after_spoil query lives) manager.old (holders_in manager.old slots) }
-    ensures scan { scan.new ≡ fold (λ now query. stopped_for manager.old query now) scan.old (holders_in manager.old slots) }
+    ensures lives { manager.new
+        ≡ fold (λ lives query. after_spoil query lives) manager.old (holders_in manager.old slots) }
+    ensures scan { scan.new
+        ≡ fold (λ now query. stopped_for manager.old query now) scan.old
+        (holders_in manager.old slots) }
 {
     for slot in 0..manager.used() {
         if let Some(query) = query_in(manager, slots, slot) {

@@ -43,7 +43,8 @@ use star_values::{ListOf, NoMemory};
 use std::alloc::Global;
 
 impl Core {
-    /// By what form the block of a statement is to be read, where it is a load into a table that is there.
+    /// By what form the block of a statement is to be read, where it is a load
+    /// into a table that is there.
     pub fn block_form(&self, statement: &Statement) -> Result<Option<BlockForm>, NoMemory>
         ensures { IfOk result (λ form.
             form ≡ form_of_text (tables_of (state_of self.now)).schema (meaning_of statement.now)) }
@@ -51,8 +52,8 @@ impl Core {
         block_form(self.alloc, self.tables.store(), statement)
     }
 
-    /// A seat submits a statement. Where no memory is left, or no number for one statement more, or where the tables are lent
-    /// and the statement may change them, nothing has changed.
+    /// A seat submits a statement. Where no memory is left, or no number for one statement more, or
+    /// where the tables are lent and the statement may change them, nothing has changed.
     pub(crate) fn submit(
         &mut self,
         seat: u32,
@@ -72,7 +73,8 @@ impl Core {
         let Some(number) = self.last_statement.checked_add(1) else {
             return Err(ApplyFault::Memory);
         };
-        // All that a change of the tables needs is there before it is made: after it nothing may fail.
+        // All that a change of the tables needs is there before it is made:
+        // after it nothing may fail.
         make_room(&mut self.seats, seat, &mut self.asked)?;
         let all = make_filters(
             self.alloc,
@@ -127,10 +129,12 @@ impl Core {
 /// Where the change of a statement declares the fact table, none was declared, and no slot is held.
 fn a_declared_fact_table_finds_free_slots()
     ensures first { (parts : Parts) (statement : Statement) (change : Change) → IsCore parts →
-        (outcome_of (tables_of (state_of parts)) statement).change ≡ Some change → kind_of_change change ≡ DeclaresFact →
+        (outcome_of (tables_of (state_of parts)) statement).change ≡ Some change →
+        kind_of_change change ≡ DeclaresFact →
         (tables_of (state_of parts)).schema.fact ≡ None }
     ensures free { (parts : Parts) (statement : Statement) (change : Change) → IsCore parts →
-        (outcome_of (tables_of (state_of parts)) statement).change ≡ Some change → kind_of_change change ≡ DeclaresFact →
+        (outcome_of (tables_of (state_of parts)) statement).change ≡ Some change →
+        kind_of_change change ≡ DeclaresFact →
         All (λ slot. slot ≡ Free) parts.lives.slots }
 {
     outcomes_fit_the_tables();
@@ -144,7 +148,8 @@ fn make_room(seats: &mut ListOf<Seat>, seat: u32, asked: &mut Queries) -> Result
     ensures queries { asked.new.items ≡ asked.old.items }
     ensures gone { asked.new.gone ≡ asked.old.gone }
     ensures handed { asked.new.handed ≡ asked.old.handed }
-    ensures for_statement { OnOk result ((d : Roomy Submitted) → 0 < (slice_index_or seats.new seat d).room) }
+    ensures for_statement { OnOk result
+        ((d : Roomy Submitted) → 0 < (slice_index_or seats.new seat d).room) }
     ensures for_query { OnOk result (0 < asked.new.room) }
 {
     asked.reserve()?;
@@ -155,13 +160,15 @@ fn make_room(seats: &mut ListOf<Seat>, seat: u32, asked: &mut Queries) -> Result
 fn reserve_at(seats: &mut ListOf<Seat>, seat: u32) -> Result<(), NoMemory>
     requires { seat < length seats.old }
     ensures statements { map (λ seat. seat.items) seats.new ≡ map (λ seat. seat.items) seats.old }
-    ensures room { OnOk result ((d : Roomy Submitted) → 0 < (slice_index_or seats.new seat d).room) }
+    ensures room { OnOk result
+        ((d : Roomy Submitted) → 0 < (slice_index_or seats.new seat d).room) }
 {
     seats.as_mut_slice()[seat as usize].reserve()
 }
 
-/// Makes the filters of all dimensions, and for each of so many seats a reference to each, where no fact table is declared yet.
-/// Where one is, no statement needs them: there are none, and the references stay.
+/// Makes the filters of all dimensions, and for each of so many seats a reference to each,
+/// where no fact table is declared yet. Where one is, no statement needs them: there are none,
+/// and the references stay.
 fn make_filters(
     alloc: Global,
     tables: &Tables,
@@ -171,7 +178,8 @@ fn make_filters(
     ensures all { tables.now.schema.fact ≡ None →
         IfOk result (λ all. all ≡ first_filters (range_with_len 0 8)) }
     ensures spares { tables.now.schema.fact ≡ None →
-        OnOk result (spares.new ≡ first_spares seats (first_filters (range_with_len 0 8)).versions) }
+        OnOk result
+        (spares.new ≡ first_spares seats (first_filters (range_with_len 0 8)).versions) }
     ensures declared { IsSome tables.now.schema.fact → spares.new ≡ spares.old }
 {
     if tables.store().schema().fact.is_some() {
@@ -187,13 +195,16 @@ fn stand(seats: &mut ListOf<Seat>, seat: u32, number: u64, standing: Standing)
     requires there { seat < length seats.old }
     requires room { (d : Roomy Submitted) → 0 < (slice_index_or seats.old seat d).room }
     requires waited { is_waited standing ≡ true }
-    ensures { map (λ seat. seat.items) seats.new ≡ slice_set (map (λ seat. seat.items) seats.old) seat
-        (statements_at (map (λ seat. seat.items) seats.old) seat ++ record { number = number; standing = standing } ∷ []) }
+    ensures { map (λ seat. seat.items) seats.new
+        ≡ slice_set (map (λ seat. seat.items) seats.old) seat
+        (statements_at (map (λ seat. seat.items) seats.old) seat
+        ++ record { number = number; standing = standing } ∷ []) }
 {
     seats.as_mut_slice()[seat as usize].submit(number, standing);
 }
 
-/// Does what a statement says to the tables, whose key numbers stay right, as far as they are not lent.
+/// Does what a statement says to the tables, whose key numbers stay right, as
+/// far as they are not lent.
 fn apply_to(
     alloc: Global,
     tables: &mut Tables,
@@ -248,8 +259,8 @@ fn filter_for(
     }
 }
 
-/// Puts a query behind the others that were accepted, into room that was made. It waits, and the scan gives it this many
-/// positions.
+/// Puts a query behind the others that were accepted, into room that was made. It waits, and the
+/// scan gives it this many positions.
 fn accept(
     asked: &mut Queries,
     manager: &mut Manager,

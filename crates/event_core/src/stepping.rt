@@ -59,14 +59,17 @@ pub struct EventsFault {
 }
 
 impl Core {
-    /// Takes an event, if it may come. A query that finds no memory as its filter is built, or as its rows are folded, is
-    /// spoiled. Where any other event finds none, nothing has changed. Only a statement and a filter that is cleared may find none.
+    /// Takes an event, if it may come. A query that finds no memory as its filter is built, or as
+    /// its rows are folded, is spoiled. Where any other event finds none, nothing has changed. Only
+    /// a statement and a filter that is cleared may find none.
     pub fn step(&mut self, event: Event) -> Result<(), StepFault>
         requires home { IsAtHome event (lent_to self.old.flights) }
-        ensures disabled { IsErrOf result StepFault.NotEnabled ↔ (IsEnabled (state_of self.old) event → ⊥) }
+        ensures disabled { IsErrOf result StepFault.NotEnabled
+            ↔ (IsEnabled (state_of self.old) event → ⊥) }
         ensures taken { OnOk result (Took event (state_of self.old) (state_of self.new)) }
         ensures err { OnErr result (self.new ≡ self.old) }
-        ensures memory { IsErrOf result StepFault.Memory → IsEnabled (state_of self.old) event × MayWantMemory event }
+        ensures memory { IsErrOf result StepFault.Memory →
+            IsEnabled (state_of self.old) event × MayWantMemory event }
         ensures beside { beside_of self.new ≡ beside_of self.old }
         ensures sound { IsSound (state_of self.new) }
     {
@@ -78,10 +81,12 @@ impl Core {
     /// Takes an event, if it may come.
     fn take_if_enabled(&mut self, event: Event) -> Result<(), StepFault>
         requires home { IsAtHome event (lent_to self.old.flights) }
-        ensures disabled { IsErrOf result StepFault.NotEnabled ↔ (IsEnabled (state_of self.old) event → ⊥) }
+        ensures disabled { IsErrOf result StepFault.NotEnabled
+            ↔ (IsEnabled (state_of self.old) event → ⊥) }
         ensures taken { OnOk result (Took event (state_of self.old) (state_of self.new)) }
         ensures err { OnErr result (self.new ≡ self.old) }
-        ensures memory { IsErrOf result StepFault.Memory → IsEnabled (state_of self.old) event × MayWantMemory event }
+        ensures memory { IsErrOf result StepFault.Memory →
+            IsEnabled (state_of self.old) event × MayWantMemory event }
         ensures beside { beside_of self.new ≡ beside_of self.old }
     {
         if !self.enabled(&event) {
@@ -134,8 +139,8 @@ impl Core {
         }
     }
 
-    /// Takes the submission of a statement, as `step` does, whose block may have been read before. While batches are lent it
-    /// takes a statement that leaves the tables as they are.
+    /// Takes the submission of a statement, as `step` does, whose block may have been read before.
+    /// While batches are lent it takes a statement that leaves the tables as they are.
     pub fn submit_read(
         &mut self,
         seat: u32,
@@ -159,13 +164,16 @@ impl Core {
         }
     }
 
-    /// Takes events, one after the other, up to the first that is not taken, and tells why that was not.
+    /// Takes events, one after the other, up to the first that is not taken,
+    /// and tells why that was not.
     pub fn run_events(&mut self, events: Vec<Event>) -> Result<(), EventsFault>
         requires home { All (λ event. IsAtHome event (lent_to self.old.flights)) events.items }
         ensures all { OnOk result (TookAll events.items (state_of self.old) (state_of self.new)) }
-        ensures before { IfErr result (λ fault. TookAll (take fault.at events.items) (state_of self.old) (state_of self.new)
+        ensures before { IfErr result (λ fault.
+            TookAll (take fault.at events.items) (state_of self.old) (state_of self.new)
             × (fault.at < length events.items)) }
-        ensures cause { IfErr result (λ fault. IfSome (slice_get events.items fault.at) (IsRefused fault.cause (state_of self.new))) }
+        ensures cause { IfErr result (λ fault.
+            IfSome (slice_get events.items fault.at) (IsRefused fault.cause (state_of self.new))) }
         ensures beside { beside_of self.new ≡ beside_of self.old }
         ensures sound { IsSound (state_of self.new) }
     {

@@ -10,20 +10,23 @@ is_end end = not (end == 0)
 
 -- a block with one version more
 abbrev pub with_version : VersionBlock → Version → VersionBlock
-with_version block version = record { begin = max block.begin version.begin; ended = block.ended || is_end version.end }
+with_version block version =
+    record { begin = max block.begin version.begin; ended = block.ended || is_end version.end }
 
 -- a block of which a commit ended one version more
 abbrev pub with_end_by : VersionBlock → (commit : ℕ) → VersionBlock
 with_end_by block commit = record block { ended = block.ended || is_end commit }
 
--- what is known of versions together: the greatest of their begins, and whether one of them was ended
+-- what is known of versions together: the greatest of their begins, and
+-- whether one of them was ended
 abbrev pub block_of : List Version → VersionBlock
 block_of [] = record { begin = 0; ended = false }
 block_of (version ∷ versions) = with_version (block_of versions) version
 
 -- the versions of a block, from 0
 abbrev pub versions_in : (number : ℕ) → List Version → List Version
-versions_in number versions = take VERSIONS_IN_A_BLOCK (drop (number * VERSIONS_IN_A_BLOCK) versions)
+versions_in number versions =
+    take VERSIONS_IN_A_BLOCK (drop (number * VERSIONS_IN_A_BLOCK) versions)
 
 -- so many blocks have room for so many versions, and no block is left empty
 pub record AreCounted (versions blocks : ℕ) : Type 0 where

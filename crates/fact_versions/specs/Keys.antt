@@ -22,7 +22,8 @@ column_of columns dimension = slice_index_or columns dimension no_column
 
 -- every column has room for so many more keys
 abbrev pub HaveRoom : (room : ℕ) → List (Roomy ℕ) → Type 0
-HaveRoom room columns = (dimension : ℕ) → dimension < KEYS_IN_A_VERSION → room ≤ (column_of columns dimension).room
+HaveRoom room columns =
+    (dimension : ℕ) → dimension < KEYS_IN_A_VERSION → room ≤ (column_of columns dimension).room
 
 -- a column has one key more than before, and used up room for one
 pub record HasOneMore (old new : Roomy ℕ) (key : ℕ) : Type 0 where
@@ -32,4 +33,5 @@ pub record HasOneMore (old new : Roomy ℕ) (key : ℕ) : Type 0 where
 -- columns have the key numbers of versions, each the one of all
 pub record AreKeyColumns (versions : List Version) (columns : List (Roomy ℕ)) : Type 0 where
   pub whole : HaveAllKeys versions
-  pub each : (dimension : ℕ) → dimension < KEYS_IN_A_VERSION → (column_of columns dimension).items ≡ keys_for dimension versions
+  pub each : (dimension : ℕ) → dimension < KEYS_IN_A_VERSION
+      → (column_of columns dimension).items ≡ keys_for dimension versions

@@ -11,9 +11,12 @@ last_number = 18446744073709551615
 abbrev pub least_unused : List ℕ → ℕ
 least_unused used =
     option_map_or (λ number. number)
-    (find (λ number. not (list_any (λ other. other == number) used)) (range_with_len 0 (length used + 1))) 0
+    (find (λ number. not (list_any (λ other. other == number) used))
+    (range_with_len 0 (length used + 1)))
+    0
 
--- the number after the last one that was given; once the numbers have run out, the least that is not used
+-- the number after the last one that was given; once the numbers have run out,
+-- the least that is not used
 abbrev pub next_number : (last : ℕ) → (used : List ℕ) → ℕ
 next_number last used = if nat_lt last last_number then last + 1 else least_unused used
 

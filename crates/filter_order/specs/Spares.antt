@@ -1,4 +1,5 @@
--- References to the tables of the present versions of filters, which are made ahead: one for each seat.
+-- References to the tables of the present versions of filters, which are made
+-- ahead: one for each seat.
 use Rattle.std.specs.Prelude.{◌≡◌, ◌≢◌, AllPairs, ℕ, ◌<◌, ◌==◌, Bool, false, if◌then◌else◌, List, [], ◌∷◌, fold, length, map, replicate, slice_index_or, slice_set, Option, Some, None}
 use Rattle.std.specs.Option.{option_map_or}
 use Rattle.dimension_filter.specs.Filter.{Filter}
@@ -14,7 +15,8 @@ spare_at spares dimension seat = slice_index_or (slice_index_or spares dimension
 
 -- the references with this one for a seat of a dimension
 abbrev pub with_spare : (dimension seat : ℕ) → Option Filter → Spares → Spares
-with_spare dimension seat spare spares = slice_set spares dimension (slice_set (slice_index_or spares dimension []) seat spare)
+with_spare dimension seat spare spares =
+    slice_set spares dimension (slice_set (slice_index_or spares dimension []) seat spare)
 
 -- a reference for each of so many seats to the table of a version
 abbrev pub references_to : (seats : ℕ) → FilterVersion → List (Option Filter)
@@ -32,12 +34,14 @@ pub record HasPlace (dimension seat : ℕ) (spares : Spares) : Type 0 where
 -- whether a version is the present one of its filter: that one has its number
 abbrev pub is_present : List FilterVersion → FilterVersion → Bool
 is_present versions version =
-    option_map_or (λ present. present.number == version.number) (version_at versions version.filter.dimension) false
+    option_map_or (λ present. present.number == version.number)
+    (version_at versions version.filter.dimension) false
 
 -- the references once a seat gave a version back, which is the present one or is not
 abbrev pub with_returned : (seat : ℕ) → FilterVersion → (present : Bool) → Spares → Spares
 with_returned seat version present spares =
-    if present then with_spare version.filter.dimension seat (Some version.filter) spares else spares
+    if present then with_spare version.filter.dimension seat (Some version.filter) spares
+    else spares
 
 -- versions of different filters
 abbrev pub AreApart : List FilterVersion → Type 0

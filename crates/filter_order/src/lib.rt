@@ -1,6 +1,6 @@
 //! The filters of the core of the shared scan: their versions, what each did so far, the order in
-//! which rows meet them, the one that drops the most rows first, and references to the versions that
-//! are made ahead.
+//! which rows meet them, the one that drops the most rows first, and references to the
+//! versions that are made ahead.
 #![tactic(auto)]
 
 mod drop_tallies;

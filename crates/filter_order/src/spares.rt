@@ -1,4 +1,5 @@
-//! The references to the present versions of filters that are kept, so that a batch is taken without memory.
+//! The references to the present versions of filters that are kept, so that a batch
+//! is taken without memory.
 ghost use Rattle.std.specs.Prelude.{◌≡◌, ◌<◌, ◌≤◌, ◌==◌, ◌++◌, [], if◌then◌else◌, length, option_map, slice_index_or, slice_set, true, All, None, Some, IfOk, IfSome};
 ghost use Rattle.std.specs.Option.{option_to_list};
 ghost use Rattle.std.specs.Int.{bit_at};
@@ -15,8 +16,8 @@ use star_values::{ListOf, NoMemory};
 use std::alloc::Global;
 use std::marker::Model;
 
-/// For each dimension, and there for each seat, a reference to the table of the present version of the filter, while the seat
-/// does not have that version in its hand.
+/// For each dimension, and there for each seat, a reference to the table of the present version of
+/// the filter, while the seat does not have that version in its hand.
 #[derive(Debug, Drop)]
 pub struct Spares {
     dimensions: ListOf<References>,
@@ -41,8 +42,8 @@ impl Spares {
         }
     }
 
-    /// A reference for each of so many seats to the table of each filter, at the place of the filter. So the filters are those
-    /// of all dimensions.
+    /// A reference for each of so many seats to the table of each filter, at the place of the
+    /// filter. So the filters are those of all dimensions.
     pub fn of_all(alloc: Global, filters: &Filters, seats: u32) -> Result<Spares, NoMemory>
         ensures { IfOk result (λ spares. spares ≡ first_spares seats filters.now.versions) }
     {
@@ -98,10 +99,13 @@ impl Spares {
         take_left(&mut self.dimensions, seat, filters, filters.order(), None)
     }
 
-    /// Keeps the reference of a seat again, where its version is still the present one of the filter. It lets any other go.
+    /// Keeps the reference of a seat again, where its version is still the present one of the
+    /// filter. It lets any other go.
     pub fn give(&mut self, seat: u32, version: FilterVersion, filters: &Filters)
-        requires { is_present filters.now.versions version ≡ true → HasPlace version.filter.dimension seat self.old }
-        ensures { self.new ≡ with_returned seat version (is_present filters.now.versions version) self.old }
+        requires { is_present filters.now.versions version ≡ true →
+            HasPlace version.filter.dimension seat self.old }
+        ensures { self.new
+            ≡ with_returned seat version (is_present filters.now.versions version) self.old }
     {
         let present = filters.is_present(&version);
         give_version(&mut self.dimensions, seat, version, present);
@@ -155,8 +159,8 @@ fn take_version(
     version.another(reference)
 }
 
-/// What `Spares::take_all` does, over the list alone, of the filters of these dimensions. Where there is no batch, none of them
-/// was passed.
+/// What `Spares::take_all` does, over the list alone, of the filters of these dimensions. Where
+/// there is no batch, none of them was passed.
 fn take_left(
     spares: &mut ListOf<References>,
     seat: u32,
@@ -183,8 +187,8 @@ fn take_left(
     versions
 }
 
-/// The present version of the filter of a dimension, if it has one that a batch did not pass. Where there is no batch, it was not
-/// passed.
+/// The present version of the filter of a dimension, if it has one that a batch did not pass. Where
+/// there is no batch, it was not passed.
 fn left_to<'a>(
     filters: &'a Filters,
     dimension: u8,

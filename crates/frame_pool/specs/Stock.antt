@@ -9,4 +9,5 @@ pub record Stock : Type 0 where
 
 -- no more frames are in than were made, and each has as many words as the pool's frames
 abbrev pub IsStock : Stock → Type 0
-IsStock stock = (length stock.inside ≤ stock.made) × All (λ frame. length frame ≡ stock.words) stock.inside
+IsStock stock =
+    (length stock.inside ≤ stock.made) × All (λ frame. length frame ≡ stock.words) stock.inside

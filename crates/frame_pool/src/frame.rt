@@ -28,7 +28,8 @@ impl Frame {
     }
 
     pub fn words_mut(&mut self) -> &mut [u64]
-        ensures* writes_back { sem 𝓛 (Lends the_row (Array word 0) self.entry result (refill (length self.entry.now) self.entry.now)) }
+        ensures* writes_back { sem 𝓛 (Lends the_row (Array word 0) self.entry result
+            (refill (length self.entry.now) self.entry.now)) }
         ensures value { result.now ≡ self.old }
     {
         self.words.as_mut_slice()

@@ -23,7 +23,8 @@ impl Model for Pool {
 
     ghost Value = { Stock };
 
-    ghost view = { λ pool. record { made = pool.made; words = pool.words; inside = pool.frames.items } };
+    ghost view = { λ pool.
+        record { made = pool.made; words = pool.words; inside = pool.frames.items } };
 
     ghost invariant = { λ pool.
         IsStock (record { made = pool.made; words = pool.words; inside = pool.frames.items })

@@ -22,7 +22,8 @@ use Rattle.make_load.specs.declared.made.MadeEnd.{MadeEnd}
 use Rattle.make_load.specs.declared.made.MadeEnd.TheVariants.{Clean, SomeRefused, WriteFault, NoMemory}
 use Rattle.make_load.specs.declared.ran.Ran.{Ran}
 
--- the line that sums up the replies to a script, where memory was wanted for the statements at these places
+-- the line that sums up the replies to a script, where memory was wanted for the
+-- statements at these places
 abbrev pub line_of : (wanted script : List ℕ) → List ℕ
 line_of wanted script = summary_text (summary_of (script_replies wanted true script))
 
@@ -34,8 +35,8 @@ made_line wanted seed rows = line_of wanted (made_script seed rows)
 abbrev pub whole_of : (script : List ℕ) → CutScript
 whole_of script = record { ended = true; script = script }
 
--- what was written of a line, by the end of the run: the whole line, where some reply is a refusal or none is, a proper front of it, or
--- nothing
+-- what was written of a line, by the end of the run: the whole line, where some reply is a refusal
+-- or none is, a proper front of it, or nothing
 abbrev pub WritesLine : MadeEnd → (line : List ℕ) → (refused : Bool) → (written : List ℕ) → Type 0
 WritesLine Clean line refused written = (written ≡ line) × (refused ≡ false)
 WritesLine SomeRefused line refused written = (written ≡ line) × (refused ≡ true)
@@ -45,24 +46,31 @@ WritesLine NoMemory line refused written = written ≡ []
 -- the same for the line of the made script
 abbrev pub WritesMade : MadeEnd → (wanted : List ℕ) → (seed rows : ℕ) → (written : List ℕ) → Type 0
 WritesMade end wanted seed rows written =
-    WritesLine end (made_line wanted seed rows) (some_refused wanted true (made_script seed rows)) written
+    WritesLine end (made_line wanted seed rows)
+    (some_refused wanted true (made_script seed rows)) written
 
--- what a core of these settings tells of a script that it ran to its end, where memory was wanted for the statements at some places: that
--- they were submitted and replied to, as its seat 0 sees it; and where nobody else had the core, its history, its queries and its laps.
--- Whether some reply is a refusal is not told by it
-abbrev pub TellsMade : (Alone : Type 0) → (settings : RunSettings) → (wanted script : List ℕ) → State → Type 0
+-- what a core of these settings tells of a script that it ran to its end, where memory was wanted
+-- for the statements at some places: that they were submitted and replied to, as its seat 0 sees
+-- it; and where nobody else had the core, its history, its queries and its laps. Whether some reply
+-- is a refusal is not told by it
+abbrev pub TellsMade : (Alone : Type 0) → (settings : RunSettings) → (wanted script : List ℕ)
+    → State → Type 0
 TellsMade Alone settings wanted script core =
-    (Alone → TellsOf wanted (whole_of script) settings.slots core) × TellsFront Alone settings run_end.Clean true wanted script core
+    (Alone → TellsOf wanted (whole_of script) settings.slots core)
+    × TellsFront Alone settings run_end.Clean true wanted script core
 
--- the sink took these bytes, and they are what the end says of the made script, where memory was wanted for its statements at some
--- places. A core that is handed back tells of the same script and of the same places; `Alone` is what is known where nobody else had it
-pub record AnswersMade (Alone : Type 0) (settings : RunSettings) (seed rows : ℕ) (core : Option Parts) (end : MadeEnd)
+-- the sink took these bytes, and they are what the end says of the made script, where memory was
+-- wanted for its statements at some places. A core that is handed back tells of the same script and
+-- of the same places; `Alone` is what is known where nobody else had it
+pub record AnswersMade (Alone : Type 0) (settings : RunSettings) (seed rows : ℕ)
+    (core : Option Parts) (end : MadeEnd)
     (to to' : WritingSide) : Type 0 where
   pub wanted : List ℕ
   pub written : List ℕ
   pub took : Appends to.taken to'.taken written
   pub writes : WritesMade end wanted seed rows written
-  pub told : IfSome core (λ parts. TellsMade Alone settings wanted (made_script seed rows) (state_of parts))
+  pub told : IfSome core (λ parts.
+      TellsMade Alone settings wanted (made_script seed rows) (state_of parts))
 
 -- which faults came: where a write failed the last one alone, and else none
 abbrev pub CountsMade : MadeEnd → (to to' : WritingSide) → Type 0
@@ -75,12 +83,15 @@ end_behind (Ok done) false = Clean
 end_behind (Ok done) true = SomeRefused
 end_behind (Err failed) refused = WriteFault
 
--- these are the replies to all of a script, where memory was wanted for its statements at some places
+-- these are the replies to all of a script, where memory was wanted for its
+-- statements at some places
 abbrev pub IsTextOf : (replies script : List ℕ) → Type 0
 IsTextOf replies script = (wanted : List ℕ) × (replies ≡ script_text wanted true script)
 
--- a script was run to its end, and some reply was a refusal or none was: these are the replies, and a core that there is tells of it
-pub record IsRan (Alone : Type 0) (settings : RunSettings) (script replies : List ℕ) (refused : Bool) (core : Option Parts) : Type 0 where
+-- a script was run to its end, and some reply was a refusal or none was: these are the replies, and
+-- a core that there is tells of it
+pub record IsRan (Alone : Type 0) (settings : RunSettings) (script replies : List ℕ)
+    (refused : Bool) (core : Option Parts) : Type 0 where
   pub wanted : List ℕ
   pub text : replies ≡ script_text wanted true script
   pub refusal : some_refused wanted true script ≡ refused
@@ -89,15 +100,19 @@ pub record IsRan (Alone : Type 0) (settings : RunSettings) (script replies : Lis
 -- what is told of the run of a script in memory, where it came to its end
 abbrev pub RunsText : (Alone : Type 0) → (settings : RunSettings) → (script : List ℕ) → Ran → Type 0
 RunsText Alone settings script ran =
-    (refused : Bool) → ran.end ≡ end_of_all refused → IsRan Alone settings script ran.replies.taken refused ran.core
+    (refused : Bool) → ran.end ≡ end_of_all refused
+    → IsRan Alone settings script ran.replies.taken refused ran.core
 
--- the replies to a script whose run ended so were summed up: it came to its end, and this is their line
+-- the replies to a script whose run ended so were summed up: it came to its
+-- end, and this is their line
 abbrev pub IsSummed : (run_end : RunEnd) → (script replies : List ℕ) → Summed → Type 0
 IsSummed run_end script replies summed = (run_end ≡ end_of_all summed.refused)
-    × ((wanted : List ℕ) → replies ≡ script_text wanted true script → summed.line ≡ line_of wanted script)
+    × ((wanted : List ℕ) → replies ≡ script_text wanted true script
+    → summed.line ≡ line_of wanted script)
 
 -- what was written of the line, if there is one
-pub record WritesSome (end : MadeEnd) (line : List ℕ) (refused : Bool) (to to' : WritingSide) : Type 0 where
+pub record WritesSome (end : MadeEnd) (line : List ℕ) (refused : Bool)
+    (to to' : WritingSide) : Type 0 where
   pub ends : end ≢ NoMemory
   pub written : List ℕ
   pub took : Appends to.taken to'.taken written
@@ -114,7 +129,8 @@ HandsOn NoMemory found handed = handed ≡ None
 HandsOn other found handed = handed ≡ found
 
 -- the replies of a run were summed up, the line was written, and the core was handed on
-pub record TellsRan (script : List ℕ) (ran : Ran) (done : MadeDone) (to to' : WritingSide) : Type 0 where
+pub record TellsRan (script : List ℕ) (ran : Ran) (done : MadeDone)
+    (to to' : WritingSide) : Type 0 where
   pub summed : Result Summed values.NoMemory
   pub is : IfOk summed (IsSummed ran.end script ran.replies.taken)
   pub writes : WritesSummed summed done.end to to'

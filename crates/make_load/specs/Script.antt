@@ -26,22 +26,29 @@ tell number draft = say (decimal number) draft
 
 -- a number is drawn and written: one of so many, from the least on
 unfoldable pub draw : ℕ → ℕ → Draft → Draft
-draw least range draft = record { x = next draft.x; text = draft.text ++ decimal (least + next draft.x / 65536 % range) }
+draw least range draft =
+    record { x = next draft.x; text = draft.text ++ decimal (least + next draft.x / 65536 % range) }
 
 -- a record: a key, a letter with a number, and a number from the least on
 unfoldable pub named_record : List ℕ → ℕ → ℕ → ℕ → ℕ → Draft → Draft
 named_record letter names least range key draft =
-    in_turn (tell key ∷ say letter ∷ draw 0 names ∷ say (codes ",") ∷ draw least range ∷ say (codes "\n") ∷ []) draft
+    in_turn (tell key ∷ say letter ∷ draw 0 names ∷ say (codes ",") ∷ draw least range
+    ∷ say (codes "\n") ∷ [])
+    draft
 
 -- a load of such records with the keys below so many
 unfoldable pub named_load : List ℕ → ℕ → List ℕ → ℕ → ℕ → ℕ → Draft → Draft
 named_load line keys letter names least range draft =
-    in_turn (say line ∷ for_each keys (named_record letter names least range) ∷ say (codes ".\n") ∷ []) draft
+    in_turn (say line ∷ for_each keys (named_record letter names least range)
+    ∷ say (codes ".\n") ∷ [])
+    draft
 
 -- a day: its key, its month and its weekday
 unfoldable pub day : ℕ → Draft → Draft
 day key draft =
-    in_turn (tell key ∷ say (codes ",") ∷ tell (1 + key / 31) ∷ say (codes ",") ∷ tell (key % 7) ∷ say (codes "\n") ∷ []) draft
+    in_turn (tell key ∷ say (codes ",") ∷ tell (1 + key / 31) ∷ say (codes ",") ∷ tell (key % 7)
+    ∷ say (codes "\n") ∷ [])
+    draft
 
 -- the load of a year of days
 unfoldable pub days : Draft → Draft
@@ -80,7 +87,9 @@ sale draft =
 
 -- a load of so many sales
 unfoldable pub sales : ℕ → Draft → Draft
-sales count draft = in_turn (say (codes "load sales\n") ∷ for_each count (λ number. sale) ∷ say (codes ".\n") ∷ []) draft
+sales count draft =
+    in_turn (say (codes "load sales\n") ∷ for_each count (λ number. sale) ∷ say (codes ".\n") ∷ [])
+    draft
 
 -- a query with one number that is drawn
 unfoldable pub ask : List ℕ → ℕ → ℕ → List ℕ → Draft → Draft
@@ -89,34 +98,41 @@ ask front least range back draft = in_turn (say front ∷ draw least range ∷ s
 -- the units by region, of small stores
 unfoldable pub ask_regions : Draft → Draft
 ask_regions draft =
-    ask (codes "select region, count(*), sum(units) from sales, store where store_id = store.id and size < ") 0 1000
+    ask (codes "select region, count(*), sum(units) from sales, store where store_id = store.id and size < ")
+    0 1000
     (codes " group by region\n") draft
 
 -- the prices by brand, of products with a cost in a range
 unfoldable pub ask_brands : Draft → Draft
 ask_brands draft =
-    ask (codes "select brand, sum(price), max(units) from sales, product where product_id = product.id and cost between 100 and ") 100 400
+    ask (codes "select brand, sum(price), max(units) from sales, product where product_id = product.id and cost between 100 and ")
+    100 400
     (codes " group by brand\n") draft
 
 -- the sales by month, of customers from an age on
 unfoldable pub ask_months : Draft → Draft
 ask_months draft =
-    ask (codes "select month, count(*) from sales, day, customer where day_id = day.id and customer_id = customer.id and age >= ") 18 70
+    ask (codes "select month, count(*) from sales, day, customer where day_id = day.id and customer_id = customer.id and age >= ")
+    18 70
     (codes " group by month\n") draft
 
 -- all sales of many units
 unfoldable pub ask_units : Draft → Draft
-ask_units draft = ask (codes "select count(*), sum(units), min(price) from sales where units > ") 0 20 (codes "\n") draft
+ask_units draft =
+    ask (codes "select count(*), sum(units), min(price) from sales where units > ") 0 20
+    (codes "\n") draft
 
 -- the prices by channel and region, of two channels and up to a price
 unfoldable pub ask_channels : Draft → Draft
 ask_channels draft =
-    in_turn (ask (codes "select channel, region, sum(price) from sales, promo, store where promo_id = promo.id and store_id = store.id and channel in ('P0','P") 0 4
+    in_turn (ask (codes "select channel, region, sum(price) from sales, promo, store where promo_id = promo.id and store_id = store.id and channel in ('P0','P")
+    0 4
     (codes "') and price <= ") ∷ draw 1 1000 ∷ say (codes " group by channel, region\n") ∷ []) draft
 
 -- one query of each kind
 unfoldable pub queries : Draft → Draft
-queries draft = in_turn (ask_regions ∷ ask_brands ∷ ask_months ∷ ask_units ∷ ask_channels ∷ []) draft
+queries draft =
+    in_turn (ask_regions ∷ ask_brands ∷ ask_months ∷ ask_units ∷ ask_channels ∷ []) draft
 
 -- how many sales the load of a block has: a twelfth, and in the last block what is left
 unfoldable pub share : ℕ → ℕ → ℕ
@@ -124,15 +140,18 @@ share rows block = if block == 11 then rows - 11 * (rows / 12) else rows / 12
 
 -- sales are deleted behind the queries of one block
 unfoldable pub delete_behind : ℕ → Draft → Draft
-delete_behind block draft = if block == 5 then say (codes "delete from sales where units = 7\n") draft else draft
+delete_behind block draft =
+    if block == 5 then say (codes "delete from sales where units = 7\n") draft else draft
 
 -- a block: a load of sales, the queries, and maybe the delete
 unfoldable pub block : ℕ → ℕ → Draft → Draft
-block rows number draft = in_turn (sales (share rows number) ∷ queries ∷ delete_behind number ∷ []) draft
+block rows number draft =
+    in_turn (sales (share rows number) ∷ queries ∷ delete_behind number ∷ []) draft
 
 -- the whole script: the tables, the dimensions, twelve blocks and a `wait`
 unfoldable pub script : ℕ → Draft → Draft
-script rows draft = in_turn (tables ∷ dimensions ∷ for_each 12 (block rows) ∷ say (codes "wait\n") ∷ []) draft
+script rows draft =
+    in_turn (tables ∷ dimensions ∷ for_each 12 (block rows) ∷ say (codes "wait\n") ∷ []) draft
 
 -- the bytes of the script that a seed makes, with so many sales
 unfoldable pub made_script : ℕ → ℕ → List ℕ

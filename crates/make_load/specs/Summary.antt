@@ -40,7 +40,8 @@ answered_rows _ = 0
 abbrev pub capped : ℕ → ℕ
 capped n = min n (2 ^ 64 - 1)
 
--- how many replies there are and how many of each kind, the rows of all answers, and the length and the sum of the text
+-- how many replies there are and how many of each kind, the rows of all answers, and the
+-- length and the sum of the text
 unfoldable pub summary_of : List Reply → Summary
 summary_of replies = record {
   statements = length replies;

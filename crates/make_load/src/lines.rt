@@ -57,7 +57,8 @@ fn named_load(
     requires named { 0 < names }
     requires some { 0 < range }
     requires fits { least + range < 2 ^ 32 }
-    ensures { OnOk result (draft.new ≡ named_load line.now keys letter.now names least range draft.old) }
+    ensures { OnOk result
+        (draft.new ≡ named_load line.now keys letter.now names least range draft.old) }
 {
     draft.say(line)?;
     for key in 0..keys {

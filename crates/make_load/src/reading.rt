@@ -12,10 +12,11 @@ use reply_text::{Reply, read_reply};
 use star_values::{ListOf, NoMemory};
 use std::alloc::Global;
 
-/// The summary of the replies whose text, one after the other, the bytes are. There is none where the
-/// bytes are not the text of a list of replies. The only error is want of memory.
+/// The summary of the replies whose text, one after the other, the bytes are. There is none where
+/// the bytes are not the text of a list of replies. The only error is want of memory.
 pub fn summary(alloc: Global, replies: &[u8]) -> Result<Option<Summary>, NoMemory>
-    ensures some { IfOk result (λ found. IfSome found (λ s. (list : List declared.Reply) × (All IsWellFormed list)
+    ensures some { IfOk result (λ found.
+        IfSome found (λ s. (list : List declared.Reply) × (All IsWellFormed list)
         × (replies.now ≡ text_of_all list) × (s ≡ summary_of list))) }
     ensures none { IfOk result (λ found. IfNone found ((list : List declared.Reply) →
         All IsWellFormed list → replies.now ≢ text_of_all list)) }
@@ -33,7 +34,8 @@ pub fn summary(alloc: Global, replies: &[u8]) -> Result<Option<Summary>, NoMemor
 
 /// The replies whose text, one after the other, the bytes are.
 fn replies_in(alloc: Global, bytes: &[u8]) -> Result<Option<ListOf<Reply>>, NoMemory>
-    ensures some { IfOk result (λ found. IfSome found (λ list. (All IsWellFormed list) × (bytes.now ≡ text_of_all list))) }
+    ensures some { IfOk result (λ found.
+        IfSome found (λ list. (All IsWellFormed list) × (bytes.now ≡ text_of_all list))) }
     ensures none { IfOk result (λ found. IfNone found ((list : List declared.Reply) →
         All IsWellFormed list → bytes.now ≢ text_of_all list)) }
     ensures back { IfOk result (λ found. (list : List declared.Reply) → All IsWellFormed list

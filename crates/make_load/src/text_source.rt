@@ -26,7 +26,8 @@ impl<'a> TextSource<'a> {
 impl<'a> Source for TextSource<'a> {
     ghost use Rattle.std.specs.Prelude.{Some, false};
 
-    ghost reading = { λ s. record { left = Some s.rest.now; faults = 0; failed = false; ended = s.ended } };
+    ghost reading = { λ s.
+        record { left = Some s.rest.now; faults = 0; failed = false; ended = s.ended } };
 
     fn read(&mut self, into: &mut [u8]) -> Result<usize, Failed> {
         let n = into.len().min(self.rest.len());

@@ -24,7 +24,9 @@ with_slot slot state lives = record lives { slots = slice_set lives.slots slot s
 -- `submit`: the query is behind all others, and is Waiting
 abbrev pub after_submit : (query extent : ℕ) → Lives → Lives
 after_submit query extent lives =
-    record lives { queries = lives.queries ++ record { query = query; extent = extent; life = Waiting } ∷ [] }
+    record lives {
+      queries = lives.queries ++ record { query = query; extent = extent; life = Waiting } ∷ [];
+    }
 
 -- `reserve`: the oldest Waiting query is Building, and holds the slot with nothing built
 abbrev pub after_reserve : (slot : ℕ) → Lives → Lives
@@ -43,7 +45,8 @@ with_dimension dimension (Clearing left) = Clearing left
 -- `built`: the dimension's bit is set in the slot of the query
 abbrev pub after_built : (query dimension : ℕ) → Lives → Lives
 after_built query dimension lives = option_map_or
-    (λ slot. with_slot slot (with_dimension dimension (slot_at lives slot)) lives) (slot_of lives query) lives
+    (λ slot. with_slot slot (with_dimension dimension (slot_at lives slot)) lives)
+    (slot_of lives query) lives
 
 -- the life of a query that is to be given rows from `start` on
 abbrev pub started : (start extent : ℕ) → Life
@@ -52,7 +55,9 @@ started start extent = if extent == 0 then Ending else Running start extent
 -- `run`: the query is Running with its extent left, and Ending where that is 0
 abbrev pub after_run : (query start : ℕ) → Lives → Lives
 after_run query start lives =
-    record lives { queries = with_life query (started start (extent_in lives.queries query)) lives.queries }
+    record lives {
+      queries = with_life query (started start (extent_in lives.queries query)) lives.queries;
+    }
 
 -- how many of the positions from `first` to `last`, both included, are below an extent
 abbrev pub covered : (first last extent : ℕ) → ℕ
@@ -70,7 +75,8 @@ cut_life positions Abandoned = Abandoned
 
 -- a query for which the positions from `first` to `last` were scanned
 abbrev pub cut_query : (first last : ℕ) → QueryLife → QueryLife
-cut_query first last entry = record entry { life = cut_life (covered first last entry.extent) entry.life }
+cut_query first last entry =
+    record entry { life = cut_life (covered first last entry.extent) entry.life }
 
 -- `cut`: what is left of each Running query falls, and with nothing left it is Ending
 abbrev pub after_cut : (first last : ℕ) → Lives → Lives
@@ -108,7 +114,8 @@ without_dimension dimension (Clearing left) = Clearing (without left (2 ^ dimens
 
 -- `cleared`: the dimension's bit is no longer set in the slot
 abbrev pub after_cleared : (slot dimension : ℕ) → Lives → Lives
-after_cleared slot dimension lives = with_slot slot (without_dimension dimension (slot_at lives slot)) lives
+after_cleared slot dimension lives =
+    with_slot slot (without_dimension dimension (slot_at lives slot)) lives
 
 -- `free`: nothing uses the slot
 abbrev pub after_free : (slot : ℕ) → Lives → Lives

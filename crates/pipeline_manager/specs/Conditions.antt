@@ -27,7 +27,8 @@ pub record CanBuild (query dimension : ℕ) (lives : Lives) : Type 0 where
 -- the query is Building, and every filter is built for it
 pub record CanRun (query : ℕ) (lives : Lives) : Type 0 where
   pub building : life_of lives query ≡ Some Building
-  pub all_built : (dimension : ℕ) → Has lives.filters dimension → Has (built_of lives query) dimension
+  pub all_built : (dimension : ℕ) → Has lives.filters dimension
+      → Has (built_of lives query) dimension
 
 -- the life is Running
 abbrev pub IsRunning : Life → Type 0
@@ -39,7 +40,8 @@ abbrev pub HasLeft : (positions : ℕ) → Life → Type 0
 HasLeft positions (Running start left) = positions ≤ left
 HasLeft positions other = Unit {0}
 
--- some query is Running, and of each Running query as much is left as the range covers of its extent
+-- some query is Running, and of each Running query as much is left as the
+-- range covers of its extent
 pub record CanCut (first last : ℕ) (lives : Lives) : Type 0 where
   pub running : Any (λ entry. IsRunning entry.life) lives.queries
   pub in_order : first ≤ last

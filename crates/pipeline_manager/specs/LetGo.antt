@@ -37,7 +37,8 @@ life_by true true = Some Spoiled
 
 -- two sets tell the lives of these queries, and that no other number has one
 abbrev pub AreTold : List QueryLife → (first second : List ℕ) → Type 0
-AreTold queries first second = (query : ℕ) → life_in queries query ≡ life_by (is_in first query) (is_in second query)
+AreTold queries first second =
+    (query : ℕ) → life_in queries query ≡ life_by (is_in first query) (is_in second query)
 
 -- the numbers below this have their two bits
 abbrev pub room_in : (first second : List ℕ) → ℕ
@@ -61,8 +62,8 @@ pub record AreClosed (count : ℕ) (queries : List QueryLife) : Type 0 where
   pub in_range : count ≤ length queries
   pub over : All IsClosed (take count queries)
 
--- the lives of the queries that were let go are over. Of those behind them so many at the front do not wait, the lives of so
--- many are over, and there is room for the lives of all
+-- the lives of the queries that were let go are over. Of those behind them so many at the front do
+-- not wait, the lives of so many are over, and there is room for the lives of all
 pub record AreKept (gone : LetGo) (rest : List QueryLife) (passed closed : ℕ) : Type 0 where
   pub over : All IsClosed gone.queries
   pub room : All (λ entry. entry.query < gone.room) rest
@@ -71,4 +72,5 @@ pub record AreKept (gone : LetGo) (rest : List QueryLife) (passed closed : ℕ) 
 
 -- the query, cut if it holds one of these slots
 abbrev pub cut_held : (first last : ℕ) → List SlotState → QueryLife → QueryLife
-cut_held first last slots entry = if nat_lt 0 (slots_held entry.query slots) then cut_query first last entry else entry
+cut_held first last slots entry =
+    if nat_lt 0 (slots_held entry.query slots) then cut_query first last entry else entry

@@ -7,8 +7,8 @@ use Rattle.pipeline_manager.specs.declared.life.SlotState.{SlotState}
 use Rattle.pipeline_manager.specs.declared.life.SlotState.TheVariants.{Free, Held, Clearing}
 use Rattle.pipeline_manager.specs.declared.life.QueryLife.{QueryLife}
 
--- the queries in the order of their submission, the state of each slot from slot 0 on, and the set of
--- the dimensions that are filters
+-- the queries in the order of their submission, the state of each slot from slot 0 on, and the set
+-- of the dimensions that are filters
 pub record Lives : Type 0 where
   pub queries : List QueryLife
   pub slots : List SlotState
@@ -37,7 +37,8 @@ is_waiting other = false
 
 -- the number of the first query that waits, if any does
 abbrev pub oldest_waiting : Lives → Option ℕ
-oldest_waiting lives = option_map (λ entry. entry.query) (find (λ entry. is_waiting entry.life) lives.queries)
+oldest_waiting lives =
+    option_map (λ entry. entry.query) (find (λ entry. is_waiting entry.life) lives.queries)
 
 -- the state of a slot; past the last slot it is Free
 abbrev pub slot_at : Lives → (slot : ℕ) → SlotState

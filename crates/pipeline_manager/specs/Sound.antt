@@ -31,9 +31,11 @@ most_slots Waiting = 0
 most_slots Answered = 0
 most_slots other = 1
 
--- so many slots are as many as a query with this life holds, and a number that no query has holds none
+-- so many slots are as many as a query with this life holds, and a number
+-- that no query has holds none
 abbrev pub FitsSlots : Option Life → (held : ℕ) → Type 0
-FitsSlots life held = (option_map_or fewest_slots life 0 ≤ held) × (held ≤ option_map_or most_slots life 0)
+FitsSlots life held =
+    (option_map_or fewest_slots life 0 ≤ held) × (held ≤ option_map_or most_slots life 0)
 
 -- something is left of a Running query, and no more than its extent
 abbrev pub IsLeft : (extent : ℕ) → Life → Type 0
@@ -43,12 +45,13 @@ IsLeft extent other = Unit {0}
 -- only filters are built for a slot's holder, and only filters are to be cleared
 abbrev pub IsOfFilters : (filters : ℕ) → SlotState → Type 0
 IsOfFilters filters Free = Unit {0}
-IsOfFilters filters (Held query built) = (dimension : ℕ) → Has built dimension → Has filters dimension
+IsOfFilters filters (Held query built) =
+    (dimension : ℕ) → Has built dimension → Has filters dimension
 IsOfFilters filters (Clearing left) = (dimension : ℕ) → Has left dimension → Has filters dimension
 
--- the numbers of queries rise, there are from 1 to 64 slots, each query holds as many slots as its life
--- says and no other number holds one, something is left of each Running query, and the bits are those
--- of filters
+-- the numbers of queries rise, there are from 1 to 64 slots, each query holds as many slots as
+-- its life says and no other number holds one, something is left of each Running query, and the
+-- bits are those of filters
 pub record IsSound (lives : Lives) : Type 0 where
   pub rising : AreRising lives.queries
   pub some : 1 ≤ length lives.slots

@@ -13,14 +13,16 @@ use bit_words::numbers_go_in_and_out;
 
 /// Each call that takes or reads a slot keeps what holds of all lives and slots.
 pub fn calls_on_slots_keep_lives_sound()
-    ensures reserve { (slot : ℕ) (lives : Lives) → slot < length lives.slots → CanReserve slot lives →
+    ensures reserve { (slot : ℕ) (lives : Lives) → slot < length lives.slots →
+        CanReserve slot lives →
         IsSound lives → IsSound (after_reserve slot lives) }
     ensures built { (query dimension : ℕ) (lives : Lives) → CanBuild query dimension lives →
         IsSound lives → IsSound (after_built query dimension lives) }
     ensures ends { (slot : ℕ) (lives : Lives) → slot < length lives.slots → CanEnd slot lives →
         IsSound lives → IsSound (after_end slot lives) }
     ensures cleared { (slot dimension : ℕ) (lives : Lives) → slot < length lives.slots →
-        CanClear slot dimension lives → IsSound lives → IsSound (after_cleared slot dimension lives) }
+        CanClear slot dimension lives → IsSound lives →
+        IsSound (after_cleared slot dimension lives) }
     ensures free { (slot : ℕ) (lives : Lives) → slot < length lives.slots → CanFree slot lives →
         IsSound lives → IsSound (after_free slot lives) }
 {
@@ -44,7 +46,8 @@ pub fn calls_on_queries_keep_lives_sound()
 /// A life that is written is that of its query, and every other query keeps its own.
 pub fn lives_change_alone()
     ensures written { (query : ℕ) (life : Life) (queries : List QueryLife) →
-        life_in (with_life query life queries) query ≡ option_map (λ old. life) (life_in queries query) }
+        life_in (with_life query life queries) query
+        ≡ option_map (λ old. life) (life_in queries query) }
     ensures others { (query other : ℕ) (life : Life) (queries : List QueryLife) → other ≢ query →
         life_in (with_life query life queries) other ≡ life_in queries other }
     ensures cut { (first last query : ℕ) (lives : Lives) →
@@ -64,9 +67,11 @@ pub fn slots_change_alone()
 /// A slot that a query holds is the first that it holds, and what is built there is built for it. A
 /// query that is Building, Running or Ending holds one.
 pub fn holders_are_found()
-    ensures slot { (lives : Lives) (slot query built : ℕ) → IsSound lives → slot < length lives.slots →
+    ensures slot { (lives : Lives) (slot query built : ℕ) → IsSound lives →
+        slot < length lives.slots →
         slot_at lives slot ≡ Held query built → slot_of lives query ≡ Some slot }
-    ensures built { (lives : Lives) (slot query built : ℕ) → IsSound lives → slot < length lives.slots →
+    ensures built { (lives : Lives) (slot query built : ℕ) → IsSound lives →
+        slot < length lives.slots →
         slot_at lives slot ≡ Held query built → built_of lives query ≡ built }
     ensures begun { (lives : Lives) (query : ℕ) → IsSound lives → CanSpoil query lives →
         IsSome (slot_of lives query) }

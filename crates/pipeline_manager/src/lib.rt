@@ -1,5 +1,6 @@
-//! The lives of star queries and the states of slots in a shared scan: which query holds which slot,
-//! how far it is, and which event may come next by them. What a life and a state are, is in `life`.
+//! The lives of star queries and the states of slots in a shared scan: which query holds
+//! which slot, how far it is, and which event may come next by them. What a life and a
+//! state are, is in `life`.
 #![tactic(auto)]
 
 mod crossing;

@@ -42,12 +42,17 @@ impl Model for Manager {
     } };
 
     ghost invariant = { λ manager.
-        IsSound (record { queries = manager.queries; slots = manager.slots; filters = manager.filters })
+        IsSound (record {
+          queries = manager.queries;
+          slots = manager.slots;
+          filters = manager.filters;
+        })
         × UsesFirst manager.used manager.slots };
 }
 
 impl Manager {
-    /// No queries, and 1 to 64 slots, all Free. Bit j of `filters` says that dimension j is a filter.
+    /// No queries, and 1 to 64 slots, all Free. Bit j of `filters` says that
+    /// dimension j is a filter.
     pub fn new(alloc: Global, slots: u32, filters: u8) -> Result<Manager, NoMemory>
         requires some { 1 ≤ slots }
         requires few { slots ≤ 64 }
@@ -159,8 +164,8 @@ impl Manager {
         self.filters
     }
 
-    /// Notes which dimensions are filters: bit j of `filters` says that dimension j is one. No slot is
-    /// used yet.
+    /// Notes which dimensions are filters: bit j of `filters` says that dimension j is
+    /// one. No slot is used yet.
     pub fn set_filters(&mut self, filters: u8)
         requires { All (λ slot. slot ≡ Free) self.old.slots }
         ensures { self.new ≡ record self.old { filters = filters } }
@@ -215,7 +220,8 @@ impl Manager {
         self.queries.cut(in_use, first, last);
     }
 
-    /// Takes a slot from its holder, which is Ending, Spoiled or Abandoned. What is Ending is Answered.
+    /// Takes a slot from its holder, which is Ending, Spoiled or Abandoned.
+    /// What is Ending is Answered.
     pub fn end(&mut self, slot: u32)
         requires within { slot < length self.old.slots }
         requires can { CanEnd slot self.old }

@@ -31,7 +31,8 @@ struct Holder {
     built: u8,
 }
 
-/// A query that waits the longest and a free slot for it, or `None` where no query waits or no slot is free.
+/// A query that waits the longest and a free slot for it, or `None` where no query
+/// waits or no slot is free.
 pub fn next_reservation(manager: &Manager) -> Option<Reservation>
     ensures some { IfSome result (λ found. MayGetSlot found.query found.slot manager.now) }
     ensures none { result ≡ None → (query slot : ℕ) → MayGetSlot query slot manager.now → ⊥ }
@@ -44,7 +45,8 @@ pub fn next_reservation(manager: &Manager) -> Option<Reservation>
 /// A query and a dimension whose filter may be built for it, or `None`.
 pub fn next_build(manager: &Manager) -> Option<ToBuild>
     ensures some { IfSome result (λ found. CanBuild found.query found.dimension manager.now) }
-    ensures none { result ≡ None → (query dimension : ℕ) → CanBuild query dimension manager.now → ⊥ }
+    ensures none { result ≡ None → (query dimension : ℕ) → CanBuild query dimension manager.now →
+        ⊥ }
 {
     for slot in 0..manager.used() {
         if let Some(found) = build_at(manager, slot) {
@@ -90,7 +92,8 @@ fn build_at(manager: &Manager, slot: u32) -> Option<ToBuild>
 fn start_at(manager: &Manager, slot: u32) -> Option<u64>
     requires { slot < length manager.now.slots }
     ensures some { IfSome result (λ query. CanRun query manager.now) }
-    ensures none { result ≡ None → (query : ℕ) → slot_of manager.now query ≡ Some slot → CanRun query manager.now → ⊥ }
+    ensures none { result ≡ None → (query : ℕ) → slot_of manager.now query ≡ Some slot →
+        CanRun query manager.now → ⊥ }
 {
     let holder = holder_at(manager, slot)?;
     if !is_within(manager.filters(), holder.built) {

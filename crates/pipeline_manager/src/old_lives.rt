@@ -1,4 +1,5 @@
-//! The lives of queries that were let go, of which each keeps two bits. All lives are in `query_lives`.
+//! The lives of queries that were let go, of which each keeps two bits. All
+//! lives are in `query_lives`.
 ghost use Rattle.std.specs.Prelude.{◌≡◌, ◌<◌, ◌≤◌, [], ◌∷◌, ◌++◌, false, All, OnOk};
 ghost use Rattle.pipeline_manager.specs.Conditions.{is_open};
 ghost use Rattle.pipeline_manager.specs.Lives.{life_in};

@@ -76,7 +76,9 @@ pub(crate) fn set_life(queries: &mut ListOf<QueryLife>, query: u64, life: Life)
 fn place_of(queries: &[QueryLife], query: u64) -> Option<usize>
     requires { AreRising queries.now }
     ensures { MatchOption result (All (λ entry. entry.query ≡ query → ⊥) queries.now)
-        (λ place. (place < length queries.now) × ((d : QueryLife) → (slice_index_or queries.now place d).query ≡ query)) }
+        (λ place.
+        (place < length queries.now)
+        × ((d : QueryLife) → (slice_index_or queries.now place d).query ≡ query)) }
 {
     match place_by_first(queries, query) {
         Some(place) => Some(place),
@@ -84,8 +86,8 @@ fn place_of(queries: &[QueryLife], query: u64) -> Option<usize>
     }
 }
 
-/// The place of the query with this number, where each query in front of it has the number behind the one before, as those
-/// of a burst have; else it may answer `None`.
+/// The place of the query with this number, where each query in front of it has the number behind
+/// the one before, as those of a burst have; else it may answer `None`.
 fn place_by_first(queries: &[QueryLife], query: u64) -> Option<usize>
     ensures { IfSome result (λ place. (place < length queries.now)
         × ((d : QueryLife) → (slice_index_or queries.now place d).query ≡ query)) }
@@ -106,7 +108,9 @@ fn place_by_first(queries: &[QueryLife], query: u64) -> Option<usize>
 fn place_by_search(queries: &[QueryLife], query: u64) -> Option<usize>
     requires { AreRising queries.now }
     ensures { MatchOption result (All (λ entry. entry.query ≡ query → ⊥) queries.now)
-        (λ place. (place < length queries.now) × ((d : QueryLife) → (slice_index_or queries.now place d).query ≡ query)) }
+        (λ place.
+        (place < length queries.now)
+        × ((d : QueryLife) → (slice_index_or queries.now place d).query ≡ query)) }
 {
     let place = first_from(queries, query);
     if place < queries.len() && queries[place].query == query {
@@ -120,7 +124,8 @@ fn place_by_search(queries: &[QueryLife], query: u64) -> Option<usize>
 fn first_from(queries: &[QueryLife], query: u64) -> usize
     requires { AreRising queries.now }
     ensures bound { result ≤ length queries.now }
-    ensures halves { IsPartitionPoint (λ entry. entry.query < query) (λ entry. query ≤ entry.query) queries.now result }
+    ensures halves { IsPartitionPoint (λ entry. entry.query < query)
+        (λ entry. query ≤ entry.query) queries.now result }
 {
     queries.partition_point(|entry| entry.query < query)
 }
@@ -132,7 +137,8 @@ pub(crate) fn first_waiting(queries: &[QueryLife], from: usize) -> usize
     requires passed { NoneWaits from queries.now }
     ensures in_range { result ≤ length queries.now }
     ensures passed { NoneWaits result queries.now }
-    ensures waits { slice_get queries.now result ≡ find (λ entry. is_waiting entry.life) queries.now }
+    ensures waits { slice_get queries.now result
+        ≡ find (λ entry. is_waiting entry.life) queries.now }
 {
     for place in from..queries.len() {
         if is_waiting(&queries[place].life) {
@@ -148,11 +154,13 @@ fn is_waiting(life: &Life) -> bool
     matches!(life, Life::Waiting)
 }
 
-/// The number of the first query that waits, or `None` where none does. None in front of `from` waits.
+/// The number of the first query that waits, or `None` where none does. None
+/// in front of `from` waits.
 pub(crate) fn oldest_waiting(queries: &[QueryLife], from: usize) -> Option<u64>
     requires in_range { from ≤ length queries.now }
     requires passed { NoneWaits from queries.now }
-    ensures { result ≡ option_map (λ entry. entry.query) (find (λ entry. is_waiting entry.life) queries.now) }
+    ensures { result
+        ≡ option_map (λ entry. entry.query) (find (λ entry. is_waiting entry.life) queries.now) }
 {
     let place = first_waiting(queries, from);
     Some(queries.get(place)?.query)
@@ -216,8 +224,8 @@ fn cut_life(positions: u32, life: Life) -> Life
     }
 }
 
-/// Notes that the positions from `first` to `last` were scanned, of each query that holds a slot. None
-/// holds two.
+/// Notes that the positions from `first` to `last` were scanned, of each query that
+/// holds a slot. None holds two.
 pub(crate) fn cut_holders(
     queries: &mut ListOf<QueryLife>,
     slots: &[SlotState],

@@ -1,5 +1,5 @@
-//! The lives of all queries, of which those in front are let go once they are over. What is read and
-//! written of the others is in `queries`.
+//! The lives of all queries, of which those in front are let go once they are over. What is read
+//! and written of the others is in `queries`.
 ghost use Rattle.std.specs.Prelude.{◌≡◌, ℕ, ◌<◌, ◌≤◌, ◌↔◌, [], ◌∷◌, ◌++◌, length, map, take, drop, find, option_map, All, Any, IsTrue, OnOk, OnErr, false};
 ghost use Rattle.pipeline_manager.specs.declared.life.Life.TheVariants.{Waiting};
 ghost use Rattle.pipeline_manager.specs.Lives.{is_waiting, life_in, extent_in};
@@ -59,10 +59,12 @@ impl QueryLives {
         }
     }
 
-    /// Puts a query behind all others, which waits, and makes room for the bits that it keeps at last.
+    /// Puts a query behind all others, which waits, and makes room for the
+    /// bits that it keeps at last.
     pub(crate) fn push(&mut self, query: u64, extent: u32) -> Result<(), NoMemory>
         ensures ok { OnOk result
-            (self.new ≡ self.old ++ record { query = query; extent = extent; life = Waiting } ∷ []) }
+            (self.new
+            ≡ self.old ++ record { query = query; extent = extent; life = Waiting } ∷ []) }
         ensures err { OnErr result (self.new ≡ self.old) }
     {
         let entry = QueryLife {
@@ -76,7 +78,8 @@ impl QueryLives {
 
     /// The number of the query that waits the longest, or `None` where none waits.
     pub(crate) fn oldest_waiting(&self) -> Option<u64>
-        ensures { result ≡ option_map (λ entry. entry.query) (find (λ entry. is_waiting entry.life) self.now) }
+        ensures { result
+            ≡ option_map (λ entry. entry.query) (find (λ entry. is_waiting entry.life) self.now) }
     {
         queries::oldest_waiting(self.rest.as_slice(), self.passed)
     }
@@ -101,7 +104,8 @@ impl QueryLives {
     /// Whether some query is Running. Only the holders of slots are looked at.
     pub(crate) fn some_run(&self, slots: &[SlotState]) -> bool
         requires rising { AreRising self.now }
-        requires held { (query : ℕ) → FitsSlots (life_in self.now query) (slots_held query slots.now) }
+        requires held { (query : ℕ) →
+            FitsSlots (life_in self.now query) (slots_held query slots.now) }
         ensures { IsTrue result ↔ Any (λ entry. IsRunning entry.life) self.now }
     {
         queries::some_holder_runs(self.rest.as_slice(), slots)
@@ -139,11 +143,12 @@ impl QueryLives {
         );
     }
 
-    /// Notes that the positions from `first` to `last`, both included, were scanned. Only the holders of
-    /// slots are looked at.
+    /// Notes that the positions from `first` to `last`, both included, were scanned. Only the
+    /// holders of slots are looked at.
     pub(crate) fn cut(&mut self, slots: &[SlotState], first: u32, last: u32)
         requires rising { AreRising self.old }
-        requires held { (query : ℕ) → FitsSlots (life_in self.old query) (slots_held query slots.now) }
+        requires held { (query : ℕ) →
+            FitsSlots (life_in self.old query) (slots_held query slots.now) }
         ensures { self.new ≡ map (cut_query first last) self.old }
     {
         queries::cut_holders(&mut self.rest, slots, first, last);
@@ -162,8 +167,9 @@ fn push(gone: &mut OldLives, rest: &mut ListOf<QueryLife>, entry: QueryLife) -> 
     rest.push(entry)
 }
 
-/// Notes which queries in front do not wait any more, and which lives there are over. Once the latter are
-/// as many as those behind them, they are let go. So no more are moved down than are let go.
+/// Notes which queries in front do not wait any more, and which lives there are over.
+/// Once the latter are as many as those behind them, they are let go. So no more are
+/// moved down than are let go.
 fn settle(
     alloc: Global,
     gone: &mut OldLives,

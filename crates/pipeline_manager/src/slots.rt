@@ -17,7 +17,8 @@ pub(crate) fn in_front(slots: &[SlotState], count: usize) -> &[SlotState]
     &slots[..count]
 }
 
-/// How many slots at the front have all that are in use, and no fewer would. The first `used` have all.
+/// How many slots at the front have all that are in use, and no fewer would.
+/// The first `used` have all.
 pub(crate) fn count_used(slots: &[SlotState], used: usize) -> usize
     requires { UsesFirst used slots.now }
     ensures all { UsesFirst result slots.now }

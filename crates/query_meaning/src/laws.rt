@@ -30,10 +30,12 @@ use star_values::rows_are_in_order;
 /// A query keeps of versions and one more what it keeps of the versions, and the one joined by its
 /// key numbers where it keeps that.
 pub(crate) fn kept_rows_take_one_version_more()
-    ensures { (query : Query) (dimensions : List (List DimensionRow)) (snapshot : ℕ) (versions : List Version) (version : Version) →
+    ensures { (query : Query) (dimensions : List (List DimensionRow)) (snapshot : ℕ)
+        (versions : List Version) (version : Version) →
         kept_in query dimensions snapshot (versions ++ version ∷ [])
         ≡ (if keeps query dimensions snapshot version
-        then (kept_in query dimensions snapshot versions ++ joined_by_keys dimensions query version ∷ [])
+        then (kept_in query dimensions snapshot versions
+        ++ joined_by_keys dimensions query version ∷ [])
         else kept_in query dimensions snapshot versions) }
 {
     groups_take_one_row_more();
@@ -42,7 +44,8 @@ pub(crate) fn kept_rows_take_one_version_more()
 /// The tallies of rows and one more are those of the rows, with the values of the one.
 pub(crate) fn tallies_take_one_row_more()
     ensures { (items : List Item) (rows : List Joined) (row : Joined) →
-        taken (item_value_of row) items (tallies_of items rows) ≡ tallies_of items (rows ++ row ∷ []) }
+        taken (item_value_of row) items (tallies_of items rows)
+        ≡ tallies_of items (rows ++ row ∷ []) }
 {
     cells_take_one_row_more();
 }
@@ -54,7 +57,8 @@ pub(crate) fn groups_take_one_row()
         group_of query (rows ++ row ∷ []) key
         ≡ (if eq_by_cmp row_cmp (key_of query.groups row) key
         then Some (taken (item_value_of row) query.items
-        (option_map_or (λ tallies. tallies) (group_of query rows (key_of query.groups row)) (tallies_of query.items [])))
+        (option_map_or (λ tallies. tallies)
+        (group_of query rows (key_of query.groups row)) (tallies_of query.items [])))
         else group_of query rows key) }
 {
     groups_take_one_row_more();
@@ -64,15 +68,17 @@ pub(crate) fn groups_take_one_row()
 /// Without GROUP BY the cells of all rows are the answer.
 pub(crate) fn all_rows_end_as_the_answer()
     ensures { (query : Query) (rows : List Joined) → query.groups ≡ [] →
-        answer_from (all_of (group_end query.groups query.items) (([], tallies_of query.items rows) ∷ [])) ≡ answer_of query rows }
+        answer_from (all_of (group_end query.groups query.items)
+        (([], tallies_of query.items rows) ∷ []))
+        ≡ answer_of query rows }
 {
     answers_overflow_by_whole_sums();
 }
 
 /// With GROUP BY the cells of the groups, in the order of their keys, are the answer.
 pub(crate) fn sorted_groups_end_as_the_answer()
-    ensures { (query : Query) (place : Place) (places : List Place) (rows : List Joined) (entries : List (List Value × List Tally)) →
-        query.groups ≡ place ∷ places →
+    ensures { (query : Query) (place : Place) (places : List Place) (rows : List Joined)
+        (entries : List (List Value × List Tally)) → query.groups ≡ place ∷ places →
         IsSorted row_cmp (keys_of entries) → IsDistinct (eq_by_cmp row_cmp) (keys_of entries) →
         ((key : List Value) → lookup (eq_by_cmp row_cmp key) entries ≡ group_of query rows key) →
         answer_from (all_of (group_end query.groups query.items) entries) ≡ answer_of query rows }

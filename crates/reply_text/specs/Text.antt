@@ -23,9 +23,11 @@ refusal_text refusal = decimal (number_of refusal) ++ codes " " ++ words_of refu
 -- a reply: one line, and behind an answer's line its rows
 abbrev pub text_of : Reply → List ℕ
 text_of (Table name) = codes "table " ++ name ++ codes "\n"
-text_of (Commit number rows) = codes "commit " ++ decimal number ++ codes " rows " ++ decimal rows ++ codes "\n"
+text_of (Commit number rows) =
+    codes "commit " ++ decimal number ++ codes " rows " ++ decimal rows ++ codes "\n"
 text_of (Answer snapshot rows) =
-    codes "answer " ++ decimal snapshot ++ codes " rows " ++ decimal (length rows) ++ codes "\n" ++ flat_map row_text rows
+    codes "answer " ++ decimal snapshot ++ codes " rows " ++ decimal (length rows) ++ codes "\n"
+    ++ flat_map row_text rows
 text_of (Overflow snapshot) = codes "overflow " ++ decimal snapshot ++ codes "\n"
 text_of Memory = codes "memory\n"
 text_of (Refused refusal) = codes "refused " ++ refusal_text refusal ++ codes "\n"

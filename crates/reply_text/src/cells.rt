@@ -19,7 +19,8 @@ pub(crate) fn ended_cell_at(
     alloc: Global,
     bytes: &[u8],
 ) -> Result<Option<(Cell, bool, &[u8])>, NoMemory>
-    ensures { IfOk result (λ found. option_map (λ f. (f.0, f.1, f.2.now)) found ≡ ended_cell_at bytes.now) }
+    ensures { IfOk result (λ found.
+        option_map (λ f. (f.0, f.1, f.2.now)) found ≡ ended_cell_at bytes.now) }
 {
     let Ok(found) = cell_at(alloc, bytes) else {
         return Err(NoMemory);
@@ -57,7 +58,8 @@ fn cell_at(alloc: Global, bytes: &[u8]) -> Result<Option<(Cell, &[u8])>, NoMemor
 }
 
 fn bare_cell_at(bytes: &[u8]) -> Option<(Cell, &[u8])>
-    ensures { option_map (λ f. (f.0, f.1.now)) result ≡ option_or (null_at bytes.now) (integer_at bytes.now) }
+    ensures { option_map (λ f. (f.0, f.1.now)) result
+        ≡ option_or (null_at bytes.now) (integer_at bytes.now) }
 {
     match null_at(bytes) {
         Some(found) => Some(found),
@@ -125,10 +127,11 @@ fn text_at(alloc: Global, bytes: &[u8]) -> Result<Option<(Cell, &[u8])>, NoMemor
     Ok(Some((Cell::Full(Value::Str(text)), rest)))
 }
 
-/// The content of a text from behind its first quote, and the bytes behind the quote that ends it: a
-/// doubled quote is one of the content.
+/// The content of a text from behind its first quote, and the bytes behind the quote that ends it:
+/// a doubled quote is one of the content.
 fn content_at(alloc: Global, bytes: &[u8]) -> Result<Option<(Vec<u8>, &[u8])>, AllocError>
-    ensures { IfOk result (λ found. option_map (λ f. (f.0.items, f.1.now)) found ≡ content_at false bytes.now) }
+    ensures { IfOk result (λ found.
+        option_map (λ f. (f.0.items, f.1.now)) found ≡ content_at false bytes.now) }
 {
     let mut content = Vec::new(alloc);
     let mut quoted = false;
@@ -149,7 +152,8 @@ fn content_at(alloc: Global, bytes: &[u8]) -> Result<Option<(Vec<u8>, &[u8])>, A
 
 /// The bytes as a text, where a table may hold them.
 fn small_text_in(alloc: Global, bytes: &[u8]) -> Result<Option<SmallText>, NoMemory>
-    ensures { IfOk result (λ text. text ≡ (if is_small_text bytes.now then Some bytes.now else None)) }
+    ensures { IfOk result (λ text.
+        text ≡ (if is_small_text bytes.now then Some bytes.now else None)) }
 {
     small_text_rule_is_tested();
     match SmallText::from_bytes(alloc, bytes) {

@@ -32,7 +32,8 @@ pub(crate) fn numbers_at<'a>(
     word: &[u8],
     second: &[u8],
 ) -> Option<(u64, u64, &'a [u8])>
-    ensures { option_map (λ f. (f.0, f.1, f.2.now)) result ≡ numbers_at word.now second.now bytes.now }
+    ensures { option_map (λ f. (f.0, f.1, f.2.now)) result
+        ≡ numbers_at word.now second.now bytes.now }
 {
     let first = behind(bytes, word)?;
     let (first, rest) = number_then(first, second)?;

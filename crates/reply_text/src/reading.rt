@@ -1,5 +1,5 @@
-//! The reply at the front of bytes. Its parts are read in `numbers`, `table_name`, `refusals`, `cells`
-//! and `rows`.
+//! The reply at the front of bytes. Its parts are read in `numbers`, `table_name`,
+//! `refusals`, `cells` and `rows`.
 ghost use Rattle.std.specs.Prelude.{◌≡◌, ◌≢◌, ℕ, List, ◌++◌, length, Some, option_map, codes, IfOk, IfSome};
 ghost use Rattle.std.specs.Option.{IfNone, option_or};
 ghost use Rattle.reply_text.specs.declared.reply.Reply as declared;
@@ -17,16 +17,17 @@ use star_values::{NoMemory, SmallText, integer_text_reads_back, small_text_rule_
 use std::alloc::Global;
 
 /// Reads the reply at the front of the bytes, and gives it with its length in bytes. There is none
-/// where no front of the bytes is the text of a reply. What stands behind the reply is not looked at.
-/// The only error is want of memory. The time and the memory that it takes go by the bytes that are
-/// there, and not by the number of rows that the first line tells.
+/// where no front of the bytes is the text of a reply. What stands behind the reply is not looked
+/// at. The only error is want of memory. The time and the memory that it takes go by the bytes that
+/// are there, and not by the number of rows that the first line tells.
 pub fn read_reply(alloc: Global, bytes: &[u8]) -> Result<Option<(Reply, usize)>, NoMemory>
     ensures some { IfOk result (λ found. IfSome found (λ f. IsWellFormed f.0
         × (f.1 ≡ length (text_of f.0))
         × ((rest : List ℕ) × (bytes.now ≡ text_of f.0 ++ rest)))) }
     ensures none { IfOk result (λ found. IfNone found ((reply : declared.Reply) (rest : List ℕ) →
         IsWellFormed reply → bytes.now ≢ text_of reply ++ rest)) }
-    ensures back { IfOk result (λ found. (reply : declared.Reply) (rest : List ℕ) → IsWellFormed reply
+    ensures back { IfOk result (λ found.
+        (reply : declared.Reply) (rest : List ℕ) → IsWellFormed reply
         → bytes.now ≡ text_of reply ++ rest → found ≡ Some (reply, length (text_of reply))) }
 {
     integer_text_reads_back();
@@ -126,7 +127,8 @@ fn line_at(bytes: &[u8]) -> Option<(Reply, &[u8])>
 
 fn plain_at(bytes: &[u8]) -> Option<(Reply, &[u8])>
     ensures { option_map (λ f. (f.0, f.1.now)) result
-        ≡ option_or (word_at (codes "memory\n") Memory bytes.now) (word_at (codes "waited\n") Waited bytes.now) }
+        ≡ option_or (word_at (codes "memory\n") Memory bytes.now)
+        (word_at (codes "waited\n") Waited bytes.now) }
 {
     match behind(bytes, b"memory\n") {
         Some(rest) => Some((Reply::Memory, rest)),

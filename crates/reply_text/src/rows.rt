@@ -16,7 +16,8 @@ pub(crate) fn even_rows_at(
     count: u64,
     bytes: &[u8],
 ) -> Result<Option<(AnswerRows, &[u8])>, NoMemory>
-    ensures { IfOk result (λ found. option_map (λ f. (f.0, f.1.now)) found ≡ even_rows_at count bytes.now) }
+    ensures { IfOk result (λ found.
+        option_map (λ f. (f.0, f.1.now)) found ≡ even_rows_at count bytes.now) }
 {
     let Ok(found) = rows_in(alloc, count, bytes) else {
         return Err(NoMemory);
@@ -28,7 +29,8 @@ pub(crate) fn even_rows_at(
 }
 
 fn rows_in(alloc: Global, count: u64, bytes: &[u8]) -> Result<Option<(AnswerRows, &[u8])>, NoMemory>
-    ensures { IfOk result (λ found. option_map (λ f. (f.0, f.1.now)) found ≡ rows_in count bytes.now) }
+    ensures { IfOk result (λ found.
+        option_map (λ f. (f.0, f.1.now)) found ≡ rows_in count bytes.now) }
 {
     let mut rows = ListOf::new(alloc);
     let mut rest = bytes;

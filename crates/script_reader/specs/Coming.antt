@@ -1,4 +1,5 @@
--- What stays where the input has not ended, whatever bytes still come and whether they are the last.
+-- What stays where the input has not ended, whatever bytes still come and
+-- whether they are the last.
 use Rattle.std.specs.Prelude.{◌≡◌, ℕ, Bool, true, false, List, ◌∷◌, ◌++◌, take, drop}
 use Rattle.script_reader.specs.declared.closing.Closing.{Closing}
 use Rattle.script_reader.specs.declared.closing.Closing.TheVariants.{Dot, Input}
@@ -17,7 +18,8 @@ StaysFirst ended script statement len =
 abbrev pub StaysLine : Bool → List ℕ → ℕ → Type 0
 StaysLine ended script len =
     ended ≡ false → (more : List ℕ) (last : Bool)
-    → whole_lines last (script ++ more) ≡ take len script ∷ whole_lines last (drop len script ++ more)
+    → whole_lines last (script ++ more)
+    ≡ take len script ∷ whole_lines last (drop len script ++ more)
 
 -- no statement begins in front of that place
 abbrev pub StaysPassed : Bool → List ℕ → ℕ → Type 0
@@ -34,12 +36,15 @@ StaysOpening ended script text end =
 -- the block stays closed
 abbrev pub StaysClosed : Bool → List ℕ → Closing → Type 0
 StaysClosed ended rest (Dot len end) =
-    ended ≡ false → (text more : List ℕ) (last : Bool) → statements_from_load last text (rest ++ more)
-    ≡ record { line = text; block = Closed (take len rest) } ∷ statements_of last (drop end rest ++ more)
+    ended ≡ false → (text more : List ℕ) (last : Bool)
+    → statements_from_load last text (rest ++ more)
+    ≡ record { line = text; block = Closed (take len rest) }
+    ∷ statements_of last (drop end rest ++ more)
 StaysClosed ended rest Input = ended ≡ true
 
 -- the `load` with this text stays the first statement of what stands behind its line
 abbrev pub StaysLoad : Bool → List ℕ → List ℕ → Statement → ℕ → Type 0
 StaysLoad ended text rest statement len =
     ended ≡ false → (more : List ℕ) (last : Bool)
-    → statements_from_load last text (rest ++ more) ≡ statement ∷ statements_of last (drop len rest ++ more)
+    → statements_from_load last text (rest ++ more)
+    ≡ statement ∷ statements_of last (drop len rest ++ more)

@@ -8,7 +8,8 @@ use Rattle.script_reader.specs.Script.{whole_lines, has_block, statements_in, st
 
 -- the statements from a `load` on: the text of its line, and the bytes behind that line
 abbrev pub statements_from_load : Bool → List ℕ → List ℕ → List Statement
-statements_from_load ended text rest = statements_in ended (Some (text, [])) (whole_lines ended rest)
+statements_from_load ended text rest =
+    statements_in ended (Some (text, [])) (whole_lines ended rest)
 
 -- the statements from a line on that begins one: its text, and the bytes behind it
 abbrev pub statements_from : Bool → List ℕ → List ℕ → List Statement

@@ -1,4 +1,5 @@
--- What the lines and blocks of a script are, said once more without the recursions that define them.
+-- What the lines and blocks of a script are, said once more without the
+-- recursions that define them.
 use Rattle.std.specs.Prelude.{◌≡◌, ◌≢◌, ℕ, Bool, true, false, List, [], ◌∷◌, ◌++◌, All, Some, None}
 use Rattle.std.specs.List.{concat}
 use Rattle.script_reader.specs.declared.statement.Block.TheVariants.{Closed}

@@ -1,4 +1,5 @@
--- What a line is to the statements, with the `load` whose block is open. The clauses of the private functions cite these.
+-- What a line is to the statements, with the `load` whose block is open. The clauses of the
+-- private functions cite these.
 use Rattle.std.specs.Prelude.{◌≡◌, ◌≢◌, ℕ, ◌<◌, Bool, true, false, List, [], ◌∷◌, ◌++◌, length, take, drop, Option, Some, None}
 use Rattle.script_reader.specs.declared.open_load.OpenLoad.{OpenLoad}
 use Rattle.script_reader.specs.declared.open_load.TakenLine.{TakenLine}
@@ -34,9 +35,11 @@ statements_behind ended load lines = statements_in ended (load_of load) lines
 -- a line is passed over, joins the `load`, or ends a statement
 abbrev pub TakesLine : OpenLoad → OpenLoad → (line : List ℕ) → TakenLine → Type 0
 TakesLine old new line Passed = (old ≡ none_open) × (new ≡ none_open)
-    × ((ended : Bool) (lines : List (List ℕ)) → statements_behind ended old (line ∷ lines) ≡ statements_behind ended new lines)
+    × ((ended : Bool) (lines : List (List ℕ))
+    → statements_behind ended old (line ∷ lines) ≡ statements_behind ended new lines)
 TakesLine old new line Joined = (0 < length new.line) × (bytes_of new ≡ bytes_of old ++ line)
-    × ((ended : Bool) (lines : List (List ℕ)) → statements_behind ended old (line ∷ lines) ≡ statements_behind ended new lines)
+    × ((ended : Bool) (lines : List (List ℕ))
+    → statements_behind ended old (line ∷ lines) ≡ statements_behind ended new lines)
 TakesLine old new line (Whole statement) = (new ≡ none_open)
     × ((ended : Bool) (lines : List (List ℕ)) →
     statements_behind ended old (line ∷ lines) ≡ statement ∷ statements_behind ended new lines)
@@ -58,11 +61,13 @@ NoLine ended bytes =
 -- the statements that wait are those of the lines behind the `load`
 abbrev pub IsLeft : OpenLoad → (rest : List ℕ) → (ended : Bool) → Type 0
 IsLeft load rest ended = (more : List ℕ) (last : Bool) → May ended more last
-    → statements_of last ((bytes_of load ++ rest) ++ more) ≡ statements_behind last load (whole_lines last (rest ++ more))
+    → statements_of last ((bytes_of load ++ rest) ++ more)
+    ≡ statements_behind last load (whole_lines last (rest ++ more))
 
 -- what a reader with these parts stands for
 abbrev pub reading_of : OpenLoad → (rest : List ℕ) → (fed : ℕ) → (ended : Bool) → Reading
-reading_of load rest fed ended = record { waiting = bytes_of load ++ rest; fed = fed; ended = ended }
+reading_of load rest fed ended =
+    record { waiting = bytes_of load ++ rest; fed = fed; ended = ended }
 
 -- at the end of the input an open block is an unclosed one, and else nothing is left
 abbrev pub TakesLast : OpenLoad → OpenLoad → NextStatement → Type 0

@@ -9,7 +9,8 @@ use Rattle.script_reader.specs.declared.statement.Block.TheVariants.{Absent, Clo
 use Rattle.script_reader.specs.Script.{whole_lines, line_text, is_no_statement, is_dot_line}
 
 -- the first bytes, so many of them, are these lines, and these lines come first
-pub record AreLines (ended : Bool) (script : List ℕ) (len : ℕ) (lines : List (List ℕ)) : Type 0 where
+pub record AreLines (ended : Bool) (script : List ℕ) (len : ℕ)
+    (lines : List (List ℕ)) : Type 0 where
   pub bytes : take len script ≡ concat lines
   pub first : whole_lines ended script ≡ lines ++ whole_lines ended (drop len script)
 
@@ -17,7 +18,8 @@ pub record AreLines (ended : Bool) (script : List ℕ) (len : ℕ) (lines : List
 abbrev pub BeginNone : List (List ℕ) → Type 0
 BeginNone lines = All (λ line. is_no_statement (line_text line) ≡ true) lines
 
--- the lines behind a statement's own: none, those of its block and the dot line, or those of its block
+-- the lines behind a statement's own: none, those of its block and the dot
+-- line, or those of its block
 abbrev pub AreBehind : Block → List (List ℕ) → Type 0
 AreBehind Absent lines = lines ≡ []
 AreBehind (Closed text) lines =
@@ -25,8 +27,10 @@ AreBehind (Closed text) lines =
     × (lines ≡ block ++ dot ∷ []) × (concat block ≡ text) × (is_dot_line dot ≡ true)
 AreBehind (Unclosed text) lines = concat lines ≡ text
 
--- up to its end a statement takes whole lines: some that begin none, then its own, and then those of its block
-pub record TakesLines (ended : Bool) (script : List ℕ) (statement : Statement) (len : ℕ) : Type 0 where
+-- up to its end a statement takes whole lines: some that begin none, then its own,
+-- and then those of its block
+pub record TakesLines (ended : Bool) (script : List ℕ) (statement : Statement)
+    (len : ℕ) : Type 0 where
   pub passed : List (List ℕ)
   pub own : List ℕ
   pub behind : List (List ℕ)
@@ -47,9 +51,11 @@ pub record Opens (ended : Bool) (script text : List ℕ) (end : ℕ) : Type 0 wh
 abbrev pub Closes : Bool → List ℕ → Closing → Type 0
 Closes ended rest (Dot len end) =
     (block : List (List ℕ)) × (dot : List ℕ)
-    × AreLines ended rest end (block ++ dot ∷ []) × (concat block ≡ take len rest) × (is_dot_line dot ≡ true)
+    × AreLines ended rest end (block ++ dot ∷ []) × (concat block ≡ take len rest)
+    × (is_dot_line dot ≡ true)
 Closes ended rest Input = (block : List (List ℕ)) × AreLines ended rest (length rest) block
 
 -- the bytes up to there are the lines behind the own line of a statement with this block
 abbrev pub TakesBehind : Bool → List ℕ → Block → ℕ → Type 0
-TakesBehind ended rest block len = (lines : List (List ℕ)) × AreLines ended rest len lines × AreBehind block lines
+TakesBehind ended rest block len =
+    (lines : List (List ℕ)) × AreLines ended rest len lines × AreBehind block lines

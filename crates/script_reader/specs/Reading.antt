@@ -6,8 +6,8 @@ use Rattle.script_reader.specs.declared.reader.NextStatement.TheVariants.{Got, N
 use Rattle.script_reader.specs.declared.statement.Statement.{Statement}
 use Rattle.script_reader.specs.Script.{statements_of}
 
--- what a reader stands for: the bytes that were fed and stand in no statement that was taken, how many bytes were fed in
--- all, but at most one past the limit, and whether the input has ended
+-- what a reader stands for: the bytes that were fed and stand in no statement that was taken, how
+-- many bytes were fed in all, but at most one past the limit, and whether the input has ended
 pub record Reading : Type 0 where
   pub waiting : List ℕ
   pub fed : ℕ
@@ -35,7 +35,8 @@ MayCome reading more last = May reading.ended more last
 -- the statement is the first that waits, whatever comes behind, and what waits then is behind it
 abbrev pub TakesFirst : Reading → Reading → Statement → Type 0
 TakesFirst old new statement = (more : List ℕ) (last : Bool) → MayCome old more last
-    → statements_of last (old.waiting ++ more) ≡ statement ∷ statements_of last (new.waiting ++ more)
+    → statements_of last (old.waiting ++ more)
+    ≡ statement ∷ statements_of last (new.waiting ++ more)
 
 -- what waits means the same, whatever comes behind: lines that begin no statement may be given up
 abbrev pub MeansTheSame : Reading → Reading → Type 0
@@ -50,10 +51,13 @@ StaysFed old new = (new.fed ≡ old.fed) × (new.ended ≡ old.ended)
 abbrev pub Answers : Reading → Reading → NextStatement → Type 0
 Answers old new (Got statement) = TakesFirst old new statement
 Answers old new NotYet =
-    (old.ended ≡ false) × (statements_of false old.waiting ≡ []) × (statements_of false new.waiting ≡ []) × MeansTheSame old new
+    (old.ended ≡ false) × (statements_of false old.waiting ≡ [])
+    × (statements_of false new.waiting ≡ []) × MeansTheSame old new
 Answers old new End =
-    (old.ended ≡ true) × (statements_of true old.waiting ≡ []) × (statements_of true new.waiting ≡ [])
+    (old.ended ≡ true) × (statements_of true old.waiting ≡ [])
+    × (statements_of true new.waiting ≡ [])
 
--- where memory was wanted what waits means the same, and at the end of the input a statement is left
+-- where memory was wanted what waits means the same, and at the end of the
+-- input a statement is left
 abbrev pub Wants : Reading → Reading → Type 0
 Wants old new = (old.ended ≡ true → statements_of true old.waiting ≢ []) × MeansTheSame old new

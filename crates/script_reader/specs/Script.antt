@@ -63,7 +63,8 @@ has_block text = str_eq_ignore_ascii_case (first_word text) (codes "load")
 abbrev pub is_dot_line : List ℕ → Bool
 is_dot_line line = bytes_eq (line_text line) (codes ".")
 
--- the statements of lines. Where a block is open, `load` is the text of its line and the bytes of its lines so far
+-- the statements of lines. Where a block is open, `load` is the text of its line and the
+-- bytes of its lines so far
 abbrev pub statements_in : Bool → Option (List ℕ × List ℕ) → List (List ℕ) → List Statement
 statements_in ended None [] = []
 statements_in ended None (line ∷ lines) =
@@ -74,10 +75,11 @@ statements_in ended None (line ∷ lines) =
 statements_in ended (Some load) [] =
     if ended then record { line = load.0; block = Unclosed load.1 } ∷ [] else []
 statements_in ended (Some load) (line ∷ lines) =
-    if is_dot_line line then record { line = load.0; block = Closed load.1 } ∷ statements_in ended None lines
+    if is_dot_line line
+    then record { line = load.0; block = Closed load.1 } ∷ statements_in ended None lines
     else statements_in ended (Some (load.0, load.1 ++ line)) lines
 
--- the statements of a script in order. Where the input has not ended, a `load` whose block is open is
--- no statement
+-- the statements of a script in order. Where the input has not ended, a `load` whose
+-- block is open is no statement
 abbrev pub statements_of : Bool → List ℕ → List Statement
 statements_of ended script = statements_in ended None (whole_lines ended script)

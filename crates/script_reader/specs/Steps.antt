@@ -14,13 +14,15 @@ pub data Step : Type 0 where
 -- the call did this, before the end of the input
 abbrev pub IsStep : Reading → Step → Reading → Type 0
 IsStep old (Fed piece) new = (old.ended ≡ false) × (new ≡ after_piece old piece)
-IsStep old (Taken statement) new = (old.ended ≡ false) × TakesFirst old new statement × StaysFed old new
+IsStep old (Taken statement) new =
+    (old.ended ≡ false) × TakesFirst old new statement × StaysFed old new
 IsStep old Passed new = (old.ended ≡ false) × MeansTheSame old new × StaysFed old new
 
 -- the calls did these, one after another
 abbrev pub Steps : Reading → List Step → Reading → Type 0
 Steps old [] new = new ≡ old
-Steps old (step ∷ steps) new = (between : Reading) × IsStep old step between × Steps between steps new
+Steps old (step ∷ steps) new =
+    (between : Reading) × IsStep old step between × Steps between steps new
 
 -- the pieces that were fed, joined
 abbrev pub pieces_joined : List Step → List ℕ
@@ -40,9 +42,10 @@ taken_in (Fed piece ∷ steps) = taken_in steps
 taken_in (Taken statement ∷ steps) = statement ∷ taken_in steps
 taken_in (Passed ∷ steps) = taken_in steps
 
--- however the bytes were cut, the statements taken are the first of those of all bytes that were fed, and what waits
--- then is behind them
+-- however the bytes were cut, the statements taken are the first of those of all bytes that were
+-- fed, and what waits then is behind them
 abbrev pub StatementsComeInOrder : Type 0
 StatementsComeInOrder =
     (steps : List Step) (new : Reading) → Steps no_reading steps new → (more : List ℕ) (last : Bool)
-    → statements_of last (bytes_fed steps ++ more) ≡ taken_in steps ++ statements_of last (new.waiting ++ more)
+    → statements_of last (bytes_fed steps ++ more)
+    ≡ taken_in steps ++ statements_of last (new.waiting ++ more)

@@ -17,7 +17,8 @@ pub enum Closing {
 
 /// The end of the block that begins the script.
 pub fn first_closing(script: &[u8], ended: bool) -> Option<Closing>
-    ensures none { IfNone result ((text : List ℕ) → statements_from_load ended text script.now ≡ []) }
+    ensures none { IfNone result
+        ((text : List ℕ) → statements_from_load ended text script.now ≡ []) }
     ensures some { IfSome result (λ closing. (text : List ℕ) →
         statements_from_load ended text script.now
         ≡ statements_from_closing ended text script.now closing) }

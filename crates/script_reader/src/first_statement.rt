@@ -16,8 +16,8 @@ use std::alloc::Global;
 #[derive(Debug, Drop)]
 pub struct TakenStatement {
     pub statement: Statement,
-    /// The bytes of the script up to the end of the statement's last line: its own, or for one with a
-    /// block the dot line or the last line of the input.
+    /// The bytes of the script up to the end of the statement's last line: its own, or for one with
+    /// a block the dot line or the last line of the input.
     pub len: usize,
 }
 
@@ -33,11 +33,14 @@ pub fn take_statement(
 ) -> Result<Option<TakenStatement>, NoMemory>
     ensures none { IfOk result (λ r. IfNone r (statements_of ended script.now ≡ [])) }
     ensures found { IfOk result (λ r. IfSome r (λ t.
-        statements_of ended script.now ≡ t.statement ∷ statements_of ended (drop t.len script.now))) }
+        statements_of ended script.now
+        ≡ t.statement ∷ statements_of ended (drop t.len script.now))) }
     ensures wanted { OnErr result (statements_of ended script.now ≢ []) }
-    ensures lines { IfOk result (λ r. IfSome r (λ t. TakesLines ended script.now t.statement t.len)) }
+    ensures lines { IfOk result (λ r.
+        IfSome r (λ t. TakesLines ended script.now t.statement t.len)) }
     ensures within { IfOk result (λ r. IfSome r (λ t. (0 < t.len) × (t.len ≤ length script.now))) }
-    ensures stays { IfOk result (λ r. IfSome r (λ t. StaysFirst ended script.now t.statement t.len)) }
+    ensures stays { IfOk result (λ r.
+        IfSome r (λ t. StaysFirst ended script.now t.statement t.len)) }
 {
     let Some(opening) = first_opening(script, ended) else {
         return Ok(None);

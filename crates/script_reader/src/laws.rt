@@ -14,13 +14,15 @@ pub fn line_ends_at_its_line_feed()
     ensures { LineEndsAtItsLineFeed }
 {}
 
-/// A block has the lines in front of the first dot line as they stand, and the script goes on behind it.
+/// A block has the lines in front of the first dot line as they stand, and the
+/// script goes on behind it.
 pub fn block_ends_at_the_first_dot_line()
     ensures { BlockEndsAtTheFirstDotLine }
 {}
 
-/// Over any calls of a reader, the statements taken are the first of those of all bytes that were fed, up
-/// to the limit, and what waits is behind them: it does not matter how a script was cut into pieces.
+/// Over any calls of a reader, the statements taken are the first of those of all bytes
+/// that were fed, up to the limit, and what waits is behind them: it does not matter how a
+/// script was cut into pieces.
 pub fn statements_come_in_order()
     ensures { StatementsComeInOrder }
 {}

@@ -1,4 +1,5 @@
-//! The lines of a script one at a time, and what is asked of each. Where a statement begins is in `opening`.
+//! The lines of a script one at a time, and what is asked of each. Where a
+//! statement begins is in `opening`.
 ghost use Rattle.std.specs.Prelude.{◌≡◌, ◌∷◌, ◌<◌, ◌≤◌, ◌==◌, [], false, length, take, drop, IfNone, IfSome};
 ghost use Rattle.std.specs.List.{position_or_len, prefix_len};
 ghost use Rattle.script_reader.specs.Open.{FirstLine, NoLine};
@@ -12,7 +13,8 @@ fn bytes_to_line_feed(bytes: &[u8]) -> usize
     bytes.iter().take_while(|byte| **byte != b'\n').count()
 }
 
-/// The bytes in front of the first line feed, or all bytes where there is none. In so many of them none stands.
+/// The bytes in front of the first line feed, or all bytes where there is none. In so
+/// many of them none stands.
 fn bytes_to_line_feed_from(bytes: &[u8], sought: usize) -> usize
     requires within { sought ≤ length bytes.now }
     requires none { is_ended (take sought bytes.now) ≡ false }
@@ -21,7 +23,8 @@ fn bytes_to_line_feed_from(bytes: &[u8], sought: usize) -> usize
     sought + bytes_to_line_feed(bytes.split_at(sought).1)
 }
 
-/// The length of the first line that has come, with its line feed. In so many bytes there is no line feed.
+/// The length of the first line that has come, with its line feed. In so many
+/// bytes there is no line feed.
 pub(crate) fn line_len_from(bytes: &[u8], sought: usize, ended: bool) -> Option<usize>
     requires within { sought ≤ length bytes.now }
     requires none { is_ended (take sought bytes.now) ≡ false }

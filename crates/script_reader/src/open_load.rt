@@ -1,4 +1,5 @@
-//! The `load` whose block is open, and what a line is to it. How lines are found is in `pending_bytes`.
+//! The `load` whose block is open, and what a line is to it. How lines are
+//! found is in `pending_bytes`.
 ghost use Rattle.std.specs.Prelude.{◌≡◌, ◌<◌, length, IfOk, OnErr, OnOk};
 ghost use Rattle.script_reader.specs.Open.{LeavesSome, TakesLine, none_open};
 ghost use Rattle.script_reader.specs.Script.{line_text};

@@ -12,8 +12,8 @@ const GIVEN_UP_BYTES: usize = 64 * 1024;
 
 /// The bytes that are in no line yet that was taken, which contracts see as a list.
 ///
-/// The place up to which a line feed was sought is kept, so that no byte is looked at twice for it. What was
-/// taken is given up in large steps: once it is half of the bytes.
+/// The place up to which a line feed was sought is kept, so that no byte is looked at twice for it.
+/// What was taken is given up in large steps: once it is half of the bytes.
 #[derive(Debug, Drop)]
 pub(crate) struct PendingBytes {
     bytes: Vec<u8>,

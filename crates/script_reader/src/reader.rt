@@ -1,4 +1,5 @@
-//! A reader of statements from pieces. What a line is to them is in `open_load`, where lines end in `pending_bytes`.
+//! A reader of statements from pieces. What a line is to them is in `open_load`, where
+//! lines end in `pending_bytes`.
 ghost use Rattle.std.specs.Prelude.{◌≡◌, ℕ, ◌<◌, ◌≤◌, false, length, take, true, IfOk, IsErrOf, Ok, OnErr, OnOk};
 ghost use Rattle.script_reader.specs.Open.{IsLeft, TakesLast, none_open, reading_of};
 ghost use Rattle.script_reader.specs.Reading.{Answers, StaysFed, Wants, after_piece, no_reading};
@@ -48,8 +49,8 @@ pub enum NextStatement {
 
 /// Takes a script in pieces, and gives its statements in order, however the script is cut.
 ///
-/// It keeps the bytes of the statement that is coming, and gives up those of statements that were taken. No
-/// byte is looked at more than a few times, whatever the pieces.
+/// It keeps the bytes of the statement that is coming, and gives up those of statements that were
+/// taken. No byte is looked at more than a few times, whatever the pieces.
 #[derive(Debug, Drop)]
 pub struct ScriptReader {
     alloc: Global,
@@ -94,11 +95,12 @@ impl ScriptReader {
 
     /// Takes the next piece of a script whose input has not ended.
     ///
-    /// Where more than `SCRIPT_LIMIT` bytes were fed in all, the bytes up to the limit are taken, and it
-    /// answers `Limit`, then and at each later piece.
+    /// Where more than `SCRIPT_LIMIT` bytes were fed in all, the bytes up to the limit are taken,
+    /// and it answers `Limit`, then and at each later piece.
     pub fn feed(&mut self, piece: &[u8]) -> Result<(), FeedFault>
         requires { self.old.ended ≡ false }
-        ensures ok { OnOk result ((self.new ≡ after_piece self.old piece.now) × (self.new.fed ≤ SCRIPT_LIMIT)) }
+        ensures ok { OnOk result
+            ((self.new ≡ after_piece self.old piece.now) × (self.new.fed ≤ SCRIPT_LIMIT)) }
         ensures limit { IsErrOf result FeedFault.Limit →
             (self.new ≡ after_piece self.old piece.now) × (SCRIPT_LIMIT < self.new.fed) }
         ensures memory { IsErrOf result FeedFault.Memory → self.new ≡ self.old }
@@ -130,8 +132,8 @@ impl ScriptReader {
 
     /// Takes the first statement that is whole.
     ///
-    /// `NotYet` says that the input has not ended and none is, and `End` that it has ended and none is left.
-    /// Where memory is wanted no statement is lost.
+    /// `NotYet` says that the input has not ended and none is, and `End` that it has ended and none
+    /// is left. Where memory is wanted no statement is lost.
     pub fn next_statement(&mut self) -> Result<NextStatement, NoMemory>
         ensures answers { IfOk result (Answers self.old self.new) }
         ensures wanted { OnErr result (Wants self.old self.new) }
@@ -186,7 +188,8 @@ fn take_last(alloc: Global, load: &mut OpenLoad, ended: bool) -> Result<NextStat
     requires load { (length load.old.line ≡ 0) → load.old ≡ none_open }
     ensures not_ended { ended ≡ false → (result ≡ Ok NotYet) × (load.new ≡ load.old) }
     ensures ended { ended ≡ true → IfOk result (TakesLast load.old load.new) }
-    ensures err { OnErr result ((ended ≡ true) × (load.new ≡ load.old) × (0 < length load.old.line)) }
+    ensures err { OnErr result
+        ((ended ≡ true) × (load.new ≡ load.old) × (0 < length load.old.line)) }
 {
     if !ended {
         return Ok(NextStatement::NotYet);

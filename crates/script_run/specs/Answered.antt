@@ -9,12 +9,14 @@ use Rattle.core_state.specs.State.{Entry, Taken}
 
 -- a query that was answered stays so
 abbrev pub StayAnswered : (old new : Lives) → Type 0
-StayAnswered old new = (query : ℕ) → life_of old query ≡ Some Answered → life_of new query ≡ Some Answered
+StayAnswered old new =
+    (query : ℕ) → life_of old query ≡ Some Answered → life_of new query ≡ Some Answered
 
 -- what was taken is answered, if it is a query, unless the reply is `memory`
 abbrev pub IsAnswered : Lives → Option Taken → Reply → Type 0
 IsAnswered lives taken reply =
-    (reply ≡ Memory) ⊎ IfSome taken (λ one. IfSome one.query (λ asked. life_of lives one.statement ≡ Some Answered))
+    (reply ≡ Memory)
+    ⊎ IfSome taken (λ one. IfSome one.query (λ asked. life_of lives one.statement ≡ Some Answered))
 
 -- so it is with each of what was sent to a core with these entries, and its reply
 abbrev pub AreAnswered : Lives → List Entry → List Sent → List Reply → Type 0

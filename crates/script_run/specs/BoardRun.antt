@@ -1,4 +1,5 @@
--- What a run by several threads over a board writes, and what is known of the seats of the board on the way.
+-- What a run by several threads over a board writes, and what is known of the seats
+-- of the board on the way.
 use Rattle.std.specs.Prelude.{◌≡◌, ℕ, ◌+◌, ◌<◌, List, [], ◌∷◌, All, length, slice_index_or, Option, Some, None, IfSome}
 use mathlib.Core.List.{IsPrefix}
 use Rattle.star_io.specs.Link.{ReadingSide, WritingSide}
@@ -19,10 +20,14 @@ use Rattle.script_run.specs.Run.{AnswersScript, CountsFaults}
 use Rattle.script_run.specs.Shared.{AnswersSent, TellsSent, UnlessWanting, nothing}
 use Rattle.script_run.specs.declared.board_run.Crew.{Crew}
 
--- a run answered a script, and the core that it hands back, if there is one, tells of the statements that the run sent as its seat 0
-abbrev pub AnswersBoard : Option Parts → (end : RunEnd) → (from from' : ReadingSide) → (to to' : WritingSide) → Type 0
+-- a run answered a script, and the core that it hands back, if there is one, tells of the
+-- statements that the run sent as its seat 0
+abbrev pub AnswersBoard : Option Parts → (end : RunEnd) → (from from' : ReadingSide)
+    → (to to' : WritingSide) → Type 0
 AnswersBoard core end from from' to to' = (answers : AnswersScript end from from' to to')
-    × IfSome core (λ parts. UnlessWanting end (TellsSent end from'.ended answers.wanted answers.given (sight_of (state_of parts) 0)))
+    × IfSome core (λ parts.
+    UnlessWanting end
+    (TellsSent end from'.ended answers.wanted answers.given (sight_of (state_of parts) 0)))
 
 -- Seats of workers.
 
@@ -43,7 +48,8 @@ StaysWorker board old new = (number : ℕ) → IsWorker board number old → IsW
 
 -- The first seat, which is the front's.
 
--- the first seat of the board, which does not have the core, made so many others, and joined none of them
+-- the first seat of the board, which does not have the core, made so many
+-- others, and joined none of them
 pub record IsLeader (board : BoardLock Parts) (others : ℕ) (seat : BoardSeat Parts) : Type 0 where
   pub own : IsOf board seat
   pub outside : IsOutside seat
@@ -55,7 +61,8 @@ pub record IsLeader (board : BoardLock Parts) (others : ℕ) (seat : BoardSeat P
 abbrev pub StaysLeader : BoardLock Parts → (old new : BoardSeat Parts) → Type 0
 StaysLeader board old new = (others : ℕ) → IsLeader board others old → IsLeader board others new
 
--- a seat knows a core of these settings to which nothing was given, and of which nothing is lent to it
+-- a seat knows a core of these settings to which nothing was given, and of
+-- which nothing is lent to it
 pub record KnowsNew (settings : RunSettings) (view : View Parts) : Type 0 where
   pub settled : fixed_in core_settings view.last ≡ Some settings
   pub sight : sight_in view ≡ nothing
@@ -67,8 +74,10 @@ pub record KnowsSame (old new : View Parts) : Type 0 where
   pub last : new.last ≡ old.last
   pub seen : new.seen ≡ old.seen
 
--- a board over a core of these settings to which nothing was given, with as many seats at most as the settings say, and its first seat
-pub record IsNewBoard (settings : RunSettings) (board : BoardLock Parts) (first : BoardSeat Parts) : Type 0 where
+-- a board over a core of these settings to which nothing was given, with as many seats at most as
+-- the settings say, and its first seat
+pub record IsNewBoard (settings : RunSettings) (board : BoardLock Parts)
+    (first : BoardSeat Parts) : Type 0 where
   pub leader : IsLeader board 0 first
   pub knows : KnowsNew settings (view_of first)
   pub most : board.seats ≡ settings.seats
@@ -87,9 +96,10 @@ pub record IsAtStart (board : BoardLock Parts) (seat : BoardSeat Parts) : Type 0
   pub first : (view_of seat).number ≡ 0
   pub sight : sight_in (view_of seat) ≡ nothing
 
--- the front read a script and wrote the replies to it by its seat, which is still the first one, and has all entries in its row that it
--- has seen of itself
-pub record HasRun (board : BoardLock Parts) (end : RunEnd) (old new : BoardSeat Parts) (from from' : ReadingSide) (to to' : WritingSide) :
+-- the front read a script and wrote the replies to it by its seat, which is still the first one,
+-- and has all entries in its row that it has seen of itself
+pub record HasRun (board : BoardLock Parts) (end : RunEnd) (old new : BoardSeat Parts)
+    (from from' : ReadingSide) (to to' : WritingSide) :
     Type 0 where
   pub leader : StaysLeader board old new
   pub answers : AnswersSent end (sight_in (view_of new)) from from' to to'
@@ -101,12 +111,15 @@ pub record HasRun (board : BoardLock Parts) (end : RunEnd) (old new : BoardSeat 
 -- these are seats that were joined, with the numbers from this one on, and made no entry
 abbrev pub AreJoined : (from : ℕ) → List (Parted Parts) → Type 0
 AreJoined from [] = Unit {0}
-AreJoined from (parted ∷ others) = (parted.number ≡ from) × ((row_in core_row first_row parted.last parted.number).row.made ≡ [])
+AreJoined from (parted ∷ others) =
+    (parted.number ≡ from) × ((row_in core_row first_row parted.last parted.number).row.made ≡ [])
     × AreJoined (from + 1) others
 
--- the first seat of the board, which does not have the core, made so many others, of which only the first ones, so many, are not joined;
--- its row is as it was, and it has seen all that it had, and maybe more
-pub record HasJoined (board : BoardLock Parts) (others left : ℕ) (old : View Parts) (seat : BoardSeat Parts) : Type 0 where
+-- the first seat of the board, which does not have the core, made so many others, of which
+-- only the first ones, so many, are not joined; its row is as it was, and it has seen all
+-- that it had, and maybe more
+pub record HasJoined (board : BoardLock Parts) (others left : ℕ) (old : View Parts)
+    (seat : BoardSeat Parts) : Type 0 where
   pub own : IsOf board seat
   pub outside : IsOutside seat
   pub first : (view_of seat).number ≡ 0
@@ -116,8 +129,8 @@ pub record HasJoined (board : BoardLock Parts) (others left : ℕ) (old : View P
   pub last : (view_of seat).last ≡ old.last
   pub goes_on : IsPrefix (list_in core_entries old.seen) (list_in core_entries (view_of seat).seen)
 
--- of a core that the front's seat left: what stands in it for the front is as the seat knows it, the entries begin with those that it has seen, and
--- every entry is of the front
+-- of a core that the front's seat left: what stands in it for the front is as the seat knows it,
+-- the entries begin with those that it has seen, and every entry is of the front
 pub record IsLeftBy (view : View Parts) (core : Parts) : Type 0 where
   pub row : core_row core 0 ≡ own_row view
   pub goes_on : IsPrefix (sight_in view).seen (core_entries core)

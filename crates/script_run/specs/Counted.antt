@@ -32,11 +32,13 @@ pub record GoesRound (old new : State) : Type 0 where
   pub none : queries_awaited old ≡ 0 → new.scan.cut ≡ old.scan.cut
   pub once : new.scan.cut ≤ old.scan.cut + versions_in old
 
--- where no more was cut than a lap for each full row of the replies before, no more is cut with these behind them
+-- where no more was cut than a lap for each full row of the replies before, no more is
+-- cut with these behind them
 pub record LapsOn (old new : State) (replies : List Reply) : Type 0 where
   pub settings : new.settings ≡ old.settings
   pub cut : (places : ℕ) → old.scan.cut ≤ versions_in old * (places / old.settings.slots)
-      → new.scan.cut ≤ versions_in new * (places_of old.settings.slots places replies / old.settings.slots)
+      → new.scan.cut
+      ≤ versions_in new * (places_of old.settings.slots places replies / old.settings.slots)
 
 -- whether a query with this life is over, or waits
 abbrev pub IsOverOrWaits : Life → Type 0
@@ -49,7 +51,8 @@ IsOverOrWaits other = Unit {0}
 abbrev pub open_in : State → ℕ
 open_in state = count_by (λ entry. is_open entry.life) state.lives.queries
 
--- a core between two statements: no batch is in a hand, and so many queries are open, each of which waits for a slot and is waited for
+-- a core between two statements: no batch is in a hand, and so many queries are open, each of which
+-- waits for a slot and is waited for
 pub record IsCalm (count : ℕ) (state : State) : Type 0 where
   pub idle : AreIdle state
   pub waits : All (λ entry. IsOverOrWaits entry.life) state.lives.queries
@@ -61,15 +64,16 @@ pub record FrontParts : Type 0 where
   pub core : Parts
   pub unfinished : ℕ
 
--- what a front knows of its core, also where it was halted: that it has these settings, by which there are slots, and so many
--- statements, and that no batch is in a hand
+-- what a front knows of its core, also where it was halted: that it has these settings, by which
+-- there are slots, and so many statements, and that no batch is in a hand
 pub record KnowsCore (known : RunSettings) (count : ℕ) (core : State) : Type 0 where
   pub some : 0 < known.slots
   pub settings : core.settings ≡ known
   pub submitted : core.numbers.statement ≡ count
   pub hands : AreIdle core
 
--- a front between two statements: it counted the queries that are open, which are no more than there are slots
+-- a front between two statements: it counted the queries that are open, which are no
+-- more than there are slots
 pub record IsCounted (front : FrontParts) : Type 0 where
   pub calm : IsCalm front.unfinished (state_of front.core)
   pub few : front.unfinished ≤ (state_of front.core).settings.slots
@@ -89,9 +93,14 @@ pub record CountsOne (statement : Statement) (old new : State) : Type 0 where
   pub versions : versions_in old ≤ versions_in new
   pub number : new.numbers.statement ≡ old.numbers.statement + 1
   pub pending : (seat_at new 0).pending ≡ (seat_at old 0).pending
-      ++ record { statement = old.numbers.statement + 1; awaited = awaited_by (told_of old statement) } ∷ []
-  pub unfinished : open_in new ≡ open_in old + one_if (is_query (awaited_by (told_of old statement)))
-  pub waits : All (λ entry. IsOverOrWaits entry.life) old.lives.queries → All (λ entry. IsOverOrWaits entry.life) new.lives.queries
+      ++ record {
+        statement = old.numbers.statement + 1;
+        awaited = awaited_by (told_of old statement);
+      } ∷ []
+  pub unfinished : open_in new
+      ≡ open_in old + one_if (is_query (awaited_by (told_of old statement)))
+  pub waits : All (λ entry. IsOverOrWaits entry.life) old.lives.queries
+      → All (λ entry. IsOverOrWaits entry.life) new.lives.queries
   pub life : life_of new.lives (old.numbers.statement + 1)
       ≡ (if is_query (awaited_by (told_of old statement)) then Some Waiting else None)
 

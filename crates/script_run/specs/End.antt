@@ -20,7 +20,8 @@ abbrev pub end_behind : Result Bool Halt → RunEnd → RunEnd
 end_behind (Ok refused) reading = reading
 end_behind (Err halt) reading = end_of_halt halt
 
--- the input was read to its end, and some reply was a refusal or none was, and the other replies were written or halted
+-- the input was read to its end, and some reply was a refusal or none was, and the other
+-- replies were written or halted
 abbrev pub end_of_rest : (refused : Bool) → Result Bool Halt → RunEnd
 end_of_rest refused (Ok others) = end_of_all (refused || others)
 end_of_rest refused (Err halt) = end_of_halt halt

@@ -21,7 +21,8 @@ use Rattle.script_run.specs.Run.{IsFront, IsProperFront, is_refusal}
 use Rattle.script_run.specs.declared.halt.Halt.{Halt}
 use Rattle.script_run.specs.declared.halt.Halt.TheVariants.{WriteFault, NoMemory}
 
--- a step that a run makes: what is submitted and what is taken is of seat 0, and no query is abandoned
+-- a step that a run makes: what is submitted and what is taken is of seat 0,
+-- and no query is abandoned
 abbrev pub IsOfRun : Step → Type 0
 IsOfRun (Done (Submit seat statement)) = seat ≡ 0
 IsOfRun (Done (Abandon query)) = ⊥
@@ -50,8 +51,8 @@ pub record Submits (statements : List Statement) (old new : State) : Type 0 wher
   pub run : IsRun old new
   pub are : submitted_in run.steps ≡ statements
 
--- queries came to their end: the seats and the history stay, what was answered stays so, the scan went round once at most, and no
--- statement was submitted
+-- queries came to their end: the seats and the history stay, what was answered stays so, the scan
+-- went round once at most, and no statement was submitted
 pub record Finishes (old new : State) : Type 0 where
   pub passes : Passes (sight_of old 0) (sight_of new 0)
   pub stay : StayAnswered old.lives new.lives
@@ -80,21 +81,24 @@ abbrev pub halt_of : {A : Type 0} → Result A Halt → Option Halt
 halt_of (Ok x) = None
 halt_of (Err halt) = Some halt
 
--- where the replies halt: at a write that failed not all of their text was written; without memory a front of it was, and not all of it,
--- or something is left to do
+-- where the replies halt: at a write that failed not all of their text was written; without memory
+-- a front of it was, and not all of it, or something is left to do
 abbrev pub HaltsAt : Halt → (written : List ℕ) → List Reply → (Left : Type 0) → Type 0
 HaltsAt WriteFault written replies Left = IsProperFront written (text_of_all replies)
 HaltsAt NoMemory written replies Left =
     IsFront written (text_of_all replies) × (IsProperFront written (text_of_all replies) ⊎ Left)
 
 -- every statement was sent and all of the text was written, or the replies halted
-abbrev pub EndsSo : Option Halt → (rest : List Statement) → (written : List ℕ) → List Reply → (Left : Type 0) → Type 0
+abbrev pub EndsSo : Option Halt → (rest : List Statement) → (written : List ℕ) → List Reply
+    → (Left : Type 0) → Type 0
 EndsSo None rest written replies Left = (rest ≡ []) × (written ≡ text_of_all replies)
 EndsSo (Some halt) rest written replies Left = HaltsAt halt written replies Left
 
--- a seat that waited for the replies to `due` was given these statements: it sent the first of them, and the replies that it took were
--- written; where they halted for want of memory it still waits for some, did not send all, or else something is left
-pub record PlaysOn (halted : Option Halt) (seat : ℕ) (old : Sight) (due : List Sent) (statements : List Statement) (Left : Type 0)
+-- a seat that waited for the replies to `due` was given these statements: it sent the first of
+-- them, and the replies that it took were written; where they halted for want of memory it still
+-- waits for some, did not send all, or else something is left
+pub record PlaysOn (halted : Option Halt) (seat : ℕ) (old : Sight) (due : List Sent)
+    (statements : List Statement) (Left : Type 0)
     (new : Sight) (taken taken' : Option (List ℕ)) : Type 0 where
   pub sent : List Sent
   pub said : List Sent
@@ -107,9 +111,11 @@ pub record PlaysOn (halted : Option Halt) (seat : ℕ) (old : Sight) (due : List
   pub took : Appends taken taken' written
   pub ends : EndsSo halted rest written replies ((still ≢ []) ⊎ ((rest ≢ []) ⊎ Left))
 
--- the same of seat 0 where nobody else has the core meanwhile: the statements that were sent are those that were submitted, a query
--- that was answered stays so, and each query that was replied to is answered, unless the reply is `memory`
-pub record PlaysIn (halted : Option Halt) (old : State) (due : List Sent) (statements : List Statement) (Left : Type 0)
+-- the same of seat 0 where nobody else has the core meanwhile: the statements that were sent are
+-- those that were submitted, a query that was answered stays so, and each query that was replied to
+-- is answered, unless the reply is `memory`
+pub record PlaysIn (halted : Option Halt) (old : State) (due : List Sent)
+    (statements : List Statement) (Left : Type 0)
     (new : State) (taken taken' : Option (List ℕ)) : Type 0 where
   pub on : PlaysOn halted 0 (sight_of old 0) due statements Left (sight_of new 0) taken taken'
   pub run : Submits (givens_in on.sent) old new
@@ -117,26 +123,32 @@ pub record PlaysIn (halted : Option Halt) (old : State) (due : List Sent) (state
   pub answered : AreAnswered new.lives new.entries on.said on.replies
 
 -- the same, and whether some reply that was written is a refusal
-abbrev pub PlaysBy : Result Bool Halt → (old : State) → (due : List Sent) → List Statement → (Left : Type 0) → (new : State)
+abbrev pub PlaysBy : Result Bool Halt → (old : State) → (due : List Sent) → List Statement
+    → (Left : Type 0) → (new : State)
     → (taken taken' : Option (List ℕ)) → Type 0
 PlaysBy result old due statements Left new taken taken' =
     (plays : PlaysIn (halt_of result) old due statements Left new taken taken')
     × IfOk result (λ refused. refused ≡ list_any is_refusal plays.on.replies)
 
 -- so it is whatever seat 0 waits for
-abbrev pub Plays : Result Bool Halt → (old : State) → List Statement → (new : State) → (taken taken' : Option (List ℕ)) → Type 0
+abbrev pub Plays : Result Bool Halt → (old : State) → List Statement → (new : State)
+    → (taken taken' : Option (List ℕ)) → Type 0
 Plays result old statements new taken taken' = (due : List Sent) → IsDue 0 (sight_of old 0) due
     → PlaysBy result old due statements ⊥ new taken taken'
 
 -- and the scan went no further than the replies tell
-abbrev pub PlaysCounted : Result Bool Halt → (old : State) → List Statement → (new : State) → (taken taken' : Option (List ℕ)) → Type 0
-PlaysCounted result old statements new taken taken' = (due : List Sent) → IsDue 0 (sight_of old 0) due
-    → (plays : PlaysBy result old due statements ⊥ new taken taken') × OnOk result (LapsOn old new plays.0.on.replies)
+abbrev pub PlaysCounted : Result Bool Halt → (old : State) → List Statement → (new : State)
+    → (taken taken' : Option (List ℕ)) → Type 0
+PlaysCounted result old statements new taken taken' =
+    (due : List Sent) → IsDue 0 (sight_of old 0) due
+    → (plays : PlaysBy result old due statements ⊥ new taken taken')
+    × OnOk result (LapsOn old new plays.0.on.replies)
 
 -- the statements between two readers, whatever bytes come
 abbrev pub Reads : Reading → List Statement → Reading → Type 0
 Reads waits statements waits' = (more : List ℕ) (last : Bool) → MayCome waits more last
-    → statements_of last (waits.waiting ++ more) ≡ statements ++ statements_of last (waits'.waiting ++ more)
+    → statements_of last (waits.waiting ++ more)
+    ≡ statements ++ statements_of last (waits'.waiting ++ more)
 
 -- a statement is left to be read, if the input has ended
 abbrev pub LeavesSome : Reading → Type 0
@@ -147,8 +159,10 @@ abbrev pub UnlessHalted : Option Halt → Type 0 → Type 0
 UnlessHalted None Holds = Holds
 UnlessHalted (Some halt) Holds = Unit {0}
 
--- the statements that are whole were read and given to a core: all of them, or those before the replies halted
-pub record ReadsOn (halted : Option Halt) (old : State) (due : List Sent) (waits : Reading) (new : State) (waits' : Reading)
+-- the statements that are whole were read and given to a core: all of them, or those
+-- before the replies halted
+pub record ReadsOn (halted : Option Halt) (old : State) (due : List Sent) (waits : Reading)
+    (new : State) (waits' : Reading)
     (taken taken' : Option (List ℕ)) : Type 0 where
   pub statements : List Statement
   pub behind : Reading
@@ -158,7 +172,10 @@ pub record ReadsOn (halted : Option Halt) (old : State) (due : List Sent) (waits
   pub all : UnlessHalted halted ((behind ≡ waits') × HasNoStatement waits')
 
 -- so it is whatever seat 0 waits for; whether some reply is a refusal, and how far the scan went
-abbrev pub PlaysWhole : Result Bool Halt → (old : State) → Reading → (new : State) → Reading → (taken taken' : Option (List ℕ)) → Type 0
-PlaysWhole result old waits new waits' taken taken' = (due : List Sent) → IsDue 0 (sight_of old 0) due
+abbrev pub PlaysWhole : Result Bool Halt → (old : State) → Reading → (new : State) → Reading
+    → (taken taken' : Option (List ℕ)) → Type 0
+PlaysWhole result old waits new waits' taken taken' =
+    (due : List Sent) → IsDue 0 (sight_of old 0) due
     → (reads : ReadsOn (halt_of result) old due waits new waits' taken taken')
-    × IfOk result (λ refused. (refused ≡ list_any is_refusal reads.plays.on.replies) × LapsOn old new reads.plays.on.replies)
+    × IfOk result (λ refused.
+    (refused ≡ list_any is_refusal reads.plays.on.replies) × LapsOn old new reads.plays.on.replies)

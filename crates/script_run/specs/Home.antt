@@ -1,5 +1,5 @@
--- A seat of a board by which sessions are served, one after the other: at rest between two reads, and what was given to the core and taken
--- of it where the replies halted.
+-- A seat of a board by which sessions are served, one after the other: at rest between two reads,
+-- and what was given to the core and taken of it where the replies halted.
 use Rattle.std.specs.Prelude.{◌≡◌, ℕ, true, List, [], ◌++◌, IsSomeAnd, Option, None, Result}
 use Rattle.script_reader.specs.Reading.{Reading}
 use Rattle.core_state.specs.Fronts.{IsDue}
@@ -15,20 +15,23 @@ use Rattle.script_run.specs.Front.{UnlessHalted, halt_of}
 use Rattle.script_run.specs.SeatFront.{SeatReads}
 use Rattle.script_run.specs.declared.halt.Halt.{Halt}
 
--- a seat of this board by which a session may be served: it may take a turn, waits for no reply, and has in its row the entries that it made
+-- a seat of this board by which a session may be served: it may take a turn, waits for no reply,
+-- and has in its row the entries that it made
 pub record IsAtRest (board : BoardLock Parts) (seat : BoardSeat Parts) : Type 0 where
   pub ready : IsReady board None seat
   pub due : IsDue (view_of seat).number (sight_in (view_of seat)) []
 
--- the statements that are whole were read and given to the core by a seat that waited for nothing, and all of them were replied to, or the
--- replies halted
-abbrev pub RepliesWhole : {A : Type 0} → Result A Halt → (seat : ℕ) → (old : Sight) → Reading → (new : Sight) → Reading
+-- the statements that are whole were read and given to the core by a seat that waited for nothing,
+-- and all of them were replied to, or the replies halted
+abbrev pub RepliesWhole : {A : Type 0} → Result A Halt → (seat : ℕ) → (old : Sight) → Reading
+    → (new : Sight) → Reading
     → (taken taken' : Option (List ℕ)) → Type 0
 RepliesWhole result seat old waits new waits' taken taken' =
     (reads : SeatReads (halt_of result) seat old [] waits new waits' taken taken')
     × UnlessHalted (halt_of result) (reads.on.still ≡ [])
 
--- a seat let go what it waited for: it sent nothing, the entries that came are of others, and of the replies that were there it took some
+-- a seat let go what it waited for: it sent nothing, the entries that came are of others, and of
+-- the replies that were there it took some
 pub record LetsGo (seat : ℕ) (old new : Sight) : Type 0 where
   pub since : List Entry
   pub seen : new.seen ≡ old.seen ++ since

@@ -7,8 +7,8 @@ use Rattle.reply_text.specs.declared.reply.Reply.TheVariants.{Answer, Overflow, 
 abbrev pub rows_needed : (slots places : ℕ) → ℕ
 rows_needed slots places = (places + (slots - 1)) / slots
 
--- replies are put down in rows of as many places as there are slots: that to a query takes a place, and behind a `waited` and
--- a `memory` the rest of the row is left free
+-- replies are put down in rows of as many places as there are slots: that to a query takes a place,
+-- and behind a `waited` and a `memory` the rest of the row is left free
 abbrev pub placed : (slots places : ℕ) → Reply → ℕ
 placed slots places (Answer snapshot rows) = places + 1
 placed slots places (Overflow snapshot) = places + 1

@@ -11,11 +11,14 @@ use Rattle.script_run.specs.declared.piece.Piece.TheVariants.{Fed, Ended, Fault,
 
 -- the reader after these bytes more
 abbrev pub fed_with : Reading → List ℕ → Reading
-fed_with waits given = record waits { waiting = waits.waiting ++ given; fed = waits.fed + length given }
+fed_with waits given =
+    record waits { waiting = waits.waiting ++ given; fed = waits.fed + length given }
 
--- the bytes that a read gave: the reader has them, or they are those past the limit, or there was no memory for them
+-- the bytes that a read gave: the reader has them, or they are those past the limit, or
+-- there was no memory for them
 abbrev pub TakesGiven : Piece → Reading → Reading → List ℕ → Type 0
-TakesGiven Fed old new given = (new ≡ fed_with old given) × (old.fed < new.fed) × (new.fed ≤ SCRIPT_LIMIT)
+TakesGiven Fed old new given =
+    (new ≡ fed_with old given) × (old.fed < new.fed) × (new.fed ≤ SCRIPT_LIMIT)
 TakesGiven Ended old new given = (new ≡ old) × (given ≡ [])
 TakesGiven Fault old new given = (new ≡ old) × (given ≡ [])
 TakesGiven Limit old new given = (new ≡ old) × (old.fed ≡ SCRIPT_LIMIT) × (length given ≡ 1)
@@ -23,7 +26,8 @@ TakesGiven NoMemory old new given = (new ≡ old) × (old.fed + length given ≤
 
 -- the next bytes of the source were read
 abbrev pub TakesPiece : Piece → Reading → Reading → (from from' : ReadingSide) → Type 0
-TakesPiece piece old new from from' = (given : List ℕ) × Consumes from.left from'.left given × TakesGiven piece old new given
+TakesPiece piece old new from from' =
+    (given : List ℕ) × Consumes from.left from'.left given × TakesGiven piece old new given
 
 -- the source has ended at the end of its input alone
 abbrev pub FindsEnd : Piece → (from from' : ReadingSide) → Type 0
@@ -39,6 +43,7 @@ CountsFault other from from' = from'.faults ≡ from.faults
 abbrev pub ReadsPast : Piece → (from from' : ReadingSide) → Type 0
 ReadsPast Ended from from' = Consumes from.left from'.left []
 ReadsPast Fault from from' = Consumes from.left from'.left []
-ReadsPast Limit from from' = (given : List ℕ) × Consumes from.left from'.left given × (length given ≡ 1)
+ReadsPast Limit from from' =
+    (given : List ℕ) × Consumes from.left from'.left given × (length given ≡ 1)
 ReadsPast Fed from from' = ⊥
 ReadsPast NoMemory from from' = ⊥

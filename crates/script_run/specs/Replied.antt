@@ -1,4 +1,5 @@
--- What is replied to statements of which each has its effect at once, and what that leaves in the tables, in a reader and at a sink.
+-- What is replied to statements of which each has its effect at once, and what that leaves in the
+-- tables, in a reader and at a sink.
 use Rattle.std.specs.Prelude.{◌≡◌, ◌⊎◌, ℕ, Bool, List, [], ◌∷◌, Option, Some, None, Result, Ok, Err}
 use Rattle.std.specs.List.{list_any}
 use Rattle.std.specs.Io.KnownBytes.{Appends}
@@ -16,10 +17,12 @@ use Rattle.script_run.specs.Run.{is_refusal}
 use Rattle.script_run.specs.declared.answer.Answered.{Answered}
 use Rattle.script_run.specs.declared.halt.Halt.{Halt}
 
--- the reply to a statement over these tables, and the tables behind it: those of its effect, or `memory`, and then nothing has changed
+-- the reply to a statement over these tables, and the tables behind it: those of its effect, or
+-- `memory`, and then nothing has changed
 abbrev pub IsReplied : (old : Store) → Statement → Reply → (new : Store) → Type 0
 IsReplied old statement reply new =
-    ((reply ≡ (effect_of old statement).reply) × (new ≡ store_after old statement)) ⊎ ((reply ≡ Memory) × (new ≡ old))
+    ((reply ≡ (effect_of old statement).reply) × (new ≡ store_after old statement))
+    ⊎ ((reply ≡ Memory) × (new ≡ old))
 
 -- so it is with each of these statements, one behind the other
 abbrev pub AreReplied : (old : Store) → List Statement → List Reply → (new : Store) → Type 0
@@ -27,9 +30,11 @@ AreReplied old [] [] new = new ≡ old
 AreReplied old [] (reply ∷ replies) new = ⊥
 AreReplied old (statement ∷ statements) [] new = ⊥
 AreReplied old (statement ∷ statements) (reply ∷ replies) new =
-    (between : Store) × IsReplied old statement reply between × AreReplied between statements replies new
+    (between : Store) × IsReplied old statement reply between
+    × AreReplied between statements replies new
 
--- statements were read and replied to, and all of the replies was written; and whether some reply is a refusal
+-- statements were read and replied to, and all of the replies was written; and
+-- whether some reply is a refusal
 pub record Replies (old : Store) (waits : Reading) (new : Store) (waits' : Reading) (refused : Bool)
     (taken taken' : Option (List ℕ)) : Type 0 where
   pub statements : List Statement
@@ -41,7 +46,8 @@ pub record Replies (old : Store) (waits : Reading) (new : Store) (waits' : Readi
   pub refusals : refused ≡ list_any is_refusal replies
 
 -- statements were read and replied to until the replies halted
-pub record HaltsBehind (halt : Halt) (old : Store) (waits : Reading) (taken taken' : Option (List ℕ)) : Type 0 where
+pub record HaltsBehind (halt : Halt) (old : Store) (waits : Reading)
+    (taken taken' : Option (List ℕ)) : Type 0 where
   pub statements : List Statement
   pub behind : Reading
   pub reads : Reads waits statements behind
@@ -54,12 +60,15 @@ pub record HaltsBehind (halt : Halt) (old : Store) (waits : Reading) (taken take
   pub ends : HaltsAt halt written replies (LeavesSome behind)
 
 -- every statement that is whole was replied to, or the replies halted
-abbrev pub AnswersWhole : Result Bool Halt → (old : Store) → Reading → (new : Store) → Reading → (taken taken' : Option (List ℕ)) → Type 0
-AnswersWhole (Ok refused) old waits new waits' taken taken' = Replies old waits new waits' refused taken taken' × HasNoStatement waits'
+abbrev pub AnswersWhole : Result Bool Halt → (old : Store) → Reading → (new : Store) → Reading
+    → (taken taken' : Option (List ℕ)) → Type 0
+AnswersWhole (Ok refused) old waits new waits' taken taken' =
+    Replies old waits new waits' refused taken taken' × HasNoStatement waits'
 AnswersWhole (Err halt) old waits new waits' taken taken' = HaltsBehind halt old waits taken taken'
 
 -- the first statement that waits was replied to
-pub record RepliesFirst (old : Store) (waits : Reading) (new : Store) (waits' : Reading) (answered : Answered) : Type 0 where
+pub record RepliesFirst (old : Store) (waits : Reading) (new : Store) (waits' : Reading)
+    (answered : Answered) : Type 0 where
   pub statement : Statement
   pub first : TakesFirst waits waits' statement
   pub reply : Reply
@@ -67,9 +76,12 @@ pub record RepliesFirst (old : Store) (waits : Reading) (new : Store) (waits' : 
   pub text : answered.text ≡ text_of reply
   pub refused : answered.refused ≡ is_refusal reply
 
--- a statement is replied to, or none that waits is whole and the rest means the same; where no memory was left for the reader or for the
--- text of a reply, a statement is left at the end of the input
-abbrev pub GivesNext : Result (Option Answered) values.NoMemory → (old : Store) → Reading → (new : Store) → Reading → Type 0
+-- a statement is replied to, or none that waits is whole and the rest means the same;
+-- where no memory was left for the reader or for the text of a reply, a statement is
+-- left at the end of the input
+abbrev pub GivesNext : Result (Option Answered) values.NoMemory → (old : Store) → Reading
+    → (new : Store) → Reading → Type 0
 GivesNext (Ok (Some answered)) old waits new waits' = RepliesFirst old waits new waits' answered
-GivesNext (Ok None) old waits new waits' = (new ≡ old) × HasNoStatement waits' × Reads waits [] waits'
+GivesNext (Ok None) old waits new waits' =
+    (new ≡ old) × HasNoStatement waits' × Reads waits [] waits'
 GivesNext (Err none) old waits new waits' = LeavesSome waits

@@ -17,7 +17,8 @@ use Rattle.star_statement.specs.Script.{replies_of}
 abbrev pub within_limit : List ℕ → List ℕ
 within_limit given = take SCRIPT_LIMIT given
 
--- the replies to a script, whose input has ended or not, where memory was wanted for the statements at these places
+-- the replies to a script, whose input has ended or not, where memory was wanted for the
+-- statements at these places
 abbrev pub script_replies : (wanted : List ℕ) → (ended : Bool) → List ℕ → List Reply
 script_replies wanted ended script = replies_of wanted (statements_of ended script)
 
@@ -47,40 +48,49 @@ IsProperFront front bytes = (rest : List ℕ) × (0 < length rest) × (bytes ≡
 abbrev pub HasEnded : ReadingSide → Type 0
 HasEnded source = (source.ended ≡ true) × IsAtEnd source.left
 
--- what was written, by the text of all replies to bytes whose input has ended or not, by the bytes that the source gave, and by what
--- it tells then: at `Clean` and `SomeRefused` all replies to bytes whose input has ended, at a read fault or the limit all replies to
--- those whose input has not, at a write fault a proper front of the replies, and where no memory was left a front
-abbrev pub Writes : (text : (ended : Bool) → List ℕ → List ℕ) → RunEnd → ReadingSide → (given written : List ℕ) → Type 0
+-- what was written, by the text of all replies to bytes whose input has ended or not, by the bytes
+-- that the source gave, and by what it tells then: at `Clean` and `SomeRefused` all replies to
+-- bytes whose input has ended, at a read fault or the limit all replies to those whose input has
+-- not, at a write fault a proper front of the replies, and where no memory was left a front
+abbrev pub Writes : (text : (ended : Bool) → List ℕ → List ℕ) → RunEnd → ReadingSide
+    → (given written : List ℕ) → Type 0
 Writes text ReadFault source given written = written ≡ text false given
 Writes text ScriptLimit source given written = written ≡ text false (within_limit given)
-Writes text WriteFault source given written = IsProperFront written (text source.ended (within_limit given))
+Writes text WriteFault source given written =
+    IsProperFront written (text source.ended (within_limit given))
 Writes text NoMemory source given written = IsFront written (text source.ended (within_limit given))
 Writes text other source given written = HasEnded source × (written ≡ text true given)
 
--- how many bytes were read: the byte past the limit at `ScriptLimit`, and at each end that is no fault of the
--- sink and no want of memory only there
+-- how many bytes were read: the byte past the limit at `ScriptLimit`, and at each end that is no
+-- fault of the sink and no want of memory only there
 abbrev pub ReadsBytes : RunEnd → ℕ → Type 0
 ReadsBytes ScriptLimit count = count ≡ SCRIPT_LIMIT + 1
 ReadsBytes WriteFault count = count ≤ SCRIPT_LIMIT + 1
 ReadsBytes NoMemory count = count ≤ SCRIPT_LIMIT + 1
 ReadsBytes other count = count ≤ SCRIPT_LIMIT
 
--- the reading met no end: the source has ended no more than before, no read failed, and the limit was not passed
+-- the reading met no end: the source has ended no more than before, no read failed, and
+-- the limit was not passed
 abbrev pub MetNoEnd : ReadingSide → ReadingSide → List ℕ → Type 0
-MetNoEnd from from' given = (from'.ended ≡ from.ended) × (from'.faults ≡ from.faults) × (length given ≤ SCRIPT_LIMIT)
+MetNoEnd from from' given =
+    (from'.ended ≡ from.ended) × (from'.faults ≡ from.faults) × (length given ≤ SCRIPT_LIMIT)
 
--- what stands between a source and a sink before and after statements were read from the one, and replies, which have this text,
--- written to the other: the source gave these bytes and the sink took those, and they belong together as the end says. Want of
--- memory of the run itself is told in place of no other end: some reply was still to be written, or the reading met no end
-pub record RepliesBetween (text : (ended : Bool) → List ℕ → List ℕ) (end : RunEnd) (from from' : ReadingSide) (to to' : WritingSide)
+-- what stands between a source and a sink before and after statements were read from the one, and
+-- replies, which have this text, written to the other: the source gave these bytes and the sink
+-- took those, and they belong together as the end says. Want of memory of the run itself is told in
+-- place of no other end: some reply was still to be written, or the reading met no end
+pub record RepliesBetween (text : (ended : Bool) → List ℕ → List ℕ) (end : RunEnd)
+    (from from' : ReadingSide) (to to' : WritingSide)
     (given written : List ℕ) : Type 0 where
   pub gave : Consumes from.left from'.left given
   pub took : Appends to.taken to'.taken written
   pub reads : ReadsBytes end (length given)
   pub writes : Writes text end from' given written
-  pub memory : end ≡ NoMemory → IsProperFront written (text from'.ended (within_limit given)) ⊎ MetNoEnd from from' given
+  pub memory : end ≡ NoMemory
+      → IsProperFront written (text from'.ended (within_limit given)) ⊎ MetNoEnd from from' given
 
--- whether some reply is a refusal is what tells the two ends apart at which all was read and written
+-- whether some reply is a refusal is what tells the two ends apart at which
+-- all was read and written
 abbrev pub TellsRefused : RunEnd → (refused : Bool) → Type 0
 TellsRefused Clean refused = refused ≡ false
 TellsRefused SomeRefused refused = refused ≡ true
@@ -89,18 +99,24 @@ TellsRefused WriteFault refused = Unit {0}
 TellsRefused NoMemory refused = Unit {0}
 TellsRefused ScriptLimit refused = Unit {0}
 
--- a run answered a script, where memory was wanted for the statements at some places, which the replies tell
-pub record AnswersScript (end : RunEnd) (from from' : ReadingSide) (to to' : WritingSide) : Type 0 where
+-- a run answered a script, where memory was wanted for the statements at some
+-- places, which the replies tell
+pub record AnswersScript (end : RunEnd) (from from' : ReadingSide)
+    (to to' : WritingSide) : Type 0 where
   pub given : List ℕ
   pub written : List ℕ
   pub wanted : List ℕ
   pub replies : RepliesBetween (script_text wanted) end from from' to to' given written
   pub refused : TellsRefused end (some_refused wanted true given)
 
--- which faults came. Nothing was read after a read that failed, and nothing was written after a write that failed
+-- which faults came. Nothing was read after a read that failed, and nothing was written
+-- after a write that failed
 abbrev pub CountsFaults : RunEnd → (from from' : ReadingSide) → (to to' : WritingSide) → Type 0
-CountsFaults ReadFault from from' to to' = FailedOnce from.faults from'.faults from'.failed × (to'.faults ≡ to.faults)
+CountsFaults ReadFault from from' to to' =
+    FailedOnce from.faults from'.faults from'.failed × (to'.faults ≡ to.faults)
 CountsFaults WriteFault from from' to to' =
-    FailedOnceAtMost from.faults from'.faults from'.failed × FailedOnce to.faults to'.faults to'.failed
-CountsFaults NoMemory from from' to to' = FailedOnceAtMost from.faults from'.faults from'.failed × (to'.faults ≡ to.faults)
+    FailedOnceAtMost from.faults from'.faults from'.failed
+    × FailedOnce to.faults to'.faults to'.failed
+CountsFaults NoMemory from from' to to' =
+    FailedOnceAtMost from.faults from'.faults from'.failed × (to'.faults ≡ to.faults)
 CountsFaults other from from' to to' = (from'.faults ≡ from.faults) × (to'.faults ≡ to.faults)

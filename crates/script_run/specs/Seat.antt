@@ -6,11 +6,13 @@ use Rattle.core_state.specs.Rows.{Sight}
 use Rattle.core_state.specs.Sent.{AreEntriesOf, AreRepliesTo, Sent, numbers_in, statements_in, takens_of}
 use Rattle.core_state.specs.State.{Entry, Taken}
 
--- From one sight of a seat to another it was given these statements. The first it sent and took these replies to; those behind them it
--- sent, and nobody reads their replies; the last it did not send. The entries that came are those of what it sent, each at its point,
--- and others of other seats. What it submitted has the numbers of what it sent, and what it took is what it has replied to, each query
--- with its snapshot, and something of what was sent behind.
-pub record TellsSeat (seat : ℕ) (old new : Sight) (statements : List Statement) (replies : List Reply) : Type 0 where
+-- From one sight of a seat to another it was given these statements. The first it sent and took
+-- these replies to; those behind them it sent, and nobody reads their replies; the last it did not
+-- send. The entries that came are those of what it sent, each at its point, and others of other
+-- seats. What it submitted has the numbers of what it sent, and what it took is what it has replied
+-- to, each query with its snapshot, and something of what was sent behind.
+pub record TellsSeat (seat : ℕ) (old new : Sight) (statements : List Statement)
+    (replies : List Reply) : Type 0 where
   pub said : List Sent
   pub others : List Sent
   pub rest : List Statement
@@ -31,6 +33,7 @@ pub record IsWhole {seat : ℕ} {old new : Sight} {statements : List Statement} 
   pub later : tells.later ≡ []
 
 -- something was given that was not replied to
-abbrev pub HasLeft : {seat : ℕ} {old new : Sight} {statements : List Statement} {replies : List Reply}
+abbrev pub HasLeft : {seat : ℕ} {old new : Sight} {statements : List Statement}
+    {replies : List Reply}
     → TellsSeat seat old new statements replies → Type 0
 HasLeft tells = (tells.others ≢ []) ⊎ (tells.rest ≢ [])

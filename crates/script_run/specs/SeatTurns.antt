@@ -1,4 +1,5 @@
--- What a turn of a seat that gives statements to a core and takes replies leaves of what the seat knows.
+-- What a turn of a seat that gives statements to a core and takes replies
+-- leaves of what the seat knows.
 use Rattle.std.specs.Prelude.{◌≡◌, ◌≢◌, ℕ, Bool, false, true, List, [], ◌∷◌, ◌++◌, All, IsSomeAnd, None}
 use Rattle.script_reader.specs.declared.statement.Statement.{Statement}
 use Rattle.reply_text.specs.declared.reply.Reply.{Reply}
@@ -25,9 +26,10 @@ use Rattle.script_run.specs.declared.seat_turn.Given.TheVariants as given
 use Rattle.script_run.specs.declared.seat_turn.ReplyTurn.{ReplyTurn}
 use Rattle.script_run.specs.declared.seat_turn.ReplyTurn.TheVariants.{Got, Nothing, NotYet, Looked}
 
--- behind turns of it a seat does not have the core, it is so with its row, its hand and what is lent beside it, and it is the same seat
--- of the same team
-pub record StaysOut (board : BoardLock Parts) (IsHeld : CoreRow → Type 0) (old new : BoardSeat Parts) : Type 0 where
+-- behind turns of it a seat does not have the core, it is so with its row, its hand and what is
+-- lent beside it, and it is the same seat of the same team
+pub record StaysOut (board : BoardLock Parts) (IsHeld : CoreRow → Type 0)
+    (old new : BoardSeat Parts) : Type 0 where
   pub out : IsOutWith board IsHeld new
   pub same : IsSameSeat old new
   pub team : IsSameTeam (view_of old) (view_of new)
@@ -49,7 +51,8 @@ Stays seat old new = (due : List Sent) → IsDue seat old due → Goes seat old 
 -- a seat sent this statement
 abbrev pub SendsOne : (seat : ℕ) → Statement → (old new : Sight) → Type 0
 SendsOne seat statement old new = (due : List Sent) → IsDue seat old due
-    → (one : Sent) × (statement_in one ≡ statement) × IsGiven one × Goes seat old due new (due ++ one ∷ []) (one ∷ []) [] []
+    → (one : Sent) × (statement_in one ≡ statement) × IsGiven one
+    × Goes seat old due new (due ++ one ∷ []) (one ∷ []) [] []
 
 -- a seat sent these statements, in this order
 abbrev pub SendsAll : (seat : ℕ) → List Statement → (old new : Sight) → Type 0
@@ -67,21 +70,26 @@ TellsGiven given.Waits seat statement old new = Stays seat old new
 abbrev pub LeftUnmarked : View Parts → Type 0
 LeftUnmarked view = IsSomeAnd view.last (λ core. core.marks.waiting ≡ false)
 
--- what is told of a statement that a seat tried to give until it was taken, or there was no memory for it
+-- what is told of a statement that a seat tried to give until it was taken, or
+-- there was no memory for it
 abbrev pub TellsTried : (taken : Bool) → Statement → (old new : BoardSeat Parts) → Type 0
-TellsTried true statement old new = SendsOne (view_of old).number statement (sight_in (view_of old)) (sight_in (view_of new))
+TellsTried true statement old new =
+    SendsOne (view_of old).number statement (sight_in (view_of old)) (sight_in (view_of new))
 TellsTried false statement old new =
-    Stays (view_of old).number (sight_in (view_of old)) (sight_in (view_of new)) × LeftUnmarked (view_of new)
+    Stays (view_of old).number (sight_in (view_of old)) (sight_in (view_of new))
+    × LeftUnmarked (view_of new)
 
 -- a seat took the reply to the first statement that it waited for
-pub record TookNext (seat : ℕ) (old : Sight) (due : List Sent) (new : Sight) (reply : Reply) : Type 0 where
+pub record TookNext (seat : ℕ) (old : Sight) (due : List Sent) (new : Sight)
+    (reply : Reply) : Type 0 where
   pub first : Sent
   pub rest : List Sent
   pub goes : Goes seat old due new rest [] (first ∷ []) (reply ∷ [])
 
 -- so it is whatever it waited for, and whatever reply the taken one is
 abbrev pub TakesNext : Ready → (seat : ℕ) → (old new : Sight) → Type 0
-TakesNext ready seat old new = (due : List Sent) → (reply : Reply) → IsDue seat old due → IsReplyOf ready reply
+TakesNext ready seat old new =
+    (due : List Sent) → (reply : Reply) → IsDue seat old due → IsReplyOf ready reply
     → TookNext seat old due new reply
 
 -- what a turn tells in which a seat asked for its next reply

@@ -13,7 +13,8 @@ use star_values::{ByteText, NoMemory};
 use std::alloc::Global;
 use std::hash::RandomState;
 
-/// Writes the reply to each statement that is whole, in order, and tells whether some reply is a refusal.
+/// Writes the reply to each statement that is whole, in order, and tells whether
+/// some reply is a refusal.
 pub(crate) fn answer_whole<K: Sink>(
     alloc: Global,
     hash_keys: RandomState,

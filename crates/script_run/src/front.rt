@@ -1,4 +1,5 @@
-//! The front of a run: it gives statements to a core, lets their queries come to their end, and writes the replies.
+//! The front of a run: it gives statements to a core, lets their queries come to their
+//! end, and writes the replies.
 ghost use Rattle.std.specs.Prelude.{◌≡◌, ◌≢◌, ◌⊎◌, ◌<◌, ◌≤◌, [], ◌∷◌, All, IsTrue, None, Some, Ok, false, IfOk, OnErr, OnOk};
 ghost use Rattle.std.specs.Io.KnownBytes.{Appends};
 ghost use Rattle.star_io.specs.Transfer.{AppendsFront};
@@ -92,9 +93,10 @@ impl Front {
         })
     }
 
-    /// Gives a statement to the core, and writes the replies that are there. At a `wait`, as soon as as many queries are
-    /// unfinished as there are slots, and before the reply to a statement for which no memory was left, all queries come to
-    /// their end first. Tells whether one of the replies is a refusal.
+    /// Gives a statement to the core, and writes the replies that are there. At a `wait`, as soon
+    /// as as many queries are unfinished as there are slots, and before the reply to a statement
+    /// for which no memory was left, all queries come to their end first. Tells whether one of
+    /// the replies is a refusal.
     pub(crate) fn play<R: Threads + Sync, K: Sink>(
         &mut self,
         rt: &R,
@@ -103,7 +105,8 @@ impl Front {
     ) -> Result<bool, Halt>
         requires counted { IsCounted self.old }
         requires free { self.old.unfinished < (state_of self.old.core).settings.slots }
-        ensures plays { PlaysCounted result (state_of self.old.core) (statement ∷ []) (state_of self.new.core)
+        ensures plays { PlaysCounted result (state_of self.old.core)
+            (statement ∷ []) (state_of self.new.core)
             (K.writing sink.old).taken (K.writing sink.new).taken }
         ensures run { IsRun (state_of self.old.core) (state_of self.new.core) }
         ensures counted { OnOk result (IsCounted self.new) }
@@ -122,8 +125,8 @@ impl Front {
         }
     }
 
-    /// Whether a statement is a `wait` before which some query is open. It is taken for none where no
-    /// memory is left to tell, and then the replies come later.
+    /// Whether a statement is a `wait` before which some query is open. It is taken for none where
+    /// no memory is left to tell, and then the replies come later.
     fn waits_at(&self, statement: &Statement) -> bool
         ensures { IsTrue result →
             IsTrue (means_to_wait statement.now) × (0 < self.now.unfinished) }
@@ -134,17 +137,21 @@ impl Front {
     /// Whether the queries are to come to their end, behind a statement that waits for them or not.
     fn is_due(&self, waits: bool) -> bool
         ensures due { IsTrue result → IsTrue waits
-            ⊎ ((self.now.unfinished ≡ 0) ⊎ ((state_of self.now.core).settings.slots ≤ self.now.unfinished)) }
-        ensures not_yet { (result ≡ false) → self.now.unfinished < (state_of self.now.core).settings.slots }
+            ⊎ ((self.now.unfinished ≡ 0)
+            ⊎ ((state_of self.now.core).settings.slots ≤ self.now.unfinished)) }
+        ensures not_yet { (result ≡ false) →
+            self.now.unfinished < (state_of self.now.core).settings.slots }
     {
         is_due(waits, self.unfinished, self.settings.slots)
     }
 
-    /// Gives a statement to the core, and counts it. Answers whether there was memory for it; else nothing has changed.
+    /// Gives a statement to the core, and counts it. Answers whether there was memory for it;
+    /// else nothing has changed.
     fn give(&mut self, statement: Statement) -> bool
         requires counted { IsCounted self.old }
         requires free { self.old.unfinished < (state_of self.old.core).settings.slots }
-        ensures gives { IsTrue result → Gives statement (state_of self.old.core) (state_of self.new.core) }
+        ensures gives { IsTrue result →
+            Gives statement (state_of self.old.core) (state_of self.new.core) }
         ensures counted { IsTrue result → IsCounted self.new }
         ensures lost { (result ≡ false) → self.new ≡ self.old }
     {
@@ -159,7 +166,8 @@ impl Front {
         true
     }
 
-    /// A statement for which no memory was left: the replies before its own are written, and its own is `memory`.
+    /// A statement for which no memory was left: the replies before its own are written,
+    /// and its own is `memory`.
     fn lose<R: Threads + Sync, K: Sink>(&mut self, rt: &R, sink: &mut K) -> Result<bool, Halt>
         requires counted { IsCounted self.old }
         ensures plays { (statement : Statement) →
@@ -201,7 +209,8 @@ impl Front {
     fn finish_open<R: Threads + Sync>(&mut self, rt: &R) -> Result<(), NoMemory>
         requires counted { IsCounted self.old }
         ensures finishes { Finishes (state_of self.old.core) (state_of self.new.core) }
-        ensures closed { OnOk result (All (λ entry. is_open entry.life ≡ false) (state_of self.new.core).lives.queries) }
+        ensures closed { OnOk result
+            (All (λ entry. is_open entry.life ≡ false) (state_of self.new.core).lives.queries) }
         ensures waits { OnErr result ((seat_at (state_of self.old.core) 0).pending ≢ []) }
         ensures unfinished { OnOk result (self.new.unfinished ≡ 0) }
         ensures some { 0 < (state_of self.old.core).settings.slots }
@@ -229,7 +238,8 @@ pub(crate) fn every_front_is_sound(front: &Front)
     every_core_is_sound(&front.core);
 }
 
-/// Whether queries are to come to their end. Where none is open, the replies may be written, and else none can be before.
+/// Whether queries are to come to their end. Where none is open, the replies may be written, and
+/// else none can be before.
 fn is_due(waits: bool, unfinished: u32, slots: u32) -> bool
     ensures due { IsTrue result → IsTrue waits ⊎ ((unfinished ≡ 0) ⊎ (slots ≤ unfinished)) }
     ensures not_yet { (result ≡ false) → unfinished < slots }
@@ -249,7 +259,8 @@ fn one_if_waiting(life: Option<Life>) -> u32
     }
 }
 
-/// Gives a statement to a core as that of the front, where no batch is in a hand. Where no memory was left for it, nothing has changed.
+/// Gives a statement to a core as that of the front, where no batch is in a hand. Where no memory
+/// was left for it, nothing has changed.
 fn submit(core: &mut Core, statement: Statement) -> Result<(), StepFault>
     requires { AreIdle (state_of core.old) }
     ensures gives { OnOk result (Gives statement (state_of core.old) (state_of core.new)) }
@@ -268,7 +279,8 @@ fn finish<R: Threads + Sync>(rt: &R, core: &mut Core) -> Result<(), NoMemory>
     requires few { open_in (state_of core.old) ≤ (state_of core.old).settings.slots }
     ensures finishes { Finishes (state_of core.old) (state_of core.new) }
     ensures number { (state_of core.new).numbers.statement ≡ (state_of core.old).numbers.statement }
-    ensures closed { OnOk result (All (λ entry. is_open entry.life ≡ false) (state_of core.new).lives.queries) }
+    ensures closed { OnOk result
+        (All (λ entry. is_open entry.life ≡ false) (state_of core.new).lives.queries) }
     ensures waits { OnErr result ((seat_at (state_of core.old) 0).pending ≢ []) }
     ensures hands { AreIdle (state_of core.new) }
 {
@@ -277,12 +289,14 @@ fn finish<R: Threads + Sync>(rt: &R, core: &mut Core) -> Result<(), NoMemory>
     finish_all(rt, core)
 }
 
-/// Writes the replies that may be taken, in their order, and tells whether one of them is a refusal.
+/// Writes the replies that may be taken, in their order, and tells whether
+/// one of them is a refusal.
 fn write_ready<K: Sink>(alloc: Global, core: &mut Core, sink: &mut K) -> Result<bool, Halt>
     ensures plays { Plays result (state_of core.old) [] (state_of core.new)
         (K.writing sink.old).taken (K.writing sink.new).taken }
     ensures none { OnOk result (next_ready (state_of core.new) 0 ≡ None) }
-    ensures all { OnOk result (first_open (state_of core.old).lives (seat_at (state_of core.old) 0) ≡ None →
+    ensures all { OnOk result
+        (first_open (state_of core.old).lives (seat_at (state_of core.old) 0) ≡ None →
         (seat_at (state_of core.new) 0).pending ≡ []) }
     ensures run { IsRun (state_of core.old) (state_of core.new) }
     ensures beside { Beside (state_of core.old) (state_of core.new) }

@@ -6,12 +6,15 @@ ghost use Rattle.core_state.specs.Sent.{AreEntriesOf, AreRepliesTo, Sent, statem
 ghost use Rattle.core_state.specs.State.{Entry};
 ghost use Rattle.core_state.specs.Tables.{changes_of};
 
-/// Where nobody else makes an entry, what a seat sent is a run: where memory was wanted at some places, the replies to what
-/// it sent are those to these statements behind the history before, and so is the history that they make.
+/// Where nobody else makes an entry, what a seat sent is a run: where memory was wanted at some
+/// places, the replies to what it sent are those to these statements behind the history before, and
+/// so is the history that they make.
 pub fn a_seat_alone_is_a_run()
-    ensures { (seat : ℕ) (before : List Entry) (sent : List Sent) (since entries : List Entry) (replies : List Reply) →
-        AreEntriesOf seat before sent since → All (λ entry. entry.seat ≡ seat) since → entries ≡ before ++ since →
+    ensures { (seat : ℕ) (before : List Entry) (sent : List Sent) (since entries : List Entry)
+        (replies : List Reply) → AreEntriesOf seat before sent since →
+        All (λ entry. entry.seat ≡ seat) since → entries ≡ before ++ since →
         AreRepliesTo entries sent replies →
-        (wanted : List ℕ) × (replies ≡ replies_after wanted 0 (changes_of before) (statements_in sent))
+        (wanted : List ℕ)
+        × (replies ≡ replies_after wanted 0 (changes_of before) (statements_in sent))
         × (changes_of entries ≡ history_from wanted 0 (changes_of before) (statements_in sent)) }
 {}

@@ -21,8 +21,8 @@ pub enum Piece {
     NoMemory,
 }
 
-/// Reads once, by way of `piece`, and feeds the reader with what came. Where as many bytes as the limit were
-/// fed, one byte more is asked for, which the reader is not fed with.
+/// Reads once, by way of `piece`, and feeds the reader with what came. Where as many bytes as the
+/// limit were fed, one byte more is asked for, which the reader is not fed with.
 pub fn read_piece<S: Source>(source: &mut S, piece: &mut [u8], reader: &mut ScriptReader) -> Piece
     requires piece { 0 < length piece.old }
     requires within { reader.old.fed ≤ SCRIPT_LIMIT }

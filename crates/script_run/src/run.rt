@@ -1,5 +1,5 @@
-//! A run of a script in which each query is answered by itself: each statement is replied to as soon as it is whole, before
-//! more is read.
+//! A run of a script in which each query is answered by itself: each statement is replied to as
+//! soon as it is whole, before more is read.
 ghost use Rattle.std.specs.Prelude.{◌≡◌};
 ghost use Rattle.script_reader.specs.Reading.{no_reading};
 ghost use Rattle.star_history.specs.Keyed.{plain};
@@ -20,9 +20,9 @@ use std::hash::RandomState;
 pub const PIECE_BYTES: usize = 16 * 1024;
 
 /// Reads a script to its end, and writes the reply to each of its statements, in order, before it
-/// reads on. Each query is answered by itself, at its place. A statement for which no memory is left
-/// changes nothing and replies `memory`, and so does a query for whose answer none is left. Rows and
-/// groups are found by hashes with these keys, on which no reply depends.
+/// reads on. Each query is answered by itself, at its place. A statement for which no memory is
+/// left changes nothing and replies `memory`, and so does a query for whose answer none is left.
+/// Rows and groups are found by hashes with these keys, on which no reply depends.
 ///
 /// At a read that fails, and at the byte past the limit, the statements that are whole before it
 /// are answered. After a write that fails nothing more is written or read. Where no memory is left
@@ -43,7 +43,8 @@ pub fn run_alone<S: Source, K: Sink>(
     answer_script(alloc, hash_keys, &mut store, &mut reader, source, sink)
 }
 
-/// Reads a script to its end by a reader that was fed with nothing, and answers its statements, where no table is there yet.
+/// Reads a script to its end by a reader that was fed with nothing, and answers its statements,
+/// where no table is there yet.
 fn answer_script<S: Source, K: Sink>(
     alloc: Global,
     hash_keys: RandomState,

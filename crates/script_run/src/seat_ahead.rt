@@ -11,11 +11,12 @@ use star_statement::{BlockForm, ReadStatement};
 use std::alloc::Global;
 use std::sync::Wait;
 
-/// From so many bytes on a block is read ahead. A smaller one is read within the turn in less time than a turn more takes.
+/// From so many bytes on a block is read ahead. A smaller one is read within the turn in less
+/// time than a turn more takes.
 const LARGE: usize = 16 * 1024;
 
-/// Reads the block of a statement, if it is large, by the form that its table has now. Where no memory is left for
-/// that, or there is no such table, it is read as the statement is carried out.
+/// Reads the block of a statement, if it is large, by the form that its table has now. Where no
+/// memory is left for that, or there is no such table, it is read as the statement is carried out.
 pub(crate) fn read_ahead<'a, R: Wait>(
     rt: &R,
     board: &BoardLock<Core>,

@@ -74,8 +74,8 @@ pub(crate) fn submit_turn<R: Wait>(
     give_turn(rt, board, seat, &mut ahead)
 }
 
-/// Gives a statement to the core in a turn of the seat, and wakes one of those who rest. Where it may
-/// change the tables, it waits until these are at home, and then tries again.
+/// Gives a statement to the core in a turn of the seat, and wakes one of those who rest. Where it
+/// may change the tables, it waits until these are at home, and then tries again.
 fn give_turn<R: Wait>(
     rt: &R,
     board: &BoardLock<Core>,
@@ -140,9 +140,9 @@ pub(crate) fn submit(core: &mut Core, seat: u32, statement: &mut ReadStatement<'
     }
 }
 
-/// Marks the core where a statement waits. The mark goes where a statement finds no memory, since it
-/// may be the one that waited, and where nothing is out any more. All who wait are woken then, and
-/// who finds the tables lent marks the core again, so no mark stays with nobody waiting.
+/// Marks the core where a statement waits. The mark goes where a statement finds no memory, since
+/// it may be the one that waited, and where nothing is out any more. All who wait are woken then,
+/// and who finds the tables lent marks the core again, so no mark stays with nobody waiting.
 fn mark(core: &mut Core, given: Given)
     ensures state { state_of core.new ≡ state_of core.old }
     ensures loans { LeavesAllLoans core.old core.new }
@@ -165,8 +165,8 @@ pub(crate) fn unmark_if_home(core: &mut Core)
     }
 }
 
-/// Whom a turn wakes in which a statement was given. Where it waits the seat rests: the bell's number
-/// is read in the turn, and whoever brings home the last of what is lent rings behind it.
+/// Whom a turn wakes in which a statement was given. Where it waits the seat rests: the bell's
+/// number is read in the turn, and whoever brings home the last of what is lent rings behind it.
 fn signal_given<R: Wait>(rt: &R, board: &BoardLock<Core>, core: &Core, given: Given) -> Signal {
     match given {
         Given::Waits => Signal::Rest(board.bell(rt)),
@@ -174,9 +174,9 @@ fn signal_given<R: Wait>(rt: &R, board: &BoardLock<Core>, core: &Core, given: Gi
     }
 }
 
-/// Wakes one of those who rest, or all while some of them may wait for the tables, since else the one
-/// that is woken might be such a one, and leave what there is to do. It is asked before a turn takes
-/// the mark away, so that all of them look again.
+/// Wakes one of those who rest, or all while some of them may wait for the tables, since else the
+/// one that is woken might be such a one, and leave what there is to do. It is asked before a turn
+/// takes the mark away, so that all of them look again.
 pub(crate) fn one_or_all(core: &Core) -> Signal {
     if core.is_waiting() {
         Signal::All

@@ -31,7 +31,8 @@ use std::sync::Wait;
 use std::thread::Threads;
 use worker_gate::Gate;
 
-/// How a run ended, and the core that ran the script. There is none where no memory was left for the run.
+/// How a run ended, and the core that ran the script. There is none where no
+/// memory was left for the run.
 #[derive(Debug, Drop)]
 pub struct RunDone {
     pub end: RunEnd,
@@ -39,17 +40,17 @@ pub struct RunDone {
 }
 
 /// Reads a script to its end, and writes the reply to each of its statements, in order. The queries
-/// go through one core, and those that are unfinished share its scan. A statement for which the core
-/// found no memory replies `memory`, and so does a query that found none.
+/// go through one core, and those that are unfinished share its scan. A statement for which the
+/// core found no memory replies `memory`, and so does a query that found none.
 ///
 /// Without workers this thread has the core by itself, as in `run_on_one_thread`. With workers the
 /// core lies on a board, and each worker has a seat, and a thread of its own where one can be made,
-/// beside the front, which gives the statements to the core and writes the replies. Outside of their
-/// turns they let batches pass filters, behind the gate.
+/// beside the front, which gives the statements to the core and writes the replies. Outside of
+/// their turns they let batches pass filters, behind the gate.
 ///
-/// At a read that fails, and at the byte past the limit, the statements that are whole before it are
-/// answered. After a write that fails nothing more is written or read. Rows and groups are found by
-/// hashes with these keys, on which no reply depends.
+/// At a read that fails, and at the byte past the limit, the statements that are whole before it
+/// are answered. After a write that fails nothing more is written or read. Rows and groups are
+/// found by hashes with these keys, on which no reply depends.
 pub fn run_script<R: Threads + Wait + Sync, S: Source, K: Sink, G: Gate + Sync>(
     rt: &R,
     alloc: Global,
@@ -80,8 +81,8 @@ pub fn run_script<R: Threads + Wait + Sync, S: Source, K: Sink, G: Gate + Sync>(
 
 /// The same by this thread alone. The queries that are unfinished go together in one lap: all come
 /// to their end at a `wait`, at the end of the input, a read fault or the script limit, before the
-/// reply to a statement for which the core found no memory, and as soon as as many are unfinished as
-/// there are slots.
+/// reply to a statement for which the core found no memory, and as soon as as many are
+/// unfinished as there are slots.
 pub fn run_on_one_thread<R: Threads + Sync, S: Source, K: Sink>(
     rt: &R,
     alloc: Global,
@@ -129,7 +130,8 @@ fn core_of(run_end: RunEnd, front: Front) -> Option<Core>
     }
 }
 
-/// Reads a script to its end by a reader that was fed with nothing, and gives its statements to an empty core.
+/// Reads a script to its end by a reader that was fed with nothing, and gives its
+/// statements to an empty core.
 fn play_script<R: Threads + Sync, S: Source, K: Sink>(
     rt: &R,
     front: &mut Front,
@@ -176,8 +178,8 @@ fn play_script<R: Threads + Sync, S: Source, K: Sink>(
     }
 }
 
-/// Gives the statements that are whole to the core, one after the other, and tells whether some reply that was written
-/// meanwhile is a refusal.
+/// Gives the statements that are whole to the core, one after the other, and tells whether some
+/// reply that was written meanwhile is a refusal.
 pub(crate) fn play_whole<R: Threads + Sync, K: Sink>(
     rt: &R,
     front: &mut Front,
@@ -186,7 +188,8 @@ pub(crate) fn play_whole<R: Threads + Sync, K: Sink>(
 ) -> Result<bool, Halt>
     requires counted { IsCounted front.old }
     requires free { front.old.unfinished < (state_of front.old.core).settings.slots }
-    ensures plays { PlaysWhole result (state_of front.old.core) reader.old (state_of front.new.core) reader.new
+    ensures plays { PlaysWhole result (state_of front.old.core) reader.old
+        (state_of front.new.core) reader.new
         (K.writing sink.old).taken (K.writing sink.new).taken }
     ensures stays { StaysFed reader.old reader.new }
     ensures run { IsRun (state_of front.old.core) (state_of front.new.core) }
@@ -204,8 +207,8 @@ pub(crate) fn play_whole<R: Threads + Sync, K: Sink>(
     }
 }
 
-/// How a run ends whose input was read to its end and whose statements were given to the core, once the other replies were
-/// written or halted.
+/// How a run ends whose input was read to its end and whose statements were given to the core, once
+/// the other replies were written or halted.
 pub(crate) fn end_of_rest(refused: bool, written: Result<bool, Halt>) -> RunEnd
     ensures { result ≡ end_of_rest refused written }
 {

@@ -23,7 +23,9 @@ pub(crate) fn is_wait(alloc: Global, statement: &Statement) -> Result<bool, NoMe
 
 /// Whether a line is a `wait`, whatever stands behind it.
 fn is_wait_line(alloc: Global, line: &str) -> Result<bool, NoMemory>
-    ensures { (block : Block) → IfOk result (λ waits. waits ≡ means_wait (parsed_meaning (length line.now) block (parsed_of line.now))) }
+    ensures { (block : Block) →
+        IfOk result (λ waits.
+        waits ≡ means_wait (parsed_meaning (length line.now) block (parsed_of line.now))) }
 {
     match parse(alloc, line) {
         Ok(ast) => {

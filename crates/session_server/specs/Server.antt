@@ -28,19 +28,23 @@ CountsNext (Some end) old new failed = CountsDoor end old new failed
 
 -- each of these fronts has a seat of the board by which a session may be served
 abbrev pub AreAtRest : BoardLock Parts → List SeatFront → Type 0
-AreAtRest board fronts = (place : ℕ) (other : SeatFront) → place < length fronts → IsAtRest board (slice_index_or fronts place other).seat
+AreAtRest board fronts =
+    (place : ℕ) (other : SeatFront) → place < length fronts
+    → IsAtRest board (slice_index_or fronts place other).seat
 
--- a server over a core of these settings to which nothing was given: a front that is the board's first seat, a seat for each worker, and a
--- front for each seat that is left
+-- a server over a core of these settings to which nothing was given: a front that is the board's
+-- first seat, a seat for each worker, and a front for each seat that is left
 pub record IsNewServer (settings : RunSettings) (server : Server) : Type 0 where
   pub own : IsAtRest server.board server.own.seat
   pub are_workers : AreWorkers server.board server.workers.items
   pub are_at_rest : AreAtRest server.board server.sessions.items
   pub count : settings.workers + (length server.sessions.items + 1) ≡ settings.seats
 
--- what is told of the door where the connections that came were served: it was asked for what it was asked for before, it has ended, or so many
--- links were handed out, and one call on it failed, the last one, where that is why the serving ended
-pub record HasServed (accept : ℕ) (end : ServeEnd) (asked asked' : Option ℕ) (ended' : Bool) (given given' faults faults' : ℕ) (failed : Bool)
+-- what is told of the door where the connections that came were served: it was asked for what it
+-- was asked for before, it has ended, or so many links were handed out, and one call on it failed,
+-- the last one, where that is why the serving ended
+pub record HasServed (accept : ℕ) (end : ServeEnd) (asked asked' : Option ℕ) (ended' : Bool)
+    (given given' faults faults' : ℕ) (failed : Bool)
     : Type 0 where
   pub same : asked' ≡ asked
   pub ended : end ≡ Ended → (ended' ≡ true) ⊎ ((accept ≢ 0) × HasGiven accept given given')

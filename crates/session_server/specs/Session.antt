@@ -22,8 +22,8 @@ abbrev pub end_of_halt : Halt → SessionEnd
 end_of_halt halt.WriteFault = WriteFault
 end_of_halt halt.NoMemory = Memory
 
--- the end of a run that says of bytes what this end of a session says. `Done` says what `Clean` does: of what a session wrote,
--- that some reply is a refusal is not told
+-- the end of a run that says of bytes what this end of a session says. `Done` says what `Clean`
+-- does: of what a session wrote, that some reply is a refusal is not told
 abbrev pub run_end_of : SessionEnd → RunEnd
 run_end_of Done = run_end.Clean
 run_end_of ReadFault = run_end.ReadFault
@@ -31,14 +31,17 @@ run_end_of WriteFault = run_end.WriteFault
 run_end_of Limit = run_end.ScriptLimit
 run_end_of Memory = run_end.NoMemory
 
--- which faults came. Nothing was read after a read that failed, and nothing was written after a write that failed
+-- which faults came. Nothing was read after a read that failed, and nothing was written
+-- after a write that failed
 abbrev pub CountsFaults : SessionEnd → (from from' : ReadingSide) → (to to' : WritingSide) → Type 0
-CountsFaults ReadFault from from' to to' = FailedOnce from.faults from'.faults from'.failed × (to'.faults ≡ to.faults)
-CountsFaults WriteFault from from' to to' = (from'.faults ≡ from.faults) × FailedOnce to.faults to'.faults to'.failed
+CountsFaults ReadFault from from' to to' =
+    FailedOnce from.faults from'.faults from'.failed × (to'.faults ≡ to.faults)
+CountsFaults WriteFault from from' to to' =
+    (from'.faults ≡ from.faults) × FailedOnce to.faults to'.faults to'.failed
 CountsFaults other from from' to to' = (from'.faults ≡ from.faults) × (to'.faults ≡ to.faults)
 
--- the session was answered to an end at which nothing has failed: all replies were written, or no memory was left, or the byte past the
--- limit came
+-- the session was answered to an end at which nothing has failed: all replies were written, or no
+-- memory was left, or the byte past the limit came
 abbrev pub EndsUnfailed : SessionEnd → Type 0
 EndsUnfailed Done = Unit {0}
 EndsUnfailed ReadFault = ⊥
@@ -48,11 +51,13 @@ EndsUnfailed Memory = Unit {0}
 
 -- where no read and no write of the link failed, a session within its limit ends `Done` or `Memory`
 abbrev pub IsComplete : SessionEnd → (from from' : ReadingSide) → (to to' : WritingSide) → Type 0
-IsComplete end from from' to to' = ¬ FailedOnce from.faults from'.faults from'.failed → ¬ FailedOnce to.faults to'.faults to'.failed
+IsComplete end from from' to to' =
+    ¬ FailedOnce from.faults from'.faults from'.failed
+    → ¬ FailedOnce to.faults to'.faults to'.failed
     → EndsUnfailed end
 
--- the statements of a session by its end: all that its link gave, those that were whole before a read failed or within the limit, and
--- where the replies halted, those that came until then
+-- the statements of a session by its end: all that its link gave, those that were whole before a
+-- read failed or within the limit, and where the replies halted, those that came until then
 abbrev pub statements_by : SessionEnd → (ended : Bool) → (given : List ℕ) → List Statement
 statements_by Done ended given = statements_of true given
 statements_by ReadFault ended given = statements_of false given
@@ -68,10 +73,12 @@ EndsWhole WriteFault = ⊥
 EndsWhole Limit = Unit {0}
 EndsWhole Memory = ⊥
 
--- A session between two sights of its seat: its link gave these bytes and took those, and what was written is the text of the replies
--- to the statements of these bytes, or a front of it, as the end says. Want of memory is told in place of no other end: some reply was
--- still to be written, some statement has no reply, or the reading met no end
-pub record AnswersSession (end : SessionEnd) (seat : ℕ) (old new : Sight) (from from' : ReadingSide) (to to' : WritingSide) : Type 0 where
+-- A session between two sights of its seat: its link gave these bytes and took those, and what was
+-- written is the text of the replies to the statements of these bytes, or a front of it, as the end
+-- says. Want of memory is told in place of no other end: some reply was still to be written, some
+-- statement has no reply, or the reading met no end
+pub record AnswersSession (end : SessionEnd) (seat : ℕ) (old new : Sight) (from from' : ReadingSide)
+    (to to' : WritingSide) : Type 0 where
   pub given : List ℕ
   pub written : List ℕ
   pub replies : List Reply
@@ -81,4 +88,5 @@ pub record AnswersSession (end : SessionEnd) (seat : ℕ) (old new : Sight) (fro
   pub tells : TellsSeat seat old new (statements_by end from'.ended given) replies
   pub whole : EndsWhole end → IsWhole tells
   pub writes : Writes (λ ended bytes. text_of_all replies) (run_end_of end) from' given written
-  pub memory : end ≡ Memory → IsProperFront written (text_of_all replies) ⊎ (HasLeft tells ⊎ MetNoEnd from from' given)
+  pub memory : end ≡ Memory
+      → IsProperFront written (text_of_all replies) ⊎ (HasLeft tells ⊎ MetNoEnd from from' given)

@@ -1,5 +1,5 @@
-//! The seats of a server: how they are made, and how sessions are served by them, each in a thread of
-//! its own where one can be made. Where their connections come from is in `server`.
+//! The seats of a server: how they are made, and how sessions are served by them, each in a thread
+//! of its own where one can be made. Where their connections come from is in `server`.
 ghost use Rattle.std.specs.Prelude.{◌≡◌, ◌+◌, ◌<◌, IfOk, OnOk, length};
 ghost use Rattle.board_lock.specs.Seats.{view_of};
 ghost use Rattle.core_state.specs.Settings.{AreWithin};

@@ -13,7 +13,8 @@ pub enum SessionEnd {
     ReadFault,
     /// A write failed. Nothing was read or written after it.
     WriteFault,
-    /// The byte past the limit came. All replies were written to the statements that were whole within the limit.
+    /// The byte past the limit came. All replies were written to the statements that
+    /// were whole within the limit.
     Limit,
     /// No memory was left for the session.
     Memory,

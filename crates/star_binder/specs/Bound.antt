@@ -1,5 +1,5 @@
--- The query that a select is: its columns are places, key joins are left out, and the other conjuncts of each table
--- are one test.
+-- The query that a select is: its columns are places, key joins are left out, and the other
+-- conjuncts of each table are one test.
 use Rattle.std.specs.Prelude.{ℕ, List, [], ◌∷◌, map, filter, length, Option, Some, None, if◌then◌else◌}
 use Rattle.std.specs.List.{list_any, range_with_len}
 use Rattle.star_parser.specs.declared.ast.AstItem.{AstItem}
@@ -87,7 +87,8 @@ bound_item scope (written.Max column) = item.Max (place_of scope column)
 abbrev pub query_in : TablesInScope → SelectParts → Query
 query_in scope select = record {
   fact = test_on scope select.conjuncts Fact;
-  choices = map (selection_on scope select.conjuncts) (range_with_len 0 (length scope.schema.dimensions));
+  choices =
+      map (selection_on scope select.conjuncts) (range_with_len 0 (length scope.schema.dimensions));
   groups = map (place_of scope) select.groups;
   items = map (bound_item scope) select.items;
 }

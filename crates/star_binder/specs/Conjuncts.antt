@@ -62,7 +62,8 @@ abbrev pub is_mixed : TablesInScope → Condition → Bool
 is_mixed scope t =
     is_none (key_join scope t) && (compares_columns t || has_another (tables_in scope t))
 
--- the table of the first column that a condition names; one that names none, which no line has, counts to the fact table
+-- the table of the first column that a condition names; one that names none, which no line has,
+-- counts to the fact table
 abbrev pub first_table : TablesInScope → Condition → Table
 first_table scope t = option_map_or (λ table. table) (slice_get (tables_in scope t) 0) table.Fact
 

@@ -1,5 +1,5 @@
--- What the condition of a WHERE names: its columns, its literals with the columns that they stand beside, and
--- whether it compares two columns.
+-- What the condition of a WHERE names: its columns, its literals with the columns that they stand
+-- beside, and whether it compares two columns.
 use Rattle.std.specs.Prelude.{Bool, true, false, ◌||◌, List, [], ◌∷◌, ◌++◌, map, Option, Some, None}
 use Rattle.star_values.specs.declared.value.Value.{Value}
 use Rattle.star_parser.specs.declared.ast.AstItem.{AstItem}

@@ -35,7 +35,8 @@ number_at (place.Dimension dimension column) = column
 abbrev pub is_name_of : Schema → Table → List ℕ → Bool
 is_name_of schema table name = option_map_or (has_name name) (definition_of schema table) false
 
--- whether a column stands in a table: it has the table's name, or none, and the table has a column of its name
+-- whether a column stands in a table: it has the table's name, or none, and the table
+-- has a column of its name
 abbrev pub stands_in : Schema → Column → Table → Bool
 stands_in schema column table =
     option_map_or (is_name_of schema table) column.table true
@@ -53,12 +54,15 @@ is_ambiguous scope column =
 -- the place of a column in a table in which it stands
 abbrev pub place_within : Schema → Column → Table → Place
 place_within schema column table =
-    place_in table (option_map_or (λ number. number) (column_named (columns_of schema table) column.name) 0)
+    place_in table
+    (option_map_or (λ number. number) (column_named (columns_of schema table) column.name) 0)
 
--- the place of a column: in the first of these tables in which it stands. A bound statement has no other column
+-- the place of a column: in the first of these tables in which it stands. A bound
+-- statement has no other column
 abbrev pub place_of : TablesInScope → Column → Place
 place_of scope column =
-    option_map_or (place_within scope.schema column) (find (stands_in scope.schema column) scope.tables) (place.Fact 0)
+    option_map_or (place_within scope.schema column)
+    (find (stands_in scope.schema column) scope.tables) (place.Fact 0)
 
 -- the table of that place
 abbrev pub table_of : TablesInScope → Column → Table

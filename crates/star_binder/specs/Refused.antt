@@ -1,5 +1,5 @@
--- Why a select or a delete is refused over a schema, and what it is where it is not: there is one order of checks,
--- and the first that fails gives the reason.
+-- Why a select or a delete is refused over a schema, and what it is where it is not: there is one
+-- order of checks, and the first that fails gives the reason.
 use Rattle.std.specs.Prelude.{ℕ, Bool, false, not, ◌||◌, nat_lt, List, [], ◌∷◌, map, flat_map, length, Option, is_none, Result, Ok, Err, if◌then◌else◌}
 use Rattle.std.specs.List.{list_any}
 use Rattle.std.specs.Option.{option_map_or}
@@ -36,7 +36,8 @@ names_no_table schema name = is_none (table_named schema name)
 -- whether a literal has not the kind of the column beside it
 abbrev pub is_of_another_kind : TablesInScope → Column × Value → Bool
 is_of_another_kind scope literal =
-    not (fits_column (kinds_of (columns_of scope.schema (table_of scope literal.0))) (number_of scope literal.0) literal.1)
+    not (fits_column (kinds_of (columns_of scope.schema (table_of scope literal.0)))
+    (number_of scope literal.0) literal.1)
 
 -- whether some literal of these conjuncts has not
 abbrev pub has_another_kind : TablesInScope → List Condition → Bool
@@ -62,7 +63,8 @@ is_not_joined scope conjuncts (Dimension dimension) =
 -- whether the fact table is missing, or a dimension is not joined
 abbrev pub lacks_a_join : TablesInScope → List Condition → Bool
 lacks_a_join scope conjuncts =
-    not (list_any (same_table Fact) scope.tables) || list_any (is_not_joined scope conjuncts) scope.tables
+    not (list_any (same_table Fact) scope.tables)
+    || list_any (is_not_joined scope conjuncts) scope.tables
 
 -- whether an item is a plain column that is none of the groups
 abbrev pub is_not_grouped : TablesInScope → List Column → AstItem → Bool
@@ -90,7 +92,8 @@ bound_over scope select =
     if repeats same_table scope.tables then Err refusal.DuplicateName else
     if list_any (names_no_table scope.schema) select.names
     || list_any (is_unknown scope) (columns_named select) then Err refusal.UnknownName else
-    if nat_lt MAX_ITEMS (length select.items) || nat_lt MAX_GROUPS (length select.groups) then Err refusal.Limit else
+    if nat_lt MAX_ITEMS (length select.items) || nat_lt MAX_GROUPS (length select.groups)
+    then Err refusal.Limit else
     if list_any (is_ambiguous scope) (columns_named select) then Err refusal.AmbiguousName else
     bound_named scope select
 
@@ -110,8 +113,8 @@ fact_alone schema = record { schema = schema; tables = Fact ∷ [] }
 abbrev pub names_the_fact : Schema → List ℕ → Bool
 names_the_fact schema name = option_map_or (same_table Fact) (table_named schema name) false
 
--- the test of a delete from the table of this name, where it has a condition, or the first reason that refuses it: its
--- columns are those of these tables
+-- the test of a delete from the table of this name, where it has a condition, or the first reason
+-- that refuses it: its columns are those of these tables
 abbrev pub bound_in : TablesInScope → List ℕ → List Condition → Result (Option plan.Test) Refusal
 bound_in scope name conjuncts =
     if not (names_the_fact scope.schema name)

@@ -22,7 +22,8 @@ defined_column schema column =
 
 -- a table of this name with these columns
 abbrev pub table_with : Schema → List ℕ → List AstColumn → TableDef
-table_with schema name columns = record { name = name; columns = map (defined_column schema) columns }
+table_with schema name columns =
+    record { name = name; columns = map (defined_column schema) columns }
 
 -- the table that a declaration declares; no other statement declares one
 abbrev pub declared_table : Schema → Statement → TableDef

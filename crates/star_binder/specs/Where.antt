@@ -1,4 +1,5 @@
--- When the condition of a WHERE holds on a joined row, as it is written, before it is split by tables.
+-- When the condition of a WHERE holds on a joined row, as it is written,
+-- before it is split by tables.
 use Rattle.std.specs.Prelude.{◌≡◌, ℕ, Bool, true, false, not, ◌&&◌, ◌||◌, length, Option, Contains}
 use Rattle.std.specs.List.{list_any}
 use Rattle.std.specs.Option.{option_map_or}
@@ -20,16 +21,21 @@ abbrev pub column_value : TablesInScope → Joined → Column → Value
 column_value scope row column = value_at (place_of scope column) row
 
 abbrev mutual
-  -- whether a condition holds on a joined row; two columns are the same where their values are equal
+  -- whether a condition holds on a joined row; two columns are the same
+  -- where their values are equal
   pub where_holds : TablesInScope → Joined → Condition → Bool
   where_holds scope row (Either ts) = some_of_where scope row ts
   where_holds scope row (Both ts) = all_of_where scope row ts
   where_holds scope row (Negate t) = not (where_holds scope row t)
-  where_holds scope row (Test column how value) = compares (how_of how) (column_value scope row column) value
-  where_holds scope row (Same left right) = compares Eq (column_value scope row left) (column_value scope row right)
+  where_holds scope row (Test column how value) =
+      compares (how_of how) (column_value scope row column) value
+  where_holds scope row (Same left right) =
+      compares Eq (column_value scope row left) (column_value scope row right)
   where_holds scope row (Between column low high) =
-      compares Ge (column_value scope row column) low && compares Le (column_value scope row column) high
-  where_holds scope row (OneOf column values) = list_any (compares Eq (column_value scope row column)) values
+      compares Ge (column_value scope row column) low
+      && compares Le (column_value scope row column) high
+  where_holds scope row (OneOf column values) =
+      list_any (compares Eq (column_value scope row column)) values
 
   pub all_of_where : TablesInScope → Joined → Conditions → Bool
   all_of_where scope row none = true
@@ -43,8 +49,10 @@ abbrev mutual
 abbrev pub whole_where_holds : TablesInScope → Joined → Option Condition → Bool
 whole_where_holds scope row condition = option_map_or (where_holds scope row) condition true
 
--- a joined row has a row for each dimension, and for each that is among the tables the one whose key the fact row references
+-- a joined row has a row for each dimension, and for each that is among the tables the one whose
+-- key the fact row references
 pub record IsJoinedByKeys (scope : TablesInScope) (row : Joined) : Type 0 where
   pub rows : length row.dimensions ≡ length scope.schema.dimensions
-  pub keys : (column dimension : ℕ) → references scope.schema column dimension ≡ true → Contains scope.tables (Dimension dimension)
+  pub keys : (column dimension : ℕ) → references scope.schema column dimension ≡ true
+      → Contains scope.tables (Dimension dimension)
       → value_in row.fact column ≡ value_in (dimension_of row dimension) 0

@@ -20,11 +20,11 @@ ghost use Rattle.star_binder.specs.declared.TheConstants.{MAX_ITEMS, MAX_GROUPS}
 use star_plan::kept_rows_meet_each_condition;
 use star_values::values_are_in_order;
 
-/// What is bound keeps to its schema. In the query of a select of some item each test fits the columns
-/// of its table, there is a choice for each dimension, each place is that of a column, sums are over
-/// integers, plain items stand in the groups, each dimension of the groups and items is named, and
-/// each that is named is referenced by a column of the fact table. The test of a delete, where
-/// there is one, fits the columns of the fact table.
+/// What is bound keeps to its schema. In the query of a select of some item each test fits the
+/// columns of its table, there is a choice for each dimension, each place is that of a column, sums
+/// are over integers, plain items stand in the groups, each dimension of the groups and items is
+/// named, and each that is named is referenced by a column of the fact table. The test of a delete,
+/// where there is one, fits the columns of the fact table.
 pub fn bound_queries_keep_to_their_schema()
     ensures select { (schema : Schema) (select : SelectParts) → 0 < length select.items →
         IfOk (bound_select schema select) (λ query. IsOver schema query) }
@@ -33,10 +33,10 @@ pub fn bound_queries_keep_to_their_schema()
         (λ test. some_test_fits (kinds_of (fact_columns schema)) test ≡ true) }
 {}
 
-/// The WHERE holds on a joined row exactly where the query that is bound keeps the row, if the row of
-/// each dimension among the tables has the key that the fact row references. So splitting the WHERE by
-/// tables loses no condition, and the key joins that the query leaves out hold by themselves. The WHERE
-/// of a delete holds on a row of the fact table exactly where its test does.
+/// The WHERE holds on a joined row exactly where the query that is bound keeps the row, if the row
+/// of each dimension among the tables has the key that the fact row references. So splitting the
+/// WHERE by tables loses no condition, and the key joins that the query leaves out hold by
+/// themselves. The WHERE of a delete holds on a row of the fact table exactly where its test does.
 pub fn bound_queries_keep_what_the_where_keeps()
     ensures select { (schema : Schema) (items : List AstItem) (names : List (List ℕ))
         (condition : Option Condition) (groups : List Column) (query : Query) (row : Joined) →

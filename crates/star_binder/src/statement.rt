@@ -116,7 +116,8 @@ fn bind_over(alloc: Global, scope: &Scope, select: &Select) -> Result<StarQuery,
 
 /// The query of a select that no check refuses.
 fn query_in(alloc: Global, scope: &Scope, select: &Select) -> Result<StarQuery, NoMemory>
-    ensures { IfOk result (λ query. query_of query ≡ bound.query_in scope.now (parts_of select.now)) }
+    ensures { IfOk result (λ query.
+        query_of query ≡ bound.query_in scope.now (parts_of select.now)) }
 {
     let choices = choices(alloc, scope, select.conjuncts)?;
     let groups = groups(alloc, scope, select.groups)?;

@@ -1,4 +1,5 @@
--- When a run of a case is right: what it writes are the replies of the case, and it ends as they say.
+-- When a run of a case is right: what it writes are the replies of the case,
+-- and it ends as they say.
 use Rattle.std.specs.Prelude.{ℕ, Bool, ◌||◌, ◌==◌, nat_eq, List, codes, bytes_eq, if◌then◌else◌}
 use Rattle.std.specs.List.{list_any, starts_with, slice_split}
 use Rattle.star_io.specs.declared.run_end.RunEnd.{RunEnd}

@@ -7,8 +7,8 @@ use Rattle.star_cases.specs.declared.outcome.RunWay.{RunWay}
 use Rattle.star_cases.specs.declared.outcome.RunWay.TheVariants.{Alone, Shared, Worked}
 use Rattle.core_state.specs.Settings.{AreWithin}
 
--- the bytes are the replies, by what statements mean, to all statements of a script, with a refusal where those have one; where
--- memory was wanted for the statements at some places they tell it
+-- the bytes are the replies, by what statements mean, to all statements of a script, with a refusal
+-- where those have one; where memory was wanted for the statements at some places they tell it
 abbrev pub Answers : (script replies : List ℕ) → Type 0
 Answers script replies = (wanted : List ℕ) × (replies ≡ script_text wanted true script)
     × (has_refusal replies ≡ some_refused wanted true script)
@@ -17,7 +17,8 @@ Answers script replies = (wanted : List ℕ) × (replies ≡ script_text wanted 
 abbrev pub is_right : CaseOutcome → Bool
 is_right outcome = is_none outcome.wrong
 
--- the settings of a way are within the limits of a core, and where workers share it there is a seat for each and one more
+-- the settings of a way are within the limits of a core, and where workers share it there is a
+-- seat for each and one more
 abbrev pub CanRun : RunWay → Type 0
 CanRun Alone = Unit {0}
 CanRun (Shared settings) = AreWithin settings

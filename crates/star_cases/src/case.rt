@@ -1,4 +1,5 @@
-//! The cases of a folder: the files that end in `.cjoin`, and beside each one that ends in `.replies`.
+//! The cases of a folder: the files that end in `.cjoin`, and beside each one
+//! that ends in `.replies`.
 use std::rt::Files;
 use std::{fs, io};
 

@@ -12,7 +12,8 @@ pub(crate) fn event_of(line: &str) -> Option<Event> {
     }
 }
 
-/// Adds the events that a line says, parted by commas, up to the first part that says none. Answers whether each part says one.
+/// Adds the events that a line says, parted by commas, up to the first part that says none. Answers
+/// whether each part says one.
 pub(crate) fn read_events(line: &str, events: &mut Vec<Event>) -> Result<bool, AllocError> {
     for part in line.split(',') {
         match event_of(part) {

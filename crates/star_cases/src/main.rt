@@ -1,5 +1,6 @@
-//! Plays the stories on the standard input, and prints each line with what came of it; then runs every case of the folder in
-//! which it starts, prints a line a case, and ends with 0 where all are right.
+//! Plays the stories on the standard input, and prints each line with what came of it;
+//! then runs every case of the folder in which it starts, prints a line a case, and ends
+//! with 0 where all are right.
 #![tactic(auto)]
 
 mod answers;
@@ -40,7 +41,8 @@ fn main(rt: HostRuntime) -> ExitCode {
     }
 }
 
-/// Plays the stories on the standard input, and then runs the cases of a folder. Answers whether these are all right.
+/// Plays the stories on the standard input, and then runs the cases of a folder. Answers
+/// whether these are all right.
 fn play_and_check<
     R: Input + Files + Print + AllocGlobal + RandomSource + Threads + Wait + Sync + Clone + Drop,
 >(rt: &R, folder: &str) -> io::Result<bool> {

@@ -23,7 +23,8 @@ const FEW_BYTES: [usize; 2] = [1, 7];
 
 const ALL_BYTES: usize = 65_536;
 
-/// How a script is run: each query by itself, in a core of these settings, or in one that workers share.
+/// How a script is run: each query by itself, in a core of these settings, or
+/// in one that workers share.
 #[derive(Clone, Copy, Debug)]
 enum RunWay {
     Alone,
@@ -34,9 +35,9 @@ enum RunWay {
 /// How many ways there are to run a script in a core.
 const CORE_WAYS: u32 = 5;
 
-/// The ways in a core, by their numbers: with the settings of the program, the same with rows that pass
-/// alone, a slot with rows that pass alone, some whose batches pass on several threads, and the same with
-/// two workers.
+/// The ways in a core, by their numbers: with the settings of the program, the same with rows that
+/// pass alone, a slot with rows that pass alone, some whose batches pass on several threads, and
+/// the same with two workers.
 fn core_way(number: u32) -> RunWay
     ensures { CanRun result }
 {
@@ -123,7 +124,8 @@ pub(crate) fn check_case<R: Files + AllocGlobal + Threads + Wait + Sync>(
     Ok(CaseOutcome { name, wrong })
 }
 
-/// What is wrong with the first run of a case that is wrong: first each query by itself, then in a core.
+/// What is wrong with the first run of a case that is wrong: first each query
+/// by itself, then in a core.
 fn wrong_in<R: AllocGlobal + Threads + Wait + Sync>(
     rt: &R,
     hash_keys: RandomState,

@@ -5,8 +5,8 @@ ghost use Rattle.core_state.specs.Settings.{AreWithin};
 use crate::words::{number_of, short_of};
 use core_state::RunSettings;
 
-/// The settings that a line says: how many slots, how many rows a batch has, how many seats there are, and how many workers,
-/// of which there are none where the line does not say it.
+/// The settings that a line says: how many slots, how many rows a batch has, how many seats there
+/// are, and how many workers, of which there are none where the line does not say it.
 pub(crate) fn settings_of(line: &str) -> Option<RunSettings>
     ensures { IfSome result AreWithin }
 {

@@ -31,7 +31,8 @@ sales = record {
 abbrev pub sale : (store_id units : ℕ) → List cell.Value
 sale store_id units = Int (pos store_id) ∷ Int (pos units) ∷ []
 
--- commit 1 loads two stores, commit 2 four sales, commit 3 ends the second sale, and commit 4 loads one more
+-- commit 1 loads two stores, commit 2 four sales, commit 3 ends the second sale,
+-- and commit 4 loads one more
 abbrev pub history : List Change
 history =
     DimensionDeclared store ∷ FactDeclared sales

@@ -8,8 +8,8 @@ use Rattle.star_plan.specs.Limits.{with_dimension, with_fact}
 use Rattle.dimension_rows.specs.declared.dimension_row.DimensionRow.{DimensionRow}
 use Rattle.star_history.specs.Store.{PlainVersion, Store, empty_store, rows_in}
 
--- the change of one accepted statement: a declaration, rows loaded into a table, or the positions of the versions
--- that a delete ended
+-- the change of one accepted statement: a declaration, rows loaded into a table, or the positions
+-- of the versions that a delete ended
 pub data Change : Type 0 where
   DimensionDeclared : TableDef → Change
   FactDeclared : TableDef → Change
@@ -36,12 +36,16 @@ with_ends commit versions positions = fold (with_end commit) versions positions
 
 -- more rows behind those of the dimension of this number
 abbrev pub grown_at : ℕ → List DimensionRow → List (List DimensionRow) → List (List DimensionRow)
-grown_at dimension rows dimensions = slice_set dimensions dimension (rows_in dimensions dimension ++ rows)
+grown_at dimension rows dimensions =
+    slice_set dimensions dimension (rows_in dimensions dimension ++ rows)
 
 -- the tables after one change more. A load and a delete are each the next commit
 abbrev pub after_change : Store → Change → Store
 after_change store (DimensionDeclared table) =
-    record store { schema = with_dimension store.schema table; dimensions = store.dimensions ++ [] ∷ [] }
+    record store {
+      schema = with_dimension store.schema table;
+      dimensions = store.dimensions ++ [] ∷ [];
+    }
 after_change store (FactDeclared table) = record store { schema = with_fact store.schema table }
 after_change store (Loaded Fact rows) =
     record store {

@@ -35,17 +35,19 @@ pub record IsDated (commits : ℕ) (version : PlainVersion) : Type 0 where
   pub begun : version.begin ≤ commits
   pub ends : (version.end ≡ 0) ⊎ ((version.begin < version.end) × (version.end ≤ commits))
 
--- the versions of the fact table: few enough, fitting it, dated, in the order of their commits, and joined with a row
--- of each dimension that it references
+-- the versions of the fact table: few enough, fitting it, dated, in the order of their commits, and
+-- joined with a row of each dimension that it references
 pub record AreVersionsOf (store : Store) : Type 0 where
   pub few : length store.versions ≤ MAX_VERSIONS
-  pub fit : IfSome store.schema.fact (λ table. All (λ version. IsTrue (fits_table table version.row)) store.versions)
+  pub fit : IfSome store.schema.fact (λ table.
+      All (λ version. IsTrue (fits_table table version.row)) store.versions)
   pub dated : All (IsDated store.commits) store.versions
   pub rising : AllPairs (λ version later. version.begin ≤ later.begin) store.versions
-  pub matched : All (λ version. IsMatched store.schema store.dimensions version.row version.begin) store.versions
+  pub matched : All (λ version. IsMatched store.schema store.dimensions version.row version.begin)
+      store.versions
 
--- the schema is one that declarations give; each dimension has its rows, and the fact table its versions; and before
--- the fact table is declared there is no row and no commit
+-- the schema is one that declarations give; each dimension has its rows, and the fact table its
+-- versions; and before the fact table is declared there is no row and no commit
 pub record IsSettled (store : Store) : Type 0 where
   pub declared : IsDeclared store.schema
   pub count : length store.dimensions ≡ length store.schema.dimensions

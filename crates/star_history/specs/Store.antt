@@ -10,8 +10,8 @@ pub record PlainVersion : Type 0 where
   pub begin : ℕ
   pub end : ℕ
 
--- the declared tables, the rows of each dimension and the versions of fact rows in the order of loading, and the
--- number of commits
+-- the declared tables, the rows of each dimension and the versions of fact rows in the order of
+-- loading, and the number of commits
 pub record Store : Type 0 where
   pub schema : Schema
   pub dimensions : List (List DimensionRow)

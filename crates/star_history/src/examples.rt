@@ -7,12 +7,16 @@ ghost use Rattle.star_history.specs.Alone.{alone};
 ghost use Rattle.star_history.specs.Examples.{history, sold_in_rome};
 ghost use Rattle.star_history.specs.History.{store_of};
 
-/// `select count(*), sum(units) from sales, store where store_id = store.id and city = 'Rome'`: before
-/// the sales are loaded, behind them, behind a delete of one, and behind one more.
+/// `select count(*), sum(units) from sales, store where store_id = store.id and city = 'Rome'`:
+/// before the sales are loaded, behind them, behind a delete of one, and behind one more.
 #[tactic(auto, unfolding(star_plan::specs::Answer::answer_of, star_plan::specs::Joined::kept_of))]
 pub fn a_query_sees_the_commits_up_to_its_snapshot()
-    ensures stores { alone (store_of history) sold_in_rome 1 ≡ Rows ((Full (Int (pos 0)) ∷ Null ∷ []) ∷ []) }
-    ensures sales { alone (store_of history) sold_in_rome 2 ≡ Rows ((Full (Int (pos 2)) ∷ Full (Int (pos 4)) ∷ []) ∷ []) }
-    ensures delete { alone (store_of history) sold_in_rome 3 ≡ Rows ((Full (Int (pos 1)) ∷ Full (Int (pos 3)) ∷ []) ∷ []) }
-    ensures more { alone (store_of history) sold_in_rome 4 ≡ Rows ((Full (Int (pos 2)) ∷ Full (Int (pos 10)) ∷ []) ∷ []) }
+    ensures stores { alone (store_of history) sold_in_rome 1
+        ≡ Rows ((Full (Int (pos 0)) ∷ Null ∷ []) ∷ []) }
+    ensures sales { alone (store_of history) sold_in_rome 2
+        ≡ Rows ((Full (Int (pos 2)) ∷ Full (Int (pos 4)) ∷ []) ∷ []) }
+    ensures delete { alone (store_of history) sold_in_rome 3
+        ≡ Rows ((Full (Int (pos 1)) ∷ Full (Int (pos 3)) ∷ []) ∷ []) }
+    ensures more { alone (store_of history) sold_in_rome 4
+        ≡ Rows ((Full (Int (pos 2)) ∷ Full (Int (pos 10)) ∷ []) ∷ []) }
 {}

@@ -43,7 +43,8 @@ pub fn accepted_histories_are_settled()
     a_new_row_moves_no_other();
 }
 
-/// Exactly one row of a dimension that the snapshot sees has the foreign key of a version that it sees.
+/// Exactly one row of a dimension that the snapshot sees has the foreign key
+/// of a version that it sees.
 pub fn one_row_joins_a_visible_version()
     ensures { (store : Store) (snapshot dimension : ℕ) (version : PlainVersion) (key : Value) →
         IsSettled store → Contains (visible store snapshot) version →
@@ -51,8 +52,8 @@ pub fn one_row_joins_a_visible_version()
         count_by (is_matched snapshot key) (rows_in store.dimensions dimension) ≡ 1 }
 {}
 
-/// A change that the tables take after a snapshot changes nothing there: the same rows of the fact table
-/// are seen, a query keeps the same joined rows, and its answer alone is the same.
+/// A change that the tables take after a snapshot changes nothing there: the same rows of the fact
+/// table are seen, a query keeps the same joined rows, and its answer alone is the same.
 pub fn later_changes_are_not_seen()
     ensures rows { (store : Store) (change : Change) (snapshot : ℕ) →
         Accepts store change → snapshot ≤ store.commits →
@@ -67,8 +68,8 @@ pub fn later_changes_are_not_seen()
 
 /// Key numbers stay those of their keys where more rows are loaded into a dimension.
 pub fn later_rows_move_no_key_number()
-    ensures { (schema : Schema) (dimensions : List (List DimensionRow)) (number : ℕ) (more : List DimensionRow) (version : Version) →
-        HasKeyNumbers schema dimensions version →
+    ensures { (schema : Schema) (dimensions : List (List DimensionRow)) (number : ℕ)
+        (more : List DimensionRow) (version : Version) → HasKeyNumbers schema dimensions version →
         HasKeyNumbers schema (grown_at number more dimensions) version }
 {
     a_new_row_moves_no_other();
@@ -81,21 +82,32 @@ pub fn key_numbers_stand_for_keys()
         kept_by_keys store query snapshot ≡ kept (plain store) query snapshot }
 {}
 
-/// The key numbers of a version are those that its foreign keys give, one for each dimension that there
-/// may be, and 0 for one that no column references.
+/// The key numbers of a version are those that its foreign keys give, one for each dimension that
+/// there may be, and 0 for one that no column references.
 pub fn key_numbers_are_found_by_keys()
     ensures { (schema : Schema) (dimensions : List (List DimensionRow)) (version : Version) →
         HasKeyNumbers schema dimensions version →
-        version.keys ≡ map (number_by_key schema dimensions version.row) (range_with_len 0 KEYS_IN_A_VERSION) }
+        version.keys
+        ≡ map (number_by_key schema dimensions version.row) (range_with_len 0 KEYS_IN_A_VERSION) }
 {}
 
-/// A version joined by its key numbers has the values that are read by them: at each place of a query's
-/// groups and items, where the query names their dimensions.
+/// A version joined by its key numbers has the values that are read by them: at each place of a
+/// query's groups and items, where the query names their dimensions.
 pub fn values_by_key_are_those_of_joined_rows()
-    ensures places { (query : Query) (dims : List (Roomy DimensionRow)) (version : Version) → NamesItsPlaces query →
-        All (λ place. value_by_key dims version place ≡ value_at place (joined_by_keys (rows_of_all dims) query version)) (places_in query) }
-    ensures key { (query : Query) (dims : List (Roomy DimensionRow)) (version : Version) → NamesItsPlaces query →
-        map (value_by_key dims version) query.groups ≡ key_of query.groups (joined_by_keys (rows_of_all dims) query version) }
-    ensures items { (query : Query) (dims : List (Roomy DimensionRow)) (version : Version) → NamesItsPlaces query →
-        All (λ item. item_value_by_key dims version item ≡ item_value_of (joined_by_keys (rows_of_all dims) query version) item) query.items }
+    ensures places { (query : Query) (dims : List (Roomy DimensionRow)) (version : Version) →
+        NamesItsPlaces query →
+        All (λ place.
+        value_by_key dims version place
+        ≡ value_at place (joined_by_keys (rows_of_all dims) query version))
+        (places_in query) }
+    ensures key { (query : Query) (dims : List (Roomy DimensionRow)) (version : Version) →
+        NamesItsPlaces query →
+        map (value_by_key dims version) query.groups
+        ≡ key_of query.groups (joined_by_keys (rows_of_all dims) query version) }
+    ensures items { (query : Query) (dims : List (Roomy DimensionRow)) (version : Version) →
+        NamesItsPlaces query →
+        All (λ item.
+        item_value_by_key dims version item
+        ≡ item_value_of (joined_by_keys (rows_of_all dims) query version) item)
+        query.items }
 {}

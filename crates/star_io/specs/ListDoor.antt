@@ -4,9 +4,9 @@ use Rattle.star_io.specs.Faults.{next_count}
 use Rattle.star_io.specs.PairLink.{PairState}
 use Rattle.star_io.specs.declared.failed.Failed.{Failed}
 
--- the links still to be handed out, the numbers of the calls of `accept` that fail, the number of the
--- next one, how many calls failed, whether the last one did, the port that was asked for, whether the
--- door listens, how many links were handed out, and whether an `accept` answered `None`
+-- the links still to be handed out, the numbers of the calls of `accept` that fail, the number of
+-- the next one, how many calls failed, whether the last one did, the port that was asked for,
+-- whether the door listens, how many links were handed out, and whether an `accept` answered `None`
 pub record DoorState : Type 0 where
   pub links : List PairState
   pub fails : List ℕ
@@ -27,11 +27,16 @@ next_link (link ∷ _) = Some link
 abbrev pub after_listen : DoorState → ℕ → DoorState
 after_listen s port = record s { asked = Some port; listening = true; failed = false }
 
--- the door after an `accept`: a link that was handed out has left it, `None` is its end, and at `Err` one
--- more fault is counted
+-- the door after an `accept`: a link that was handed out has left it, `None` is its end, and at
+-- `Err` one more fault is counted
 abbrev pub after_accept : DoorState → Result (Option PairState) Failed → DoorState
 after_accept s (Ok (Some _)) =
-    record s { links = drop 1 s.links; calls = next_count s.calls; failed = false; given = next_count s.given }
+    record s {
+      links = drop 1 s.links;
+      calls = next_count s.calls;
+      failed = false;
+      given = next_count s.given;
+    }
 after_accept s (Ok None) = record s { calls = next_count s.calls; failed = false; ended = true }
 after_accept s (Err _) =
     record s { calls = next_count s.calls; faults = next_count s.faults; failed = true }

@@ -15,9 +15,20 @@ pub record ListState : Type 0 where
   pub failed : Bool
   pub room : ℕ
 
--- the sink after a write of `bytes`, with this room: at `Ok(n)` it took the first n, at `Err` one more fault is counted
+-- the sink after a write of `bytes`, with this room: at `Ok(n)` it took the first n, at `Err`
+-- one more fault is counted
 abbrev pub after_write : ListState → Result ℕ Failed → List ℕ → ℕ → ListState
 after_write s (Ok n) bytes room =
-    record s { taken = s.taken ++ take n bytes; calls = next_count s.calls; failed = false; room = room }
+    record s {
+      taken = s.taken ++ take n bytes;
+      calls = next_count s.calls;
+      failed = false;
+      room = room;
+    }
 after_write s (Err _) bytes room =
-    record s { calls = next_count s.calls; faults = next_count s.faults; failed = true; room = room }
+    record s {
+      calls = next_count s.calls;
+      faults = next_count s.faults;
+      failed = true;
+      room = room;
+    }

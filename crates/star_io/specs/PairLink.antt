@@ -12,7 +12,12 @@ pub record PairState : Type 0 where
 -- what it tells as a source
 abbrev pub reading_of : PairState → ReadingSide
 reading_of s =
-    record { left = Some s.source.left; faults = s.source.faults; failed = s.source.failed; ended = s.source.ended }
+    record {
+      left = Some s.source.left;
+      faults = s.source.faults;
+      failed = s.source.failed;
+      ended = s.source.ended;
+    }
 
 -- what it tells as a sink
 abbrev pub writing_of : PairState → WritingSide

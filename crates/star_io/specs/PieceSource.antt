@@ -4,8 +4,8 @@ use Rattle.star_io.specs.Faults.{next_count}
 use Rattle.star_io.specs.declared.failed.Failed.{Failed}
 
 -- the bytes still to come, how many one call gives at most, the numbers of the calls that fail, the
--- number of the next call, how many calls failed, whether the last one did, and whether a call answered
--- `Ok(0)`
+-- number of the next call, how many calls failed, whether the last one did, and
+-- whether a call answered `Ok(0)`
 pub record PieceState : Type 0 where
   pub left : List ℕ
   pub piece : ℕ
@@ -18,6 +18,11 @@ pub record PieceState : Type 0 where
 -- the source after a read: at `Ok(n)` it lost its first n bytes, at `Err` one more fault is counted
 abbrev pub after_read : PieceState → Result ℕ Failed → PieceState
 after_read s (Ok n) =
-    record s { left = drop n s.left; calls = next_count s.calls; failed = false; ended = n == 0 || s.ended }
+    record s {
+      left = drop n s.left;
+      calls = next_count s.calls;
+      failed = false;
+      ended = n == 0 || s.ended;
+    }
 after_read s (Err _) =
     record s { calls = next_count s.calls; faults = next_count s.faults; failed = true }

@@ -6,8 +6,8 @@ use std::fmt;
 
 /// A call on the outside failed.
 ///
-/// It carries no reason. The count of faults of the object that was called rose by one in that call,
-/// or stands still at its last value.
+/// It carries no reason. The count of faults of the object that was called rose by one in that
+/// call, or stands still at its last value.
 #[derive(Clone, Copy, Debug, PartialEq, Eq)]
 pub struct Failed;
 

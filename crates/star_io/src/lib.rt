@@ -1,6 +1,6 @@
 //! Where bytes and connections come from and where they go, and when a call on the outside failed.
-//! All of the server's input and output goes through `Source`, `Sink`, `Link` and `Door`. This crate
-//! stands on std alone.
+//! All of the server's input and output goes through `Source`, `Sink`, `Link` and `Door`. This
+//! crate stands on std alone.
 #![tactic(auto)]
 
 mod door;

@@ -73,7 +73,8 @@ impl PieceSource {
 impl Source for PieceSource {
     ghost use Rattle.star_io.specs.PieceSource.{after_read};
 
-    ghost reading = { λ s. record { left = Some s.left; faults = s.faults; failed = s.failed; ended = s.ended } };
+    ghost reading = { λ s.
+        record { left = Some s.left; faults = s.faults; failed = s.failed; ended = s.ended } };
 
     fn read(&mut self, into: &mut [u8]) -> Result<usize, Failed>
         requires { 0 < length into.old }

@@ -8,8 +8,8 @@ use crate::failed::Failed;
 
 /// What takes bytes, in order, until a call fails.
 pub trait Sink {
-    // The bytes accepted so far, where the sink tells them, how many writes have failed, and whether the last one did. The count
-    // may stand still at a counter's last value.
+    // The bytes accepted so far, where the sink tells them, how many writes have failed, and
+    // whether the last one did. The count may stand still at a counter's last value.
     ghost writing: { Self → WritingSide };
 
     // What the sink tells as a source, where it is the writing side of a link.
@@ -20,7 +20,8 @@ pub trait Sink {
         requires { 0 < length bytes.now }
         ensures some { IfOk result (λ n. 0 < n) }
         ensures bound { IfOk result (λ n. n ≤ length bytes.now) }
-        ensures bytes { WriteAppends (writing self.old).taken (writing self.new).taken result bytes.now }
+        ensures bytes { WriteAppends (writing self.old).taken
+            (writing self.new).taken result bytes.now }
         ensures faults { CountsFault (writing self.old).faults (writing self.new).faults result }
         ensures last { NotesFault (writing self.new).failed result }
         ensures apart { reading_side self.new ≡ reading_side self.old };

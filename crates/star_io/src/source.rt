@@ -9,8 +9,9 @@ use crate::failed::Failed;
 
 /// What gives bytes, in order, until its input ends or a call fails.
 pub trait Source {
-    // The bytes still to come, where the source tells them, how many reads have failed, whether the last one did, and whether
-    // some read answered `Ok(0)`. The count may stand still at a counter's last value.
+    // The bytes still to come, where the source tells them, how many reads have failed,
+    // whether the last one did, and whether some read answered `Ok(0)`. The count may stand
+    // still at a counter's last value.
     ghost reading: { Self → ReadingSide };
 
     // What the source tells as a sink, where it is the reading side of a link.
@@ -21,7 +22,8 @@ pub trait Source {
     fn read(&mut self, into: &mut [u8]) -> Result<usize, Failed>
         requires { 0 < length into.old }
         ensures bound { IfOk result (λ n. n ≤ length into.new) }
-        ensures bytes { ReadConsumes (reading self.old).left (reading self.new).left result into.new }
+        ensures bytes { ReadConsumes (reading self.old).left
+            (reading self.new).left result into.new }
         ensures end { NotesEnd (reading self.old).ended (reading self.new).ended result }
         ensures faults { CountsFault (reading self.old).faults (reading self.new).faults result }
         ensures last { NotesFault (reading self.new).failed result }

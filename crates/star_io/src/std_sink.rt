@@ -20,7 +20,8 @@ pub struct StdSink<W> {
 impl<W: Write> StdSink<W> {
     /// A sink into `writer`, to which no write was made yet.
     pub fn new(writer: W) -> StdSink<W>
-        ensures { ⟦<StdSink<W> as Sink>⟧.writing result ≡ record { taken = W.contents writer; faults = 0; failed = false } }
+        ensures { ⟦<StdSink<W> as Sink>⟧.writing result
+            ≡ record { taken = W.contents writer; faults = 0; failed = false } }
     {
         StdSink {
             writer,

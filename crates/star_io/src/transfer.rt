@@ -9,8 +9,10 @@ use crate::sink::Sink;
 
 /// Writes all of `text` to `sink`, and stops at the first write that fails.
 pub fn write_all<K: Sink>(sink: &mut K, text: &[u8]) -> Result<(), Failed>
-    ensures ok { OnOk result (Appends (K.writing sink.old).taken (K.writing sink.new).taken text.now) }
-    ensures err { OnErr result (AppendsFront (K.writing sink.old).taken (K.writing sink.new).taken text.now) }
+    ensures ok { OnOk result
+        (Appends (K.writing sink.old).taken (K.writing sink.new).taken text.now) }
+    ensures err { OnErr result
+        (AppendsFront (K.writing sink.old).taken (K.writing sink.new).taken text.now) }
     ensures faults { CountsFault (K.writing sink.old).faults (K.writing sink.new).faults result }
     ensures last { OnErr result ((K.writing sink.new).failed ≡ true) }
     ensures apart { K.reading_side sink.new ≡ K.reading_side sink.old }

@@ -7,12 +7,14 @@ use Rattle.star_lexer.specs.declared.keyword.Keyword.TheVariants as keyword
 unfoldable pub keywords : List (List ℕ × Keyword)
 keywords =
     (codes "and", keyword.And) ∷ (codes "between", keyword.Between) ∷ (codes "by", keyword.By)
-    ∷ (codes "count", keyword.Count) ∷ (codes "delete", keyword.Delete) ∷ (codes "dimension", keyword.Dimension)
+    ∷ (codes "count", keyword.Count) ∷ (codes "delete", keyword.Delete)
+    ∷ (codes "dimension", keyword.Dimension)
     ∷ (codes "fact", keyword.Fact) ∷ (codes "from", keyword.From) ∷ (codes "group", keyword.Group)
     ∷ (codes "header", keyword.Header) ∷ (codes "in", keyword.In) ∷ (codes "int", keyword.Int)
     ∷ (codes "is", keyword.Is) ∷ (codes "key", keyword.Key) ∷ (codes "load", keyword.Load)
     ∷ (codes "max", keyword.Max) ∷ (codes "min", keyword.Min) ∷ (codes "not", keyword.Not)
-    ∷ (codes "null", keyword.Null) ∷ (codes "or", keyword.Or) ∷ (codes "references", keyword.References)
+    ∷ (codes "null", keyword.Null) ∷ (codes "or", keyword.Or)
+    ∷ (codes "references", keyword.References)
     ∷ (codes "select", keyword.Select) ∷ (codes "sum", keyword.Sum) ∷ (codes "text", keyword.Text)
     ∷ (codes "wait", keyword.Wait) ∷ (codes "where", keyword.Where) ∷ []
 

@@ -1,4 +1,5 @@
--- The limits of a line. Those on symbols look at the symbols before the first place where no token can be read.
+-- The limits of a line. Those on symbols look at the symbols before the first place
+-- where no token can be read.
 use Rattle.std.specs.Prelude.{◌≡◌, ◌⊎◌, ℕ, ◌+◌, ◌<◌, Bool, true, false, ◌||◌, ◌&&◌, nat_lt, List, [], ◌∷◌, ◌++◌, length, take, take_while, count_by, Any, if◌then◌else◌}
 use Rattle.std.specs.List.{list_any}
 use Rattle.star_values.specs.declared.small_text.TheConstants.{MAX_TEXT_BYTES}
@@ -56,7 +57,8 @@ is_listed s = is_literal s || is_comma s
 -- some prefix has more than 64 `(` beyond its `)`
 abbrev pub IsTooDeep : List Symbol → Type 0
 IsTooDeep symbols =
-    (count : ℕ) × (count_by is_close (take count symbols) + MAX_DEPTH < count_by is_open (take count symbols))
+    (count : ℕ)
+    × (count_by is_close (take count symbols) + MAX_DEPTH < count_by is_open (take count symbols))
 
 -- there are more than 64 `not`
 abbrev pub HasTooManyNots : List Symbol → Type 0
@@ -83,7 +85,8 @@ AreOverTogether symbols = IsTooDeep symbols ⊎ (HasTooManyNots symbols ⊎ HasT
 abbrev pub AreOverLimit : List Symbol → Type 0
 AreOverLimit symbols = Any IsTooLong symbols ⊎ AreOverTogether symbols
 
--- a line breaks one of the limits: it has more than 65,536 bytes, or its symbols break one of theirs
+-- a line breaks one of the limits: it has more than 65,536 bytes, or its
+-- symbols break one of theirs
 abbrev pub IsOverLimit : List ℕ → Type 0
 IsOverLimit line = (MAX_LINE_BYTES < length line) ⊎ AreOverLimit (symbols_of line)
 
@@ -101,16 +104,19 @@ abbrev pub goes_too_deep : ℕ → ℕ → List Symbol → Bool
 goes_too_deep opened closed [] = nat_lt (closed + MAX_DEPTH) opened
 goes_too_deep opened closed (s ∷ symbols) =
     nat_lt (closed + MAX_DEPTH) opened
-    || goes_too_deep (if is_open s then opened + 1 else opened) (if is_close s then closed + 1 else closed) symbols
+    || goes_too_deep (if is_open s then opened + 1 else opened)
+    (if is_close s then closed + 1 else closed) symbols
 
 abbrev pub has_too_long_a_list : List Symbol → Bool
 has_too_long_a_list [] = false
-has_too_long_a_list (s ∷ symbols) = begins_too_long_a_list (s ∷ symbols) || has_too_long_a_list symbols
+has_too_long_a_list (s ∷ symbols) =
+    begins_too_long_a_list (s ∷ symbols) || has_too_long_a_list symbols
 
 abbrev pub are_over_limit : List Symbol → Bool
 are_over_limit symbols =
     list_any is_too_long symbols
-    || (goes_too_deep 0 0 symbols || (nat_lt MAX_NOTS (count_by is_not symbols) || has_too_long_a_list symbols))
+    || (goes_too_deep 0 0 symbols
+    || (nat_lt MAX_NOTS (count_by is_not symbols) || has_too_long_a_list symbols))
 
 unfoldable pub is_over_limit : List ℕ → Bool
 is_over_limit line = nat_lt MAX_LINE_BYTES (length line) || are_over_limit (symbols_of line)

@@ -28,7 +28,8 @@ lexed_in place inside [] = record { tokens = []; bad = None }
 lexed_in place (suc inside) (byte ∷ bytes) = lexed_in (suc place) inside bytes
 lexed_in place zero (byte ∷ bytes) =
     if is_blank byte then lexed_in (suc place) 0 bytes
-    else option_map_or (λ found. put_first (token_of place found) (lexed_in (suc place) (found.1 - 1) bytes))
+    else option_map_or (λ found.
+    put_first (token_of place found) (lexed_in (suc place) (found.1 - 1) bytes))
     (token_at (byte ∷ bytes)) (record { tokens = []; bad = Some place })
 
 -- the tokens of a line

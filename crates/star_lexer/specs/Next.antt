@@ -5,12 +5,14 @@ use Rattle.star_lexer.specs.declared.line.NextToken.TheVariants as next
 use Rattle.star_lexer.specs.declared.token.Token.{Token}
 use Rattle.star_lexer.specs.Line.{Lexed, lexed_in, put_first}
 
--- the tokens of bytes that begin at a place: none, none before a bad place, or one and then those of the bytes behind it
+-- the tokens of bytes that begin at a place: none, none before a bad place, or one and then
+-- those of the bytes behind it
 abbrev pub IsNext : ℕ → List ℕ → NextToken → Type 0
 IsNext place bytes next.End = lexed_in place 0 bytes ≡ record { tokens = []; bad = None }
 IsNext place bytes (next.Bad bad) = lexed_in place 0 bytes ≡ record { tokens = []; bad = Some bad }
 IsNext place bytes (next.Token token) =
-    (lexed_in place 0 bytes ≡ put_first token (lexed_in (token.last + 1) 0 (drop (token.last + 1 - place) bytes)))
+    (lexed_in place 0 bytes
+    ≡ put_first token (lexed_in (token.last + 1) 0 (drop (token.last + 1 - place) bytes)))
     × (place ≤ token.last) × (token.last < place + length bytes)
 
 -- tokens in front of others

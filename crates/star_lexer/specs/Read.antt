@@ -20,7 +20,8 @@ pub record IsPlain (bytes : List ℕ) : Type 0 where
   pub printable : All (λ byte. 32 ≤ byte) bytes
   pub utf8 : IsUtf8 bytes
 
--- the content of a text as it is found byte by byte, where the byte in front may be a quote that ends the text
+-- the content of a text as it is found byte by byte, where the byte in front may be a
+-- quote that ends the text
 abbrev pub content_from : Bool → List ℕ → List ℕ
 content_from quoted [] = []
 content_from quoted (byte ∷ bytes) =

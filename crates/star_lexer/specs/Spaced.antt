@@ -1,4 +1,5 @@
--- A line is its tokens with spaces and tabs between, said once more without the recursion that cuts it.
+-- A line is its tokens with spaces and tabs between, said once more without
+-- the recursion that cuts it.
 use Rattle.std.specs.Prelude.{◌≡◌, ℕ, ◌+◌, ◌-◌, ◌<◌, ◌≤◌, true, List, [], ◌∷◌, length, take, drop, Option, Some, None}
 use Rattle.std.specs.List.{list_all}
 use Rattle.star_lexer.specs.declared.line.NextToken.{NextToken}
@@ -24,15 +25,17 @@ pub record IsTokenAt (place : ℕ) (bytes : List ℕ) (token : Token) : Type 0 w
   pub ordered : token.first ≤ token.last
   pub within : token.last < place + length bytes
   pub blanks : BeginsBlank (token.first - place) bytes
-  pub longest : token_at (drop (token.first - place) bytes) ≡ Some (token.what, token.last + 1 - token.first)
+  pub longest : token_at (drop (token.first - place) bytes)
+      ≡ Some (token.what, token.last + 1 - token.first)
 
--- bytes that begin at a place are the tokens with blanks between, up to the bad place or their end: each token
--- stands behind the one before it
+-- bytes that begin at a place are the tokens with blanks between, up to the bad place or their end:
+-- each token stands behind the one before it
 abbrev pub AreSpaced : ℕ → List ℕ → List Token → Option ℕ → Type 0
 AreSpaced place bytes [] None = BeginsBlank (length bytes) bytes
 AreSpaced place bytes [] (Some bad) = IsBadAt place bytes bad
 AreSpaced place bytes (token ∷ tokens) bad =
-    IsTokenAt place bytes token × AreSpaced (token.last + 1) (drop (token.last + 1 - place) bytes) tokens bad
+    IsTokenAt place bytes token
+    × AreSpaced (token.last + 1) (drop (token.last + 1 - place) bytes) tokens bad
 
 -- what comes next is behind blanks
 abbrev pub IsSpacedNext : ℕ → List ℕ → NextToken → Type 0

@@ -13,7 +13,8 @@ use Rattle.star_lexer.specs.declared.symbol.Symbol.{Symbol}
 use Rattle.star_lexer.specs.declared.symbol.Symbol.TheVariants as symbol
 use Rattle.star_lexer.specs.Keyword.{keyword_of}
 
--- the symbols of a line, the place of the first byte of each, and the place where no further token can be read
+-- the symbols of a line, the place of the first byte of each, and the place where no
+-- further token can be read
 pub record Symbolic : Type 0 where
   pub symbols : List Symbol
   pub places : List ℕ
@@ -26,19 +27,24 @@ token_bytes line token = take (token.last + 1 - token.first) (drop token.first l
 -- a keyword, or the name that the word is in lower case
 abbrev pub word_symbol : List ℕ → Symbol
 word_symbol word =
-    let name = map to_ascii_lowercase word in option_map_or symbol.Keyword (keyword_of name) (symbol.Name name)
+    let name =
+    map to_ascii_lowercase word in
+    option_map_or symbol.Keyword (keyword_of name) (symbol.Name name)
 
--- the content of a text from behind its first quote: a doubled quote is one, and the quote that ends it is none
+-- the content of a text from behind its first quote: a doubled quote is one, and the
+-- quote that ends it is none
 abbrev pub content : List ℕ → List ℕ
 content [] = []
 content (byte ∷ []) = if byte == 39 then [] else (byte ∷ [])
 content (byte ∷ next ∷ bytes) =
-    if byte == 39 then (if next == 39 then (39 ∷ content bytes) else []) else (byte ∷ content (next ∷ bytes))
+    if byte == 39 then (if next == 39 then (39 ∷ content bytes) else [])
+    else (byte ∷ content (next ∷ bytes))
 
 -- the signs in the order of their numbers as tokens, where `<>` and `!=` are two
 abbrev pub numbered_signs : List Sign
 numbered_signs =
-    sign.Open ∷ sign.Close ∷ sign.Comma ∷ sign.Dot ∷ sign.Semicolon ∷ sign.Star ∷ sign.Equal ∷ sign.NotEqual ∷ sign.NotEqual
+    sign.Open ∷ sign.Close ∷ sign.Comma ∷ sign.Dot ∷ sign.Semicolon ∷ sign.Star ∷ sign.Equal
+    ∷ sign.NotEqual ∷ sign.NotEqual
     ∷ sign.Less ∷ sign.LessOrEqual ∷ sign.Greater ∷ sign.GreaterOrEqual ∷ []
 
 -- what a token of these bytes stands for
@@ -59,4 +65,8 @@ symbols_of line = map (symbol_of line) (lexed line).tokens
 -- the same with their places
 abbrev pub symbolic : List ℕ → Symbolic
 symbolic line =
-    record { symbols = symbols_of line; places = map (λ token. token.first) (lexed line).tokens; bad = (lexed line).bad }
+    record {
+      symbols = symbols_of line;
+      places = map (λ token. token.first) (lexed line).tokens;
+      bad = (lexed line).bad;
+    }

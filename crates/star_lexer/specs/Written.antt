@@ -36,13 +36,15 @@ begins_name byte = is_ascii_lowercase byte || byte == 95
 abbrev pub is_name_byte : ℕ → Bool
 is_name_byte byte = begins_name byte || is_ascii_digit byte
 
--- a lower-case letter or underscore, then lower-case letters, digits and underscores, and together no keyword
+-- a lower-case letter or underscore, then lower-case letters, digits and
+-- underscores, and together no keyword
 pub record IsName (bytes : List ℕ) : Type 0 where
   pub begins : list_any begins_name (take 1 bytes) ≡ true
   pub goes_on : list_all is_name_byte bytes ≡ true
   pub free : keyword_of bytes ≡ None
 
--- a symbol whose text is read as that symbol: a name is a name, an integer has 64 bits, and a text is one of a table
+-- a symbol whose text is read as that symbol: a name is a name, an integer has 64 bits, and
+-- a text is one of a table
 abbrev pub IsWritable : Symbol → Type 0
 IsWritable (symbol.Keyword k) = Unit {0}
 IsWritable (symbol.Name name) = IsName name

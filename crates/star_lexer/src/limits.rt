@@ -158,7 +158,8 @@ fn is_listed(symbol: &Symbol) -> bool
     }
 }
 
-/// The most bytes of a line and of a name, how deep parentheses and `not` go, and how long a list in parentheses may be.
+/// The most bytes of a line and of a name, how deep parentheses and `not` go, and how long a
+/// list in parentheses may be.
 pub fn lines_have_their_limits()
     ensures line { MAX_LINE_BYTES ≡ 65536 }
     ensures name { MAX_NAME_BYTES ≡ 63 }

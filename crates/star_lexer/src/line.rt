@@ -19,8 +19,9 @@ pub(crate) enum NextToken {
     Token(Token),
 }
 
-/// Reads the tokens of a line, with or without spaces and tabs between them, up to its end or to the
-/// first place where none can be read. Each is as long as it can be. Places are counted in bytes.
+/// Reads the tokens of a line, with or without spaces and tabs between them, up to its
+/// end or to the first place where none can be read. Each is as long as it can be.
+/// Places are counted in bytes.
 pub fn lex(alloc: Global, line: &str) -> Result<Tokens, NoMemory>
     requires { length line.now < 2 ^ 32 }
     ensures tokens { IfOk result (λ tokens. tokens ≡ lexed line.now) }

@@ -18,7 +18,8 @@ impl Model for Symbols {
 
     ghost Value = { Symbolic };
 
-    ghost view = { λ s. record { symbols = s.symbols.items; places = s.places.items; bad = s.bad } };
+    ghost view = { λ s.
+        record { symbols = s.symbols.items; places = s.places.items; bad = s.bad } };
 
     ghost invariant = { λ s. length s.places.items ≡ length s.symbols.items };
 }

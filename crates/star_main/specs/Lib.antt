@@ -1,4 +1,5 @@
--- What the modes make of settings, the headline, how a call ends of which nothing failed, and what is told of a run that was cut short.
+-- What the modes make of settings, the headline, how a call ends of which nothing failed, and what
+-- is told of a run that was cut short.
 pub mod Headline
 pub mod Complete
 pub mod Made

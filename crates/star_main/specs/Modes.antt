@@ -5,17 +5,27 @@ use Rattle.command_words.specs.declared.settings.Settings.{Settings}
 use Rattle.command_words.specs.declared.settings.Mode.{Mode}
 use Rattle.command_words.specs.declared.settings.Mode.TheVariants.{Run, Alone, Make, Serve}
 
--- how large the core of a run is: workers, slots and batches as the settings say, and a seat for each worker and for the one who reads
--- the script
+-- how large the core of a run is: workers, slots and batches as the settings say, and a seat for
+-- each worker and for the one who reads the script
 abbrev pub run_settings_of : Settings → RunSettings
 run_settings_of settings =
-    record { workers = settings.workers; slots = settings.slots; batch = settings.batch; seats = settings.workers + 1 }
+    record {
+      workers = settings.workers;
+      slots = settings.slots;
+      batch = settings.batch;
+      seats = settings.workers + 1;
+    }
 
--- how large the core of a server is: workers, slots and batches as the settings say, a seat for each worker, one for whoever takes the
--- connections, and 64 for sessions
+-- how large the core of a server is: workers, slots and batches as the settings say, a seat for
+-- each worker, one for whoever takes the connections, and 64 for sessions
 abbrev pub serve_settings_of : Settings → RunSettings
 serve_settings_of settings =
-    record { workers = settings.workers; slots = settings.slots; batch = settings.batch; seats = settings.workers + 65 }
+    record {
+      workers = settings.workers;
+      slots = settings.slots;
+      batch = settings.batch;
+      seats = settings.workers + 65;
+    }
 
 -- the settings say that each query is answered by itself
 abbrev pub IsAlone : Settings → Type 0

@@ -10,10 +10,12 @@ serve_status_of Ended = 0
 serve_status_of NoMemory = 5
 serve_status_of DoorFault = 7
 
--- The serving has an end, which the status tells: the door was asked for the port, unless no memory was left for the words or the
--- core; at `Ended` it has ended, or as many links were handed out as were to be taken, where that number is not 0; and one call of it
--- failed, the last one, where that is why the serving ended, and else none did.
-pub record ServeHeadline (port accept status : ℕ) (asked' : Option ℕ) (ended' : Bool) (given given' faults faults' : ℕ) (failed : Bool) : Type 0 where
+-- The serving has an end, which the status tells: the door was asked for the port, unless no memory
+-- was left for the words or the core; at `Ended` it has ended, or as many links were handed out as
+-- were to be taken, where that number is not 0; and one call of it failed, the last one, where that
+-- is why the serving ended, and else none did.
+pub record ServeHeadline (port accept status : ℕ) (asked' : Option ℕ) (ended' : Bool)
+    (given given' faults faults' : ℕ) (failed : Bool) : Type 0 where
   pub end : ServeEnd
   pub told : status ≡ serve_status_of end
   pub asked : end ≢ NoMemory → asked' ≡ Some port

@@ -1,4 +1,5 @@
--- What words ask for: a run, which came to its end, a run with workers, or that connections are served.
+-- What words ask for: a run, which came to its end, a run with workers, or
+-- that connections are served.
 use Rattle.command_words.specs.declared.settings.Settings.{Settings}
 use Rattle.star_main.specs.declared.top.TopDone.{TopDone}
 use Rattle.star_main.specs.declared.top.WordsOutcome.{WordsOutcome}

@@ -17,10 +17,12 @@ use std::process::ExitCode;
 use std::random::RandomSource;
 use worker_gate::NoGate;
 
-/// The status where the system gives no random numbers, by which keys would be hashed. Nothing was read or written.
+/// The status where the system gives no random numbers, by which keys would be hashed.
+/// Nothing was read or written.
 const NO_RANDOM_NUMBERS: u8 = 8;
 
-/// Runs the script on the standard input, or serves connections, as the words say, and ends with the status of that.
+/// Runs the script on the standard input, or serves connections, as the words say, and ends
+/// with the status of that.
 fn main(rt: HostRuntime) -> ExitCode {
     let status = match words_and_keys(&rt) {
         Ok((words, hash_keys)) => {
@@ -49,7 +51,8 @@ fn main(rt: HostRuntime) -> ExitCode {
     ExitCode::from(status)
 }
 
-/// The words behind the program's name, and keys for hashes, drawn at random; or the status where either is not to be had.
+/// The words behind the program's name, and keys for hashes, drawn at random; or the status where
+/// either is not to be had.
 fn words_and_keys(
     rt: &(impl Env + AllocGlobal + RandomSource),
 ) -> Result<(Vec<String>, RandomState), u8> {

@@ -47,15 +47,16 @@ pub struct TopDone {
     /// The status with which the program ends.
     pub status: u8,
 
-    /// The core that ran the script. There is none where the words name no settings or the mode `alone` or `serve`, or no memory
-    /// was left for the words or for the run.
+    /// The core that ran the script. There is none where the words name no settings or the mode
+    /// `alone` or `serve`, or no memory was left for the words or for the run.
     pub core: Option<Core>,
 }
 
 /// What came of the words, before anything that may wait.
 #[derive(Debug, Drop)]
 pub enum WordsOutcome {
-    /// A script or the made workload was run, or the words name no settings, or no memory was left for them.
+    /// A script or the made workload was run, or the words name no settings, or no
+    /// memory was left for them.
     Ran(TopDone),
 
     /// Workers are to run a script or the made workload, by these settings.
@@ -65,16 +66,17 @@ pub enum WordsOutcome {
     Serve(Settings),
 }
 
-/// Runs a script or serves connections, as the words say, and answers the status with which the program ends, and the core that
-/// ran the script.
+/// Runs a script or serves connections, as the words say, and answers the status with which the
+/// program ends, and the core that ran the script.
 ///
-/// 0: the input was read to its end, and every reply was written. 1: the same, and some reply is a refusal or `memory`. 2:
-/// the words name no settings, and nothing was read or written. 3: a read failed. 4: a write failed. 5: no memory was left
-/// for the words, and nothing was read or written, or none for the run itself. 6: the script is longer than 67,108,864
-/// bytes. 7: a call of the door failed.
+/// 0: the input was read to its end, and every reply was written. 1: the same, and some reply
+/// is a refusal or `memory`. 2: the words name no settings, and nothing was read or written. 3:
+/// a read failed. 4: a write failed. 5: no memory was left for the words, and nothing was read
+/// or written, or none for the run itself. 6: the script is longer than 67,108,864 bytes. 7: a
+/// call of the door failed.
 ///
-/// In the mode `make` the script is the one that seed and rows make, and the line that sums its replies up is written in
-/// their place; the source is not read. Then there is no status 3 or 6.
+/// In the mode `make` the script is the one that seed and rows make, and the line that sums its
+/// replies up is written in their place; the source is not read. Then there is no status 3 or 6.
 ///
 /// In the mode `serve` the door is asked for the connections that come to the port, until it ends,
 /// or as many were taken as `accept` says, where that is not 0; neither source nor sink is touched.
@@ -103,27 +105,36 @@ pub fn cjoin<R: Threads + Sync + Wait, S: Source, K: Sink, D: Door, G: Gate + Sy
 ) -> TopDone
     ensures settings { result.status ≡ 2 → IsNone (settings_of (map string_bytes words.now)) }
     ensures untouched { IsNone (settings_of (map string_bytes words.now)) →
-        (source.new ≡ source.old) × (sink.new ≡ sink.old) × ((result.status ≡ 2) ⊎ (result.status ≡ 5)) }
-    ensures headline { IfSome (settings_of (map string_bytes words.now)) (λ settings. HasScript settings →
-        Headline (run_settings_of settings) result.core result.status (S.reading source.old) (S.reading source.new)
+        (source.new ≡ source.old) × (sink.new ≡ sink.old)
+        × ((result.status ≡ 2) ⊎ (result.status ≡ 5)) }
+    ensures headline { IfSome (settings_of (map string_bytes words.now)) (λ settings.
+        HasScript settings →
+        Headline (run_settings_of settings) result.core result.status
+        (S.reading source.old) (S.reading source.new)
         (K.writing sink.old) (K.writing sink.new)) }
     ensures made { IfSome (settings_of (map string_bytes words.now)) (λ settings. IsMade settings →
-        (source.new ≡ source.old) × MadeHeadline (run_settings_of settings) settings.seed settings.rows
+        (source.new ≡ source.old)
+        × MadeHeadline (run_settings_of settings) settings.seed settings.rows
         result.core result.status (K.writing sink.old) (K.writing sink.new)) }
-    ensures served { IfSome (settings_of (map string_bytes words.now)) (λ settings. Serves settings →
-        (source.new ≡ source.old) × (sink.new ≡ sink.old) × ServeHeadline settings.port settings.accept result.status
+    ensures served { IfSome (settings_of (map string_bytes words.now)) (λ settings.
+        Serves settings →
+        (source.new ≡ source.old) × (sink.new ≡ sink.old)
+        × ServeHeadline settings.port settings.accept result.status
         (D.asked door.new) (D.ended door.new) (D.given door.old) (D.given door.new)
         (D.door_faults door.old) (D.door_faults door.new) (D.door_failed door.new)) }
     ensures causes { HasCause result.status (S.reading source.old) (S.reading source.new)
         (K.writing sink.old) (K.writing sink.new) }
-    ensures complete { IfSome (settings_of (map string_bytes words.now)) (λ settings. IsComplete settings result.status
+    ensures complete { IfSome (settings_of (map string_bytes words.now)) (λ settings.
+        IsComplete settings result.status
         (S.reading source.old) (S.reading source.new) (K.writing sink.old) (K.writing sink.new)
         (FailedOnce (D.door_faults door.old) (D.door_faults door.new) (D.door_failed door.new))) }
-    ensures door { ¬ IsSomeAnd (settings_of (map string_bytes words.now)) Serves → door.new ≡ door.old }
+    ensures door { ¬ IsSomeAnd (settings_of (map string_bytes words.now)) Serves →
+        door.new ≡ door.old }
     ensures core { IsNone result.core ↔ (IsNone (settings_of (map string_bytes words.now))
         ⊎ (IsSomeAnd (settings_of (map string_bytes words.now)) IsAlone
         ⊎ (IsSomeAnd (settings_of (map string_bytes words.now)) Serves ⊎ (result.status ≡ 5)))) }
-    ensures run { IfSome result.core (λ core. IfSome (settings_of (map string_bytes words.now)) (λ settings.
+    ensures run { IfSome result.core (λ core.
+        IfSome (settings_of (map string_bytes words.now)) (λ settings.
         settings.workers ≡ 0 → IsRun (empty_core (run_settings_of settings)) (state_of core))) }
 {
     match run_words(rt, alloc, hash_keys, words, source, sink) {
@@ -137,9 +148,10 @@ pub fn cjoin<R: Threads + Sync + Wait, S: Source, K: Sink, D: Door, G: Gate + Sy
     }
 }
 
-/// Runs a script or the made workload without workers, as the words say. Words that ask for workers or for connections to be
-/// served are handed on, and nothing is touched. All that `cjoin` says of the modes `run`, `alone` and `make` without workers
-/// holds here of a call that waits for no one, and so comes to its end, where source and sink do, and the threads of a turn.
+/// Runs a script or the made workload without workers, as the words say. Words that ask for workers
+/// or for connections to be served are handed on, and nothing is touched. All that `cjoin` says of
+/// the modes `run`, `alone` and `make` without workers holds here of a call that waits for no one,
+/// and so comes to its end, where source and sink do, and the threads of a turn.
 pub fn run_words<R: Threads + Sync, S: Source, K: Sink>(
     rt: &R,
     alloc: Global,
@@ -148,32 +160,47 @@ pub fn run_words<R: Threads + Sync, S: Source, K: Sink>(
     source: &mut S,
     sink: &mut K,
 ) -> WordsOutcome
-    ensures work { IfWork result (λ settings. (settings_of (map string_bytes words.now) ≡ Some settings)
-        × (Works settings × AreInRange settings) × (source.new ≡ source.old) × (sink.new ≡ sink.old)) }
-    ensures serve { IfServe result (λ settings. (settings_of (map string_bytes words.now) ≡ Some settings)
-        × (Serves settings × AreInRange settings) × (source.new ≡ source.old) × (sink.new ≡ sink.old)) }
-    ensures ran { IfRan result (λ done. IsSomeAnd (settings_of (map string_bytes words.now)) Serves →
+    ensures work { IfWork result (λ settings.
+        (settings_of (map string_bytes words.now) ≡ Some settings)
+        × (Works settings × AreInRange settings) × (source.new ≡ source.old)
+        × (sink.new ≡ sink.old)) }
+    ensures serve { IfServe result (λ settings.
+        (settings_of (map string_bytes words.now) ≡ Some settings)
+        × (Serves settings × AreInRange settings) × (source.new ≡ source.old)
+        × (sink.new ≡ sink.old)) }
+    ensures ran { IfRan result (λ done.
+        IsSomeAnd (settings_of (map string_bytes words.now)) Serves →
         (done.status ≡ 5) × (source.new ≡ source.old) × (sink.new ≡ sink.old)) }
-    ensures apart { IfRan result (λ done. IsSomeAnd (settings_of (map string_bytes words.now)) Works →
+    ensures apart { IfRan result (λ done.
+        IsSomeAnd (settings_of (map string_bytes words.now)) Works →
         (done.status ≡ 5) × (source.new ≡ source.old) × (sink.new ≡ sink.old)) }
-    ensures settings { IfRan result (λ done. done.status ≡ 2 → IsNone (settings_of (map string_bytes words.now))) }
+    ensures settings { IfRan result (λ done.
+        done.status ≡ 2 → IsNone (settings_of (map string_bytes words.now))) }
     ensures untouched { IfRan result (λ done. IsNone (settings_of (map string_bytes words.now)) →
-        (source.new ≡ source.old) × (sink.new ≡ sink.old) × ((done.status ≡ 2) ⊎ (done.status ≡ 5))) }
-    ensures headline { IfRan result (λ done. IfSome (settings_of (map string_bytes words.now)) (λ settings. HasScript settings →
-        Headline (run_settings_of settings) done.core done.status (S.reading source.old) (S.reading source.new)
+        (source.new ≡ source.old) × (sink.new ≡ sink.old)
+        × ((done.status ≡ 2) ⊎ (done.status ≡ 5))) }
+    ensures headline { IfRan result (λ done.
+        IfSome (settings_of (map string_bytes words.now)) (λ settings. HasScript settings →
+        Headline (run_settings_of settings) done.core done.status
+        (S.reading source.old) (S.reading source.new)
         (K.writing sink.old) (K.writing sink.new))) }
-    ensures made { IfRan result (λ done. IfSome (settings_of (map string_bytes words.now)) (λ settings. IsMade settings →
-        (source.new ≡ source.old) × MadeHeadline (run_settings_of settings) settings.seed settings.rows
+    ensures made { IfRan result (λ done.
+        IfSome (settings_of (map string_bytes words.now)) (λ settings. IsMade settings →
+        (source.new ≡ source.old)
+        × MadeHeadline (run_settings_of settings) settings.seed settings.rows
         done.core done.status (K.writing sink.old) (K.writing sink.new))) }
     ensures causes { IfRan result (λ done. HasCause done.status
         (S.reading source.old) (S.reading source.new)
         (K.writing sink.old) (K.writing sink.new)) }
-    ensures complete { IfRan result (λ done. IfSome (settings_of (map string_bytes words.now)) (λ settings.
+    ensures complete { IfRan result (λ done.
+        IfSome (settings_of (map string_bytes words.now)) (λ settings.
         IsComplete settings done.status (S.reading source.old) (S.reading source.new)
         (K.writing sink.old) (K.writing sink.new) ⊥)) }
-    ensures core { IfRan result (λ done. IsNone done.core ↔ (IsNone (settings_of (map string_bytes words.now))
+    ensures core { IfRan result (λ done.
+        IsNone done.core ↔ (IsNone (settings_of (map string_bytes words.now))
         ⊎ (IsSomeAnd (settings_of (map string_bytes words.now)) IsAlone ⊎ (done.status ≡ 5)))) }
-    ensures run { IfRan result (λ done. IfSome done.core (λ core. IfSome (settings_of (map string_bytes words.now)) (λ settings.
+    ensures run { IfRan result (λ done.
+        IfSome done.core (λ core. IfSome (settings_of (map string_bytes words.now)) (λ settings.
         IsRun (empty_core (run_settings_of settings)) (state_of core)))) }
 {
     match read_words(alloc, words) {
@@ -216,7 +243,8 @@ fn shares_core(mode: Mode) -> bool
     }
 }
 
-/// Runs a script whose queries share the scan of one core, on one thread but for those of a turn, and hands the core back.
+/// Runs a script whose queries share the scan of one core, on one thread but for those of a turn,
+/// and hands the core back.
 fn run_shared<R: Threads + Sync, S: Source, K: Sink>(
     rt: &R,
     alloc: Global,
@@ -232,7 +260,8 @@ fn run_shared<R: Threads + Sync, S: Source, K: Sink>(
     ensures causes { HasCause result.status (S.reading source.old) (S.reading source.new)
         (K.writing sink.old) (K.writing sink.new) }
     ensures core { IsNone result.core ↔ (result.status ≡ 5) }
-    ensures run { IfSome result.core (λ core. IsRun (empty_core (run_settings_of settings.now)) (state_of core)) }
+    ensures run { IfSome result.core (λ core.
+        IsRun (empty_core (run_settings_of settings.now)) (state_of core)) }
 {
     let core = run_settings(settings);
     done_of(run_on_one_thread(rt, alloc, hash_keys, core, source, sink))
@@ -255,8 +284,8 @@ fn run_each_alone<S: Source, K: Sink>(
     without_core(status_of(run_alone(alloc, hash_keys, source, sink)))
 }
 
-/// Runs the made workload, whose queries share the scan of one core, on one thread but for those of a turn, writes the line
-/// that sums its replies up, and hands the core back.
+/// Runs the made workload, whose queries share the scan of one core, on one thread but for those of
+/// a turn, writes the line that sums its replies up, and hands the core back.
 fn run_workload<R: Threads + Sync, K: Sink>(
     rt: &R,
     alloc: Global,
@@ -270,7 +299,8 @@ fn run_workload<R: Threads + Sync, K: Sink>(
     ensures causes { (source : ReadingSide) → HasCause result.status source source
         (K.writing sink.old) (K.writing sink.new) }
     ensures core { IsNone result.core ↔ (result.status ≡ 5) }
-    ensures run { IfSome result.core (λ core. IsRun (empty_core (run_settings_of settings.now)) (state_of core)) }
+    ensures run { IfSome result.core (λ core.
+        IsRun (empty_core (run_settings_of settings.now)) (state_of core)) }
 {
     let core = run_settings(settings);
     made_of(run_made_on_one_thread(
@@ -297,11 +327,13 @@ fn run_by_workers<R: Threads + Sync + Wait, S: Source, K: Sink, G: Gate + Sync>(
     requires works { Works settings.now }
     requires range { AreInRange settings.now }
     ensures known { result.status ≢ 2 }
-    ensures headline { HasScript settings.now → Headline (run_settings_of settings.now) result.core result.status
+    ensures headline { HasScript settings.now →
+        Headline (run_settings_of settings.now) result.core result.status
         (S.reading source.old) (S.reading source.new)
         (K.writing sink.old) (K.writing sink.new) }
     ensures made { IsMade settings.now →
-        (source.new ≡ source.old) × MadeHeadline (run_settings_of settings.now) settings.now.seed settings.now.rows
+        (source.new ≡ source.old)
+        × MadeHeadline (run_settings_of settings.now) settings.now.seed settings.now.rows
         result.core result.status (K.writing sink.old) (K.writing sink.new) }
     ensures causes { HasCause result.status (S.reading source.old) (S.reading source.new)
         (K.writing sink.old) (K.writing sink.new) }
@@ -336,8 +368,8 @@ fn run_shared_by_workers<R: Threads + Sync + Wait, S: Source, K: Sink, G: Gate +
     done_of(run_script(rt, alloc, hash_keys, core, source, sink, gate))
 }
 
-/// Runs the made workload, whose queries share the scan of one core, with workers, writes the line that sums its replies up,
-/// and hands the core back.
+/// Runs the made workload, whose queries share the scan of one core, with workers, writes the line
+/// that sums its replies up, and hands the core back.
 fn run_workload_by_workers<R: Threads + Sync + Wait, K: Sink, G: Gate + Sync>(
     rt: &R,
     alloc: Global,

@@ -1,5 +1,6 @@
--- Forms, the words that the grammar is written in. A form says which lists of symbols are of it, and what each
--- stands for. A list may be cut into the parts of a form in any way, so a form is no reader.
+-- Forms, the words that the grammar is written in. A form says which lists of symbols
+-- are of it, and what each stands for. A list may be cut into the parts of a form in any
+-- way, so a form is no reader.
 use Rattle.std.specs.Prelude.{◌≡◌, ◌⊎◌, ℕ, List, [], ◌∷◌, ◌++◌}
 use Rattle.star_values.specs.declared.value.Value.{Value}
 use Rattle.star_lexer.specs.declared.keyword.Keyword.{Keyword}
@@ -39,10 +40,13 @@ name symbols meaning = symbols ≡ symbol.Name meaning ∷ []
 abbrev pub literal : Form Value
 literal symbols meaning = symbols ≡ symbol.Literal meaning ∷ []
 
--- a front of the first form, and behind it one of the second, which may depend on what the front stands for
+-- a front of the first form, and behind it one of the second, which may depend on
+-- what the front stands for
 infixl 10 ◌>>=◌
 abbrev pub ◌>>=◌ : {A B : Type 0} → Form A → (A → Form B) → Form B
-(first >>= second) symbols meaning = (front back : List Symbol) × (value : _) × (symbols ≡ front ++ back) × first front value × second value back meaning
+(first >>= second) symbols meaning =
+    (front back : List Symbol) × (value : _) × (symbols ≡ front ++ back) × first front value
+    × second value back meaning
 
 -- a front of the first form, and behind it one of the second, which the whole stands for
 infixl 10 ◌>>◌
@@ -59,4 +63,5 @@ abbrev pub separated : {A : Type 0} → Symbol → Form A → List Symbol → Li
 separated separator member symbols [] = ⊥
 separated separator member symbols (value ∷ []) = member symbols value
 separated separator member symbols (value ∷ next ∷ values) =
-    (front back : List Symbol) × (symbols ≡ front ++ separator ∷ back) × member front value × separated separator member back (next ∷ values)
+    (front back : List Symbol) × (symbols ≡ front ++ separator ∷ back) × member front value
+    × separated separator member back (next ∷ values)

@@ -46,7 +46,9 @@ column = do
 
 -- "(" ( "*" | column ) ")"
 abbrev pub counted : Form AstItem
-counted = bracketed ((sign mark.Star >> stands_for items.CountAll) or (column >>= λ c. stands_for (items.Count c)))
+counted =
+    bracketed ((sign mark.Star >> stands_for items.CountAll) or (column >>= λ c.
+    stands_for (items.Count c)))
 
 -- column | "count" counted | ( "sum" | "min" | "max" ) "(" column ")"
 abbrev pub item : Form AstItem
@@ -63,13 +65,17 @@ compared c how = literal >>= λ value. stands_for (Test c how value)
 
 -- a literal or a column that the column is equal to
 abbrev pub equal_to : Column → Form Condition
-equal_to c = (literal >>= λ value. stands_for (Test c how.Eq value)) or (column >>= λ d. stands_for (Same c d))
+equal_to c =
+    (literal >>= λ value. stands_for (Test c how.Eq value))
+    or (column >>= λ d. stands_for (Same c d))
 
 -- "between" literal "and" literal | "in" "(" literal { "," literal } ")"
 abbrev pub ranged : Column → Form Condition
 ranged c =
-    (word key.Between >> (literal >>= λ low. word key.And >> (literal >>= λ high. stands_for (Between c low high))))
-    or (word key.In >> (bracketed (separated comma literal) >>= λ values. stands_for (OneOf c values)))
+    (word key.Between
+    >> (literal >>= λ low. word key.And >> (literal >>= λ high. stands_for (Between c low high))))
+    or (word key.In
+    >> (bracketed (separated comma literal) >>= λ values. stands_for (OneOf c values)))
 
 -- column "=" ( literal | column ) | column compare literal | column [ "not" ] ranged
 abbrev pub test : Form Condition
@@ -132,7 +138,8 @@ abbrev pub fact_column : Form AstColumn
 fact_column = do
   column ← name
   its_kind ← kind
-  target ← (word key.References >> (name >>= λ dimension. stands_for (Some dimension))) or stands_for None
+  target ← (word key.References >> (name >>= λ dimension. stands_for (Some dimension)))
+      or stands_for None
   stands_for (record { name = column; kind = its_kind; references = target })
 
 -- name "(" dimension_columns ")"

@@ -1,4 +1,5 @@
--- What a line is, as a function that computes. That it says what the grammar and the limits say is proved.
+-- What a line is, as a function that computes. That it says what the grammar and
+-- the limits say is proved.
 use Rattle.std.specs.Prelude.{◌≡◌, ℕ, List, length, if◌then◌else◌, Some, None, Result, Ok, Err}
 use Rattle.std.specs.Option.{option_map_or}
 use Rattle.star_lexer.specs.Limits.{is_over_limit}

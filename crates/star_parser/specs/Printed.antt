@@ -28,7 +28,8 @@ in_brackets symbols = symbol.Sign mark.Open ∷ symbols ++ symbol.Sign mark.Clos
 -- what is printed of a list, with the separator between each two
 abbrev pub joined : {A : Type 0} → Symbol → (A → List Symbol) → List A → List Symbol
 joined separator print [] = []
-joined separator print (value ∷ values) = print value ++ flat_map (λ next. separator ∷ print next) values
+joined separator print (value ∷ values) =
+    print value ++ flat_map (λ next. separator ∷ print next) values
 
 -- a name by itself
 abbrev pub name_symbols : List ℕ → List Symbol
@@ -58,7 +59,8 @@ relation_sign how.Ge = mark.GreaterOrEqual
 
 -- a column compared with a literal
 abbrev pub test_symbols : Column → Relation → Value → List Symbol
-test_symbols column how value = column_symbols column ++ symbol.Sign (relation_sign how) ∷ literal_symbols value
+test_symbols column how value =
+    column_symbols column ++ symbol.Sign (relation_sign how) ∷ literal_symbols value
 
 -- two columns that are equal
 abbrev pub same_symbols : Column → Column → List Symbol
@@ -67,14 +69,18 @@ same_symbols left right = column_symbols left ++ symbol.Sign mark.Equal ∷ colu
 -- a column between two literals
 abbrev pub between_symbols : Column → Value → Value → List Symbol
 between_symbols column low high =
-    column_symbols column ++ symbol.Keyword key.Between ∷ symbol.Literal low ∷ symbol.Keyword key.And ∷ symbol.Literal high ∷ []
+    column_symbols column ++ symbol.Keyword key.Between ∷ symbol.Literal low
+    ∷ symbol.Keyword key.And ∷ symbol.Literal high ∷ []
 
 -- a column among literals
 abbrev pub one_of_symbols : Column → List Value → List Symbol
-one_of_symbols column values = column_symbols column ++ symbol.Keyword key.In ∷ in_brackets (joined comma literal_symbols values)
+one_of_symbols column values =
+    column_symbols column ++ symbol.Keyword key.In
+    ∷ in_brackets (joined comma literal_symbols values)
 
--- A condition where a single one is wanted stands between parentheses, if it is an `and` or an `or`. A member of an
--- `or` may be an `and` without parentheses. Members of a list are printed with the keyword in front of all but the first.
+-- A condition where a single one is wanted stands between parentheses, if it is an `and` or an
+-- `or`. A member of an `or` may be an `and` without parentheses. Members of a list are printed with
+-- the keyword in front of all but the first.
 abbrev mutual
   pub one_symbols : Condition → List Symbol
   one_symbols (Either ts) = in_brackets (either_symbols ts)
@@ -117,15 +123,18 @@ abbrev mutual
 
 -- the keyword between two members, where one stands in front
 abbrev pub separator_symbols : Bool → Keyword → List Symbol
-separator_symbols behind_another keyword = if behind_another then (symbol.Keyword keyword ∷ []) else []
+separator_symbols behind_another keyword =
+    if behind_another then (symbol.Keyword keyword ∷ []) else []
 
 -- members of an `and` or an `or`, the first of them behind another one or not
 abbrev pub both_symbols_from : Bool → Conditions → List Symbol
-both_symbols_from behind_another ts = if behind_another then more_both_symbols ts else both_symbols ts
+both_symbols_from behind_another ts =
+    if behind_another then more_both_symbols ts else both_symbols ts
 
 -- the same of an `or`
 abbrev pub either_symbols_from : Bool → Conditions → List Symbol
-either_symbols_from behind_another ts = if behind_another then more_either_symbols ts else either_symbols ts
+either_symbols_from behind_another ts =
+    if behind_another then more_either_symbols ts else either_symbols ts
 
 -- a whole condition needs no parentheses
 abbrev pub any_symbols : Condition → List Symbol
@@ -146,7 +155,8 @@ where_symbols (Some t) = symbol.Keyword key.Where ∷ any_symbols t
 abbrev pub group_symbols : List Column → List Symbol
 group_symbols [] = []
 group_symbols (column ∷ columns) =
-    symbol.Keyword key.Group ∷ symbol.Keyword key.By ∷ joined comma column_symbols (column ∷ columns)
+    symbol.Keyword key.Group ∷ symbol.Keyword key.By
+    ∷ joined comma column_symbols (column ∷ columns)
 
 -- an item of a select list
 abbrev pub item_symbols : AstItem → List Symbol
@@ -169,13 +179,15 @@ target_symbols (Some dimension) = symbol.Keyword key.References ∷ symbol.Name 
 
 -- name, kind, and the dimension that is referenced, where there is one
 abbrev pub declared_symbols : AstColumn → List Symbol
-declared_symbols column = symbol.Name column.name ∷ kind_symbol column.kind ∷ target_symbols column.references
+declared_symbols column =
+    symbol.Name column.name ∷ kind_symbol column.kind ∷ target_symbols column.references
 
 -- the first column of a dimension is its key
 abbrev pub dimension_column_symbols : List AstColumn → List Symbol
 dimension_column_symbols [] = []
 dimension_column_symbols (first ∷ others) =
-    declared_symbols first ++ symbol.Keyword key.Key ∷ flat_map (λ column. comma ∷ declared_symbols column) others
+    declared_symbols first ++ symbol.Keyword key.Key
+    ∷ flat_map (λ column. comma ∷ declared_symbols column) others
 
 -- that a block has a header, where it has one
 abbrev pub header_symbols : Bool → List Symbol
@@ -188,12 +200,14 @@ statement_symbols (Dimension name columns) =
     symbol.Keyword key.Dimension ∷ symbol.Name name ∷ in_brackets (dimension_column_symbols columns)
 statement_symbols (Fact name columns) =
     symbol.Keyword key.Fact ∷ symbol.Name name ∷ in_brackets (joined comma declared_symbols columns)
-statement_symbols (Load name header) = symbol.Keyword key.Load ∷ symbol.Name name ∷ header_symbols header
+statement_symbols (Load name header) =
+    symbol.Keyword key.Load ∷ symbol.Name name ∷ header_symbols header
 statement_symbols (Delete name condition) =
     symbol.Keyword key.Delete ∷ symbol.Keyword key.From ∷ symbol.Name name ∷ where_symbols condition
 statement_symbols (Select its_items tables condition groups) =
     symbol.Keyword key.Select ∷ (joined comma item_symbols its_items
-    ++ symbol.Keyword key.From ∷ (joined comma name_symbols tables ++ (where_symbols condition ++ group_symbols groups)))
+    ++ symbol.Keyword key.From
+    ∷ (joined comma name_symbols tables ++ (where_symbols condition ++ group_symbols groups)))
 statement_symbols Wait = symbol.Keyword key.Wait ∷ []
 
 -- the line that a statement is printed as
@@ -231,7 +245,8 @@ is_either (Same left right) = false
 is_either (Between column low high) = false
 is_either (OneOf column values) = false
 
--- each `and` and each `or` has two members at least and none of its own kind, and each list of literals one at least
+-- each `and` and each `or` has two members at least and none of its own kind, and each list
+-- of literals one at least
 abbrev mutual
   pub IsTree : Condition → Type 0
   IsTree (Either ts) = AreTwo ts × AreTrees is_either ts
@@ -263,11 +278,12 @@ IsShaped (Dimension name columns) = IsNonempty columns × HaveNoTargets columns
 IsShaped (Fact name columns) = IsNonempty columns
 IsShaped (Load name header) = Unit {0}
 IsShaped (Delete name condition) = IsTreeWhere condition
-IsShaped (Select its_items tables condition groups) = IsNonempty its_items × IsNonempty tables × IsTreeWhere condition
+IsShaped (Select its_items tables condition groups) =
+    IsNonempty its_items × IsNonempty tables × IsTreeWhere condition
 IsShaped Wait = Unit {0}
 
--- a statement that some line says: its lists and trees have their shapes, each of its names is a name and each of its
--- values a literal, and its printed line is within the limits
+-- a statement that some line says: its lists and trees have their shapes, each of its names is a
+-- name and each of its values a literal, and its printed line is within the limits
 pub record IsWellFormed (meaning : Statement) : Type 0 where
   pub shaped : IsShaped meaning
   pub writable : All IsWritable (statement_symbols meaning)

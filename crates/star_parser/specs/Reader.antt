@@ -71,7 +71,8 @@ is_literal (symbol.Sign s) = false
 
 -- the one way where the first symbol is one of these, and else the other
 abbrev pub on : {A : Type 0} → (Symbol → Bool) → Reader A → Reader A → Reader A
-on test first second symbols = if begins test symbols then first (behind test symbols) else second symbols
+on test first second symbols =
+    if begins test symbols then first (behind test symbols) else second symbols
 
 -- the one way where the first symbol is one of these, which is still to be read, and else the other
 abbrev pub when : {A : Type 0} → (Symbol → Bool) → Reader A → Reader A → Reader A
@@ -107,7 +108,8 @@ end_at (s ∷ symbols) = (None, s ∷ symbols)
 abbrev pub separated_in : {A : Type 0} → (Symbol → Bool) → Reader A → ℕ → Reader (List A)
 separated_in separator member zero = λ symbols. (None, symbols)
 separated_in separator member (suc most) = member >>= λ value.
-    on separator (separated_in separator member most >>= λ values. gives (value ∷ values)) (gives (value ∷ []))
+    on separator (separated_in separator member most >>= λ values. gives (value ∷ values))
+    (gives (value ∷ []))
 
 -- the same in any number, which is no greater than that of the symbols
 abbrev pub separated_at : {A : Type 0} → (Symbol → Bool) → Reader A → Reader (List A)
@@ -118,7 +120,8 @@ abbrev pub with_front : {A : Type 0} → List A → ReaderOutcome (List A) → R
 with_front front (Some values, rest) = (Some (front ++ values), rest)
 with_front front (None, rest) = (None, rest)
 
--- a function gave what reading gives, unless memory ran out: the value as it is seen, and the symbols that are left
+-- a function gave what reading gives, unless memory ran out: the value as it is seen, and
+-- the symbols that are left
 abbrev pub Gives : {X A : Type 0} → (X → A) → Result X Stop → List Symbol → ReaderOutcome A → Type 0
 Gives view (Ok x) rest read = read ≡ (Some (view x), rest)
 Gives view (Err Memory) rest read = Unit {0}

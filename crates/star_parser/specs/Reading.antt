@@ -1,4 +1,5 @@
--- The readers of the grammar's forms. Private functions cite them; that they read the forms is proved.
+-- The readers of the grammar's forms. Private functions cite them; that they
+-- read the forms is proved.
 use Rattle.std.specs.Prelude.{ℕ, zero, suc, Bool, true, false, List, [], ◌∷◌, length, flat_map, Option, Some, None}
 use Rattle.star_values.specs.declared.value.Value.{Value}
 use Rattle.star_values.specs.declared.value.Kind.{Kind}
@@ -46,7 +47,8 @@ column_at = do
 
 -- "*" or a column
 abbrev pub counted_column_at : Reader AstItem
-counted_column_at = on (is_sign mark.Star) (gives items.CountAll) (column_at >>= λ c. gives (items.Count c))
+counted_column_at =
+    on (is_sign mark.Star) (gives items.CountAll) (column_at >>= λ c. gives (items.Count c))
 
 -- what `count` counts, between parentheses
 unfoldable pub counted_at : Reader AstItem
@@ -169,7 +171,8 @@ all_by one = conjuncts_by one >>= λ ts. gives (alone_or Both ts)
 
 -- the members of an `or`, each an `and` or a single one
 abbrev pub disjuncts_by : Reader Condition → Reader (List Condition)
-disjuncts_by one = separated_at (is_word key.Or) (all_by one) >>= λ ts. gives (flat_map disjuncts ts)
+disjuncts_by one =
+    separated_at (is_word key.Or) (all_by one) >>= λ ts. gives (flat_map disjuncts ts)
 
 -- an `or` of them, or the only one
 abbrev pub any_by : Reader Condition → Reader Condition
@@ -180,7 +183,8 @@ unfoldable pub one_at : ℕ → Reader Condition
 one_at zero = λ symbols. (None, symbols)
 one_at (suc depth) =
     on (is_word key.Not) (one_at depth >>= λ t. gives (Negate t))
-    (on (is_sign mark.Open) (any_by (one_at depth) >>= λ t. expect (is_sign mark.Close) >> gives t) test_at)
+    (on (is_sign mark.Open)
+    (any_by (one_at depth) >>= λ t. expect (is_sign mark.Close) >> gives t) test_at)
 
 -- what stands behind "not"
 abbrev pub negated_at : ℕ → Reader Condition
@@ -247,7 +251,8 @@ dimension_columns_at = do
 
 -- "references" with the name of a dimension, or nothing
 unfoldable pub target_at : Reader (Option (List ℕ))
-target_at = on (is_word key.References) (name_at >>= λ dimension. gives (Some dimension)) (gives None)
+target_at =
+    on (is_word key.References) (name_at >>= λ dimension. gives (Some dimension)) (gives None)
 
 -- a column of a fact table, with its kind and what it references
 unfoldable pub fact_column_at : Reader AstColumn

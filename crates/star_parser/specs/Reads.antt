@@ -9,10 +9,12 @@ abbrev pub first_of : List Symbol → Option Symbol
 first_of [] = None
 first_of (s ∷ symbols) = Some s
 
--- A form was read, or a symbol did not fit: the symbols before it are a front of what is of the form, and nothing
--- that begins with them and that symbol is. Where what was read may go on by some symbols, other readings end before one of them.
--- The forms found and known differ only in how deep they may nest.
-pub record Reads {A : Type 0} (found known : Form A) (extends : Symbol → Bool) (symbols : List Symbol) (outcome : ReaderOutcome A) : Type 0 where
+-- A form was read, or a symbol did not fit: the symbols before it are a front of what is of
+-- the form, and nothing that begins with them and that symbol is. Where what was read may go
+-- on by some symbols, other readings end before one of them. The forms found and known differ
+-- only in how deep they may nest.
+pub record Reads {A : Type 0} (found known : Form A) (extends : Symbol → Bool)
+    (symbols : List Symbol) (outcome : ReaderOutcome A) : Type 0 where
   pub used : List Symbol
   pub whole : symbols ≡ used ++ outcome.1
   pub read : IfSome outcome.0 (found used)

@@ -19,7 +19,8 @@ IsFront symbols = (more : List Symbol) × (meaning : Statement) × sentence (sym
 -- no sentence begins with the symbols up to this one, and some sentence does with those before it
 abbrev pub StopsAtSymbol : Symbolic → ℕ → Type 0
 StopsAtSymbol line place =
-    (count : ℕ) × (count < length line.symbols) × IsFront (take count line.symbols) × (IsFront (take (suc count) line.symbols) → ⊥)
+    (count : ℕ) × (count < length line.symbols) × IsFront (take count line.symbols)
+    × (IsFront (take (suc count) line.symbols) → ⊥)
     × (place ≡ slice_index line.places count)
 
 -- some sentence begins with the symbols, and behind them no token can be read
@@ -29,11 +30,13 @@ StopsAtToken line place = IsFront line.symbols × (line.bad ≡ Some place)
 -- some sentence begins with the symbols, and they are none yet
 abbrev pub StopsAtEnd : Symbolic → ℕ → ℕ → Type 0
 StopsAtEnd line end place =
-    IsFront line.symbols × (line.bad ≡ None) × ((meaning : Statement) → sentence line.symbols meaning → ⊥) × (place ≡ end)
+    IsFront line.symbols × (line.bad ≡ None)
+    × ((meaning : Statement) → sentence line.symbols meaning → ⊥) × (place ≡ end)
 
 -- the first place where the line of so many bytes is the front of no sentence
 abbrev pub IsStopOf : Symbolic → ℕ → ℕ → Type 0
-IsStopOf line end place = StopsAtSymbol line place ⊎ (StopsAtToken line place ⊎ StopsAtEnd line end place)
+IsStopOf line end place =
+    StopsAtSymbol line place ⊎ (StopsAtToken line place ⊎ StopsAtEnd line end place)
 
 -- a line is a statement that stands for this
 abbrev pub IsSentence : List ℕ → Statement → Type 0
@@ -50,6 +53,9 @@ Answers meaning (Err Memory) = Unit {0}
 Answers meaning (Err Limit) = ⊥
 Answers meaning (Err (Syntax place)) = ⊥
 
--- the place of the symbol with so many symbols from it on, or else of what stands behind all of them
+-- the place of the symbol with so many symbols from it on, or else of what
+-- stands behind all of them
 abbrev pub place_of : Symbolic → ℕ → ℕ → ℕ
-place_of line left end = if left == 0 then unwrap_or line.bad end else slice_index line.places (length line.places - left)
+place_of line left end =
+    if left == 0 then unwrap_or line.bad end
+    else slice_index line.places (length line.places - left)

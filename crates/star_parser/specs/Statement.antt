@@ -22,5 +22,6 @@ statement_of (ast.Dimension name columns) = Dimension name columns
 statement_of (ast.Fact name columns) = Fact name columns
 statement_of (ast.Load name header) = Load name header
 statement_of (ast.Delete name condition) = Delete name (option_map condition_of condition)
-statement_of (ast.Select items tables condition groups) = Select items tables (option_map condition_of condition) groups
+statement_of (ast.Select items tables condition groups) =
+    Select items tables (option_map condition_of condition) groups
 statement_of ast.Wait = Wait

@@ -51,7 +51,8 @@ impl Parser<'_> {
 
     #[tactic(auto, unfolding(crate::specs::Reading::bracketed_column_at))]
     fn bracketed_column(&mut self) -> Result<Column, Stop>
-        ensures { Gives (λ column. column) result self.new.rest.now (bracketed_column_at self.old.rest.now) }
+        ensures { Gives (λ column. column) result self.new.rest.now
+            (bracketed_column_at self.old.rest.now) }
     {
         self.sign(Sign::Open)?;
         let column = self.column()?;
@@ -59,7 +60,8 @@ impl Parser<'_> {
     }
 
     fn counted_column(&mut self) -> Result<AstItem, Stop>
-        ensures { Gives (λ item. item) result self.new.rest.now (counted_column_at self.old.rest.now) }
+        ensures { Gives (λ item. item) result self.new.rest.now
+            (counted_column_at self.old.rest.now) }
     {
         if self.skip_sign(Sign::Star) {
             Ok(AstItem::CountAll)

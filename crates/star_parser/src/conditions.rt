@@ -31,7 +31,8 @@ impl Parser<'_> {
     #[cycle(nesting)]
     #[tactic(auto, unfolding(crate::specs::Reading::disjuncts_at, crate::specs::Reading::all_at))]
     fn disjuncts(&mut self, depth: usize) -> Result<Vec<Tree>, Stop>
-        ensures { Gives (λ trees. map condition_of trees.items) result self.new.rest.now (disjuncts_at depth self.old.rest.now) }
+        ensures { Gives (λ trees. map condition_of trees.items) result self.new.rest.now
+            (disjuncts_at depth self.old.rest.now) }
     {
         let mut trees = Vec::new(self.alloc);
         'members: loop {
@@ -54,7 +55,8 @@ impl Parser<'_> {
     #[cycle(nesting)]
     #[tactic(auto, unfolding(crate::specs::Reading::conjuncts_at))]
     fn conjuncts(&mut self, depth: usize) -> Result<Vec<Tree>, Stop>
-        ensures { Gives (λ trees. map condition_of trees.items) result self.new.rest.now (conjuncts_at depth self.old.rest.now) }
+        ensures { Gives (λ trees. map condition_of trees.items) result self.new.rest.now
+            (conjuncts_at depth self.old.rest.now) }
     {
         let mut trees = Vec::new(self.alloc);
         'members: loop {
@@ -65,7 +67,8 @@ impl Parser<'_> {
         }
     }
 
-    /// A test, or what may hold another condition: `not` and parentheses, fewer than `depth` around each other.
+    /// A test, or what may hold another condition: `not` and parentheses, fewer than
+    /// `depth` around each other.
     #[cycle(nesting)]
     #[tactic(auto, unfolding(crate::specs::Reading::one_at))]
     fn one(&mut self, depth: usize) -> Result<Tree, Stop>
@@ -83,7 +86,8 @@ impl Parser<'_> {
 
     #[cycle(nesting)]
     fn not_negated(&mut self, depth: usize) -> Result<Tree, Stop>
-        ensures { Gives condition_of result self.new.rest.now (not_negated_at depth self.old.rest.now) }
+        ensures { Gives condition_of result self.new.rest.now
+            (not_negated_at depth self.old.rest.now) }
     {
         if self.skip_sign(Sign::Open) {
             self.closed(depth)
@@ -111,7 +115,8 @@ impl Parser<'_> {
 
     #[tactic(auto, unfolding(crate::specs::Reading::compared_at))]
     fn compared(&mut self, column: Column, how: Relation) -> Result<Tree, Stop>
-        ensures { Gives condition_of result self.new.rest.now (compared_at column how self.old.rest.now) }
+        ensures { Gives condition_of result self.new.rest.now
+            (compared_at column how self.old.rest.now) }
     {
         let value = self.literal()?;
         Ok(Tree::Test { column, how, value })
@@ -131,7 +136,8 @@ impl Parser<'_> {
 
     #[tactic(auto, unfolding(crate::specs::Reading::between_at))]
     fn between(&mut self, column: Column) -> Result<Tree, Stop>
-        ensures { Gives condition_of result self.new.rest.now (between_at column self.old.rest.now) }
+        ensures { Gives condition_of result self.new.rest.now
+            (between_at column self.old.rest.now) }
     {
         let low = self.literal()?;
         let high = self.upper_bound()?;
@@ -182,7 +188,8 @@ impl Parser<'_> {
 
     #[tactic(auto, unfolding(crate::specs::Reading::not_ranged_at))]
     fn not_ranged(&mut self, column: Column) -> Result<Tree, Stop>
-        ensures { Gives condition_of result self.new.rest.now (not_ranged_at column self.old.rest.now) }
+        ensures { Gives condition_of result self.new.rest.now
+            (not_ranged_at column self.old.rest.now) }
     {
         let plain = self.ranged(column)?;
         Ok(Tree::Negate(Box::new(self.alloc, plain)?))
@@ -243,7 +250,8 @@ impl Parser<'_> {
 
 /// Takes in a conjunct. An `and` hands on its members.
 fn add_conjunct(members: &mut Vec<Tree>, tree: Tree) -> Result<(), NoMemory>
-    ensures { OnOk result (map condition_of members.new.items ≡ map condition_of members.old.items ++ conjuncts (condition_of tree)) }
+    ensures { OnOk result (map condition_of members.new.items
+        ≡ map condition_of members.old.items ++ conjuncts (condition_of tree)) }
 {
     match tree {
         Tree::Both(mut list) => members.append(&mut list.members)?,
@@ -254,7 +262,8 @@ fn add_conjunct(members: &mut Vec<Tree>, tree: Tree) -> Result<(), NoMemory>
 
 /// Takes in a disjunct. An `or` hands on its members.
 fn add_disjunct(members: &mut Vec<Tree>, tree: Tree) -> Result<(), NoMemory>
-    ensures { OnOk result (map condition_of members.new.items ≡ map condition_of members.old.items ++ disjuncts (condition_of tree)) }
+    ensures { OnOk result (map condition_of members.new.items
+        ≡ map condition_of members.old.items ++ disjuncts (condition_of tree)) }
 {
     match tree {
         Tree::Either(mut list) => members.append(&mut list.members)?,

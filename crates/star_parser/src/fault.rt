@@ -8,8 +8,8 @@ use std::fmt;
 pub enum ParseFault {
     /// The line is over one of the limits of a line.
     Limit,
-    /// The place in the line, in bytes from 0, where it stops being the front of a statement. It is the
-    /// line's length where only something is missing.
+    /// The place in the line, in bytes from 0, where it stops being the front of a statement. It is
+    /// the line's length where only something is missing.
     Syntax(u32),
     /// No memory was left. The line may be a statement or not.
     Memory,

@@ -20,8 +20,9 @@ pub fn lines_are_what_the_grammar_says()
     limits_are_tested();
 }
 
-/// What a line says has the shape of a well-formed tree: its lists have the members that the grammar
-/// asks for, and each `and` and each `or` has two members at least and none of its own kind.
+/// What a line says has the shape of a well-formed tree: its lists have the members
+/// that the grammar asks for, and each `and` and each `or` has two members at least
+/// and none of its own kind.
 pub fn statements_have_their_shapes()
     ensures { (line : List ℕ) (meaning : Statement) → IsSentence line meaning → IsShaped meaning }
 {}

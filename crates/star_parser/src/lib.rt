@@ -1,5 +1,6 @@
-//! The statements of the language: which lines are statements, the tree that each stands for, the place
-//! where another line stops being one, and how a tree is printed. Its names are bound to no tables here.
+//! The statements of the language: which lines are statements, the tree that each stands for,
+//! the place where another line stops being one, and how a tree is printed. Its names are
+//! bound to no tables here.
 #![tactic(auto)]
 
 mod ast;

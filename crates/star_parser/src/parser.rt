@@ -92,7 +92,8 @@ impl<'a> Parser<'a> {
     }
 
     pub fn keyword(&mut self, keyword: Keyword) -> Result<(), Stop>
-        ensures { Gives (λ u. u) result self.new.rest.now (expect (is_word keyword) self.old.rest.now) }
+        ensures { Gives (λ u. u) result self.new.rest.now
+            (expect (is_word keyword) self.old.rest.now) }
     {
         if self.skip_keyword(keyword) {
             Ok(())
@@ -102,7 +103,8 @@ impl<'a> Parser<'a> {
     }
 
     pub fn sign(&mut self, sign: Sign) -> Result<(), Stop>
-        ensures { Gives (λ u. u) result self.new.rest.now (expect (is_sign sign) self.old.rest.now) }
+        ensures { Gives (λ u. u) result self.new.rest.now
+            (expect (is_sign sign) self.old.rest.now) }
     {
         if self.skip_sign(sign) {
             Ok(())

@@ -59,7 +59,8 @@ fn add_all(out: &mut Vec<Symbol>, tree: &Tree) -> Result<(), NoMemory>
 
 #[cycle(printing)]
 fn add_both(out: &mut Vec<Symbol>, members: &[Tree]) -> Result<(), NoMemory>
-    ensures { OnOk result (out.new.items ≡ out.old.items ++ both_symbols (conditions (map condition_of members.now))) }
+    ensures { OnOk result (out.new.items
+        ≡ out.old.items ++ both_symbols (conditions (map condition_of members.now))) }
 {
     let mut behind_another = false;
     'members: for member in members {
@@ -72,7 +73,8 @@ fn add_both(out: &mut Vec<Symbol>, members: &[Tree]) -> Result<(), NoMemory>
 
 #[cycle(printing)]
 fn add_either(out: &mut Vec<Symbol>, members: &[Tree]) -> Result<(), NoMemory>
-    ensures { OnOk result (out.new.items ≡ out.old.items ++ either_symbols (conditions (map condition_of members.now))) }
+    ensures { OnOk result (out.new.items
+        ≡ out.old.items ++ either_symbols (conditions (map condition_of members.now))) }
 {
     let mut behind_another = false;
     'members: for member in members {
@@ -89,7 +91,8 @@ fn add_between_members(
     behind_another: bool,
     keyword: Keyword,
 ) -> Result<(), NoMemory>
-    ensures { OnOk result (out.new.items ≡ out.old.items ++ separator_symbols behind_another keyword) }
+    ensures { OnOk result
+        (out.new.items ≡ out.old.items ++ separator_symbols behind_another keyword) }
 {
     if behind_another {
         add_keyword(out, keyword)
@@ -138,7 +141,8 @@ fn add_between(
     low: &Value,
     high: &Value,
 ) -> Result<(), NoMemory>
-    ensures { OnOk result (out.new.items ≡ out.old.items ++ between_symbols column.now low.now high.now) }
+    ensures { OnOk result
+        (out.new.items ≡ out.old.items ++ between_symbols column.now low.now high.now) }
 {
     column.print(out)?;
     add_keyword(out, Keyword::Between)?;

@@ -84,7 +84,8 @@ impl Print for AstItem {
 }
 
 fn add_count_all(out: &mut Vec<Symbol>) -> Result<(), NoMemory>
-    ensures { OnOk result (out.new.items ≡ out.old.items ++ symbol.Keyword key.Count ∷ in_brackets (symbol.Sign mark.Star ∷ [])) }
+    ensures { OnOk result (out.new.items
+        ≡ out.old.items ++ symbol.Keyword key.Count ∷ in_brackets (symbol.Sign mark.Star ∷ [])) }
 {
     add_keyword(out, Keyword::Count)?;
     add_sign(out, Sign::Open)?;
@@ -94,7 +95,8 @@ fn add_count_all(out: &mut Vec<Symbol>) -> Result<(), NoMemory>
 
 /// Writes a function of a column.
 fn add_call(out: &mut Vec<Symbol>, function: Keyword, column: &Column) -> Result<(), NoMemory>
-    ensures { OnOk result (out.new.items ≡ out.old.items ++ symbol.Keyword function ∷ in_brackets (column_symbols column.now)) }
+    ensures { OnOk result (out.new.items
+        ≡ out.old.items ++ symbol.Keyword function ∷ in_brackets (column_symbols column.now)) }
 {
     add_keyword(out, function)?;
     add_sign(out, Sign::Open)?;
@@ -148,7 +150,8 @@ pub fn add_joined<T: Print>(out: &mut Vec<Symbol>, values: &[T]) -> Result<(), N
 
 /// Writes the values with a comma in front of each.
 pub fn add_more<T: Print>(out: &mut Vec<Symbol>, values: &[T]) -> Result<(), NoMemory>
-    ensures { OnOk result (out.new.items ≡ out.old.items ++ flat_map (λ next. comma ∷ T.symbols next) values.now) }
+    ensures { OnOk result
+        (out.new.items ≡ out.old.items ++ flat_map (λ next. comma ∷ T.symbols next) values.now) }
 {
     'values: for value in values {
         add_sign(out, Sign::Comma)?;

@@ -18,8 +18,8 @@ use star_lexer::{
 use star_values::{ByteText, NoMemory, SmallText};
 use std::alloc::Global;
 
-/// The line of a statement: words in lower case, one space between each two symbols, `<>`, no `;`, and
-/// parentheses where an `or` stands inside an `and` and where either stands under `not`.
+/// The line of a statement: words in lower case, one space between each two symbols, `<>`, no `;`,
+/// and parentheses where an `or` stands inside an `and` and where either stands under `not`.
 ///
 /// What is printed of a well-formed statement is read again as that statement.
 pub fn print(alloc: Global, ast: &Ast) -> Result<ByteText, NoMemory>
@@ -36,7 +36,8 @@ pub fn print(alloc: Global, ast: &Ast) -> Result<ByteText, NoMemory>
 }
 
 fn add_statement(out: &mut Vec<Symbol>, ast: &Ast) -> Result<(), NoMemory>
-    ensures { OnOk result (out.new.items ≡ out.old.items ++ statement_symbols (statement_of ast.now)) }
+    ensures { OnOk result
+        (out.new.items ≡ out.old.items ++ statement_symbols (statement_of ast.now)) }
 {
     match ast {
         Ast::Dimension { name, columns } => add_dimension(out, name, columns.as_slice()),
@@ -64,7 +65,8 @@ fn add_dimension(
     name: &SmallText,
     columns: &[AstColumn],
 ) -> Result<(), NoMemory>
-    ensures { OnOk result (out.new.items ≡ out.old.items ++ statement_symbols (plain.Dimension name.now columns.now)) }
+    ensures { OnOk result (out.new.items
+        ≡ out.old.items ++ statement_symbols (plain.Dimension name.now columns.now)) }
 {
     add_keyword(out, Keyword::Dimension)?;
     name.print(out)?;
@@ -87,7 +89,8 @@ fn add_dimension_columns(out: &mut Vec<Symbol>, columns: &[AstColumn]) -> Result
 }
 
 fn add_fact(out: &mut Vec<Symbol>, name: &SmallText, columns: &[AstColumn]) -> Result<(), NoMemory>
-    ensures { OnOk result (out.new.items ≡ out.old.items ++ statement_symbols (plain.Fact name.now columns.now)) }
+    ensures { OnOk result
+        (out.new.items ≡ out.old.items ++ statement_symbols (plain.Fact name.now columns.now)) }
 {
     add_keyword(out, Keyword::Fact)?;
     name.print(out)?;
@@ -97,7 +100,8 @@ fn add_fact(out: &mut Vec<Symbol>, name: &SmallText, columns: &[AstColumn]) -> R
 }
 
 fn add_load(out: &mut Vec<Symbol>, name: &SmallText, header: bool) -> Result<(), NoMemory>
-    ensures { OnOk result (out.new.items ≡ out.old.items ++ statement_symbols (plain.Load name.now header)) }
+    ensures { OnOk result
+        (out.new.items ≡ out.old.items ++ statement_symbols (plain.Load name.now header)) }
 {
     add_keyword(out, Keyword::Load)?;
     name.print(out)?;
@@ -113,7 +117,9 @@ fn add_delete(
     name: &SmallText,
     condition: &Option<Tree>,
 ) -> Result<(), NoMemory>
-    ensures { OnOk result (out.new.items ≡ out.old.items ++ statement_symbols (plain.Delete name.now (option_map condition_of condition.now))) }
+    ensures { OnOk result (out.new.items
+        ≡ out.old.items
+        ++ statement_symbols (plain.Delete name.now (option_map condition_of condition.now))) }
 {
     add_keyword(out, Keyword::Delete)?;
     add_keyword(out, Keyword::From)?;
@@ -129,7 +135,8 @@ fn add_select(
     groups: &[Column],
 ) -> Result<(), NoMemory>
     ensures { OnOk result (out.new.items ≡ out.old.items
-        ++ statement_symbols (plain.Select items.now tables.now (option_map condition_of condition.now) groups.now)) }
+        ++ statement_symbols (plain.Select items.now tables.now
+        (option_map condition_of condition.now) groups.now)) }
 {
     add_keyword(out, Keyword::Select)?;
     add_joined(out, items)?;
@@ -140,7 +147,8 @@ fn add_select(
 }
 
 fn add_where(out: &mut Vec<Symbol>, condition: &Option<Tree>) -> Result<(), NoMemory>
-    ensures { OnOk result (out.new.items ≡ out.old.items ++ where_symbols (option_map condition_of condition.now)) }
+    ensures { OnOk result
+        (out.new.items ≡ out.old.items ++ where_symbols (option_map condition_of condition.now)) }
 {
     match condition {
         Some(tree) => {

@@ -16,8 +16,10 @@ use std::alloc::Global;
 /// Reads a line as one statement, to its end. The limits of a line are tested first.
 pub fn parse(alloc: Global, line: &str) -> Result<Ast, ParseFault>
     ensures read { IfOk result (λ ast. IsSentence line.now (statement_of ast)) }
-    ensures only { (meaning : Statement) → IsSentence line.now meaning → ¬ (IsOverLimit line.now) → Answers meaning result }
-    ensures syntax { (place : ℕ) → IsErrOf result (ParseFault.Syntax place) → IsStop line.now place }
+    ensures only { (meaning : Statement) → IsSentence line.now meaning → ¬ (IsOverLimit line.now) →
+        Answers meaning result }
+    ensures syntax { (place : ℕ) → IsErrOf result (ParseFault.Syntax place) →
+        IsStop line.now place }
     ensures within { OnOk result (¬ (IsOverLimit line.now)) }
     ensures limit { IsErrOf result ParseFault.Limit → IsOverLimit line.now }
     ensures exact { IsParsed result (parsed_of line.now) }
@@ -32,8 +34,10 @@ pub fn parse(alloc: Global, line: &str) -> Result<Ast, ParseFault>
 
 fn read_sentence(alloc: Global, symbols: &Symbols, end: u32) -> Result<Ast, ParseFault>
     ensures read { IfOk result (λ ast. IsSentenceOf symbols.now (statement_of ast)) }
-    ensures only { (meaning : Statement) → IsSentenceOf symbols.now meaning → Answers meaning result }
-    ensures syntax { (place : ℕ) → IsErrOf result (ParseFault.Syntax place) → IsStopOf symbols.now end place }
+    ensures only { (meaning : Statement) → IsSentenceOf symbols.now meaning →
+        Answers meaning result }
+    ensures syntax { (place : ℕ) → IsErrOf result (ParseFault.Syntax place) →
+        IsStopOf symbols.now end place }
     ensures limit { ¬ (IsErrOf result ParseFault.Limit) }
     ensures exact { IsParsed result (parsed_by symbols.now end (sentence_at symbols.now.symbols)) }
 {

@@ -11,7 +11,8 @@ use star_values::{SmallText, Value};
 impl Parser<'_> {
     #[tactic(auto, unfolding(crate::specs::Reading::names_at))]
     pub fn names(&mut self) -> Result<Vec<SmallText>, Stop>
-        ensures { Gives (λ names. names.items) result self.new.rest.now (names_at self.old.rest.now) }
+        ensures { Gives (λ names. names.items) result self.new.rest.now
+            (names_at self.old.rest.now) }
     {
         let mut names = Vec::new(self.alloc);
         'members: loop {
@@ -24,7 +25,8 @@ impl Parser<'_> {
 
     #[tactic(auto, unfolding(crate::specs::Reading::items_at))]
     pub fn items(&mut self) -> Result<Vec<AstItem>, Stop>
-        ensures { Gives (λ items. items.items) result self.new.rest.now (items_at self.old.rest.now) }
+        ensures { Gives (λ items. items.items) result self.new.rest.now
+            (items_at self.old.rest.now) }
     {
         let mut items = Vec::new(self.alloc);
         'members: loop {
@@ -37,7 +39,8 @@ impl Parser<'_> {
 
     #[tactic(auto, unfolding(crate::specs::Reading::columns_at))]
     pub fn columns(&mut self) -> Result<Vec<Column>, Stop>
-        ensures { Gives (λ columns. columns.items) result self.new.rest.now (columns_at self.old.rest.now) }
+        ensures { Gives (λ columns. columns.items) result self.new.rest.now
+            (columns_at self.old.rest.now) }
     {
         let mut columns = Vec::new(self.alloc);
         'members: loop {
@@ -50,7 +53,8 @@ impl Parser<'_> {
 
     #[tactic(auto, unfolding(crate::specs::Reading::literals_at))]
     pub fn literals(&mut self) -> Result<Vec<Value>, Stop>
-        ensures { Gives (λ values. values.items) result self.new.rest.now (literals_at self.old.rest.now) }
+        ensures { Gives (λ values. values.items) result self.new.rest.now
+            (literals_at self.old.rest.now) }
     {
         let mut values = Vec::new(self.alloc);
         'members: loop {
@@ -63,7 +67,8 @@ impl Parser<'_> {
 
     #[tactic(auto, unfolding(crate::specs::Reading::plain_columns_at))]
     pub fn plain_columns(&mut self) -> Result<Vec<AstColumn>, Stop>
-        ensures { Gives (λ columns. columns.items) result self.new.rest.now (plain_columns_at self.old.rest.now) }
+        ensures { Gives (λ columns. columns.items) result self.new.rest.now
+            (plain_columns_at self.old.rest.now) }
     {
         let mut columns = Vec::new(self.alloc);
         'members: loop {
@@ -76,7 +81,8 @@ impl Parser<'_> {
 
     #[tactic(auto, unfolding(crate::specs::Reading::fact_columns_at))]
     pub fn fact_columns(&mut self) -> Result<Vec<AstColumn>, Stop>
-        ensures { Gives (λ columns. columns.items) result self.new.rest.now (fact_columns_at self.old.rest.now) }
+        ensures { Gives (λ columns. columns.items) result self.new.rest.now
+            (fact_columns_at self.old.rest.now) }
     {
         let mut columns = Vec::new(self.alloc);
         'members: loop {

@@ -67,7 +67,8 @@ impl Parser<'_> {
     /// The key, and then the other columns.
     #[tactic(auto, unfolding(crate::specs::Reading::dimension_columns_at))]
     fn dimension_columns(&mut self) -> Result<Vec<AstColumn>, Stop>
-        ensures { Gives (λ columns. columns.items) result self.new.rest.now (dimension_columns_at self.old.rest.now) }
+        ensures { Gives (λ columns. columns.items) result self.new.rest.now
+            (dimension_columns_at self.old.rest.now) }
     {
         let key = self.plain_column()?;
         self.keyword(Keyword::Key)?;
@@ -78,7 +79,8 @@ impl Parser<'_> {
 
     #[tactic(auto, unfolding(crate::specs::Reading::other_columns_at))]
     fn other_columns(&mut self) -> Result<Vec<AstColumn>, Stop>
-        ensures { Gives (λ columns. columns.items) result self.new.rest.now (other_columns_at self.old.rest.now) }
+        ensures { Gives (λ columns. columns.items) result self.new.rest.now
+            (other_columns_at self.old.rest.now) }
     {
         if self.skip_sign(Sign::Comma) {
             self.plain_columns()
@@ -89,7 +91,8 @@ impl Parser<'_> {
 
     #[tactic(auto, unfolding(crate::specs::Reading::plain_column_at))]
     pub fn plain_column(&mut self) -> Result<AstColumn, Stop>
-        ensures { Gives (λ column. column) result self.new.rest.now (plain_column_at self.old.rest.now) }
+        ensures { Gives (λ column. column) result self.new.rest.now
+            (plain_column_at self.old.rest.now) }
     {
         let name = self.name()?;
         let kind = self.kind()?;
@@ -116,7 +119,8 @@ impl Parser<'_> {
 
     #[tactic(auto, unfolding(crate::specs::Reading::fact_column_at))]
     pub fn fact_column(&mut self) -> Result<AstColumn, Stop>
-        ensures { Gives (λ column. column) result self.new.rest.now (fact_column_at self.old.rest.now) }
+        ensures { Gives (λ column. column) result self.new.rest.now
+            (fact_column_at self.old.rest.now) }
     {
         let name = self.name()?;
         let kind = self.kind()?;
@@ -178,7 +182,8 @@ impl Parser<'_> {
 
     #[tactic(auto, unfolding(crate::specs::Reading::where_at))]
     fn where_part(&mut self) -> Result<Option<Tree>, Stop>
-        ensures { Gives (option_map condition_of) result self.new.rest.now (where_at self.old.rest.now) }
+        ensures { Gives (option_map condition_of) result self.new.rest.now
+            (where_at self.old.rest.now) }
     {
         if self.skip_keyword(Keyword::Where) {
             Ok(Some(self.condition()?))
@@ -199,7 +204,8 @@ impl Parser<'_> {
 
     #[tactic(auto, unfolding(crate::specs::Reading::group_at))]
     fn group_part(&mut self) -> Result<Vec<Column>, Stop>
-        ensures { Gives (λ columns. columns.items) result self.new.rest.now (group_at self.old.rest.now) }
+        ensures { Gives (λ columns. columns.items) result self.new.rest.now
+            (group_at self.old.rest.now) }
     {
         if self.skip_keyword(Keyword::Group) {
             self.keyword(Keyword::By)?;

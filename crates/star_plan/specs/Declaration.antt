@@ -20,7 +20,8 @@ same_name column other = bytes_eq column.name other.name
 
 -- whether the name of a declared table is taken, or two of its columns have one name
 abbrev pub takes_a_name_twice : Schema → TableDef → Bool
-takes_a_name_twice schema table = is_some (table_named schema table.name) || repeats same_name table.columns
+takes_a_name_twice schema table =
+    is_some (table_named schema table.name) || repeats same_name table.columns
 
 -- whether a column references the dimension of this number
 abbrev pub references : ℕ → ColumnDef → Bool
@@ -43,7 +44,8 @@ references_nothing schema column =
 -- whether the key of a dimension is of this kind; the first column is the key
 abbrev pub has_key_of : Schema → Kind → ℕ → Bool
 has_key_of schema kind dimension =
-    option_map_or (λ key. same_kind kind key.kind) (slice_get (dimension_columns schema dimension) 0) false
+    option_map_or (λ key. same_kind kind key.kind)
+    (slice_get (dimension_columns schema dimension) 0) false
 
 -- whether a column references a key of another kind
 abbrev pub references_another_kind : Schema → ColumnDef → Bool
@@ -55,14 +57,16 @@ abbrev pub declared_dimension : Schema → TableDef → Result TableDef Refusal
 declared_dimension schema table =
     if is_some schema.fact then Err OutOfOrder else
     if takes_a_name_twice schema table then Err DuplicateName else
-    if nat_le MAX_DIMENSIONS (length schema.dimensions) || nat_lt MAX_COLUMNS (length table.columns) then Err Limit else
+    if nat_le MAX_DIMENSIONS (length schema.dimensions) || nat_lt MAX_COLUMNS (length table.columns)
+    then Err Limit else
     Ok table
 
 -- a fact table that is declared, or the first reason that refuses it
 abbrev pub declared_fact : Schema → TableDef → Result TableDef Refusal
 declared_fact schema table =
     if is_some schema.fact then Err OutOfOrder else
-    if takes_a_name_twice schema table || references_twice schema table.columns then Err DuplicateName else
+    if takes_a_name_twice schema table || references_twice schema table.columns
+    then Err DuplicateName else
     if list_any (references_nothing schema) table.columns then Err UnknownName else
     if nat_lt MAX_COLUMNS (length table.columns) then Err Limit else
     if list_any (references_another_kind schema) table.columns then Err TypeMismatch else

@@ -49,6 +49,7 @@ selection_fits kinds Unnamed = true
 selection_fits kinds AllRows = true
 selection_fits kinds (Chosen t) = test_fits kinds t
 
--- whether a row fits a table: it has as many values as the table has columns, each of its column's kind
+-- whether a row fits a table: it has as many values as the table has columns,
+-- each of its column's kind
 abbrev pub fits_table : TableDef → List Value → Bool
 fits_table table row = pointwise same_kind (kinds_of table.columns) (kinds_in row)

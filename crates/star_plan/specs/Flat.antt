@@ -34,7 +34,9 @@ lets row test = is_within test.bounds (integer_of (value_in row test.column))
 
 -- a range test lets the rows pass on which a test holds, of those that the test fits
 abbrev pub IsRangeOf : Test → RangeTest → Type 0
-IsRangeOf test range = (row : List Value) → IsTrue (test_fits (kinds_in row) test) → test_holds row test ≡ lets row range
+IsRangeOf test range =
+    (row : List Value) → IsTrue (test_fits (kinds_in row) test)
+    → test_holds row test ≡ lets row range
 
 -- the same of several range tests, and of several predicates that all have to hold
 abbrev pub AreRangesOf : List Predicate → List RangeTest → Type 0

@@ -34,9 +34,10 @@ is_named (Chosen t) = true
 abbrev pub Names : Query → ℕ → Type 0
 Names query dimension = option_map_or is_named (slice_get query.choices dimension) false ≡ true
 
--- each test fits the columns of its table; there is a choice for each dimension, and some item; each
--- place of the groups and items is that of a column; sums are over integers; plain items stand in the groups;
--- the dimensions of the groups and items are named; and those that are named are referenced
+-- each test fits the columns of its table; there is a choice for each dimension, and some
+-- item; each place of the groups and items is that of a column; sums are over integers; plain
+-- items stand in the groups; the dimensions of the groups and items are named; and those that
+-- are named are referenced
 pub record IsOver (schema : Schema) (query : Query) : Type 0 where
   pub fact : some_test_fits (kinds_of (fact_columns schema)) query.fact ≡ true
   pub some_item : 0 < length query.items

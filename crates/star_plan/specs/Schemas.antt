@@ -23,14 +23,17 @@ ReferencesNothing table = All (λ column. column.target ≡ None) table.columns
 -- what a column references, if anything, is a declared dimension whose key is of the column's kind
 abbrev pub ReferencesAKey : Schema → ColumnDef → Type 0
 ReferencesAKey schema column =
-    IfSome column.target (λ dimension. (dimension < length schema.dimensions) × IsTrue (has_key_of schema column.kind dimension))
+    IfSome column.target (λ dimension.
+    (dimension < length schema.dimensions) × IsTrue (has_key_of schema column.kind dimension))
 
 -- two columns do not reference one dimension
 abbrev pub ReferenceApart : ColumnDef → ColumnDef → Type 0
-ReferenceApart column other = (dimension : ℕ) → column.target ≡ Some dimension → other.target ≢ Some dimension
+ReferenceApart column other =
+    (dimension : ℕ) → column.target ≡ Some dimension → other.target ≢ Some dimension
 
--- the schema is within its limits; each table has columns, of different names; tables have different names; columns of
--- dimensions reference nothing; and those of the fact table reference keys of their kind, no two the same
+-- the schema is within its limits; each table has columns, of different names; tables have
+-- different names; columns of dimensions reference nothing; and those of the fact table reference
+-- keys of their kind, no two the same
 pub record IsDeclared (schema : Schema) : Type 0 where
   pub limits : IsWithinLimits schema
   pub columns : All HasColumns (tables_of schema)

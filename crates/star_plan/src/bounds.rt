@@ -16,8 +16,8 @@ pub struct Bounds {
 }
 
 impl Bounds {
-    /// The bounds of the integers that compare as asked with one, if they are a range. What is below
-    /// the least integer of 64 bits, or above the greatest, has no bounds of 64 bits.
+    /// The bounds of the integers that compare as asked with one, if they are a range. What is
+    /// below the least integer of 64 bits, or above the greatest, has no bounds of 64 bits.
     pub(crate) fn of(how: How, integer: i64) -> Option<Bounds>
         ensures { IfSome result (λ bounds. (n : ℤ) →
             is_asked how (int_cmp n integer) ≡ is_within bounds n) }

@@ -17,9 +17,9 @@ use star_values::{Kind, Refusal, StatementFault};
 
 /// Adds a dimension behind those that were declared. Its first column is its key.
 ///
-/// It is refused after the fact table was declared, for a name that is taken or stands twice, and as a
-/// ninth dimension or with more than 16 columns: for the first of these reasons. Memory is wanted
-/// only for what nothing refuses.
+/// It is refused after the fact table was declared, for a name that is taken or stands twice, and
+/// as a ninth dimension or with more than 16 columns: for the first of these reasons. Memory is
+/// wanted only for what nothing refuses.
 pub fn declare_dimension(schema: &mut Schema, table: TableDef) -> Result<(), StatementFault>
     requires declared { IsDeclared schema.old }
     requires columns { 0 < length table.columns }
@@ -39,7 +39,8 @@ pub fn declare_dimension(schema: &mut Schema, table: TableDef) -> Result<(), Sta
 ///
 /// It is refused after the fact table was declared, for a name that is taken or stands twice or two
 /// references to one dimension, for a reference to what is no dimension, with more than 16 columns,
-/// and for a reference to a key of another kind: for the first of these reasons. It takes no memory.
+/// and for a reference to a key of another kind: for the first of these
+/// reasons. It takes no memory.
 pub fn declare_fact(schema: &mut Schema, table: TableDef) -> Result<(), Refusal>
     requires declared { IsDeclared schema.old }
     requires columns { 0 < length table.columns }
@@ -54,7 +55,8 @@ pub fn declare_fact(schema: &mut Schema, table: TableDef) -> Result<(), Refusal>
     Ok(())
 }
 
-/// The first reason that refuses a dimension. A table that is refused may lose the order of its columns.
+/// The first reason that refuses a dimension. A table that is refused may lose
+/// the order of its columns.
 fn refusal_of_dimension(schema: &Schema, table: &mut TableDef) -> Option<Refusal>
     requires { IsWithinLimits schema.now }
     ensures { Refuses (declared_dimension schema.now table.old) table.new result }
@@ -71,7 +73,8 @@ fn refusal_of_dimension(schema: &Schema, table: &mut TableDef) -> Option<Refusal
     None
 }
 
-/// The first reason that refuses a fact table. A table that is refused may lose the order of its columns.
+/// The first reason that refuses a fact table. A table that is refused may lose
+/// the order of its columns.
 fn refusal_of_fact(schema: &Schema, table: &mut TableDef) -> Option<Refusal>
     requires { IsWithinLimits schema.now }
     ensures { Refuses (declared_fact schema.now table.old) table.new result }

@@ -85,8 +85,8 @@ pub fn tests_fit_by_their_parts()
         test_fits kinds (plain.Negate member) ≡ test_fits kinds member }
 {}
 
-/// A row fits a table exactly where its values have the kinds of the table's columns, in their order.
-/// So a test that fits the columns of a table may be asked of each row that fits the table.
+/// A row fits a table exactly where its values have the kinds of the table's columns, in their
+/// order. So a test that fits the columns of a table may be asked of each row that fits the table.
 pub fn rows_fit_by_their_kinds()
     ensures { (table : TableDef) (row : List Value) →
         IsTrue (fits_table table row) ↔ (kinds_in row ≡ kinds_of table.columns) }

@@ -1,4 +1,5 @@
-//! What one row more does to groups and their cells, as laws. It is what a fold of rows is proved by.
+//! What one row more does to groups and their cells, as laws. It is what a
+//! fold of rows is proved by.
 ghost use Rattle.std.specs.Prelude.{◌≡◌, ◌+ℤ◌, List, [], ◌∷◌, ◌++◌, Some, if◌then◌else◌};
 ghost use Rattle.std.specs.Option.{option_map_or};
 ghost use Rattle.std.specs.Ordering.{is_eq, ord_min, flip_args};
@@ -11,8 +12,9 @@ ghost use Rattle.star_plan.specs.Groups.{groups_of, key_cmp, key_of, rows_of};
 ghost use Rattle.star_plan.specs.Answer.{greatest_at, integer_of, least_at, sum_at};
 ghost use Rattle.star_plan.specs.Test.{Query};
 
-/// The groups of rows and one more are those of the rows, with the key of the one in its place in the
-/// order. The one belongs to the group of its key, behind the rows that were there, and to no other.
+/// The groups of rows and one more are those of the rows, with the key of the one in its
+/// place in the order. The one belongs to the group of its key, behind the rows that
+/// were there, and to no other.
 pub fn groups_take_one_row_more()
     ensures groups { (places : List Place) (rows : List Joined) (row : Joined) →
         groups_of places (rows ++ row ∷ [])
@@ -26,8 +28,8 @@ pub fn groups_take_one_row_more()
         ≡ (if is_kept query row then (kept_of query rows ++ row ∷ []) else kept_of query rows) }
 {}
 
-/// The sum over rows and one more is the sum over the rows and the integer of the one; the least and
-/// the greatest value are the one's where it is below or above those of the rows, or the first.
+/// The sum over rows and one more is the sum over the rows and the integer of the one; the least
+/// and the greatest value are the one's where it is below or above those of the rows, or the first.
 /// The count over rows and one more is one more, since it is their number.
 pub fn cells_take_one_row_more()
     ensures sum { (place : Place) (rows : List Joined) (row : Joined) →

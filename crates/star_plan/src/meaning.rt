@@ -18,8 +18,8 @@ ghost use Rattle.star_plan.specs.Truth.{passes};
 
 use star_values::values_are_in_order;
 
-/// A query keeps a joined row exactly where its test on the fact table, if there is one, holds on the
-/// fact row, and it takes the row of each of its dimensions. It keeps the rows in their order.
+/// A query keeps a joined row exactly where its test on the fact table, if there is one, holds on
+/// the fact row, and it takes the row of each of its dimensions. It keeps the rows in their order.
 pub fn kept_rows_meet_each_condition()
     ensures meets { (query : Query) (row : Joined) →
         IsTrue (is_kept query row)
@@ -91,10 +91,11 @@ pub fn answers_ignore_the_order_of_rows()
     values_are_in_order();
 }
 
-/// The least of values is the same in whatever order they come, and so is the greatest: two may be turned
-/// round, and of two that come behind others either may come first.
+/// The least of values is the same in whatever order they come, and so is the greatest: two may be
+/// turned round, and of two that come behind others either may come first.
 pub fn the_least_of_values_ignores_their_order()
-    ensures turns { (value other : Value) → ord_min value_cmp value other ≡ ord_min value_cmp other value }
+    ensures turns { (value other : Value) →
+        ord_min value_cmp value other ≡ ord_min value_cmp other value }
     ensures commutes { (least value other : Value) →
         ord_min value_cmp (ord_min value_cmp least value) other
         ≡ ord_min value_cmp (ord_min value_cmp least other) value }

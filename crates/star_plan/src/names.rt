@@ -11,8 +11,8 @@ use std::cmp::Ordering;
 
 /// Whether two columns have one name.
 ///
-/// As many columns as a table may have are compared in pairs and stay in their order. More are sorted
-/// by their names, so that no line is slow.
+/// As many columns as a table may have are compared in pairs and stay in their order. More are
+/// sorted by their names, so that no line is slow.
 pub(crate) fn has_repeated_name(columns: &mut [ColumnDef]) -> bool
     ensures twice { result ≡ repeats same_name columns.old }
     ensures few { length columns.old ≤ MAX_COLUMNS → columns.new ≡ columns.old }

@@ -19,8 +19,8 @@ pub struct RangeTest {
 }
 
 impl RangeTest {
-    /// Whether the test lets a row pass: the integer in its column is within its bounds. Where the row has
-    /// none there, 0 is asked in its place.
+    /// Whether the test lets a row pass: the integer in its column is within its bounds. Where the
+    /// row has none there, 0 is asked in its place.
     pub fn lets(&self, row: &Row) -> bool
         ensures { result ≡ lets row.now self.now }
     {

@@ -34,16 +34,16 @@ IsAsked old new (Replied reply) = ⊤
 IsAsked old new (Changed kind reply) = ⊤
 IsAsked old new (Accepted query snapshot) = IsOver old.schema (query_of query) × (new ≡ old)
 
--- at Ok the answer tells the outcome and the kind of its change, and the tables are those after it; at Err they are as
--- they were
+-- at Ok the answer tells the outcome and the kind of its change, and the tables are those after it;
+-- at Err they are as they were
 abbrev pub Follows : {E : Type 0} → KeyedStore → KeyedStore → Result Applied E → Outcome → Type 0
 Follows old new (Ok applied) found =
     (told_by applied ≡ found.told) × (kind_by applied ≡ option_map kind_of_change found.change)
     × (plain new ≡ store_by (plain old) found) × IsAsked old new applied
 Follows old new (Err fault) found = new ≡ old
 
--- what is answered to a load or delete of this kind that was carried out or refused: its commit, the reason, or that
--- memory was wanted
+-- what is answered to a load or delete of this kind that was carried out or refused: its commit,
+-- the reason, or that memory was wanted
 abbrev pub TellsDone : ChangeKind → Result Done StatementFault → Result Applied NoMemory → Type 0
 TellsDone kind (Ok done) (Ok applied) = applied ≡ Changed kind (reply.Commit done.commit done.rows)
 TellsDone kind (Ok done) (Err none) = ⊥

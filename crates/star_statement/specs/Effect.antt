@@ -1,5 +1,5 @@
--- The effect of a statement: its change, if it makes one, and its reply. A query is answered as evaluated alone over the
--- commits before it.
+-- The effect of a statement: its change, if it makes one, and its reply. A query is answered as
+-- evaluated alone over the commits before it.
 use Rattle.std.specs.Prelude.{ℕ, Option}
 use Rattle.std.specs.Option.{option_map_or}
 use Rattle.script_reader.specs.declared.statement.Statement.{Statement}

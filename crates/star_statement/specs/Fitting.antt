@@ -6,10 +6,12 @@ use Rattle.star_history.specs.History.{Change}
 use Rattle.star_history.specs.Store.{Store}
 use Rattle.star_statement.specs.Outcome.{Told, Replied, Accepted}
 
--- a change, where there is one, and what is told: a reply alone, a query over the schema at the last commit, which is asked
--- once the fact table is declared, or a change that the tables take, with a reply
+-- a change, where there is one, and what is told: a reply alone, a query over the schema at
+-- the last commit, which is asked once the fact table is declared, or a change that the
+-- tables take, with a reply
 abbrev pub FitsTables : Store → Option Change → Told → Type 0
 FitsTables store None (Replied reply) = Unit {0}
-FitsTables store None (Accepted query snapshot) = (snapshot ≡ store.commits) × IsOver store.schema query × IsSome store.schema.fact
+FitsTables store None (Accepted query snapshot) =
+    (snapshot ≡ store.commits) × IsOver store.schema query × IsSome store.schema.fact
 FitsTables store (Some change) (Replied reply) = Accepts store change
 FitsTables store (Some change) (Accepted query snapshot) = ⊥

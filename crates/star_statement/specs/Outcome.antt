@@ -1,4 +1,5 @@
--- What a statement does over the tables: at most one change, and what is told of it, its reply or the query that it asks.
+-- What a statement does over the tables: at most one change, and what is told of it, its reply
+-- or the query that it asks.
 use Rattle.std.specs.Prelude.{ℕ, ◌+◌, List, [], Option, Some, None, is_none, Result, Ok, Err, if◌then◌else◌}
 use Rattle.star_values.specs.declared.refusal.Refusal.{Refusal}
 use Rattle.star_values.specs.declared.refusal.Refusal.TheVariants.{OutOfOrder}
@@ -43,13 +44,17 @@ refused reason = only_tells (Replied (reply.Refused reason))
 
 -- the change of a declaration and the reply with the table's name, or refused for this reason
 abbrev pub declared : (TableDef → Change) → (name : List ℕ) → Result TableDef Refusal → Outcome
-declared change name (Ok table) = record { change = Some (change table); told = Replied (reply.Table name) }
+declared change name (Ok table) =
+    record { change = Some (change table); told = Replied (reply.Table name) }
 declared change name (Err reason) = refused reason
 
 -- a change that is the next commit, or refused for this reason
 abbrev pub committed : Store → Result Change Refusal → Outcome
 committed store (Ok change) =
-    record { change = Some change; told = Replied (reply.Commit (store.commits + 1) (changed_rows change)) }
+    record {
+      change = Some change;
+      told = Replied (reply.Commit (store.commits + 1) (changed_rows change));
+    }
 committed store (Err reason) = refused reason
 
 -- the bytes behind a line
@@ -66,7 +71,8 @@ deleted store (Err reason) = refused reason
 -- a delete from the table of a name, which is looked at once the fact table is declared
 abbrev pub delete_outcome : Store → (name : List ℕ) → (conjuncts : List Condition) → Outcome
 delete_outcome store name conjuncts =
-    if is_none store.schema.fact then refused OutOfOrder else deleted store (bound_delete store.schema name conjuncts)
+    if is_none store.schema.fact then refused OutOfOrder
+    else deleted store (bound_delete store.schema name conjuncts)
 
 -- a select that is this query, with the last commit as its snapshot, or refused for this reason
 abbrev pub selected : Store → Result Query Refusal → Outcome
@@ -76,17 +82,21 @@ selected store (Err reason) = refused reason
 -- a select, which is looked at once the fact table is declared
 abbrev pub select_outcome : Store → SelectParts → Outcome
 select_outcome store select =
-    if is_none store.schema.fact then refused OutOfOrder else selected store (bound_select store.schema select)
+    if is_none store.schema.fact then refused OutOfOrder
+    else selected store (bound_select store.schema select)
 
 -- the outcome of a statement of this meaning
 abbrev pub meaning_outcome : Store → Block → written.Statement → Outcome
 meaning_outcome store block (written.Dimension name columns) =
-    declared DimensionDeclared name (declared_dimension store.schema (declared_table store.schema (written.Dimension name columns)))
+    declared DimensionDeclared name
+    (declared_dimension store.schema (declared_table store.schema (written.Dimension name columns)))
 meaning_outcome store block (written.Fact name columns) =
-    declared FactDeclared name (declared_fact store.schema (declared_table store.schema (written.Fact name columns)))
+    declared FactDeclared name
+    (declared_fact store.schema (declared_table store.schema (written.Fact name columns)))
 meaning_outcome store block (written.Load name header) =
     committed store (load_change store name header (block_bytes block))
-meaning_outcome store block (written.Delete name condition) = delete_outcome store name (where_conjuncts condition)
+meaning_outcome store block (written.Delete name condition) =
+    delete_outcome store name (where_conjuncts condition)
 meaning_outcome store block (written.Select items names condition groups) =
     select_outcome store (select_of items names condition groups)
 meaning_outcome store block written.Wait = only_tells (Replied reply.Waited)

@@ -16,17 +16,20 @@ is_wanted_at wanted place = list_any (λ other. other == place) wanted
 
 -- a history after one statement more
 abbrev pub history_after : List Change → Statement → List Change
-history_after history statement = history ++ option_to_list (effect_of (store_of history) statement).change
+history_after history statement =
+    history ++ option_to_list (effect_of (store_of history) statement).change
 
 -- the replies to statements from a place on, behind those of a history
-abbrev pub replies_after : (wanted : List ℕ) → (place : ℕ) → List Change → List Statement → List Reply
+abbrev pub replies_after : (wanted : List ℕ) → (place : ℕ) → List Change → List Statement
+    → List Reply
 replies_after wanted place history [] = []
 replies_after wanted place history (statement ∷ statements) =
     if is_wanted_at wanted place then Memory ∷ replies_after wanted (suc place) history statements
     else ((effect_of (store_of history) statement).reply
     ∷ replies_after wanted (suc place) (history_after history statement) statements)
 
--- the replies to the statements of a script, where memory was wanted at these places, counted from 0
+-- the replies to the statements of a script, where memory was wanted at
+-- these places, counted from 0
 abbrev pub replies_of : (wanted : List ℕ) → List Statement → List Reply
 replies_of wanted statements = replies_after wanted 0 [] statements
 

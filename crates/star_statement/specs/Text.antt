@@ -1,5 +1,5 @@
--- What a statement means by its text alone, and why its text is refused: the first of three tests that it does not
--- pass. No table is looked at.
+-- What a statement means by its text alone, and why its text is refused: the first of three tests
+-- that it does not pass. No table is looked at.
 use Rattle.std.specs.Prelude.{◌≡◌, ◌⊎◌, ℕ, Bool, true, false, not, ◌&&◌, List, length, Result, Ok, Err, if◌then◌else◌}
 use Rattle.std.specs.Str.{IsUtf8, is_utf8}
 use Rattle.star_values.specs.declared.refusal.Refusal.{Refusal}
@@ -50,8 +50,8 @@ is_closed (Unclosed block) = false
 abbrev pub lacks_block : written.Statement → Block → Bool
 lacks_block meaning block = is_load meaning && not (is_closed block)
 
--- what a line of so many bytes that is UTF-8 means, with what stands behind it, or why it is refused: it is over a
--- limit, or no statement from a place on
+-- what a line of so many bytes that is UTF-8 means, with what stands behind it, or why it is
+-- refused: it is over a limit, or no statement from a place on
 abbrev pub parsed_meaning : ℕ → Block → Parsed → Result written.Statement Refusal
 parsed_meaning end block Over = Err refusal.Limit
 parsed_meaning end block (Stopped place) = Err (refusal.Syntax place)
@@ -61,7 +61,8 @@ parsed_meaning end block (Means meaning) =
 -- what a statement means, or why its text is refused
 unfoldable pub meaning_of : Statement → Result written.Statement Refusal
 meaning_of statement =
-    if is_utf8 statement.line then parsed_meaning (length statement.line) statement.block (parsed_of statement.line)
+    if is_utf8 statement.line
+    then parsed_meaning (length statement.line) statement.block (parsed_of statement.line)
     else Err refusal.NotUtf8
 
 -- The same in the words of the limits and the grammar.
@@ -72,14 +73,17 @@ IsWithin line = IsUtf8 line × ¬ (IsOverLimit line)
 
 -- the line is the statement of this meaning, and does not lack a block
 abbrev pub IsWhole : Statement → written.Statement → Type 0
-IsWhole statement meaning = IsSentence statement.line meaning × (lacks_block meaning statement.block ≡ false)
+IsWhole statement meaning =
+    IsSentence statement.line meaning × (lacks_block meaning statement.block ≡ false)
 
 -- the line ends in this place, and is a load without a closed block
 abbrev pub EndsTooSoon : Statement → ℕ → Type 0
 EndsTooSoon statement place =
-    (meaning : written.Statement) × IsSentence statement.line meaning × (lacks_block meaning statement.block ≡ true)
+    (meaning : written.Statement) × IsSentence statement.line meaning
+    × (lacks_block meaning statement.block ≡ true)
     × (place ≡ length statement.line)
 
--- the first place where the line is the front of no statement, or the end of a load without a closed block
+-- the first place where the line is the front of no statement, or the end of a
+-- load without a closed block
 abbrev pub StopsAt : Statement → ℕ → Type 0
 StopsAt statement place = IsStop statement.line place ⊎ EndsTooSoon statement place

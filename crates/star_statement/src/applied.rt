@@ -30,8 +30,8 @@ pub enum Applied {
     /// It changed the tables in this way, and this is its reply.
     Changed { kind: ChangeKind, reply: Reply },
 
-    /// It is a query that every check accepts, and its answer is still to be found: that over the commits up
-    /// to the snapshot, which is the number of the last commit before the statement.
+    /// It is a query that every check accepts, and its answer is still to be found: that over the
+    /// commits up to the snapshot, which is the number of the last commit before the statement.
     Accepted { query: StarQuery, snapshot: u64 },
 }
 

@@ -28,11 +28,11 @@ use std::alloc::Global;
 
 /// Does what a statement says to the tables, and tells its reply, or the query that it asks.
 ///
-/// A declaration, load or delete that no check refuses makes its change. A refused statement, a query and a
-/// `wait` change nothing, and are answered whether the tables are lent or not. A declaration, load or delete is
-/// carried out or refused where they are not lent, and where they are it is busy and gets no answer. Where memory is
-/// wanted, where there is no number for one commit more, or where there is another share of the tables, nothing has
-/// changed.
+/// A declaration, load or delete that no check refuses makes its change. A refused statement, a
+/// query and a `wait` change nothing, and are answered whether the tables are lent or not. A
+/// declaration, load or delete is carried out or refused where they are not lent, and where they
+/// are it is busy and gets no answer. Where memory is wanted, where there is no number for one
+/// commit more, or where there is another share of the tables, nothing has changed.
 #[tactic(auto, unfolding(crate::specs::Outcome::outcome_of))]
 pub fn apply(
     alloc: Global,
@@ -166,7 +166,8 @@ fn declare_dimension(
     requires shaped { IsShaped (statement_of ast.now) }
     requires dimension { is_dimension (statement_of ast.now) ≡ true }
     ensures { Follows store.old store.new result (declared DimensionDeclared name.now
-        (declared_dimension store.old.schema (declared_table store.old.schema (statement_of ast.now)))) }
+        (declared_dimension store.old.schema
+        (declared_table store.old.schema (statement_of ast.now)))) }
 {
     let table = bind_table(alloc, ast, store.schema())?;
     let name = name.copy()?;

@@ -26,7 +26,8 @@ use star_binder::bound_queries_keep_to_their_schema;
 use star_parser::{lines_are_what_the_grammar_says, statements_have_their_shapes};
 use star_store::changes_of_statements_are_taken;
 
-/// A refused statement, a query and a `wait` change nothing, and an accepted load or delete is the next commit.
+/// A refused statement, a query and a `wait` change nothing, and an accepted load or
+/// delete is the next commit.
 pub fn replies_agree_with_the_tables()
     ensures { (store : Store) (statement : Statement) →
         AgreesWith store (store_after store statement) (effect_of store statement).reply }
@@ -34,7 +35,8 @@ pub fn replies_agree_with_the_tables()
 
 /// The replies to the statements of a script are those over its tables, from no tables on.
 pub fn replies_follow_from_the_tables()
-    ensures after { (wanted : List ℕ) (place : ℕ) (history : List Change) (statements : List Statement) →
+    ensures after { (wanted : List ℕ) (place : ℕ) (history : List Change)
+        (statements : List Statement) →
         replies_after wanted place history statements
         ≡ replies_at wanted place (store_of history) statements }
     ensures script { (wanted : List ℕ) (statements : List Statement) →
@@ -49,35 +51,43 @@ pub fn texts_are_refused_for_the_first_reason()
     ensures limit { (statement : Statement) →
         (meaning_of statement ≡ Err Limit) ↔ (IsUtf8 statement.line × IsOverLimit statement.line) }
     ensures syntax { (statement : Statement) (place : ℕ) →
-        meaning_of statement ≡ Err (Syntax place) → IsWithin statement.line × StopsAt statement place }
+        meaning_of statement ≡ Err (Syntax place) →
+        IsWithin statement.line × StopsAt statement place }
     ensures passed { (statement : Statement) (meaning : written.Statement) →
-        (meaning_of statement ≡ Ok meaning) ↔ (IsWithin statement.line × IsWhole statement meaning) }
+        (meaning_of statement ≡ Ok meaning)
+        ↔ (IsWithin statement.line × IsWhole statement meaning) }
 {
     lines_are_what_the_grammar_says();
 }
 
 /// A select is out of order before the fact table was declared. Behind it a select that may not
-/// stand over the declared tables is refused for the first reason of the binder, and any other is accepted,
-/// with the number of the last commit as its snapshot.
+/// stand over the declared tables is refused for the first reason of the binder, and any other is
+/// accepted, with the number of the last commit as its snapshot.
 pub fn selects_are_refused_by_the_schema()
-    ensures early { (store : Store) (statement : Statement) (items : List AstItem) (names : List (List ℕ))
+    ensures early { (store : Store) (statement : Statement) (items : List AstItem)
+        (names : List (List ℕ))
         (condition : Option Condition) (groups : List Column) →
-        meaning_of statement ≡ Ok (written.Select items names condition groups) → store.schema.fact ≡ None →
+        meaning_of statement ≡ Ok (written.Select items names condition groups) →
+        store.schema.fact ≡ None →
         outcome_of store statement ≡ refused OutOfOrder }
-    ensures bound { (store : Store) (fact : TableDef) (statement : Statement) (items : List AstItem) (names : List (List ℕ))
+    ensures bound { (store : Store) (fact : TableDef) (statement : Statement) (items : List AstItem)
+        (names : List (List ℕ))
         (condition : Option Condition) (groups : List Column) (reason : Refusal) →
-        meaning_of statement ≡ Ok (written.Select items names condition groups) → store.schema.fact ≡ Some fact →
+        meaning_of statement ≡ Ok (written.Select items names condition groups) →
+        store.schema.fact ≡ Some fact →
         bound_select store.schema (select_of items names condition groups) ≡ Err reason →
         outcome_of store statement ≡ refused reason }
-    ensures accepted { (store : Store) (fact : TableDef) (statement : Statement) (items : List AstItem) (names : List (List ℕ))
+    ensures accepted { (store : Store) (fact : TableDef) (statement : Statement)
+        (items : List AstItem) (names : List (List ℕ))
         (condition : Option Condition) (groups : List Column) (query : Query) →
-        meaning_of statement ≡ Ok (written.Select items names condition groups) → store.schema.fact ≡ Some fact →
+        meaning_of statement ≡ Ok (written.Select items names condition groups) →
+        store.schema.fact ≡ Some fact →
         bound_select store.schema (select_of items names condition groups) ≡ Ok query →
         outcome_of store statement ≡ only_tells (Accepted query store.commits) }
 {}
 
-/// A statement over settled tables is a reply alone, a query over the schema at the last commit, or a
-/// change that the tables take.
+/// A statement over settled tables is a reply alone, a query over the schema at the last commit, or
+/// a change that the tables take.
 pub fn outcomes_fit_the_tables()
     ensures { (store : Store) (statement : Statement) → IsSettled store →
         FitsTables store (outcome_of store statement).change (outcome_of store statement).told }

@@ -16,10 +16,10 @@ ghost use Rattle.star_history.specs.Store.{PlainVersion, Store};
 use star_binder::bound_queries_keep_what_the_where_keeps;
 use star_history::one_row_joins_a_visible_version;
 
-/// A select over settled tables is answered by the rows on which its WHERE holds as it is written. Each
-/// version that its snapshot sees is joined with the rows of its keys; on that joined row the WHERE holds
-/// exactly where the query that is bound keeps it; and so the answer of the query alone is over these rows
-/// and no others.
+/// A select over settled tables is answered by the rows on which its WHERE holds as it is written.
+/// Each version that its snapshot sees is joined with the rows of its keys; on that joined row the
+/// WHERE holds exactly where the query that is bound keeps it; and so the answer of the query alone
+/// is over these rows and no others.
 pub fn selects_are_answered_by_the_rows_where_their_where_holds()
     ensures joined { (store : Store) (items : List AstItem) (names : List (List ℕ))
         (condition : Option Condition) (groups : List Column) (query : Query) (snapshot : ℕ)

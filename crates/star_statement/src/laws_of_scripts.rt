@@ -23,9 +23,9 @@ use star_history::{accepted_histories_are_settled, one_row_joins_a_visible_versi
 use star_parser::statements_have_their_shapes;
 use star_values::small_text_rule_is_tested;
 
-/// Replies are `memory` exactly at the places of statements where memory was wanted: no statement that
-/// has its effect replies so. So the replies tell the places: with those at which they are `memory`, and
-/// no others, the statements have the same replies and make the same history.
+/// Replies are `memory` exactly at the places of statements where memory was wanted: no statement
+/// that has its effect replies so. So the replies tell the places: with those at which they are
+/// `memory`, and no others, the statements have the same replies and make the same history.
 pub fn replies_tell_where_memory_was_wanted()
     ensures never { (store : Store) (statement : Statement) →
         is_memory (effect_of store statement).reply ≡ false }
@@ -45,9 +45,9 @@ pub fn replies_tell_where_memory_was_wanted()
         ≡ replies_of wanted statements }
 {}
 
-/// Each change of a script's history is taken by the tables that stand before it, wherever memory was
-/// wanted, and whether the input has ended or not; and so is each change of statements behind a history
-/// of such changes.
+/// Each change of a script's history is taken by the tables that stand before it, wherever memory
+/// was wanted, and whether the input has ended or not; and so is each change of statements behind a
+/// history of such changes.
 pub fn histories_of_scripts_are_accepted()
     ensures behind { (wanted : List ℕ) (place : ℕ) (history : List Change)
         (statements : List Statement) → AcceptsAll empty_store history →
@@ -59,8 +59,8 @@ pub fn histories_of_scripts_are_accepted()
     outcomes_fit_the_tables();
 }
 
-/// So the tables that statements make are settled, and exactly one row of a dimension that a snapshot
-/// sees has the foreign key of a version that it sees.
+/// So the tables that statements make are settled, and exactly one row of a dimension that a
+/// snapshot sees has the foreign key of a version that it sees.
 pub fn tables_of_scripts_are_settled()
     ensures settled { (wanted : List ℕ) (statements : List Statement) →
         IsSettled (store_of (history_of wanted statements)) }
@@ -76,8 +76,9 @@ pub fn tables_of_scripts_are_settled()
     one_row_joins_a_visible_version();
 }
 
-/// Each reply to a script within the limit is well formed: what its text tells can be read back from it.
-/// So is each reply to statements behind others, unless there are more of them than commits can be numbered.
+/// Each reply to a script within the limit is well formed: what its text tells can be read back
+/// from it. So is each reply to statements behind others, unless there are more of them than
+/// commits can be numbered.
 pub fn replies_are_well_formed()
     ensures behind { (before wanted : List ℕ) (place : ℕ) (earlier statements : List Statement) →
         length earlier + length statements + 1 < 2 ^ 64 →
@@ -92,9 +93,9 @@ pub fn replies_are_well_formed()
     texts_are_refused_for_the_first_reason();
 }
 
-/// The text of well-formed replies, one behind the other, tells them. So what is written to a script
-/// within the limit tells at which places of its statements memory was wanted, and the history that
-/// they make.
+/// The text of well-formed replies, one behind the other, tells them. So what is written to
+/// a script within the limit tells at which places of its statements memory was wanted, and
+/// the history that they make.
 pub fn texts_tell_their_replies()
     ensures replies { (replies others : List Reply) →
         All IsWellFormed replies → All IsWellFormed others →

@@ -1,5 +1,5 @@
-//! What a statement does over the tables, and what it is answered. Statements are read in `script_reader`, and queries
-//! are evaluated elsewhere.
+//! What a statement does over the tables, and what it is answered. Statements are read in
+//! `script_reader`, and queries are evaluated elsewhere.
 #![tactic(auto)]
 
 mod applied;

@@ -14,7 +14,8 @@ use star_values::NoMemory;
 use std::alloc::Global;
 use std::marker::Model;
 
-/// A statement to be applied, and what its block was read as, where it was read before. It is seen as the statement.
+/// A statement to be applied, and what its block was read as, where it was read before. It
+/// is seen as the statement.
 #[derive(Debug, Drop)]
 pub struct ReadStatement<'a> {
     statement: &'a Statement,
@@ -45,8 +46,8 @@ impl<'a> ReadStatement<'a> {
         }
     }
 
-    /// A statement whose block is read now, by this form. A block of more records than any table takes is left to be
-    /// refused as it is applied.
+    /// A statement whose block is read now, by this form. A block of more records than any table
+    /// takes is left to be refused as it is applied.
     pub fn read(
         alloc: Global,
         statement: &'a Statement,
@@ -91,14 +92,15 @@ pub(crate) fn block_bytes(block: &Block) -> &[u8]
     }
 }
 
-/// By what form the block of a statement is to be read over these tables: that of a load into a table that is there.
-/// Of any other statement no block is read.
+/// By what form the block of a statement is to be read over these tables: that of a load into a
+/// table that is there. Of any other statement no block is read.
 pub fn block_form(
     alloc: Global,
     store: &Store,
     statement: &Statement,
 ) -> Result<Option<BlockForm>, NoMemory>
-    ensures { IfOk result (λ form. form ≡ form_of_text store.now.schema (meaning_of statement.now)) }
+    ensures { IfOk result (λ form.
+        form ≡ form_of_text store.now.schema (meaning_of statement.now)) }
 {
     match read_text(alloc, statement)? {
         Ok(ast) => form_of(store, &ast),

@@ -9,7 +9,8 @@ use Rattle.star_plan.specs.Truth.{passes}
 use Rattle.star_history.specs.History.{Change, Ended}
 use Rattle.star_history.specs.Store.{PlainVersion, Store}
 
--- whether a delete ends a version: no commit ended it, and the condition, if there is one, holds on its row
+-- whether a delete ends a version: no commit ended it, and the condition, if there
+-- is one, holds on its row
 abbrev pub is_ended_by : Option Test → PlainVersion → Bool
 is_ended_by condition version = (version.end == 0) && passes condition version.row
 
@@ -22,4 +23,5 @@ positions_of condition versions =
 -- the change of a delete, or the reason that refuses it
 abbrev pub delete_change : Store → Option Test → Result Change Refusal
 delete_change store condition =
-    if is_none store.schema.fact then Err OutOfOrder else Ok (Ended (positions_of condition store.versions))
+    if is_none store.schema.fact then Err OutOfOrder
+    else Ok (Ended (positions_of condition store.versions))

@@ -7,4 +7,5 @@ use Rattle.star_store.specs.contracts.tables.Tables.{the_row as tables_layout}
 
 -- the tables end as the store was last written, or as they were where it was not lent
 abbrev pub lends_store : MutBor KeyedStore → Option (MutBor KeyedStore) → Fml
-lends_store tables store = LendsIf tables_layout store_layout tables store (λ written. written) tables.now
+lends_store tables store =
+    LendsIf tables_layout store_layout tables store (λ written. written) tables.now

@@ -47,38 +47,45 @@ repeats_a_key rows new = repeats same_key new || list_any (is_taken rows) new
 -- whether the foreign key of a row for a dimension is the key of no row there
 abbrev pub dangles_at : Schema → List (List DimensionRow) → List cell.Value → (dimension : ℕ) → Bool
 dangles_at schema dimensions row dimension =
-    option_map_or (λ key. is_none (index_of (rows_in dimensions dimension) key)) (foreign_key schema dimension row) false
+    option_map_or (λ key. is_none (index_of (rows_in dimensions dimension) key))
+    (foreign_key schema dimension row) false
 
 -- whether some foreign key of a row is the key of no row
 abbrev pub dangles : Schema → List (List DimensionRow) → List cell.Value → Bool
-dangles schema dimensions row = list_any (dangles_at schema dimensions row) (range_with_len 0 (length schema.dimensions))
+dangles schema dimensions row =
+    list_any (dangles_at schema dimensions row) (range_with_len 0 (length schema.dimensions))
 
--- rows that fit a table, loaded into it, or the reason that refuses them: in a dimension a key that is not new, in the
--- fact table a foreign key without its row
+-- rows that fit a table, loaded into it, or the reason that refuses them: in a dimension a key that
+-- is not new, in the fact table a foreign key without its row
 abbrev pub loaded_rows : Store → Table → List (List cell.Value) → Result Change Refusal
 loaded_rows store Fact rows =
-    if list_any (dangles store.schema store.dimensions) rows then Err DanglingReference else Ok (Loaded Fact rows)
+    if list_any (dangles store.schema store.dimensions) rows then Err DanglingReference
+    else Ok (Loaded Fact rows)
 loaded_rows store (Dimension dimension) rows =
     if repeats_a_key (rows_in store.dimensions dimension) rows then Err DuplicateKey else
     Ok (Loaded (Dimension dimension) rows)
 
--- records loaded into a table, or the first reason that refuses them: there are more than the table has room for, one
--- is no row of the table, or its rows are refused
+-- records loaded into a table, or the first reason that refuses them: there are more than the table
+-- has room for, one is no row of the table, or its rows are refused
 abbrev pub loaded_records : Store → Table → List (List (List ℕ)) → Result Change Refusal
 loaded_records store table records =
     if nat_lt (most_in table) (count_in store table + length records) then Err Limit else
-    option_map_or (loaded_rows store table) (typed_rows (kinds_of (columns_of store.schema table)) records)
+    option_map_or (loaded_rows store table)
+    (typed_rows (kinds_of (columns_of store.schema table)) records)
     (Err BadRecord)
 
 -- the change of a load of a block into the table of a name, or the first reason that refuses it
-unfoldable pub load_change : Store → (name : List ℕ) → (header : Bool) → (block : List ℕ) → Result Change Refusal
+unfoldable pub load_change : Store → (name : List ℕ) → (header : Bool) → (block : List ℕ)
+    → Result Change Refusal
 load_change store name header block =
     if is_none store.schema.fact then Err OutOfOrder else
-    option_map_or (λ table. loaded_records store table (records_in header block)) (table_named store.schema name)
+    option_map_or (λ table. loaded_records store table (records_in header block))
+    (table_named store.schema name)
     (Err UnknownName)
 
--- the form by which a block is read that is loaded into the table of a name, with a header or without one, where the
--- table is there
+-- the form by which a block is read that is loaded into the table of a name, with a header or
+-- without one, where the table is there
 abbrev pub load_form : Schema → (name : List ℕ) → (header : Bool) → Option BlockForm
 load_form schema name header =
-    option_map (λ table. record { header = header; kinds = kinds_of (columns_of schema table) }) (table_named schema name)
+    option_map (λ table. record { header = header; kinds = kinds_of (columns_of schema table) })
+    (table_named schema name)

@@ -15,10 +15,12 @@ abbrev pub AreReferences : Schema → List (Option ℕ) → Type 0
 AreReferences schema columns = (dimension : ℕ) → dimension < length schema.dimensions →
     slice_index_or columns dimension None ≡ position (references dimension) (fact_columns schema)
 
--- for each dimension that there may be a number: where a column references it, the place of the row with this row's
--- foreign key, and else 0
-pub record AreKeyNumbers (schema : Schema) (dimensions : List (List DimensionRow)) (row : List cell.Value) (keys : List ℕ) : Type 0 where
+-- for each dimension that there may be a number: where a column references it, the place of the row
+-- with this row's foreign key, and else 0
+pub record AreKeyNumbers (schema : Schema) (dimensions : List (List DimensionRow))
+    (row : List cell.Value) (keys : List ℕ) : Type 0 where
   pub count : length keys ≡ KEYS_IN_A_VERSION
   pub places : (dimension : ℕ) → IfSome (foreign_key schema dimension row)
       (λ key. index_of (rows_in dimensions dimension) key ≡ Some (slice_index_or keys dimension 0))
-  pub others : (dimension : ℕ) → foreign_key schema dimension row ≡ None → slice_index_or keys dimension 0 ≡ 0
+  pub others : (dimension : ℕ) → foreign_key schema dimension row ≡ None
+      → slice_index_or keys dimension 0 ≡ 0

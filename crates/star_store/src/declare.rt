@@ -24,10 +24,12 @@ pub(crate) fn add_dimension(
     requires declared { IsDeclared schema.old }
     requires columns { 0 < length table.columns }
     requires plain { ReferencesNothing table }
-    ensures schema { OnOk result (IsOkAnd (declared_dimension schema.old table) (λ declared. schema.new ≡ with_dimension schema.old declared)) }
+    ensures schema { OnOk result (IsOkAnd (declared_dimension schema.old table) (λ declared.
+        schema.new ≡ with_dimension schema.old declared)) }
     ensures rows { OnOk result (rows_of_all dims.new ≡ rows_of_all dims.old ++ [] ∷ []) }
     ensures tells { IfErr result (Tells (declared_dimension schema.old table)) }
-    ensures memory { IsErrOf result StatementFault.Memory → IsOk (declared_dimension schema.old table) }
+    ensures memory { IsErrOf result StatementFault.Memory →
+        IsOk (declared_dimension schema.old table) }
     ensures err { OnErr result ((schema.new ≡ schema.old) × (dims.new ≡ dims.old)) }
 {
     declare_dimension(schema, table)?;

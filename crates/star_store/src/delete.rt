@@ -16,21 +16,27 @@ use fact_versions::FactVersions;
 use star_plan::{Predicate, Schema, rows_fit_by_their_kinds};
 use star_values::{Refusal, StatementFault};
 
-/// Ends every version that no commit ended and on which the condition, if there is one, holds, as the
-/// next commit.
+/// Ends every version that no commit ended and on which the condition, if there is one,
+/// holds, as the next commit.
 pub(crate) fn delete(
     schema: &Schema,
     facts: &mut FactVersions,
     commits: &mut u64,
     condition: Option<&Predicate>,
 ) -> Result<Done, StatementFault>
-    requires fit { IfSome schema.now.fact (λ table. All (λ version. IsTrue (fits_table table version.row)) facts.old.items) }
-    requires condition { IfSome schema.now.fact (λ table. some_test_fits (kinds_of table.columns) (option_map (λ p. test_of p.now) condition) ≡ true) }
+    requires fit { IfSome schema.now.fact (λ table.
+        All (λ version. IsTrue (fits_table table version.row)) facts.old.items) }
+    requires condition { IfSome schema.now.fact (λ table.
+        some_test_fits (kinds_of table.columns) (option_map (λ p. test_of p.now) condition)
+        ≡ true) }
     ensures commits { (dims : List (Roomy DimensionRow)) → Commits
-        (delete_change (plain (tables_of schema.now dims facts.old commits.old)) (option_map (λ p. test_of p.now) condition.entry))
-        (tables_of schema.now dims facts.old commits.old) (tables_of schema.now dims facts.new commits.new) result }
+        (delete_change (plain (tables_of schema.now dims facts.old commits.old))
+        (option_map (λ p. test_of p.now) condition.entry))
+        (tables_of schema.now dims facts.old commits.old)
+        (tables_of schema.now dims facts.new commits.new) result }
     ensures keyed { (dimensions : List (List DimensionRow)) →
-        All (HasKeyNumbers schema.now dimensions) facts.old.items → All (HasKeyNumbers schema.now dimensions) facts.new.items }
+        All (HasKeyNumbers schema.now dimensions) facts.old.items →
+        All (HasKeyNumbers schema.now dimensions) facts.new.items }
     ensures memory { IsErrOf result StatementFault.Memory → commits.old ≡ 2 ^ 64 - 1 }
 {
     rows_fit_by_their_kinds();

@@ -13,7 +13,8 @@ use star_plan::rows_fit_by_their_kinds;
 
 /// The tables take the change of each load and delete that nothing refuses.
 pub fn changes_of_statements_are_taken()
-    ensures load { (store : Store) (name : List ℕ) (header : Bool) (block : List ℕ) (change : Change) →
+    ensures load { (store : Store) (name : List ℕ) (header : Bool) (block : List ℕ)
+        (change : Change) →
         IsSettled store → load_change store name header block ≡ Ok change → Accepts store change }
     ensures delete { (store : Store) (condition : Option Test) (change : Change) →
         delete_change store condition ≡ Ok change → Accepts store change }

@@ -46,7 +46,8 @@ pub(crate) struct BlockToLoad<'a> {
     pub(crate) ghost same: { ForSome read (λ read. read.block.now ≡ block.now) },
 }
 
-/// By what form a block is to be read that is loaded into the table of a name, where such a table is there.
+/// By what form a block is to be read that is loaded into the table of a name,
+/// where such a table is there.
 pub(crate) fn block_form(
     alloc: Global,
     schema: &Schema,
@@ -64,7 +65,8 @@ pub(crate) fn block_form(
 
 /// The form of a block for a table with these columns.
 fn form_for(alloc: Global, columns: &[ColumnDef], header: bool) -> Result<BlockForm, NoMemory>
-    ensures { IfOk result (λ form. form ≡ record { header = header; kinds = kinds_of columns.now }) }
+    ensures { IfOk result (λ form.
+        form ≡ record { header = header; kinds = kinds_of columns.now }) }
 {
     let kinds = kinds_of(alloc, columns)?;
     Ok(BlockForm {
@@ -73,14 +75,15 @@ fn form_for(alloc: Global, columns: &[ColumnDef], header: bool) -> Result<BlockF
     })
 }
 
-/// From so many bytes on the records of a block are counted before rows are made of them: those of a smaller one take no
-/// more memory than a few loads that are taken.
+/// From so many bytes on the records of a block are counted before rows are made of them: those of
+/// a smaller one take no more memory than a few loads that are taken.
 const COUNTED_FIRST: usize = 4 * 1024 * 1024;
 
-/// Whether a block has more records than any table has room for, whose rows need not be made then. Of a block that is not
-/// large this is not asked.
+/// Whether a block has more records than any table has room for, whose rows need not be made then.
+/// Of a block that is not large this is not asked.
 pub fn is_over_every_table(alloc: Global, block: &[u8], header: bool) -> Result<bool, NoMemory>
-    ensures { IfOk result (λ over. IsTrue over → MAX_VERSIONS < length (records_in header block.now)) }
+    ensures { IfOk result (λ over.
+        IsTrue over → MAX_VERSIONS < length (records_in header block.now)) }
 {
     if block.len() < COUNTED_FIRST {
         return Ok(false);
@@ -91,7 +94,8 @@ pub fn is_over_every_table(alloc: Global, block: &[u8], header: bool) -> Result<
 
 /// Whether a block that was not read before has more records than any table has room for.
 fn is_over(alloc: Global, load: &BlockToLoad<'_>) -> Result<bool, NoMemory>
-    ensures { IfOk result (λ over. IsTrue over → MAX_VERSIONS < length (records_in load.now.header load.now.block.now)) }
+    ensures { IfOk result (λ over.
+        IsTrue over → MAX_VERSIONS < length (records_in load.now.header load.now.block.now)) }
 {
     if load.read.is_some() {
         return Ok(false);
@@ -99,14 +103,17 @@ fn is_over(alloc: Global, load: &BlockToLoad<'_>) -> Result<bool, NoMemory>
     is_over_every_table(alloc, load.block, load.header)
 }
 
-/// The block as it is read for a table with these columns. It is read now, unless it was read so before.
+/// The block as it is read for a table with these columns. It is read now,
+/// unless it was read so before.
 fn read_for<'a>(
     alloc: Global,
     columns: &[ColumnDef],
     load: BlockToLoad<'a>,
 ) -> Result<ReadBlock<'a>, NoMemory>
     ensures kinds { IfOk result (λ read. read.form.kinds ≡ kinds_of columns.now) }
-    ensures records { IfOk result (λ read. records_in read.form.header read.block.now ≡ records_in load.entry.header load.entry.block.now) }
+    ensures records { IfOk result (λ read.
+        records_in read.form.header read.block.now
+        ≡ records_in load.entry.header load.entry.block.now) }
 {
     let form = form_for(alloc, columns, load.header)?;
     let BlockToLoad {
@@ -125,7 +132,8 @@ fn read_for<'a>(
 /// Whether a table with so many rows has room for the records of a block.
 fn has_room(count: u32, most: usize, read: &ReadBlock<'_>) -> bool
     requires { count ≤ most }
-    ensures { result ≡ not (nat_lt most (count + length (records_in read.now.form.header read.now.block.now))) }
+    ensures { result
+        ≡ not (nat_lt most (count + length (records_in read.now.form.header read.now.block.now))) }
 {
     read.count() <= (most - count as usize) as u64
 }
@@ -143,13 +151,17 @@ fn checked_rows(
     requires count { length dims.now ≡ length schema.now.dimensions }
     requires kinds { read.form.kinds ≡ kinds_of (columns_of schema.now (Dimension number)) }
     ensures rows { (facts : Roomy Version) (commits : ℕ) → IfOk result (λ rows.
-        loaded_records (plain (tables_of schema.now dims.now facts commits)) (Dimension number) (records_in read.entry.form.header read.entry.block.now)
+        loaded_records (plain (tables_of schema.now dims.now facts commits))
+        (Dimension number) (records_in read.entry.form.header read.entry.block.now)
         ≡ Ok (Loaded (Dimension number) rows)) }
     ensures keys { IfOk result (All (λ row. IsSome (key_of row))) }
-    ensures fresh { IfOk result (λ rows. repeats_a_key (rows_in (rows_of_all dims.now) number) rows ≡ false) }
-    ensures few { IfOk result (λ rows. length (rows_in (rows_of_all dims.now) number) + length rows ≤ MAX_DIMENSION_ROWS) }
+    ensures fresh { IfOk result (λ rows.
+        repeats_a_key (rows_in (rows_of_all dims.now) number) rows ≡ false) }
+    ensures few { IfOk result (λ rows.
+        length (rows_in (rows_of_all dims.now) number) + length rows ≤ MAX_DIMENSION_ROWS) }
     ensures tells { (facts : Roomy Version) (commits : ℕ) → IfErr result (Tells
-        (loaded_records (plain (tables_of schema.now dims.now facts commits)) (Dimension number) (records_in read.entry.form.header read.entry.block.now))) }
+        (loaded_records (plain (tables_of schema.now dims.now facts commits))
+        (Dimension number) (records_in read.entry.form.header read.entry.block.now))) }
 {
     each_record_is_a_row();
     rows_have_the_kinds();
@@ -174,13 +186,17 @@ fn commit_rows(
     commits: &mut u64,
 ) -> Result<Done, NoMemory>
     requires there { number < length dims.old }
-    requires few { length (rows_in (rows_of_all dims.old) number) + length rows ≤ MAX_DIMENSION_ROWS }
+    requires few { length (rows_in (rows_of_all dims.old) number) + length rows
+        ≤ MAX_DIMENSION_ROWS }
     requires keys { All (λ row. IsSome (key_of row)) rows }
     requires fresh { repeats_a_key (rows_in (rows_of_all dims.old) number) rows ≡ false }
-    ensures rows { OnOk result (rows_of_all dims.new ≡ grown_at number (rows_by (commits.old + 1) rows) (rows_of_all dims.old)) }
+    ensures rows { OnOk result (rows_of_all dims.new
+        ≡ grown_at number (rows_by (commits.old + 1) rows) (rows_of_all dims.old)) }
     ensures commits { OnOk result (commits.new ≡ commits.old + 1) }
-    ensures done { IfOk result (λ done. done ≡ record { commit = commits.old + 1; rows = length rows }) }
-    ensures err { OnErr result ((rows_of_all dims.new ≡ rows_of_all dims.old) × (commits.new ≡ commits.old)) }
+    ensures done { IfOk result (λ done.
+        done ≡ record { commit = commits.old + 1; rows = length rows }) }
+    ensures err { OnErr result
+        ((rows_of_all dims.new ≡ rows_of_all dims.old) × (commits.new ≡ commits.old)) }
 {
     let count = rows.len() as u64;
     let Some(commit) = commits.checked_add(1) else {
@@ -208,9 +224,12 @@ fn load_dimension(
     requires count { length dims.old ≡ length schema.now.dimensions }
     requires kinds { read.form.kinds ≡ kinds_of (columns_of schema.now (Dimension number)) }
     ensures commits { (facts : Roomy Version) → Commits
-        (loaded_records (plain (tables_of schema.now dims.old facts commits.old)) (Dimension number) (records_in read.entry.form.header read.entry.block.now))
-        (tables_of schema.now dims.old facts commits.old) (tables_of schema.now dims.new facts commits.new) result }
-    ensures grown { OnOk result ((more : List DimensionRow) × (rows_of_all dims.new ≡ grown_at number more (rows_of_all dims.old))) }
+        (loaded_records (plain (tables_of schema.now dims.old facts commits.old))
+        (Dimension number) (records_in read.entry.form.header read.entry.block.now))
+        (tables_of schema.now dims.old facts commits.old)
+        (tables_of schema.now dims.new facts commits.new) result }
+    ensures grown { OnOk result ((more : List DimensionRow)
+        × (rows_of_all dims.new ≡ grown_at number more (rows_of_all dims.old))) }
 {
     let rows = checked_rows(alloc, schema, dims, number, read)?;
     Ok(commit_rows(dims, number, rows, commits)?)
@@ -241,16 +260,22 @@ fn checked_versions(
     requires declared { IsDeclared schema.now }
     requires count { length dims.now ≡ length schema.now.dimensions }
     requires kinds { read.form.kinds ≡ kinds_of (columns_of schema.now Fact) }
-    requires loaded { (dimension : ℕ) → All (λ entry. entry.commit ≤ commit) (rows_in (rows_of_all dims.now) dimension) }
+    requires loaded { (dimension : ℕ) →
+        All (λ entry. entry.commit ≤ commit) (rows_in (rows_of_all dims.now) dimension) }
     ensures rows { (commits : ℕ) → IfOk result (λ versions.
-        loaded_records (plain (tables_of schema.now dims.now facts.now commits)) Fact (records_in read.entry.form.header read.entry.block.now)
+        loaded_records (plain (tables_of schema.now dims.now facts.now commits)) Fact
+        (records_in read.entry.form.header read.entry.block.now)
         ≡ Ok (Loaded Fact (map (λ version. version.row) versions.items))) }
     ensures versions { IfOk result (λ versions.
-        map plain_version versions.items ≡ versions_by commit (map (λ version. version.row) versions.items)) }
-    ensures keyed { IfOk result (λ versions. All (HasKeyNumbers schema.now (rows_of_all dims.now)) versions.items) }
-    ensures few { IfOk result (λ versions. length facts.now.items + length versions.items ≤ MAX_VERSIONS) }
+        map plain_version versions.items
+        ≡ versions_by commit (map (λ version. version.row) versions.items)) }
+    ensures keyed { IfOk result (λ versions.
+        All (HasKeyNumbers schema.now (rows_of_all dims.now)) versions.items) }
+    ensures few { IfOk result (λ versions.
+        length facts.now.items + length versions.items ≤ MAX_VERSIONS) }
     ensures tells { (commits : ℕ) → IfErr result (Tells
-        (loaded_records (plain (tables_of schema.now dims.now facts.now commits)) Fact (records_in read.entry.form.header read.entry.block.now))) }
+        (loaded_records (plain (tables_of schema.now dims.now facts.now commits)) Fact
+        (records_in read.entry.form.header read.entry.block.now))) }
 {
     rows_fit_by_their_kinds();
     each_record_is_a_row();
@@ -264,8 +289,8 @@ fn checked_versions(
     versions_of(alloc, schema, dims, rows, commit)
 }
 
-/// Loads versions into the fact table, as the commit after so many. All room is made before the first
-/// version goes in.
+/// Loads versions into the fact table, as the commit after so many. All room is made before
+/// the first version goes in.
 fn commit_versions(
     facts: &mut FactVersions,
     versions: Vec<Version>,
@@ -275,7 +300,8 @@ fn commit_versions(
     ensures versions { OnOk result (facts.new.items ≡ facts.old.items ++ versions.items) }
     ensures commits { OnOk result (commits.new ≡ commits.old + 1) }
     ensures within { OnOk result (commits.old + 1 < 2 ^ 64) }
-    ensures done { IfOk result (λ done. done ≡ record { commit = commits.old + 1; rows = length versions.items }) }
+    ensures done { IfOk result (λ done.
+        done ≡ record { commit = commits.old + 1; rows = length versions.items }) }
     ensures err { OnErr result ((facts.new.items ≡ facts.old.items) × (commits.new ≡ commits.old)) }
 {
     let count = versions.len() as u64;
@@ -303,11 +329,15 @@ fn load_facts(
     requires declared { IsDeclared schema.now }
     requires count { length dims.now ≡ length schema.now.dimensions }
     requires kinds { read.form.kinds ≡ kinds_of (columns_of schema.now Fact) }
-    requires loaded { (dimension : ℕ) → All (λ entry. entry.commit ≤ commits.old) (rows_in (rows_of_all dims.now) dimension) }
+    requires loaded { (dimension : ℕ) →
+        All (λ entry. entry.commit ≤ commits.old) (rows_in (rows_of_all dims.now) dimension) }
     ensures commits { Commits
-        (loaded_records (plain (tables_of schema.now dims.now facts.old commits.old)) Fact (records_in read.entry.form.header read.entry.block.now))
-        (tables_of schema.now dims.now facts.old commits.old) (tables_of schema.now dims.now facts.new commits.new) result }
-    ensures keyed { All (HasKeyNumbers schema.now (rows_of_all dims.now)) facts.old.items → All (HasKeyNumbers schema.now (rows_of_all dims.now)) facts.new.items }
+        (loaded_records (plain (tables_of schema.now dims.now facts.old commits.old)) Fact
+        (records_in read.entry.form.header read.entry.block.now))
+        (tables_of schema.now dims.now facts.old commits.old)
+        (tables_of schema.now dims.now facts.new commits.new) result }
+    ensures keyed { All (HasKeyNumbers schema.now (rows_of_all dims.now)) facts.old.items →
+        All (HasKeyNumbers schema.now (rows_of_all dims.now)) facts.new.items }
 {
     let commit = commits.saturating_add(1);
     let versions = checked_versions(alloc, schema, dims, facts, commit, read)?;
@@ -326,10 +356,13 @@ pub(crate) fn load(
 ) -> Result<Done, StatementFault>
     requires sound { AreSound (tables_of schema.now dims.old facts.old commits.old) }
     ensures commits { Commits
-        (load_change (plain (tables_of schema.now dims.old facts.old commits.old)) name.now load.entry.header load.entry.block.now)
-        (tables_of schema.now dims.old facts.old commits.old) (tables_of schema.now dims.new facts.new commits.new) result }
+        (load_change (plain (tables_of schema.now dims.old facts.old commits.old))
+        name.now load.entry.header load.entry.block.now)
+        (tables_of schema.now dims.old facts.old commits.old)
+        (tables_of schema.now dims.new facts.new commits.new) result }
     ensures keyed { IsKeyed (tables_of schema.now dims.new facts.new commits.new) }
-    ensures known { IsErrOf result StatementFault.Memory → IsSome schema.now.fact × IsSome (table_named schema.now name.now) }
+    ensures known { IsErrOf result StatementFault.Memory →
+        IsSome schema.now.fact × IsSome (table_named schema.now name.now) }
 {
     later_rows_move_no_key_number();
     if schema.fact.is_none() {

@@ -51,11 +51,13 @@ impl Model for Store {
 
     ghost view = { λ store. tables_of store.schema store.dims store.facts store.commits };
 
-    ghost invariant = { λ store. AreSound (tables_of store.schema store.dims store.facts store.commits) };
+    ghost invariant = { λ store.
+        AreSound (tables_of store.schema store.dims store.facts store.commits) };
 }
 
 impl Store {
-    /// No tables and no commit, which takes no memory yet. Rows of dimensions are found by hashes with these keys.
+    /// No tables and no commit, which takes no memory yet. Rows of dimensions are found
+    /// by hashes with these keys.
     pub fn new(alloc: Global, hash_keys: RandomState) -> Store
         ensures { plain result ≡ empty_store }
     {
@@ -99,12 +101,13 @@ impl Store {
 
     /// Adds a dimension behind those that were declared. Its first column is its key.
     ///
-    /// It is refused for the first reason that the schema gives, and takes memory only where nothing
-    /// refuses it.
+    /// It is refused for the first reason that the schema gives, and takes memory only
+    /// where nothing refuses it.
     pub fn declare_dimension(&mut self, table: TableDef) -> Result<(), StatementFault>
         requires columns { 0 < length table.columns }
         requires plain { ReferencesNothing table }
-        ensures { Declares DimensionDeclared (declared_dimension self.old.schema table) self.old self.new result }
+        ensures { Declares DimensionDeclared
+            (declared_dimension self.old.schema table) self.old self.new result }
     {
         accepted_histories_are_settled();
         add_dimension(
@@ -116,18 +119,20 @@ impl Store {
         )
     }
 
-    /// Adds the fact table. It is refused for the first reason that the schema gives, and takes no memory.
+    /// Adds the fact table. It is refused for the first reason that the schema
+    /// gives, and takes no memory.
     pub fn declare_fact(&mut self, table: TableDef) -> Result<(), StatementFault>
         requires columns { 0 < length table.columns }
-        ensures declares { Declares FactDeclared (declared_fact self.old.schema table) self.old self.new result }
+        ensures declares { Declares FactDeclared
+            (declared_fact self.old.schema table) self.old self.new result }
         ensures known { ¬ (IsErrOf result StatementFault.Memory) }
     {
         accepted_histories_are_settled();
         Ok(declare_fact(&mut self.schema, table)?)
     }
 
-    /// By what form a block is to be read that is loaded into the table of a name, with a header or without one. There
-    /// is none where there is no such table.
+    /// By what form a block is to be read that is loaded into the table of a name, with a header or
+    /// without one. There is none where there is no such table.
     pub fn block_form(&self, table: &SmallText, header: bool) -> Result<Option<BlockForm>, NoMemory>
         ensures { IfOk result (λ form. form ≡ load_form self.now.schema table.now header) }
     {
@@ -136,12 +141,13 @@ impl Store {
 
     /// Loads the records of a block into a table, as the next commit.
     ///
-    /// It is refused, for the first of these reasons: before the fact table was declared; where no table
-    /// has the name; for more records than the table has room for; for a record that is no row of the
-    /// table; in a dimension for a key that stands twice in the block or in the table; and in the fact
-    /// table for a foreign key that is the key of no row. With `header` the first record is none.
-    /// Where memory is wanted, or there is no number for one commit more, nothing has changed.
-    /// A block that was read before by the form of the table, which is `read`, is not read again.
+    /// It is refused, for the first of these reasons: before the fact table was declared; where
+    /// no table has the name; for more records than the table has room for; for a record that is
+    /// no row of the table; in a dimension for a key that stands twice in the block or in the
+    /// table; and in the fact table for a foreign key that is the key of no row. With `header`
+    /// the first record is none. Where memory is wanted, or there is no number for one commit
+    /// more, nothing has changed. A block that was read before by the form of the table, which is
+    /// `read`, is not read again.
     pub fn apply_load<'a>(
         &mut self,
         table: &SmallText,
@@ -150,8 +156,10 @@ impl Store {
         read: Option<ReadBlock<'a>>,
     ) -> Result<Done, StatementFault>
         requires { IfSome read (λ read. read.block.now ≡ block.now) }
-        ensures commits { Commits (load_change (plain self.old) table.now header block.now) self.old self.new result }
-        ensures known { IsErrOf result StatementFault.Memory → IsSome self.old.schema.fact × IsSome (table_named self.old.schema table.now) }
+        ensures commits { Commits (load_change (plain self.old) table.now header block.now)
+            self.old self.new result }
+        ensures known { IsErrOf result StatementFault.Memory →
+            IsSome self.old.schema.fact × IsSome (table_named self.old.schema table.now) }
     {
         accepted_histories_are_settled();
         changes_of_statements_are_taken();
@@ -170,15 +178,18 @@ impl Store {
         )
     }
 
-    /// Ends every version that no commit ended and on whose row the predicate, if there is one, holds,
-    /// as the next commit.
+    /// Ends every version that no commit ended and on whose row the predicate, if there is one,
+    /// holds, as the next commit.
     ///
     /// It is refused before the fact table was declared. It takes no memory, and answers want of it
     /// only where there is no number for one commit more.
     pub fn apply_delete(&mut self, predicate: Option<&Predicate>) -> Result<Done, StatementFault>
         requires fits { IfSome self.old.schema.fact (λ table.
-            some_test_fits (kinds_of table.columns) (option_map (λ p. test_of p.now) predicate) ≡ true) }
-        ensures commits { Commits (delete_change (plain self.old) (option_map (λ p. test_of p.now) predicate.entry)) self.old self.new result }
+            some_test_fits (kinds_of table.columns) (option_map (λ p. test_of p.now) predicate)
+            ≡ true) }
+        ensures commits { Commits (delete_change (plain self.old)
+            (option_map (λ p. test_of p.now) predicate.entry))
+            self.old self.new result }
         ensures memory { IsErrOf result StatementFault.Memory → self.old.commits ≡ 2 ^ 64 - 1 }
     {
         accepted_histories_are_settled();

@@ -1,4 +1,5 @@
-//! The tables as they are shared: whoever has a share reads them, and whoever has the only one changes them.
+//! The tables as they are shared: whoever has a share reads them, and whoever has
+//! the only one changes them.
 ghost use Rattle.std.specs.Prelude.{◌≡◌, IfOk, IfSome};
 ghost use Rattle.std.specs.Arc.{arc_value};
 ghost use Rattle.std.specs.Borrow.{sem};
@@ -10,7 +11,8 @@ use std::alloc::Global;
 use std::marker::Model;
 use std::sync::Arc;
 
-/// A share of the tables. They are not copied for one share more, and stay as they are while there is more than one.
+/// A share of the tables. They are not copied for one share more, and stay as they are
+/// while there is more than one.
 #[derive(Debug, Drop)]
 pub struct Tables {
     store: Arc<Store, Global>,

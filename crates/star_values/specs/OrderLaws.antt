@@ -1,4 +1,5 @@
--- The orders of values and of rows are total, and their ties are values, or rows, that are the same.
+-- The orders of values and of rows are total, and their ties are values, or
+-- rows, that are the same.
 use Rattle.std.proofs.Common.{◌≡◌, refl, ap, subst, ◌↔◌, List, [], ◌∷◌}
 use Rattle.std.specs.Bool.{Decides}
 use Rattle.std.specs.Ordering.{ordering_reverse, ordering_then, eq_by_cmp}
@@ -41,11 +42,15 @@ same_from_tie : (x y : Value) → value_cmp x y ≡ Equal → x ≡ y
 same_from_tie (Int m) (Int n) e = let same = rw e at (int_ranks m n) in ap Int same
 same_from_tie (Int m) (Str t) e = cc
 same_from_tie (Str s) (Int n) e = cc
-same_from_tie (Str s) (Str t) e = let tied = rw e at (texts_ties s t) in ap Str ((bytes_decides s t).0 tied)
+same_from_tie (Str s) (Str t) e =
+    let tied = rw e at (texts_ties s t) in ap Str ((bytes_decides s t).0 tied)
 
 -- a tie is between a value and itself
 pub value_cmp-equal : (x y : Value) → (value_cmp x y ≡ Equal) ↔ (x ≡ y)
-value_cmp-equal x y = (same_from_tie x y, λ e. subst (λ (z : Value). value_cmp x z ≡ Equal) e (tied_itself value_cmp-total x))
+value_cmp-equal x y = (
+  same_from_tie x y,
+  λ e. subst (λ (z : Value). value_cmp x z ≡ Equal) e (tied_itself value_cmp-total x),
+)
 
 pub row_cmp-total : IsTotalOrder row_cmp
 row_cmp-total = lists_total value_cmp-total
@@ -73,7 +78,10 @@ same_rows_from_tie (x ∷ xs) (y ∷ ys) e =
 
 -- a tie is between a row and itself
 pub row_cmp-equal : (xs ys : List Value) → (row_cmp xs ys ≡ Equal) ↔ (xs ≡ ys)
-row_cmp-equal xs ys = (same_rows_from_tie xs ys, λ e. subst (λ (zs : List Value). row_cmp xs zs ≡ Equal) e (tied_itself row_cmp-total xs))
+row_cmp-equal xs ys = (
+  same_rows_from_tie xs ys,
+  λ e. subst (λ (zs : List Value). row_cmp xs zs ≡ Equal) e (tied_itself row_cmp-total xs),
+)
 
 -- equal by order means the same
 pub row_cmp-decides : (xs ys : List Value) → Decides (eq_by_cmp row_cmp xs ys) (xs ≡ ys)

@@ -12,4 +12,5 @@ pub record IsSmallText (bytes : List ℕ) : Type 0 where
 
 -- the same as a test
 abbrev pub is_small_text : List ℕ → Bool
-is_small_text bytes = nat_le (length bytes) MAX_TEXT_BYTES && list_all (λ byte. nat_le 32 byte) bytes && is_utf8 bytes
+is_small_text bytes =
+    nat_le (length bytes) MAX_TEXT_BYTES && list_all (λ byte. nat_le 32 byte) bytes && is_utf8 bytes

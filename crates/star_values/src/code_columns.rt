@@ -12,8 +12,8 @@ use crate::value::Value;
 use std::alloc::Global;
 use std::marker::Model;
 
-/// For each column of a table the codes of the texts of its first rows, in their order. They may be fewer
-/// than there are rows, and none of a column of integers.
+/// For each column of a table the codes of the texts of its first rows, in their order. They may be
+/// fewer than there are rows, and none of a column of integers.
 ///
 /// Where no memory is left, codes are gone without: `append` says so, and a caller may let that go.
 #[derive(Debug, Drop)]
@@ -51,9 +51,9 @@ impl CodeColumns {
         }
     }
 
-    /// Puts the codes of the texts of a row, before which a table has so many, behind those of their
-    /// columns. A column that has not the codes of all rows before stays as it is, and so does one for whose
-    /// code there is no memory. The others get theirs even so.
+    /// Puts the codes of the texts of a row, before which a table has so many, behind those of
+    /// their columns. A column that has not the codes of all rows before stays as it is, and so
+    /// does one for whose code there is no memory. The others get theirs even so.
     pub fn append(&mut self, before: usize, row: &Row) -> Result<(), NoMemory>
         ensures first { (rows : List (List cell.Value)) → length rows ≡ before →
             AreCodeColumns rows self.old → AreCodeColumns (rows ++ row.now ∷ []) self.new }
@@ -65,13 +65,14 @@ impl CodeColumns {
     }
 }
 
-/// Puts the codes of a row behind those of the columns that have the codes of all rows before, as far as
-/// there is memory.
+/// Puts the codes of a row behind those of the columns that have the codes of all rows before,
+/// as far as there is memory.
 fn append_to_columns(columns: &mut [ListOf<u128>], before: usize, row: &Row) -> Result<(), NoMemory>
     ensures count { length columns.new ≡ length columns.old }
     ensures first { (rows : List (List cell.Value)) → length rows ≡ before →
         AreCodeColumns rows columns.old → AreCodeColumns (rows ++ row.now ∷ []) columns.new }
-    ensures kept { OnOk result (HaveOneMore HasText (length columns.old) before row.now columns.old columns.new) }
+    ensures kept { OnOk result
+        (HaveOneMore HasText (length columns.old) before row.now columns.old columns.new) }
 {
     let mut kept = Ok(());
     for number in 0..columns.len() {
@@ -80,8 +81,8 @@ fn append_to_columns(columns: &mut [ListOf<u128>], before: usize, row: &Row) -> 
     kept
 }
 
-/// Puts the code of a row's text in a column behind the others, if the row has one there, and the column has
-/// those of all rows before. An `Err` changes nothing.
+/// Puts the code of a row's text in a column behind the others, if the row has one there, and the
+/// column has those of all rows before. An `Err` changes nothing.
 fn append_to_column(
     column: &mut ListOf<u128>,
     number: usize,
@@ -91,7 +92,8 @@ fn append_to_column(
     ensures first { (rows : List (List cell.Value)) → length rows ≡ before →
         AreFirstCodes rows number column.old
         → AreFirstCodes (rows ++ row.now ∷ []) number column.new }
-    ensures kept { OnOk result ((code : ℕ) → HasText number row.now code → length column.old ≡ before
+    ensures kept { OnOk result
+        ((code : ℕ) → HasText number row.now code → length column.old ≡ before
         → column.new ≡ column.old ++ code ∷ []) }
 {
     if column.len() != before {

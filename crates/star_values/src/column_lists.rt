@@ -8,15 +8,17 @@ use std::alloc::Global;
 /// How many columns are kept at most: as many as a table may have.
 pub const MAX_COLUMNS: usize = 16;
 
-/// Makes an empty list for each column that has none, of so many columns and at most `MAX_COLUMNS`, as long
-/// as there is memory. It does so where there are no rows before the one at hand, and nothing elsewhere.
+/// Makes an empty list for each column that has none, of so many columns and at most
+/// `MAX_COLUMNS`, as long as there is memory. It does so where there are no rows before the one at
+/// hand, and nothing elsewhere.
 pub(crate) fn make_columns<T: Drop>(
     columns: &mut ListOf<ListOf<T>>,
     alloc: Global,
     before: usize,
     count: usize,
 ) -> Result<(), NoMemory>
-    ensures same { (column : ℕ) → slice_index_or columns.new column [] ≡ slice_index_or columns.old column [] }
+    ensures same { (column : ℕ) →
+        slice_index_or columns.new column [] ≡ slice_index_or columns.old column [] }
     ensures made { OnOk result (before ≡ 0 → (column : ℕ) → column < count → column < MAX_COLUMNS
         → column < length columns.new) }
 {
@@ -26,14 +28,15 @@ pub(crate) fn make_columns<T: Drop>(
     make_lists(columns, alloc, count)
 }
 
-/// Makes an empty list for each column that has none, of so many columns and at most `MAX_COLUMNS`, as long
-/// as there is memory.
+/// Makes an empty list for each column that has none, of so many columns and at most `MAX_COLUMNS`,
+/// as long as there is memory.
 fn make_lists<T: Drop>(
     columns: &mut ListOf<ListOf<T>>,
     alloc: Global,
     count: usize,
 ) -> Result<(), NoMemory>
-    ensures same { (column : ℕ) → slice_index_or columns.new column [] ≡ slice_index_or columns.old column [] }
+    ensures same { (column : ℕ) →
+        slice_index_or columns.new column [] ≡ slice_index_or columns.old column [] }
     ensures made { OnOk result ((column : ℕ) → column < count → column < MAX_COLUMNS
         → column < length columns.new) }
 {

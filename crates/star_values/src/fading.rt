@@ -8,7 +8,8 @@ use crate::trail::Trail;
 use std::alloc::Global;
 use std::marker::Model;
 
-/// A list whose first members may be let go: contracts go on seeing them, and they have no bytes any more.
+/// A list whose first members may be let go: contracts go on seeing them, and
+/// they have no bytes any more.
 ///
 /// No call takes memory but `reserve`.
 #[derive(Debug, Drop)]
@@ -50,7 +51,8 @@ impl<T: Drop> Fading<T> {
         self.rest.as_slice()
     }
 
-    /// Lends the members that were not let go, to be written over. How many there are stays, and so does the room.
+    /// Lends the members that were not let go, to be written over. How many there are
+    /// stays, and so does the room.
     pub fn rest_mut(&mut self) -> &mut [T]
         ensures* writes_back { sem 𝓛 (lends_fading_members T.row self.entry result) }
         ensures members { result.now ≡ self.old.rest }
@@ -79,7 +81,8 @@ impl<T: Drop> Fading<T> {
         self.rest.push_reserved(member);
     }
 
-    /// Lets the first members go, so many of those that were not. The members behind them move down.
+    /// Lets the first members go, so many of those that were not. The
+    /// members behind them move down.
     pub fn forget(&mut self, count: usize)
         requires { count ≤ length self.old.rest }
         ensures gone { self.new.gone ≡ self.old.gone ++ take count self.old.rest }

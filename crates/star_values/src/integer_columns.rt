@@ -11,10 +11,11 @@ use crate::value::Value;
 use std::alloc::Global;
 use std::marker::Model;
 
-/// For each column of a table the integers of its first rows, in their order. They may be fewer than
-/// there are rows, and none of a column of texts.
+/// For each column of a table the integers of its first rows, in their order. They may be fewer
+/// than there are rows, and none of a column of texts.
 ///
-/// Where no memory is left, integers are gone without: `append` says so, and a caller may let that go.
+/// Where no memory is left, integers are gone without: `append` says so, and
+/// a caller may let that go.
 #[derive(Debug, Drop)]
 pub struct IntegerColumns {
     alloc: Global,
@@ -53,7 +54,8 @@ impl IntegerColumns {
         }
     }
 
-    /// The integers at the places from one to before another of a column, from 0, if it has so many.
+    /// The integers at the places from one to before another of a column,
+    /// from 0, if it has so many.
     ///
     /// Copies nothing, and costs the same for any number of them.
     pub fn part(&self, number: usize, first: usize, end: usize) -> Option<&[i64]>
@@ -69,8 +71,8 @@ impl IntegerColumns {
         Some(&kept[first..end])
     }
 
-    /// Makes room for the integers of this many more rows. Columns that are made later have this room from
-    /// the start. None is made where no integer is kept, as in a column of texts.
+    /// Makes room for the integers of this many more rows. Columns that are made later have this
+    /// room from the start. None is made where no integer is kept, as in a column of texts.
     pub fn reserve(&mut self, more: usize) -> Result<(), NoMemory>
         ensures { self.new ≡ self.old }
     {
@@ -78,9 +80,9 @@ impl IntegerColumns {
         reserve_columns(self.columns.as_mut_slice(), more)
     }
 
-    /// Puts the integers of a row, before which a table has so many, behind those of their columns. A
-    /// column that has not the integers of all rows before stays as it is, and so does one for whose integer
-    /// there is no memory. The others get theirs even so.
+    /// Puts the integers of a row, before which a table has so many, behind those of their columns.
+    /// A column that has not the integers of all rows before stays as it is, and so does one for
+    /// whose integer there is no memory. The others get theirs even so.
     pub fn append(&mut self, before: usize, row: &Row) -> Result<(), NoMemory>
         ensures first { (rows : List (List cell.Value)) → length rows ≡ before →
             AreIntegerColumns rows self.old → AreIntegerColumns (rows ++ row.now ∷ []) self.new }
@@ -93,8 +95,8 @@ impl IntegerColumns {
     }
 }
 
-/// Makes the room that was asked for before there were columns, behind the integers of the first row. Where
-/// there is no memory for it, a column grows as its integers come.
+/// Makes the room that was asked for before there were columns, behind the integers of the first
+/// row. Where there is no memory for it, a column grows as its integers come.
 fn reserve_behind_first(columns: &mut [ListOf<i64>], before: usize, room: usize)
     ensures { columns.new ≡ columns.old }
 {
@@ -115,13 +117,14 @@ fn reserve_columns(columns: &mut [ListOf<i64>], more: usize) -> Result<(), NoMem
     Ok(())
 }
 
-/// Puts the integers of a row behind those of the columns that have the integers of all rows before, as far
-/// as there is memory.
+/// Puts the integers of a row behind those of the columns that have the integers of all rows
+/// before, as far as there is memory.
 fn append_to_columns(columns: &mut [ListOf<i64>], before: usize, row: &Row) -> Result<(), NoMemory>
     ensures count { length columns.new ≡ length columns.old }
     ensures first { (rows : List (List cell.Value)) → length rows ≡ before →
         AreIntegerColumns rows columns.old → AreIntegerColumns (rows ++ row.now ∷ []) columns.new }
-    ensures kept { OnOk result (HaveOneMore HasInteger (length columns.old) before row.now columns.old columns.new) }
+    ensures kept { OnOk result
+        (HaveOneMore HasInteger (length columns.old) before row.now columns.old columns.new) }
 {
     let mut kept = Ok(());
     for number in 0..columns.len() {
@@ -130,8 +133,8 @@ fn append_to_columns(columns: &mut [ListOf<i64>], before: usize, row: &Row) -> R
     kept
 }
 
-/// Puts the integer of a row in a column behind the others, if the row has one there, and the column has
-/// those of all rows before. An `Err` changes nothing.
+/// Puts the integer of a row in a column behind the others, if the row has one there, and the
+/// column has those of all rows before. An `Err` changes nothing.
 fn append_to_column(
     column: &mut ListOf<i64>,
     number: usize,
@@ -141,7 +144,8 @@ fn append_to_column(
     ensures first { (rows : List (List cell.Value)) → length rows ≡ before →
         AreFirstIntegers rows number column.old
         → AreFirstIntegers (rows ++ row.now ∷ []) number column.new }
-    ensures kept { OnOk result ((integer : ℤ) → HasInteger number row.now integer → length column.old ≡ before
+    ensures kept { OnOk result
+        ((integer : ℤ) → HasInteger number row.now integer → length column.old ≡ before
         → column.new ≡ column.old ++ integer ∷ []) }
 {
     if column.len() != before {

@@ -1,6 +1,7 @@
-//! The values of a star schema, their texts, and the reasons for which a statement is refused; lists
-//! that contracts see as lists, and what the first rows of a table hold in a column, side by side.
-//! Every crate that speaks of values stands on this one, and this one on std and `itoa` alone.
+//! The values of a star schema, their texts, and the reasons for which a statement is
+//! refused; lists that contracts see as lists, and what the first rows of a table hold in a
+//! column, side by side. Every crate that speaks of values stands on this one, and this one
+//! on std and `itoa` alone.
 #![tactic(auto)]
 
 mod byte_text;

@@ -119,8 +119,10 @@ impl<'a, T> IntoIterator for &'a ListOf<T> {
 
     type IntoIter = slice::Iter<'a, T>;
 
-    ghost into_iter_gives = { λ list it. (iter_rest it ≡ list.now) × (length (iter_rest it) < 2 ^ 64)
-        × EveryRun (iter_steps {A = T}) (λ p. ItemsMapTo p (λ member. member.now) (iter_rest p.from)) };
+    ghost into_iter_gives = { λ list it.
+        (iter_rest it ≡ list.now) × (length (iter_rest it) < 2 ^ 64)
+        × EveryRun (iter_steps {A = T}) (λ p.
+        ItemsMapTo p (λ member. member.now) (iter_rest p.from)) };
 
     fn into_iter(self) -> slice::Iter<'a, T> {
         self.iter()

@@ -15,8 +15,9 @@ const FEW_LITERALS: usize = 8;
 
 /// The literals of an `in` list, in their order.
 ///
-/// It is made from a `Vec` and gives it back without taking memory. A copy of more than 8 literals has them
-/// in ascending order beside, so that it is asked in steps that grow with the logarithm of their number.
+/// It is made from a `Vec` and gives it back without taking memory. A copy of more than 8
+/// literals has them in ascending order beside, so that it is asked in steps that grow with the
+/// logarithm of their number.
 #[derive(Debug, Drop)]
 pub struct LiteralList {
     values: Vec<Value>,

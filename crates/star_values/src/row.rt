@@ -131,7 +131,8 @@ impl Ord for Row {
 impl Hash for Row {
     ghost hash_input = { fed.slice ⟦<Value as Hash>⟧.hash_input };
 
-    ghost respects_eq = { (same_Alike (fed.slice ⟦<Value as Hash>⟧.hash_input) row_cmp-decides).fed };
+    ghost respects_eq = { (same_Alike (fed.slice ⟦<Value as Hash>⟧.hash_input)
+        row_cmp-decides).fed };
 
     fn hash<H: Hasher>(&self, state: &mut H) {
         self.values.as_slice().hash(state);

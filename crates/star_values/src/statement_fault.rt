@@ -13,7 +13,8 @@ use std::fmt;
 pub enum StatementFault {
     /// The first reason for which it is refused.
     Refused(Refusal),
-    /// No memory was left, or no number for one commit more. The statement may be one that is refused or not.
+    /// No memory was left, or no number for one commit more. The statement may be
+    /// one that is refused or not.
     Memory,
 }
 

@@ -74,8 +74,8 @@ impl Value {
     }
 }
 
-/// The order of values is total, and two values are equal in it, and by `==`, exactly where they are
-/// the same.
+/// The order of values is total, and two values are equal in it, and by `==`, exactly
+/// where they are the same.
 pub fn values_are_in_order()
     ensures total { IsTotalOrder value_cmp }
     ensures same { (x y : Value) → (value_cmp x y ≡ Equal) ↔ (x ≡ y) }

@@ -24,8 +24,8 @@ use Rattle.worker_gate.specs.declared.looking.Look.TheVariants as look
 abbrev pub NoneWants : State → Type 0
 NoneWants state = All (λ flight. IsWanting state.filters flight → ⊥) state.scan.flights
 
--- a worker carries a batch through all filters that it did not pass, and has it as its work, with what it was lent beside
--- it: nothing to fold with while a statement waits for the tables
+-- a worker carries a batch through all filters that it did not pass, and has it as its work, with
+-- what it was lent beside it: nothing to fold with while a statement waits for the tables
 pub record Takes (work : Work) (worker : ℕ) (old new : Parts) : Type 0 where
   pub batch : ℕ
   pub took : Took (Carry worker batch) (state_of old) (state_of new)
@@ -59,8 +59,8 @@ pub record MakesEvent (of_kind : EventKind) (old new : Parts) : Type 0 where
   pub wants : NoneWants (state_of old)
   pub manages : Manages of_kind old new
 
--- no batch wants a filter, and the first event that may come cuts one: it was cut, and a worker carries it as it is cut, which
--- none does while a statement waits for the tables
+-- no batch wants a filter, and the first event that may come cuts one: it was cut, and a worker
+-- carries it as it is cut, which none does while a statement waits for the tables
 pub record CutsFor (blank : BlankWork) (worker : ℕ) (old new : Parts) : Type 0 where
   pub wants : NoneWants (state_of old)
   pub first : IsFirstOf managed_kinds (state_of old) kind.Cut Cut
@@ -74,13 +74,16 @@ abbrev pub TellsGot : Carried → (worker : ℕ) → (old new : Parts) → Type 
 TellsGot (carried.Written work) worker old new = Takes work worker old new
 TellsGot (carried.Blank blank) worker old new = CutsFor blank worker old new
 
--- what `worker_look` tells: what the worker carries; that an event of a kind was made; that there is nothing to do, where the core is not
--- marked closing and where it is; and that there was no memory to clear a filter
+-- what `worker_look` tells: what the worker carries; that an event of a kind was made; that there
+-- is nothing to do, where the core is not marked closing and where it is; and that there was no
+-- memory to clear a filter
 abbrev pub TellsLook : Look → (worker : ℕ) → (old new : Parts) → Type 0
 TellsLook (look.Got work) worker old new = TellsGot work worker old new
 TellsLook (look.Did of_kind) worker old new = MakesEvent of_kind old new
-TellsLook look.Rest worker old new = (new ≡ old) × (IsIdle (state_of old) × (old.marks.closing ≡ false))
-TellsLook look.Closed worker old new = (new ≡ old) × (IsIdle (state_of old) × (old.marks.closing ≡ true))
+TellsLook look.Rest worker old new =
+    (new ≡ old) × (IsIdle (state_of old) × (old.marks.closing ≡ false))
+TellsLook look.Closed worker old new =
+    (new ≡ old) × (IsIdle (state_of old) × (old.marks.closing ≡ true))
 TellsLook look.Memory worker old new = (new ≡ old) × IsStuck (state_of old)
 
 -- what is in a worker's hand behind a look: what it got, or nothing

@@ -1,4 +1,5 @@
--- Which events a worker makes where no batch wants a filter and where one comes home, and what it makes of a core by them.
+-- Which events a worker makes where no batch wants a filter and where one comes home, and what it
+-- makes of a core by them.
 use Rattle.std.specs.Prelude.{◌≡◌, ◌+◌, ◌%◌, ◌==◌, ◌&&◌, ℕ, Bool, true, false, if◌then◌else◌, is_some, List, [], ◌∷◌, All, slice_get, Option, Some, take}
 use Rattle.core_state.specs.Events.{IsEnabled}
 use Rattle.core_state.specs.State.{State}
@@ -18,14 +19,16 @@ use Rattle.worker_gate.specs.declared.managing.Managed.TheVariants as managed
 -- the kinds of these events, in the order in which they are asked for
 abbrev pub managed_kinds : List EventKind
 managed_kinds =
-    kind.Distribute ∷ kind.Finish ∷ kind.Clear ∷ kind.Release ∷ kind.Reserve ∷ kind.Build ∷ kind.Start ∷ kind.Cut ∷ []
+    kind.Distribute ∷ kind.Finish ∷ kind.Clear ∷ kind.Release ∷ kind.Reserve ∷ kind.Build
+    ∷ kind.Start ∷ kind.Cut ∷ []
 
 -- none of these events may come
 abbrev pub NoneIsLeft : State → Type 0
 NoneIsLeft state = All (λ each. NoneMayCome each state) managed_kinds
 
 -- the event may come, and is of the first of some kinds of which one may
-pub record IsFirstOf (kinds : List EventKind) (state : State) (of_kind : EventKind) (event : Event) : Type 0 where
+pub record IsFirstOf (kinds : List EventKind) (state : State) (of_kind : EventKind)
+    (event : Event) : Type 0 where
   pub place : ℕ
   pub stands : slice_get kinds place ≡ Some of_kind
   pub is_of : IsOfKind of_kind event
@@ -47,8 +50,8 @@ abbrev pub OrdersIf : Bool → (old new : State) → Type 0
 OrdersIf true old new = Took Reorder old new
 OrdersIf false old new = new ≡ old
 
--- the first of these events that may come was taken, which is one of this kind, and where it was the sixteenth
--- Distribute the filters were ordered behind it
+-- the first of these events that may come was taken, which is one of this kind, and where it was
+-- the sixteenth Distribute the filters were ordered behind it
 pub record Manages (of_kind : EventKind) (old new : Parts) : Type 0 where
   pub event : Event
   pub between : State
@@ -62,7 +65,8 @@ pub record IsToClear (state : State) : Type 0 where
   pub event : Event
   pub first : IsFirstOf managed_kinds state kind.Clear event
 
--- what `manage_one` tells: an event of a kind was made, none may come, or there was no memory to clear a filter
+-- what `manage_one` tells: an event of a kind was made, none may come, or there was no
+-- memory to clear a filter
 abbrev pub TellsManaged : Managed → (old new : Parts) → Type 0
 TellsManaged (managed.Did of_kind) old new = Manages of_kind old new
 TellsManaged managed.Idle old new = (new ≡ old) × NoneIsLeft (state_of old)
@@ -76,8 +80,8 @@ counted_home is_folded marks = if is_folded then counted_by kind.Distribute mark
 abbrev pub is_sixteenth_home : (is_folded : Bool) → Marks → Bool
 is_sixteenth_home is_folded marks = is_folded && is_sixteenth kind.Distribute marks
 
--- the batch of a worker came home, and where it was folded outside, so that it was distributed too, this was counted, and
--- the filters were ordered behind each sixteenth
+-- the batch of a worker came home, and where it was folded outside, so that it was distributed too,
+-- this was counted, and the filters were ordered behind each sixteenth
 pub record BringsHome (worker : ℕ) (folding : Option Folding) (old new : Parts) : Type 0 where
   pub between : State
   pub came : CameHome worker folding (state_of old) between

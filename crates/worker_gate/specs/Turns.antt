@@ -19,7 +19,8 @@ use Rattle.worker_gate.specs.declared.looping.Turned.TheVariants as turned
 use Rattle.worker_gate.specs.declared.looping.WorkerEnd.{WorkerEnd}
 use Rattle.worker_gate.specs.declared.looping.WorkerEnd.TheVariants as end
 
--- what a seat knows between two turns of itself: its row as it left it, and what it was lent beside its batch
+-- what a seat knows between two turns of itself: its row as it left it, and what it
+-- was lent beside its batch
 abbrev pub own_row : View Parts → CoreRow
 own_row view = row_in core_row first_row view.last view.number
 
@@ -32,24 +33,28 @@ sight_in view = record {
 
 -- the number of a seat is below the seats of the core
 abbrev pub IsSeated : View Parts → Type 0
-IsSeated view = IsSomeAnd (fixed_in core_settings view.last) (λ settings. view.number < settings.seats)
+IsSeated view =
+    IsSomeAnd (fixed_in core_settings view.last) (λ settings. view.number < settings.seats)
 
--- a seat of this board that does not have the core, and with whose row, hand and what is lent beside it, it is so
-pub record IsOutWith (board : BoardLock Parts) (IsHeld : CoreRow → Type 0) (seat : BoardSeat Parts) : Type 0 where
+-- a seat of this board that does not have the core, and with whose row, hand and what is
+-- lent beside it, it is so
+pub record IsOutWith (board : BoardLock Parts) (IsHeld : CoreRow → Type 0)
+    (seat : BoardSeat Parts) : Type 0 where
   pub own : IsOf board seat
   pub outside : IsOutside seat
   pub seated : IsSeated (view_of seat)
   pub hand : IsHeld (own_row (view_of seat))
 
--- a worker may take a turn by this seat of the board: a work that it has is done for what is in its hand, and else
--- its hand is empty
+-- a worker may take a turn by this seat of the board: a work that it has is done for what is in its
+-- hand, and else its hand is empty
 abbrev pub IsReady : BoardLock Parts → Option Work → BoardSeat Parts → Type 0
 IsReady board done seat = IsOutWith board (HasDoneIf done) seat
 
--- how a worker ends: of the core that it left last there is nothing to do and it is marked closing, or a filter is to
--- be cleared
+-- how a worker ends: of the core that it left last there is nothing to do and it is marked closing,
+-- or a filter is to be cleared
 abbrev pub EndsSo : WorkerEnd → Option Parts → Type 0
-EndsSo end.Closed last = IsSomeAnd last (λ core. IsIdle (state_of core) × (core.marks.closing ≡ true))
+EndsSo end.Closed last =
+    IsSomeAnd last (λ core. IsIdle (state_of core) × (core.marks.closing ≡ true))
 EndsSo end.Memory last = IsSomeAnd last (λ core. IsStuck (state_of core))
 
 -- the same of a look at which a worker ends

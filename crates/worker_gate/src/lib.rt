@@ -1,6 +1,6 @@
-//! What a worker does: it takes a batch under the lock, lets it pass all filters that are left and folds its rows outside, and
-//! gives it back. A batch that it cuts itself it carries at once, and writes its rows outside too.
-//! Where no batch wants a filter it makes one of the other events.
+//! What a worker does: it takes a batch under the lock, lets it pass all filters that are left and
+//! folds its rows outside, and gives it back. A batch that it cuts itself it carries at once, and
+//! writes its rows outside too. Where no batch wants a filter it makes one of the other events.
 #![tactic(auto)]
 
 mod carried;

@@ -18,7 +18,8 @@ use event_core::{Core, EventKind, every_core_is_sound, what_is_beside_stays_lent
 /// What a worker found to do.
 #[derive(Debug, Drop)]
 pub enum Look {
-    /// A batch to let pass filters, and to fold, outside of the lock; one that was just cut is to be written there first.
+    /// A batch to let pass filters, and to fold, outside of the lock; one that was just cut is
+    /// to be written there first.
     Got(Carried),
 
     /// An event of this kind was made, and there may be more to do.
@@ -34,8 +35,9 @@ pub enum Look {
     Memory,
 }
 
-/// Takes a batch that wants a filter, and where there is none makes an event. A batch that is cut it carries as it is cut,
-/// where there is memory for what goes with it, and no statement waits for the tables. The worker's hand is empty.
+/// Takes a batch that wants a filter, and where there is none makes an event. A batch that is cut
+/// it carries as it is cut, where there is memory for what goes with it, and no statement waits for
+/// the tables. The worker's hand is empty.
 pub fn worker_look(core: &mut Core, worker: u32) -> Look
     requires seat { worker < (state_of core.old).settings.seats }
     requires empty { HasNothing (core_row core.old worker) }
@@ -64,7 +66,8 @@ fn look_on(core: &mut Core, worker: u32) -> Look
     }
 }
 
-/// Makes the first event that may come, as `manage_one` does, but that a batch is cut for the worker.
+/// Makes the first event that may come, as `manage_one` does, but that a
+/// batch is cut for the worker.
 fn make_first(core: &mut Core, worker: u32, next: NextEvent) -> Look
     requires manages { IsToManage worker core.old }
     requires first { IsFirstOf managed_kinds (state_of core.old) next.kind next.event }

@@ -1,4 +1,5 @@
-//! The loop of a worker: turn after turn, until the core is marked closing and nothing is left to do.
+//! The loop of a worker: turn after turn, until the core is marked closing
+//! and nothing is left to do.
 ghost use Rattle.std.specs.Prelude.{◌<◌, None};
 ghost use Rattle.board_lock.specs.Seats.{IsSameSeat, view_of};
 ghost use Rattle.core_state.specs.Fronts.{Passes};
@@ -38,11 +39,12 @@ enum Turned {
     Ends(WorkerEnd),
 }
 
-/// Works at a core until it is marked closing and nothing is left to do, or no memory is left to clear a filter.
+/// Works at a core until it is marked closing and nothing is left to do, or no memory
+/// is left to clear a filter.
 ///
-/// In each turn of its seat the worker gives back what it had taken, and looks for more. Outside of its turns it writes
-/// batches that it cut, lets batches pass filters, behind the gate, and folds them, and where there is nothing to do it rests on the bell of the
-/// board.
+/// In each turn of its seat the worker gives back what it had taken, and looks for more. Outside of
+/// its turns it writes batches that it cut, lets batches pass filters, behind the gate, and folds
+/// them, and where there is nothing to do it rests on the bell of the board.
 pub fn worker_loop<G: Gate, R: Wait>(
     rt: &R,
     board: &BoardLock<Core>,

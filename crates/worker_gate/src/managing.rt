@@ -10,8 +10,8 @@ use crate::making::make;
 use core_state::{Event, a_step_moves_one_row};
 use event_core::{Core, EventKind, every_core_is_sound, what_is_beside_stays_lent};
 
-/// These are asked for in turn: what a batch that is through and a slot whose query is over wait for comes first, and
-/// a batch is cut only where nothing else is left.
+/// These are asked for in turn: what a batch that is through and a slot whose query is over wait
+/// for comes first, and a batch is cut only where nothing else is left.
 const MANAGED: [EventKind; 8] = [
     EventKind::Distribute,
     EventKind::Finish,
@@ -43,9 +43,9 @@ pub(crate) struct NextEvent {
     pub(crate) event: Event,
 }
 
-/// Makes one event of the first kind of which one may come: Distribute, Finish, Clear, Release, Reserve, Build,
-/// Start, Cut. Behind each sixteenth Distribute the filters are ordered in the same call. Only a Clear may find no
-/// memory.
+/// Makes one event of the first kind of which one may come: Distribute, Finish, Clear, Release,
+/// Reserve, Build, Start, Cut. Behind each sixteenth Distribute the filters are ordered in the same
+/// call. Only a Clear may find no memory.
 pub fn manage_one(core: &mut Core) -> Managed
     ensures tells { TellsManaged result core.old core.new }
     ensures leaves { LeavesRows (state_of core.old) (state_of core.new) }
@@ -59,7 +59,8 @@ pub fn manage_one(core: &mut Core) -> Managed
 
 /// The event to make, or `None` where none may come.
 pub(crate) fn next_managed(core: &Core) -> Option<NextEvent>
-    ensures first { IfSome result (λ next. IsFirstOf managed_kinds (state_of core.now) next.kind next.event) }
+    ensures first { IfSome result (λ next.
+        IsFirstOf managed_kinds (state_of core.now) next.kind next.event) }
     ensures none { result ≡ None → NoneIsLeft (state_of core.now) }
 {
     next_of(core, &MANAGED)
@@ -67,7 +68,8 @@ pub(crate) fn next_managed(core: &Core) -> Option<NextEvent>
 
 /// An event of the first of these kinds of which one may come.
 fn next_of(core: &Core, kinds: &[EventKind]) -> Option<NextEvent>
-    ensures first { IfSome result (λ next. IsFirstOf kinds.now (state_of core.now) next.kind next.event) }
+    ensures first { IfSome result (λ next.
+        IsFirstOf kinds.now (state_of core.now) next.kind next.event) }
     ensures none { result ≡ None → All (λ each. NoneMayCome each (state_of core.now)) kinds.now }
 {
     for kind in kinds {
@@ -103,7 +105,8 @@ pub(crate) fn make_next(core: &mut Core, next: NextEvent) -> Managed
 fn count(core: &mut Core, kind: EventKind)
     requires { kind ≡ EventKind.Distribute → IsSome (tables_of (state_of core.old)).schema.fact }
     ensures counted { core.new.marks ≡ counted_by kind core.old.marks }
-    ensures orders { OrdersIf (is_sixteenth kind core.old.marks) (state_of core.old) (state_of core.new) }
+    ensures orders { OrdersIf (is_sixteenth kind core.old.marks)
+        (state_of core.old) (state_of core.new) }
     ensures loans { LeavesAllLoans core.old core.new }
 {
     match kind {
@@ -130,7 +133,8 @@ pub(crate) fn count_home(core: &mut Core, is_folded: bool)
 fn count_distribute(core: &mut Core)
     requires { IsSome (tables_of (state_of core.old)).schema.fact }
     ensures counted { core.new.marks ≡ counted_by EventKind.Distribute core.old.marks }
-    ensures orders { OrdersIf (is_sixteenth EventKind.Distribute core.old.marks) (state_of core.old) (state_of core.new) }
+    ensures orders { OrdersIf (is_sixteenth EventKind.Distribute core.old.marks)
+        (state_of core.old) (state_of core.new) }
     ensures loans { LeavesAllLoans core.old core.new }
 {
     if core.count_up() != 0 {

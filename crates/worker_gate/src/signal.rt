@@ -1,4 +1,5 @@
-//! Whom a seat wakes behind its turn. No promise rests on it; why no wake is lost tells `board_lock`.
+//! Whom a seat wakes behind its turn. No promise rests on it; why no wake is
+//! lost tells `board_lock`.
 use crate::looking::{Look, is_more_to_do};
 use board_lock::BoardLock;
 use event_core::{Core, EventKind};
@@ -13,8 +14,8 @@ pub enum Signal {
     /// One of those who rest is woken: something is left to do, which any one who looks finds.
     One,
 
-    /// All who rest are woken: what some of them wait for may have come, or none finds memory. So it is
-    /// where a statement waits for the tables, until it is taken or finds none itself.
+    /// All who rest are woken: what some of them wait for may have come, or none finds memory. So
+    /// it is where a statement waits for the tables, until it is taken or finds none itself.
     All,
 
     /// The seat rests while this is the bell's number.
@@ -50,8 +51,8 @@ pub fn signal_if_more(board: &BoardLock<Core>, core: &Core) -> Signal {
     }
 }
 
-/// Whom a seat wakes that leaves something to do: any one who looks. While a statement waits for the
-/// tables that one may be a seat that does not look, so all are woken.
+/// Whom a seat wakes that leaves something to do: any one who looks. While a statement waits for
+/// the tables that one may be a seat that does not look, so all are woken.
 fn signal_for_more(waiting: bool) -> Signal {
     if waiting { Signal::All } else { Signal::One }
 }

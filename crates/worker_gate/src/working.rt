@@ -25,8 +25,9 @@ pub enum TakenWork {
     Nothing,
 }
 
-/// Takes a batch that has a bit left and did not pass every filter, with the present versions of all that it did not pass,
-/// and with what its rows are folded with outside, if there is memory for that. The worker's hand is empty.
+/// Takes a batch that has a bit left and did not pass every filter, with the present versions of
+/// all that it did not pass, and with what its rows are folded with outside, if there is memory for
+/// that. The worker's hand is empty.
 pub fn take_work(core: &mut Core, worker: u32) -> TakenWork
     requires seat { worker < (state_of core.old).settings.seats }
     requires empty { held_by (state_of core.old).scan.flights worker ≡ None }
@@ -57,9 +58,9 @@ fn carry_batch(core: &mut Core, worker: u32, batch: u64) -> Work
     core.lend(worker)
 }
 
-/// Gives back the batch in a worker's hand, which has passed the versions in it, and with it what was
-/// lent beside. The hand is empty then. Where the rows were folded outside the batch is distributed
-/// in the same call, and behind each sixteenth Distribute the filters are ordered.
+/// Gives back the batch in a worker's hand, which has passed the versions in it, and with it what
+/// was lent beside. The hand is empty then. Where the rows were folded outside the batch is
+/// distributed in the same call, and behind each sixteenth Distribute the filters are ordered.
 pub fn give_work(core: &mut Core, worker: u32, work: Work)
     requires { HasDone work (core_row core.old worker) }
     ensures brings { BringsHome worker work.folding core.old core.new }
