@@ -17,6 +17,7 @@ bare_app =
     record s { no_binary_name = true; disable_help_flag = true; disable_version_flag = true })
     (new_app (codes "cjoin"))
 
+-- a command with one option more, that of a name
 abbrev pub with_name : App → Text → App
 with_name app name = with_rule app (rule_named name)
 

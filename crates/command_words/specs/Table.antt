@@ -32,9 +32,9 @@ abbrev pub value_of : List Entry → Text → Option Text
 value_of entries name =
     option_map (λ entry. entry.value) (find (λ entry. bytes_eq entry.name name) entries)
 
+infixl 10 ◌>>=◌
 -- what `second` makes of what there is: by it the lines of a `do` give
 -- nothing where one of them does
-infixl 10 ◌>>=◌
 abbrev pub ◌>>=◌ : {A B : Type 0} → Option A → (A → Option B) → Option B
 (first >>= second) = option_and_then second first
 

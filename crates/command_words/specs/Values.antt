@@ -29,6 +29,7 @@ abbrev pub is_number : Text → Bool
 is_number text =
     not (length text == 0) && (nat_le (length text) MAX_DIGITS && list_all is_ascii_digit text)
 
+-- the number that a text is, if it is one
 abbrev pub number_of : Text → Option ℕ
 number_of text = if is_number text then Some (digits_value 10 text) else None
 
@@ -37,6 +38,7 @@ abbrev pub within : OptionNumbers → ℕ → Option ℕ
 within numbers number =
     if nat_le numbers.least number && nat_le number numbers.greatest then Some number else None
 
+-- the number that a text is, where it is one and in the range of the option
 abbrev pub number_in : OptionNumbers → Text → Option ℕ
 number_in numbers text = option_and_then (within numbers) (number_of text)
 

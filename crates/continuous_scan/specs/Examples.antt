@@ -17,5 +17,6 @@ abbrev pub second_of_three : StarQuery → Scanning
 second_of_three query =
     after_start 1 query 1 5 5 (after_cut 5 3 (after_start 0 query 1 5 5 (new_scan 3)))
 
+-- these three, once the third has started behind a cut up to the end of the rows
 abbrev pub third_of_three : StarQuery → Scanning
 third_of_three query = after_start 2 query 1 5 5 (after_cut 5 4 (second_of_three query))

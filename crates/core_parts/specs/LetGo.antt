@@ -9,6 +9,7 @@ pub record IsDone (lives : Lives) (entry : AskedEntry) : Type 0 where
   pub bare : entry.asked.kept ≡ None
   pub over : IsOver lives entry.asked.number
 
+-- so are all of these
 abbrev pub AreDone : Lives → List AskedEntry → Type 0
 AreDone lives entries = All (IsDone lives) entries
 

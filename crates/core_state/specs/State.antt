@@ -39,6 +39,8 @@ pub record Numbers : Type 0 where
   pub batch : ℕ
   pub version : ℕ
 
+-- the core as plain data: what it was set to, what is told of the tables, and where seats, queries,
+-- filters and the scan stand
 pub record State : Type 0 where
   pub settings : RunSettings
   pub entries : List Entry

@@ -35,6 +35,7 @@ how_of relation.Ge = how.Ge
 abbrev pub number_of : TablesInScope → Column → ℕ
 number_of scope column = number_at (place_of scope column)
 
+-- a condition, and those of a list, as tests of one table
 abbrev mutual
   -- a condition on one table as a test of its rows. No condition on one table compares two columns
   pub bound_test : TablesInScope → Condition → plan.Test
@@ -47,6 +48,7 @@ abbrev mutual
   bound_test scope (Between column low high) = plan.Between (number_of scope column) low high
   bound_test scope (OneOf column values) = plan.OneOf (number_of scope column) values
 
+  -- the same of each condition of a list
   pub bound_tests : TablesInScope → Conditions → plan.Tests
   bound_tests scope none = plan.none
   bound_tests scope (more t ts) = plan.more (bound_test scope t) (bound_tests scope ts)

@@ -7,6 +7,7 @@ use Rattle.star_parser.specs.declared.ast.AstItem.TheVariants.{Plain, CountAll, 
 use Rattle.star_parser.specs.declared.tree.Column.{Column}
 use Rattle.star_parser.specs.Condition.{Condition, Conditions, Either, Both, Negate, Test, Same, Between, OneOf, none, more, conjuncts}
 
+-- the columns that a condition, or a list of conditions, names
 abbrev mutual
   -- the columns of a condition, in the order of the line
   pub columns_in : Condition → List Column
@@ -18,6 +19,7 @@ abbrev mutual
   columns_in (Between column low high) = column ∷ []
   columns_in (OneOf column values) = column ∷ []
 
+  -- those of a list of conditions, one after another
   pub columns_in_all : Conditions → List Column
   columns_in_all none = []
   columns_in_all (more t ts) = columns_in t ++ columns_in_all ts
@@ -26,6 +28,7 @@ abbrev mutual
 abbrev pub beside : Column → Value → Column × Value
 beside column value = (column, value)
 
+-- the literals of a condition, or of a list of conditions
 abbrev mutual
   -- the literals of a condition, each with its column, in the order of the line
   pub literals_in : Condition → List (Column × Value)
@@ -37,10 +40,12 @@ abbrev mutual
   literals_in (Between column low high) = beside column low ∷ beside column high ∷ []
   literals_in (OneOf column values) = map (beside column) values
 
+  -- those of a list of conditions, one after another
   pub literals_in_all : Conditions → List (Column × Value)
   literals_in_all none = []
   literals_in_all (more t ts) = literals_in t ++ literals_in_all ts
 
+-- where two columns are compared, in a condition or in a list of conditions
 abbrev mutual
   -- whether a condition compares two columns anywhere in it
   pub compares_columns : Condition → Bool
@@ -52,6 +57,7 @@ abbrev mutual
   compares_columns (Between column low high) = false
   compares_columns (OneOf column values) = false
 
+  -- whether some condition of a list does
   pub some_compares_columns : Conditions → Bool
   some_compares_columns none = false
   some_compares_columns (more t ts) = compares_columns t || some_compares_columns ts

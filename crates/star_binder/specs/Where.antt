@@ -20,6 +20,7 @@ use Rattle.star_binder.specs.Scope.{TablesInScope}
 abbrev pub column_value : TablesInScope → Joined → Column → Value
 column_value scope row column = value_at (place_of scope column) row
 
+-- what holds on a joined row: a condition, and all or some of a list
 abbrev mutual
   -- whether a condition holds on a joined row; two columns are the same
   -- where their values are equal
@@ -37,10 +38,12 @@ abbrev mutual
   where_holds scope row (OneOf column values) =
       list_any (compares Eq (column_value scope row column)) values
 
+  -- whether each condition of a list holds
   pub all_of_where : TablesInScope → Joined → Conditions → Bool
   all_of_where scope row none = true
   all_of_where scope row (more t ts) = where_holds scope row t && all_of_where scope row ts
 
+  -- whether some condition of a list holds
   pub some_of_where : TablesInScope → Joined → Conditions → Bool
   some_of_where scope row none = false
   some_of_where scope row (more t ts) = where_holds scope row t || some_of_where scope row ts

@@ -92,6 +92,7 @@ IsOverLimit line = (MAX_LINE_BYTES < length line) ⊎ AreOverLimit (symbols_of l
 
 -- The same limits as tests, for definitions that go by cases.
 
+-- one symbol breaks a limit by itself
 abbrev pub is_too_long : Symbol → Bool
 is_too_long (symbol.Name name) = nat_lt MAX_NAME_BYTES (length name)
 is_too_long (symbol.Literal (value.Str text)) = nat_lt MAX_TEXT_BYTES (length text)
@@ -107,16 +108,19 @@ goes_too_deep opened closed (s ∷ symbols) =
     || goes_too_deep (if is_open s then opened + 1 else opened)
     (if is_close s then closed + 1 else closed) symbols
 
+-- such a run is somewhere in the symbols
 abbrev pub has_too_long_a_list : List Symbol → Bool
 has_too_long_a_list [] = false
 has_too_long_a_list (s ∷ symbols) =
     begins_too_long_a_list (s ∷ symbols) || has_too_long_a_list symbols
 
+-- symbols break one of the limits on symbols
 abbrev pub are_over_limit : List Symbol → Bool
 are_over_limit symbols =
     list_any is_too_long symbols
     || (goes_too_deep 0 0 symbols
     || (nat_lt MAX_NOTS (count_by is_not symbols) || has_too_long_a_list symbols))
 
+-- a line breaks one of the limits
 unfoldable pub is_over_limit : List ℕ → Bool
 is_over_limit line = nat_lt MAX_LINE_BYTES (length line) || are_over_limit (symbols_of line)

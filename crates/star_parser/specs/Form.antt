@@ -40,21 +40,21 @@ name symbols meaning = symbols ≡ symbol.Name meaning ∷ []
 abbrev pub literal : Form Value
 literal symbols meaning = symbols ≡ symbol.Literal meaning ∷ []
 
+infixl 10 ◌>>=◌
 -- a front of the first form, and behind it one of the second, which may depend on
 -- what the front stands for
-infixl 10 ◌>>=◌
 abbrev pub ◌>>=◌ : {A B : Type 0} → Form A → (A → Form B) → Form B
 (first >>= second) symbols meaning =
     (front back : List Symbol) × (value : _) × (symbols ≡ front ++ back) × first front value
     × second value back meaning
 
--- a front of the first form, and behind it one of the second, which the whole stands for
 infixl 10 ◌>>◌
+-- a front of the first form, and behind it one of the second, which the whole stands for
 abbrev pub ◌>>◌ : {A B : Type 0} → Form A → Form B → Form B
 first >> second = first >>= λ _. second
 
--- one form or the other
 infixr 5 ◌or◌
+-- one form or the other
 abbrev pub ◌or◌ : {A : Type 0} → Form A → Form A → Form A
 (first or second) symbols meaning = first symbols meaning ⊎ second symbols meaning
 

@@ -82,6 +82,7 @@ one_of_symbols column values =
 -- `or`. A member of an `or` may be an `and` without parentheses. Members of a list are printed with
 -- the keyword in front of all but the first.
 abbrev mutual
+  -- the symbols of a single one
   pub one_symbols : Condition → List Symbol
   one_symbols (Either ts) = in_brackets (either_symbols ts)
   one_symbols (Both ts) = in_brackets (both_symbols ts)
@@ -248,6 +249,7 @@ is_either (OneOf column values) = false
 -- each `and` and each `or` has two members at least and none of its own kind, and each list
 -- of literals one at least
 abbrev mutual
+  -- a condition is so
   pub IsTree : Condition → Type 0
   IsTree (Either ts) = AreTwo ts × AreTrees is_either ts
   IsTree (Both ts) = AreTwo ts × AreTrees is_both ts

@@ -28,13 +28,13 @@ abbrev pub bind : {A B : Type 0} → ReaderOutcome A → (A → Reader B) → Re
 bind (Some value, rest) second = second value rest
 bind (None, rest) second = (None, rest)
 
--- one reader, and behind it another, which may depend on what the first read
 infixl 10 ◌>>=◌
+-- one reader, and behind it another, which may depend on what the first read
 abbrev pub ◌>>=◌ : {A B : Type 0} → Reader A → (A → Reader B) → Reader B
 (first >>= second) symbols = bind (first symbols) second
 
--- one reader, and behind it another
 infixl 10 ◌>>◌
+-- one reader, and behind it another
 abbrev pub ◌>>◌ : {A B : Type 0} → Reader A → Reader B → Reader B
 first >> second = first >>= λ _. second
 

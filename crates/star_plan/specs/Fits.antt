@@ -23,6 +23,7 @@ abbrev pub fits_column : List Kind → ℕ → Value → Bool
 fits_column kinds column value =
     option_map_or (λ kind. same_kind kind (kind_of value)) (slice_get kinds column) false
 
+-- which tests suit the columns of a table: a test, and all of a list
 abbrev mutual
   -- whether each column that a test names is there and has the kind of the values beside it
   pub test_fits : List Kind → Test → Bool
@@ -34,6 +35,7 @@ abbrev mutual
   test_fits kinds (Either ts) = all_fit kinds ts
   test_fits kinds (Negate t) = test_fits kinds t
 
+  -- the same of each test of a list
   pub all_fit : List Kind → Tests → Bool
   all_fit kinds none = true
   all_fit kinds (more t ts) = test_fits kinds t && all_fit kinds ts

@@ -28,6 +28,7 @@ compares how left right = is_asked how (value_cmp left right)
 abbrev pub compares_at : List Value → ℕ → How → Value → Bool
 compares_at row column how value = compares how (value_in row column) value
 
+-- what holds on a row: a test, and all or some of a list
 abbrev mutual
   -- whether a test holds on a row
   pub test_holds : List Value → Test → Bool
@@ -39,10 +40,12 @@ abbrev mutual
   test_holds row (Either ts) = some_holds row ts
   test_holds row (Negate t) = not (test_holds row t)
 
+  -- whether each test of a list holds on a row
   pub all_hold : List Value → Tests → Bool
   all_hold row none = true
   all_hold row (more t ts) = test_holds row t && all_hold row ts
 
+  -- whether some test of a list holds on a row
   pub some_holds : List Value → Tests → Bool
   some_holds row none = false
   some_holds row (more t ts) = test_holds row t || some_holds row ts

@@ -12,12 +12,14 @@ use Rattle.star_values.specs.declared.value.Value.{Value}
 use Rattle.star_values.specs.declared.value.Value.TheVariants.{Int, Str}
 use Rattle.star_values.specs.Value.{value_cmp, row_cmp}
 
+-- turned round, a comparison has the other answer
 antisymm : (x y : Value) → value_cmp x y ≡ ordering_reverse (value_cmp y x)
 antisymm (Int m) (Int n) = int_cmp_total.antisymm m n
 antisymm (Int m) (Str t) = refl
 antisymm (Str s) (Int n) = refl
 antisymm (Str s) (Str t) = nat_list_cmp_total.antisymm s t
 
+-- less goes on over a value between two
 trans : (x y z : Value) → value_cmp x y ≡ Less → value_cmp y z ≡ Less → value_cmp x z ≡ Less
 trans (Int l) (Int m) (Int n) p q = int_cmp_total.trans l m n p q
 trans (Int l) (Int m) (Str u) p q = refl
@@ -27,6 +29,7 @@ trans (Str s) (Int m) z p q = cc
 trans (Str s) (Str t) (Int n) p q = cc
 trans (Str s) (Str t) (Str u) p q = nat_list_cmp_total.trans s t u p q
 
+-- values that tie compare alike with each other one
 congr : (x y z : Value) → value_cmp x y ≡ Equal → value_cmp x z ≡ value_cmp y z
 congr (Int l) (Int m) (Int n) p = int_cmp_total.congr l m n p
 congr (Int l) (Int m) (Str u) p = refl
@@ -35,9 +38,11 @@ congr (Str s) (Int m) z p = cc
 congr (Str s) (Str t) (Int n) p = refl
 congr (Str s) (Str t) (Str u) p = nat_list_cmp_total.congr s t u p
 
+-- the order of values is total
 pub value_cmp-total : IsTotalOrder value_cmp
 value_cmp-total = record { antisymm = antisymm; trans = trans; congr = congr }
 
+-- values that tie are the same
 same_from_tie : (x y : Value) → value_cmp x y ≡ Equal → x ≡ y
 same_from_tie (Int m) (Int n) e = let same = rw e at (int_ranks m n) in ap Int same
 same_from_tie (Int m) (Str t) e = cc
@@ -52,6 +57,7 @@ value_cmp-equal x y = (
   λ e. subst (λ (z : Value). value_cmp x z ≡ Equal) e (tied_itself value_cmp-total x),
 )
 
+-- the order of rows is total
 pub row_cmp-total : IsTotalOrder row_cmp
 row_cmp-total = lists_total value_cmp-total
 
@@ -61,11 +67,13 @@ first_tie Less q e = e
 first_tie Equal q e = refl
 first_tie Greater q e = e
 
+-- and the second one is, where the first is
 then_tie : (p q : Ordering) → p ≡ Equal → ordering_then p q ≡ Equal → q ≡ Equal
 then_tie Less q t e = cc
 then_tie Equal q t e = e
 then_tie Greater q t e = cc
 
+-- rows that tie are the same
 same_rows_from_tie : (xs ys : List Value) → row_cmp xs ys ≡ Equal → xs ≡ ys
 same_rows_from_tie [] [] e = refl
 same_rows_from_tie [] (y ∷ ys) e = cc
