@@ -22,6 +22,4 @@ mod served;
 #[cfg(test)]
 mod sets;
 #[cfg(test)]
-mod words;
-#[cfg(test)]
 mod workers;

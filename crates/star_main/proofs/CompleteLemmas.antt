@@ -7,8 +7,6 @@ use Rattle.star_io.specs.declared.run_end.RunEnd.{RunEnd}
 use Rattle.star_io.specs.declared.run_end.RunEnd.TheVariants.{Clean, SomeRefused, ReadFault, WriteFault, NoMemory, ScriptLimit}
 use Rattle.star_io.specs.declared.serve_end.ServeEnd.{ServeEnd}
 use Rattle.star_io.specs.declared.serve_end.ServeEnd.TheVariants as serve_end
-use Rattle.command_words.specs.declared.settings.Mode.TheVariants.{Make, Serve}
-use Rattle.command_words.specs.declared.settings.Settings.{Settings}
 use Rattle.core_state.specs.declared.settings.RunSettings.{RunSettings}
 use Rattle.event_core.specs.Parts.{Parts}
 use Rattle.script_run.specs.Run.{AnswersScript}
@@ -21,6 +19,8 @@ use Rattle.star_main.specs.Headline.{Headline, HasCause, status_of}
 use Rattle.star_main.specs.Made.{MadeHeadline, made_status_of}
 use Rattle.star_main.specs.Modes.{HasScript, IsMade, RunsSource, Serves, Works, run_settings_of}
 use Rattle.star_main.specs.Serving.{ServeHeadline, serve_status_of}
+use Rattle.star_main.specs.declared.settings.Mode.TheVariants.{Make, Serve}
+use Rattle.star_main.specs.declared.settings.Settings.{Settings}
 use Rattle.star_main.proofs.WorkLemmas.{works-apart}
 
 script-ends : (end : RunEnd) (status : ℕ) (from from' : ReadingSide) (to to' : WritingSide) → status ≡ status_of end

@@ -8,13 +8,13 @@ use Rattle.core_state.specs.Sound.{empty_core}
 use Rattle.core_state.specs.declared.settings.RunSettings.{RunSettings}
 use Rattle.event_core.specs.Parts.{Parts}
 use Rattle.event_core.specs.Seen.{state_of}
-use Rattle.command_words.specs.declared.settings.Settings.{Settings}
 use Rattle.script_run.specs.Front.{IsRun}
 use Rattle.script_run.specs.Run.{AnswersScript, CountsFaults}
 use Rattle.script_run.specs.Shared.{AnswersShared}
 use Rattle.script_run.proofs.SharedEndLemmas.{none-shared, shared-alone}
 use Rattle.star_main.specs.Headline.{Headline, HasCause, status_of}
 use Rattle.star_main.specs.Modes.{HasScript, run_settings_of}
+use Rattle.star_main.specs.declared.settings.Settings.{Settings}
 
 -- no run has the status of words that name no settings
 pub never_faulty : (end : RunEnd) → status_of end ≢ 2

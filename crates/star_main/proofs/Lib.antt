@@ -1,4 +1,19 @@
--- The headline from what a run promises.
+-- What `clap` makes of words, readers of words, and the table of options; and the headline from what
+-- a run promises.
+pub mod ValueLemmas
+pub mod TableLemmas
+mod RangeLemmas
+pub mod StrictReader
+pub mod StrictLemmas
+pub mod WordLemmas
+pub mod RuleLemmas
+pub mod TurnLemmas
+pub mod UseLemmas
+pub mod ParseLemmas
+pub mod ReaderLemmas
+pub mod ReadingLemmas
+pub mod AnswerLemmas
+pub mod SettingsLemmas
 mod HeadlineLemmas
 mod CompleteLemmas
 mod MadeLemmas

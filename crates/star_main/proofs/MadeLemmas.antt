@@ -4,7 +4,6 @@ use Rattle.std.proofs.Common.{◌≡◌, ◌≢◌, ◌∙◌, inl, ℕ, Option,
 use Rattle.star_io.specs.Link.{ReadingSide, WritingSide}
 use Rattle.core_state.specs.declared.settings.RunSettings.{RunSettings}
 use Rattle.event_core.specs.Parts.{Parts}
-use Rattle.command_words.specs.declared.settings.Settings.{Settings}
 use Rattle.make_load.specs.Made.{AnswersMade, CountsMade}
 use Rattle.make_load.specs.declared.made.MadeEnd.{MadeEnd}
 use Rattle.make_load.specs.declared.made.MadeEnd.TheVariants.{Clean, SomeRefused, WriteFault, NoMemory}
@@ -12,6 +11,7 @@ use Rattle.make_load.proofs.RunLemmas.{made-alone, without_memory}
 use Rattle.star_main.specs.Headline.{HasCause}
 use Rattle.star_main.specs.Made.{MadeHeadline, made_status_of}
 use Rattle.star_main.specs.Modes.{IsMade, run_settings_of}
+use Rattle.star_main.specs.declared.settings.Settings.{Settings}
 
 -- no run of the workload has the status of words that name no settings
 pub never_faulty_made : (end : MadeEnd) → made_status_of end ≢ 2

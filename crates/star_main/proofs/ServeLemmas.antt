@@ -2,9 +2,9 @@
 use Rattle.std.specs.Prelude.{IfSome, IsSomeAnd}
 use Rattle.std.proofs.Common.{◌≡◌, ℕ, Bool, Option, Some, None, refl}
 use Rattle.star_io.specs.declared.serve_end.ServeEnd.TheVariants.{Ended, NoMemory}
-use Rattle.command_words.specs.declared.settings.Settings.{Settings}
 use Rattle.star_main.specs.Modes.{Serves}
 use Rattle.star_main.specs.Serving.{ServeHeadline}
+use Rattle.star_main.specs.declared.settings.Settings.{Settings}
 
 -- nothing was served, though they ask for it
 pub serve_unread : {A B : Type 0} (settings : Option Settings) (status : ℕ) (asked : Option ℕ) (ended : Bool) (given faults : ℕ) (failed : Bool)

@@ -6,10 +6,10 @@ use Rattle.core_state.specs.Settings.{AreWithin}
 use Rattle.core_state.specs.Sound.{empty_core}
 use Rattle.event_core.specs.Parts.{Parts}
 use Rattle.event_core.specs.Seen.{state_of}
-use Rattle.command_words.specs.Ranges.{AreInRange}
-use Rattle.command_words.specs.declared.settings.Settings.{Settings}
 use Rattle.script_run.specs.Front.{IsRun}
 use Rattle.star_main.specs.Modes.{IsAlone, Serves, Works, run_settings_of, shares_core}
+use Rattle.star_main.specs.Ranges.{AreInRange}
+use Rattle.star_main.specs.declared.settings.Settings.{Settings}
 
 -- the settings that words name are within the limits of a core, with a seat for each worker and for some others
 pub within-limits : (settings : Settings) (others : ℕ) → 1 ≤ others → others ≤ 112 → AreInRange settings

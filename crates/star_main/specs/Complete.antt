@@ -6,7 +6,6 @@ use Rattle.star_io.specs.Faults.{FailedOnce}
 use Rattle.star_io.specs.Link.{ReadingSide, WritingSide}
 use Rattle.star_io.specs.declared.run_end.RunEnd.{RunEnd}
 use Rattle.star_io.specs.declared.run_end.RunEnd.TheVariants.{Clean, SomeRefused, ScriptLimit}
-use Rattle.command_words.specs.declared.settings.Settings.{Settings}
 use Rattle.script_run.specs.Run.{AnswersScript}
 use Rattle.make_load.specs.Made.{WritesMade}
 use Rattle.make_load.specs.declared.made.MadeEnd.{MadeEnd}
@@ -14,6 +13,7 @@ use Rattle.make_load.specs.declared.made.MadeEnd.TheVariants as made_end
 use Rattle.star_main.specs.Headline.{status_of}
 use Rattle.star_main.specs.Made.{made_status_of}
 use Rattle.star_main.specs.Modes.{HasScript, IsMade, Serves}
+use Rattle.star_main.specs.declared.settings.Settings.{Settings}
 
 -- a read failed in the call
 abbrev pub ReadFailed : ReadingSide → ReadingSide → Type 0

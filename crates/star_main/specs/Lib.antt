@@ -1,9 +1,16 @@
--- What the modes make of settings, the headline, how a call ends of which nothing failed, and what
--- is told of a run that was cut short.
+-- Which words are options and values, and which settings the options make; what the modes make of
+-- settings, the headline, how a call ends of which nothing failed, and what is told of a run that
+-- was cut short.
+pub mod Words
+pub mod Values
+pub mod Table
+pub mod Rows
+pub mod Ranges
+pub mod Examples
 pub mod Headline
 pub mod Complete
 pub mod Made
 pub mod Serving
 pub mod Modes
 pub mod Fault
-pub mod Words
+pub mod WordsOutcome

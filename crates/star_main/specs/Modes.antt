@@ -1,9 +1,9 @@
 -- What the modes make of settings.
 use Rattle.std.specs.Prelude.{◌≡◌, ◌+◌, Bool, true, false, ◌&&◌, nat_lt}
 use Rattle.core_state.specs.declared.settings.RunSettings.{RunSettings}
-use Rattle.command_words.specs.declared.settings.Settings.{Settings}
-use Rattle.command_words.specs.declared.settings.Mode.{Mode}
-use Rattle.command_words.specs.declared.settings.Mode.TheVariants.{Run, Alone, Make, Serve}
+use Rattle.star_main.specs.declared.settings.Settings.{Settings}
+use Rattle.star_main.specs.declared.settings.Mode.{Mode}
+use Rattle.star_main.specs.declared.settings.Mode.TheVariants.{Run, Alone, Make, Serve}
 
 -- how large the core of a run is: workers, slots and batches as the settings say, and a seat for
 -- each worker and for the one who reads the script

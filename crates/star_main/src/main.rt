@@ -4,8 +4,16 @@
 ghost use Rattle.std.specs.Prelude.{◌≡◌, ◌≢◌};
 ghost use Rattle.std.specs.IoError.{error_kind};
 
+mod examples;
 mod fault;
+mod laws;
+mod limits;
+mod options;
+mod reading;
+mod settings;
+mod table;
 mod top;
+mod values;
 
 use crate::fault::Fault;
 use crate::top::{FAULTY_WORDS, OUT_OF_MEMORY, cjoin};

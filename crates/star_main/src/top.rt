@@ -3,8 +3,6 @@ ghost use Rattle.std.specs.Prelude.{◌≡◌, ◌≢◌, ◌<◌, ◌↔◌, �
 ghost use Rattle.std.specs.Prelude.{IsSomeAnd, map, string_bytes};
 ghost use Rattle.star_io.specs.Faults.{FailedOnce};
 ghost use Rattle.star_io.specs.Link.{ReadingSide};
-ghost use Rattle.command_words.specs.Ranges.{AreInRange};
-ghost use Rattle.command_words.specs.Table.{settings_of};
 ghost use Rattle.core_state.specs.Settings.{AreWithin};
 ghost use Rattle.core_state.specs.Sound.{empty_core};
 ghost use Rattle.core_state.specs.declared.settings.RunSettings.{RunSettings as CoreSettings};
@@ -14,10 +12,13 @@ ghost use Rattle.star_main.specs.Complete.{IsComplete};
 ghost use Rattle.star_main.specs.Headline.{Headline, HasCause, status_of as run_status};
 ghost use Rattle.star_main.specs.Made.{MadeHeadline, made_status_of};
 ghost use Rattle.star_main.specs.Modes.{HasScript, IsAlone, IsMade, Serves, Works, has_workers, run_settings_of, serve_settings_of, shares_core};
+ghost use Rattle.star_main.specs.Ranges.{AreInRange};
 ghost use Rattle.star_main.specs.Serving.{ServeHeadline, serve_status_of};
-ghost use Rattle.star_main.specs.Words.{IfRan, IfServe, IfWork};
+ghost use Rattle.star_main.specs.Table.{settings_of};
+ghost use Rattle.star_main.specs.WordsOutcome.{IfRan, IfServe, IfWork};
 
-use command_words::{Mode, Settings, read_words};
+use crate::reading::read_words;
+use crate::settings::{Mode, Settings};
 use core_state::RunSettings;
 use event_core::Core;
 use make_load::{MadeDone, MadeEnd, run_made, run_made_on_one_thread};

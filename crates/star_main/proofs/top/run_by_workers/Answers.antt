@@ -1,6 +1,6 @@
 use Rattle.std.proofs.Common.{◌≡◌, ◌∙◌, refl, subst, sym}
-use Rattle.command_words.specs.declared.settings.Mode.TheVariants as mode
 use Rattle.star_main.specs.Modes.{RunsSource}
+use Rattle.star_main.specs.declared.settings.Mode.TheVariants as mode
 use Rattle.star_main.proofs.HeadlineLemmas.{never_faulty}
 use Rattle.star_main.proofs.MadeLemmas.{never_faulty_made}
 use Rattle.star_main.proofs.top.run_by_workers.Goals as goal

@@ -1,8 +1,0 @@
-use Rattle.std.proofs.Common.{◌≡◌, map, take}
-use Rattle.clap.specs.Simple.{app_of}
-use Rattle.command_words.specs.Rows.{app_with}
-use Rattle.command_words.proofs.options.command_of.Given as goal
-
--- the command has the options of the names so far
-abbrev pub invariant-loop-name : goal.invariant-loop-name
-invariant-loop-name l = app_of l.command ≡ app_with (map (λ name. name.now) (take l.name-index l.names))
