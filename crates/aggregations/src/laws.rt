@@ -12,9 +12,9 @@ ghost use Rattle.star_plan.specs.Joined.{Joined, value_at};
 ghost use Rattle.star_plan.specs.Test.{Query};
 ghost use Rattle.fact_versions.specs.declared.version.Version.{Version};
 ghost use Rattle.dimension_rows.specs.declared.dimension_row.DimensionRow.{DimensionRow};
-ghost use Rattle.star_history.specs.Kept.{rows_of_all};
-ghost use Rattle.star_history.specs.Keyed.{joined_by_keys};
-ghost use Rattle.star_history.specs.Read.{NamesItsPlaces, value_by_key};
+ghost use Rattle.query_meaning.specs.KeptTables.{rows_of_all};
+ghost use Rattle.query_meaning.specs.Keyed.{joined_by_keys};
+ghost use Rattle.query_meaning.specs.Read.{NamesItsPlaces, value_by_key};
 ghost use Rattle.aggregations.specs.declared.ordered.NumberedKey.{NumberedKey};
 ghost use Rattle.aggregations.specs.Grouped.{AreOfItems, Grouped, Tally, grouped_of};
 ghost use Rattle.aggregations.specs.Absorbing.{absorbed, with_all, without_rows};
@@ -25,7 +25,7 @@ ghost use Rattle.aggregations.specs.Finish.{answer_from, each_of, group_at, grou
 ghost use Rattle.aggregations.specs.Homes.{CodesAreOfOneKey, keys_in};
 ghost use Rattle.aggregations.specs.Partial.{PartsAdd, PartsCommute, part_of_all, with_part};
 
-use star_history::values_by_key_are_those_of_joined_rows;
+use query_meaning::values_by_key_are_those_of_joined_rows;
 use star_plan::{
     answers_overflow_by_whole_sums, cells_take_one_row_more, groups_are_the_keys_of_the_rows,
     groups_take_one_row_more, the_least_of_values_ignores_their_order,

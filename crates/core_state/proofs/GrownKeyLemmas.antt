@@ -5,7 +5,7 @@ use Rattle.std.specs.Option.{option_or}
 use Rattle.std.proofs.lemmas.List.Folds.{find-append}
 use Rattle.std.proofs.lemmas.List.Sums.{position_or_len_is}
 use Rattle.star_values.specs.declared.value.Value as cell
-use Rattle.star_history.specs.Alone.{joined_with}
+use Rattle.query_meaning.specs.Alone.{joined_with}
 use Rattle.core_state.proofs.GrownRowsLemmas.{Behind, Grows, Stays}
 
 -- Key numbers.

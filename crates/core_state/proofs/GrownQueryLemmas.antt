@@ -2,7 +2,7 @@
 use Rattle.core_state.proofs.Words.{◌++◌, ◌<◌, ◌↔◌, ◌∙◌, ◌∷◌, ◌≡◌, ◌≤◌, [], Accepted, All, All-head, All-permutation, All-tail, ap, append_assoc, AreSoundQueries, arith, Bool, cases_lt, cond, cons_option, Entry, false, filter, flat_map, get_or, get_or-range_with_len, grouped_of, IfSome, IfSome_then, inl, inr, is_open, is_visible, IsAnswer, IsCovered, IsKept, IsOver, IsPermutation, IsPermutation-sym, IsSoundQuery, IsTrue, Joined, joined, kept, kept_at, length, length-range_with_len, Life, List, map, None, Option, PlainVersion, positions_for, Query, query_in, range_with_len, refl, slice_get, Some, State, Store, subst, sym, tables_by, tables_of, to_come, true, versions_at, versions_in, ℕ, ⊎_elim}
 use Rattle.star_plan.specs.Joined.{kept_of}
 use Rattle.pipeline_manager.specs.declared.life.Life.TheVariants as life
-use Rattle.star_history.proofs.LoadedLemmas.{all_front}
+use Rattle.query_meaning.proofs.LoadedLemmas.{all_front}
 use Rattle.core_state.proofs.FoundLemmas.{both-some}
 use Rattle.core_state.proofs.GrownFilterLemmas.{entered}
 use Rattle.core_state.proofs.GrownKeyLemmas.{version-joined}

@@ -1,7 +1,7 @@
 -- A version that a query sees is joined by its key numbers as by its keys.
 use Rattle.core_state.proofs.Words.{◌∙◌, ◌≡◌, ◌≤◌, [], ap, Bool, cond, DimensionRow, eq-eqb, eqb, fact_columns, false, foreign_key, get_or, HasKeyNumbers, is_visible, IsOver, IsPlaceOf, joined, joined_by_keys, joined_row, KeyedStore, length, List, list_any, list_any-from_Any, map, names, option_map_or, plain, position_or_len, Query, range_with_len, references, refl, row_of_key, rows_in, slice_get, Some, sym, true, value_in, Version, ℕ}
 use Rattle.star_values.specs.declared.value.Value as cell
-use Rattle.star_history.specs.Keyed.{key_number, row_at_key}
+use Rattle.query_meaning.specs.Keyed.{key_number, row_at_key}
 use Rattle.core_state.proofs.FoundLemmas.{some-at}
 use Rattle.core_state.proofs.KeyedLemmas.{begun-by, foreign-there, key-row}
 

@@ -1,8 +1,8 @@
 -- What a distributor folds into the groups of a query is what the core folds.
 use Rattle.core_state.proofs.Words.{◌++◌, ◌+◌, ◌<◌, ◌∙◌, ◌∷◌, ◌≡◌, [], All, All-contains, All-head, All-tail, all_at, ap, append-nil, append_assoc, AreKeyedTablesOf, arith, bit_at, cond, Contains, DimensionRow, drop, eqb, filter_map, Flight, frame_words, get_or, grouped_of, Has, HasKeyNumbers, IfSome, is_visible, IsOnRoster, IsOver, IsSound, IsSoundBatch, IsSoundRow, Joined, joined, joined_by_keys, KeyedStore, length, List, list_all, map, None, OnRoster, Option, option_map, passes, plain, plain_version, PlainVersion, Query, range_with_len, refl, Roomy, rows_for, slice_get, Some, State, Store, subst, sym, tables_of, take, takes_at, true, Version, versions_for, versions_of, with_batch, with_row, with_rows, with_versions, ℕ}
 use Rattle.std.proofs.lemmas.Option.{slice_get-map}
-use Rattle.star_history.specs.Kept.{rows_of_all}
-use Rattle.star_history.specs.Read.{NamesItsPlaces, value_by_key}
+use Rattle.query_meaning.specs.KeptTables.{rows_of_all}
+use Rattle.query_meaning.specs.Read.{NamesItsPlaces, value_by_key}
 use Rattle.core_state.proofs.DistributeLemmas.{FoldsOne, rows-folded}
 use Rattle.core_state.proofs.FoundLemmas.{some-at}
 use Rattle.core_state.proofs.GiveLemmas.{all-three, asked}

@@ -4,7 +4,7 @@ use Rattle.std.proofs.lemmas.List.{length-append}
 use Rattle.std.proofs.lemmas.List.Sorted.{length_permutation}
 use Rattle.std.proofs.lemmas.List.Sums.{count_by-le-length, length-filter}
 use Rattle.star_plan.specs.Joined.{kept_of}
-use Rattle.star_history.specs.Alone.{visible}
+use Rattle.query_meaning.specs.Alone.{visible}
 use Rattle.pipeline_manager.specs.declared.life.Life.TheVariants as life
 use Rattle.distributor.specs.Slots.{HaveRoom}
 use Rattle.core_state.proofs.AcceptedLemmas.{accepted-lives, find-holds}

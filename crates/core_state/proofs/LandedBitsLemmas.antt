@@ -2,7 +2,7 @@
 use Rattle.core_state.proofs.Words.{◌&&◌, ◌+◌, ◌<◌, ◌↔◌, ◌∙◌, ◌≡◌, ◌≤◌, ◌⊎◌, [], All, All-permutation, AllRows, ap, AreSoundFilters, arith, bit_at, Bool, Chosen, cond, Contains, eq-eqb, eqb, eqb-true, fact_columns, false, Flight, frame_words, get_or, Has, has_passed, has_passed_all, IfSome, is_empty, is_kept, is_named, is_visible, IsOver, IsPermutation-sym, IsSoundBatch, IsSoundOrder, IsSoundRow, IsTrue, Joined, joined, joined_row, keeps_so_far, length, List, list_all, list_any, list_any-from_Any, map, nat_lt, nat_tests, OnRoster, option_map_or, passes, PlainVersion, Query, range_with_len, references, refl, Schema, Selection, selection_in, slice_get, slice_get_at, Some, State, Store, subst, sym, tables_of, takes, takes_at, true, Unnamed, ℕ, ⊎_elim}
 use Rattle.std.proofs.lemmas.List.Sums.{AllPass-from_list_all}
 use Rattle.star_values.specs.declared.value.Value as cell
-use Rattle.star_history.proofs.FoundLemmas.{second_true}
+use Rattle.query_meaning.proofs.FoundLemmas.{second_true}
 use Rattle.core_state.proofs.CutFoundLemmas.{at-below, from-filter}
 use Rattle.core_state.proofs.FoundLemmas.{some-at}
 use Rattle.core_state.proofs.GiveLemmas.{all-asked, all-three, asked, at-each, each-at, three-all}

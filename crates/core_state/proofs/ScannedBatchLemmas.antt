@@ -2,7 +2,7 @@
 use Rattle.core_state.proofs.Words.{◌++◌, ◌-◌, ◌∙◌, ◌∷◌, ◌≡◌, [], All, All-head, All-tail, ap, AreTablesOf, bits_of, DimensionRow, drop, end_in, first_in, flat_map, get_or, HasKeyNumbers, is_some, IsScannedAs, IsSound, key_numbers, KeyedStore, length, life_at, List, map, next_number, None, OnRoster, plain, plain_version, PlainVersion, range_with_len, refl, roster_of, Rows, rows_to_cut, running_at, Scanning, Schema, slots_of, Some, State, Store, sym, tables_of, take, takes_version, true, Version, versions_from, ℕ}
 use Rattle.std.proofs.lemmas.List.{drop-map, take-map}
 use Rattle.std.proofs.lemmas.List.Elements.{All-drop, All-take}
-use Rattle.star_history.specs.Keyed.{number_by_key}
+use Rattle.query_meaning.specs.Keyed.{number_by_key}
 use Rattle.continuous_scan.specs.Range as scanned
 use Rattle.continuous_scan.specs.Stamped as stamped
 use Rattle.core_state.specs.Cutting.{frame_words}

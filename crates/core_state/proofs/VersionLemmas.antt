@@ -3,7 +3,7 @@ use Rattle.core_state.proofs.Words.{◌++◌, ◌+◌, ◌<◌, ◌↔◌, ◌�
 use Rattle.dimension_filter.specs.Filter as table
 use Rattle.dimension_filter.specs.Filter.{AreAscending, is_stored}
 use Rattle.pipeline_manager.specs.Sound as managed
-use Rattle.star_history.proofs.LoadedLemmas.{all_front}
+use Rattle.query_meaning.proofs.LoadedLemmas.{all_front}
 use Rattle.core_parts.specs.InFlight.{numbers_in_hand}
 use Rattle.core_state.proofs.CutNumberLemmas.{next-apart, next-given, still-given}
 use Rattle.core_state.proofs.FoundLemmas.{both-some}

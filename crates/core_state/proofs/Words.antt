@@ -55,16 +55,16 @@ pub use Rattle.star_binder.specs.Named.{where_conjuncts}
 pub use Rattle.star_binder.specs.Refused.{bound_delete, bound_select}
 pub use Rattle.star_binder.specs.Select.{select_of}
 pub use Rattle.star_binder.specs.Table.{declared_table}
-pub use Rattle.star_history.proofs.FoundLemmas.{position_there, slice_get_at}
-pub use Rattle.star_history.proofs.LaterLemmas.{still_live}
-pub use Rattle.star_history.proofs.ListLemmas.{all_pairs_head, all_pairs_tail}
-pub use Rattle.star_history.proofs.LoadedLemmas.{all_at, in_grown}
-pub use Rattle.star_history.specs.Accepted.{Accepts, AcceptsAll}
-pub use Rattle.star_history.specs.Alone.{alone, foreign_key, is_matched, joined, joined_row, kept, names, row_of_key}
-pub use Rattle.star_history.specs.History.{after_change, Change, DimensionDeclared, Ended, FactDeclared, Loaded, rows_by, store_of, versions_by, with_end, with_ends}
-pub use Rattle.star_history.specs.Keyed.{HasKeyNumbers, joined_by_keys, KeyedStore, plain, plain_version}
-pub use Rattle.star_history.specs.Settled.{IsDated, IsMatched, IsPlaceOf, IsSettled}
-pub use Rattle.star_history.specs.Store.{empty_store, PlainVersion, rows_in, Store}
+pub use Rattle.query_meaning.proofs.FoundLemmas.{position_there, slice_get_at}
+pub use Rattle.query_meaning.proofs.LaterLemmas.{still_live}
+pub use Rattle.query_meaning.proofs.ApartLemmas.{all_pairs_head, all_pairs_tail}
+pub use Rattle.query_meaning.proofs.LoadedLemmas.{all_at, in_grown}
+pub use Rattle.query_meaning.specs.Accepted.{Accepts, AcceptsAll}
+pub use Rattle.query_meaning.specs.Alone.{alone, foreign_key, is_matched, joined, joined_row, kept, names, row_of_key}
+pub use Rattle.query_meaning.specs.History.{after_change, Change, DimensionDeclared, Ended, FactDeclared, Loaded, rows_by, store_of, versions_by, with_end, with_ends}
+pub use Rattle.query_meaning.specs.Keyed.{HasKeyNumbers, joined_by_keys, KeyedStore, plain, plain_version}
+pub use Rattle.query_meaning.specs.Settled.{IsDated, IsMatched, IsPlaceOf, IsSettled}
+pub use Rattle.query_meaning.specs.Store.{empty_store, PlainVersion, rows_in, Store}
 pub use Rattle.star_store.specs.Deletes.{delete_change}
 pub use Rattle.dimension_filter.specs.Changes.{filter_with}
 pub use Rattle.dimension_filter.specs.Filter.{Filter, vector_of}

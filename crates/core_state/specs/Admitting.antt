@@ -3,7 +3,7 @@
 use Rattle.std.specs.Prelude.{ℕ, ◌==◌, List, map, flat_map, slice_index_or, if◌then◌else◌}
 use Rattle.std.specs.Option.{option_map_or}
 use Rattle.star_plan.specs.Test.{Query, Selection, Unnamed}
-use Rattle.star_history.specs.Store.{rows_in}
+use Rattle.query_meaning.specs.Store.{rows_in}
 use Rattle.pipeline_manager.specs.Changes.{after_built, after_cleared, after_end, after_free, after_reserve, after_run, after_spoil}
 use Rattle.pipeline_manager.specs.Lives.{slot_of}
 use Rattle.dimension_filter.specs.Changes.{filter_with, filter_without}

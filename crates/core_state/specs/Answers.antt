@@ -3,8 +3,8 @@ use Rattle.std.specs.Prelude.{◌≡◌, ◌⊎◌, ℕ, List, Some}
 use Rattle.star_plan.specs.Answer.{answer_of}
 use Rattle.star_plan.specs.Joined.{Joined}
 use Rattle.star_plan.specs.Test.{Query}
-use Rattle.star_history.specs.Alone.{alone}
-use Rattle.star_history.specs.Store.{Store}
+use Rattle.query_meaning.specs.Alone.{alone}
+use Rattle.query_meaning.specs.Store.{Store}
 use Rattle.star_statement.specs.Effect.{answer_reply}
 use Rattle.reply_text.specs.declared.reply.Reply.{Reply}
 use Rattle.reply_text.specs.declared.reply.Reply.TheVariants.{Memory}

@@ -1,7 +1,7 @@
 -- What of a core reads its tables, beside its seats: rows that are loaded, and versions that
 -- are ended, leave it sound.
 use Rattle.std.specs.Prelude.{ℕ, [], ◌∷◌, ◌++◌}
-use Rattle.star_history.specs.History.{Change, DimensionDeclared, FactDeclared, Loaded, Ended}
+use Rattle.query_meaning.specs.History.{Change, DimensionDeclared, FactDeclared, Loaded, Ended}
 use Rattle.core_state.specs.Sound.{AreSoundBatches, AreSoundFilters, AreSoundHands, AreSoundNumbers, AreSoundQueries, AreSoundSlots, IsQuietBefore, IsSoundOrder, IsSoundScan, IsSoundStore}
 use Rattle.core_state.specs.State.{State}
 

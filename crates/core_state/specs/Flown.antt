@@ -8,8 +8,8 @@ use Rattle.star_plan.specs.Test.{Query}
 use Rattle.star_plan.specs.Truth.{passes}
 use Rattle.dimension_rows.specs.declared.dimension_row.DimensionRow.{DimensionRow}
 use Rattle.fact_versions.specs.Visible.{is_visible}
-use Rattle.star_history.specs.Alone.{joined}
-use Rattle.star_history.specs.Store.{PlainVersion, Store, rows_in}
+use Rattle.query_meaning.specs.Alone.{joined}
+use Rattle.query_meaning.specs.Store.{PlainVersion, Store, rows_in}
 use Rattle.batch_flow.specs.Rows.{key_place}
 use Rattle.batch_flow.specs.declared.batch.TheConstants.{KEYS_IN_A_ROW}
 use Rattle.pipeline_manager.specs.Lives.{Lives, extent_in, life_of, slot_at}

@@ -5,8 +5,8 @@ use Rattle.std.specs.List.{range_with_len}
 use Rattle.std.specs.Option.{option_and_then, option_map_or}
 use Rattle.star_values.specs.Roomy.{Roomy}
 use Rattle.dimension_rows.specs.declared.dimension_row.DimensionRow.{DimensionRow}
-use Rattle.star_history.specs.Kept.{rows_of_all}
-use Rattle.star_history.specs.Keyed.{KeyedStore}
+use Rattle.query_meaning.specs.KeptTables.{rows_of_all}
+use Rattle.query_meaning.specs.Keyed.{KeyedStore}
 use Rattle.pipeline_manager.specs.Lives.{Lives, life_of, slot_at, slot_of}
 use Rattle.aggregations.specs.Grouped.{Grouped}
 use Rattle.core_state.specs.declared.event.Event.{Event}

@@ -6,8 +6,8 @@ use Rattle.star_values.specs.declared.value.Value as cell
 use Rattle.star_plan.specs.declared.table.Table.TheVariants.{Fact, Dimension}
 use Rattle.star_plan.specs.declared.table_def.TableDef.{TableDef}
 use Rattle.dimension_rows.specs.declared.dimension_row.DimensionRow.{DimensionRow}
-use Rattle.star_history.specs.History.{Change, DimensionDeclared, FactDeclared, Loaded, Ended}
-use Rattle.star_history.specs.Store.{PlainVersion, Store, rows_in}
+use Rattle.query_meaning.specs.History.{Change, DimensionDeclared, FactDeclared, Loaded, Ended}
+use Rattle.query_meaning.specs.Store.{PlainVersion, Store, rows_in}
 use Rattle.star_statement.specs.declared.applied.ChangeKind.{ChangeKind}
 use Rattle.star_statement.specs.declared.applied.ChangeKind.TheVariants.{DeclaresDimension, DeclaresFact, Loads, Ends}
 

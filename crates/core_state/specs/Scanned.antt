@@ -2,7 +2,7 @@
 use Rattle.std.specs.Prelude.{◌≡◌, ℕ, ◌<◌, List, length, slice_index_or, Option, Some, None}
 use Rattle.std.specs.Option.{option_and_then}
 use Rattle.star_plan.specs.Test.{query_of}
-use Rattle.star_history.specs.Keyed.{IsKeyed, KeyedStore, plain}
+use Rattle.query_meaning.specs.Keyed.{IsKeyed, KeyedStore, plain}
 use Rattle.pipeline_manager.specs.declared.life.Life.{Life}
 use Rattle.pipeline_manager.specs.declared.life.Life.TheVariants as life
 use Rattle.pipeline_manager.specs.Lives.{Lives, life_of, slot_at}

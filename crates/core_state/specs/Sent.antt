@@ -2,8 +2,8 @@
 -- which replies are right.
 use Rattle.std.specs.Prelude.{◌≡◌, ◌≢◌, ◌⊎◌, ℕ, ◌≤◌, List, [], ◌∷◌, ◌++◌, All, filter_map, length, map, take, Option, Some, None, option_map, option_to_list}
 use Rattle.script_reader.specs.declared.statement.Statement.{Statement}
-use Rattle.star_history.specs.Alone.{alone}
-use Rattle.star_history.specs.Store.{Store}
+use Rattle.query_meaning.specs.Alone.{alone}
+use Rattle.query_meaning.specs.Store.{Store}
 use Rattle.reply_text.specs.declared.reply.Reply.{Reply}
 use Rattle.reply_text.specs.declared.reply.Reply.TheVariants.{Memory}
 use Rattle.star_statement.specs.Effect.{answer_reply}

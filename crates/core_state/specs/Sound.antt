@@ -8,9 +8,9 @@ use Rattle.star_plan.specs.Joined.{Joined, kept_of}
 use Rattle.star_plan.specs.Over.{IsOver}
 use Rattle.star_plan.specs.Test.{Query}
 use Rattle.fact_versions.specs.Visible.{is_visible}
-use Rattle.star_history.specs.Accepted.{AcceptsAll}
-use Rattle.star_history.specs.Alone.{joined, kept}
-use Rattle.star_history.specs.Store.{PlainVersion, Store, empty_store}
+use Rattle.query_meaning.specs.Accepted.{AcceptsAll}
+use Rattle.query_meaning.specs.Alone.{joined, kept}
+use Rattle.query_meaning.specs.Store.{PlainVersion, Store, empty_store}
 use Rattle.pipeline_manager.specs.Conditions.{is_open}
 use Rattle.pipeline_manager.specs.Lives.{life_in, life_of, query_in, slot_at}
 use Rattle.pipeline_manager.specs.Sound as managed

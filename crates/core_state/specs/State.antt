@@ -1,7 +1,7 @@
 -- What the core is, as plain data.
 use Rattle.std.specs.Prelude.{ℕ, List, Option}
 use Rattle.star_plan.specs.Test.{Query}
-use Rattle.star_history.specs.History.{Change}
+use Rattle.query_meaning.specs.History.{Change}
 use Rattle.pipeline_manager.specs.Lives.{Lives}
 use Rattle.aggregations.specs.Grouped.{Grouped}
 use Rattle.core_state.specs.declared.settings.RunSettings.{RunSettings}

@@ -10,8 +10,8 @@ use Rattle.star_plan.specs.declared.item.Item.TheVariants.{CountAll}
 use Rattle.star_plan.specs.declared.predicate.How.TheVariants.{Eq}
 use Rattle.star_plan.specs.declared.table.Table.TheVariants.{Fact, Dimension}
 use Rattle.star_plan.specs.declared.table_def.TableDef.{TableDef}
-use Rattle.star_history.specs.Examples.{sale, sales, store}
-use Rattle.star_history.specs.History.{DimensionDeclared, FactDeclared, Loaded}
+use Rattle.query_meaning.specs.HistoryExamples.{sale, sales, store}
+use Rattle.query_meaning.specs.History.{DimensionDeclared, FactDeclared, Loaded}
 use Rattle.star_statement.specs.Outcome.{Accepted, only_tells}
 use Rattle.aggregations.specs.Grouped.{Tally}
 use Rattle.core_parts.specs.InFlight.{numbers_in_hand}

@@ -3,7 +3,7 @@
 use Rattle.std.specs.Prelude.{ℕ, ◌+◌, ◌==◌, List, [], ◌∷◌, ◌++◌, length, map, fold, take, slice_get, replicate, slice_set, slice_index_or, Option, Some, None, option_map, if◌then◌else◌}
 use Rattle.std.specs.Option.{option_and_then, option_map_or}
 use Rattle.script_reader.specs.declared.statement.Statement.{Statement}
-use Rattle.star_history.specs.History.{Change, FactDeclared}
+use Rattle.query_meaning.specs.History.{Change, FactDeclared}
 use Rattle.star_statement.specs.Outcome as outcome
 use Rattle.star_statement.specs.Outcome.{Told, outcome_of}
 use Rattle.reply_text.specs.declared.reply.Reply.{Reply}

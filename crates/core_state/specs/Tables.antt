@@ -3,9 +3,9 @@ use Rattle.std.specs.Prelude.{ℕ, List, length, map}
 use Rattle.std.specs.List.{range_with_len}
 use Rattle.star_values.specs.declared.value.Value as cell
 use Rattle.batch_flow.specs.declared.batch.TheConstants.{KEYS_IN_A_ROW}
-use Rattle.star_history.specs.History.{Change, store_of}
-use Rattle.star_history.specs.Keyed.{number_by_key}
-use Rattle.star_history.specs.Store.{Store}
+use Rattle.query_meaning.specs.History.{Change, store_of}
+use Rattle.query_meaning.specs.Keyed.{number_by_key}
+use Rattle.query_meaning.specs.Store.{Store}
 use Rattle.core_state.specs.State.{Entry, State}
 pub use Rattle.core_parts.specs.Filtered.{filter_dimensions}
 

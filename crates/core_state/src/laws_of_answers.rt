@@ -1,7 +1,7 @@
 //! What holds of the replies that seats take, and of answers as tables grow.
 ghost use Rattle.std.specs.Prelude.{◌≡◌, ◌⊎◌, ℕ, ◌≤◌, List, Contains, Some, None, IsSomeAnd, IsTrue, slice_get};
 ghost use Rattle.star_plan.specs.Test.{Query};
-ghost use Rattle.star_history.specs.Alone.{alone};
+ghost use Rattle.query_meaning.specs.Alone.{alone};
 ghost use Rattle.pipeline_manager.specs.Conditions.{is_open};
 ghost use Rattle.pipeline_manager.specs.Lives.{life_of};
 ghost use Rattle.pipeline_manager.specs.declared.life.Life.TheVariants.{Answered};
@@ -14,7 +14,7 @@ ghost use Rattle.core_state.specs.Submitting.{Ready, next_ready, seat_at};
 ghost use Rattle.core_state.specs.Tables.{tables_of};
 
 use crate::laws_of_runs::every_step_keeps_a_core_sound;
-use star_history::{accepted_histories_are_settled, later_changes_are_not_seen};
+use query_meaning::{accepted_histories_are_settled, later_changes_are_not_seen};
 use star_plan::answers_ignore_the_order_of_rows;
 use star_statement::outcomes_fit_the_tables;
 

@@ -7,7 +7,7 @@ ghost use Rattle.core_state.specs.Sound.{IsSound};
 ghost use Rattle.core_state.specs.State.{State};
 
 use aggregations::one_row_more_is_folded;
-use star_history::accepted_histories_are_settled;
+use query_meaning::accepted_histories_are_settled;
 
 /// A batch that a worker takes keeps a core sound.
 pub fn a_taken_batch_keeps_a_core_sound()

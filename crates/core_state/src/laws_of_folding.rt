@@ -3,7 +3,7 @@ ghost use Rattle.std.specs.Prelude.{◌≡◌, ℕ, ◌+◌, ◌≤◌, List, []
 ghost use Rattle.star_values.specs.Roomy.{Roomy};
 ghost use Rattle.star_plan.specs.Joined.{Joined};
 ghost use Rattle.dimension_rows.specs.declared.dimension_row.DimensionRow.{DimensionRow};
-ghost use Rattle.star_history.specs.Keyed.{KeyedStore};
+ghost use Rattle.query_meaning.specs.Keyed.{KeyedStore};
 ghost use Rattle.aggregations.specs.Grouped.{Grouped, grouped_of};
 ghost use Rattle.distributor.specs.Folded.{after_batch, with_batch};
 ghost use Rattle.distributor.specs.Slots.{HaveRoom, HaveRows};
@@ -16,7 +16,7 @@ ghost use Rattle.core_state.specs.State.{Accepted, Flight, OnRoster, State};
 ghost use Rattle.core_state.specs.Tables.{tables_of};
 
 use aggregations::{one_row_more_is_folded, values_by_key_fold_the_same};
-use star_history::accepted_histories_are_settled;
+use query_meaning::accepted_histories_are_settled;
 
 /// The rows of a batch that go into the groups of a query on its roster, read by key numbers, are
 /// those that the core folds, joined by keys.

@@ -8,7 +8,7 @@ ghost use Rattle.core_state.specs.Sound.{IsSound};
 ghost use Rattle.core_state.specs.State.{Entry, FilterVersion, Flight, Hand, State};
 ghost use Rattle.core_state.specs.Tables.{tables_of};
 
-use star_history::accepted_histories_are_settled;
+use query_meaning::accepted_histories_are_settled;
 
 /// A batch in a hand gets from its versions the bits that the present versions of these filters
 /// give it, whatever became of the filters since the batch was taken.

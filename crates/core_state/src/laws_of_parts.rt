@@ -2,7 +2,7 @@
 ghost use Rattle.std.specs.Prelude.{◌≡◌, ◌≢◌, ℕ, ◌+◌, ◌*◌, ◌<◌, ◌≤◌, List, length, map, fold, All, IsTrue, Some, None, IsSome};
 ghost use Rattle.star_plan.specs.declared.star_query.StarQuery.{StarQuery};
 ghost use Rattle.star_plan.specs.Test.{query_of};
-ghost use Rattle.star_history.specs.Keyed.{KeyedStore};
+ghost use Rattle.query_meaning.specs.Keyed.{KeyedStore};
 ghost use Rattle.batch_flow.specs.declared.batch.TheConstants.{KEYS_IN_A_ROW};
 ghost use Rattle.pipeline_manager.specs.Changes.{after_abandon, after_spoil};
 ghost use Rattle.pipeline_manager.specs.Conditions.{CanAbandon, CanBuild, CanRun};
@@ -24,7 +24,7 @@ ghost use Rattle.core_state.specs.Submitting.{after_abandoning, after_taking};
 ghost use Rattle.core_state.specs.declared.event.Event.{Event};
 ghost use Rattle.core_state.specs.declared.settings.RunSettings.{RunSettings};
 
-use star_history::{accepted_histories_are_settled, key_numbers_are_found_by_keys};
+use query_meaning::{accepted_histories_are_settled, key_numbers_are_found_by_keys};
 use star_plan::rows_fit_by_their_kinds;
 
 /// A scan that has what runs in the core, and tables with key numbers that are the core's: the scan

@@ -13,7 +13,7 @@ ghost use Rattle.core_state.specs.Tables.{tables_of};
 ghost use Rattle.core_state.specs.declared.event.Event.TheVariants.{Submit};
 
 use crate::laws_of_runs::every_step_keeps_a_core_sound;
-use star_history::{accepted_histories_are_settled, later_changes_are_not_seen};
+use query_meaning::{accepted_histories_are_settled, later_changes_are_not_seen};
 use star_plan::answers_ignore_the_order_of_rows;
 use star_statement::outcomes_fit_the_tables;
 

@@ -1,8 +1,8 @@
 //! What holds of every core still holds after a statement.
 ghost use Rattle.std.specs.Prelude.{ℕ, ◌<◌, length};
 ghost use Rattle.script_reader.specs.declared.statement.Statement.{Statement};
-ghost use Rattle.star_history.specs.Accepted.{Accepts};
-ghost use Rattle.star_history.specs.History.{Change};
+ghost use Rattle.query_meaning.specs.Accepted.{Accepts};
+ghost use Rattle.query_meaning.specs.History.{Change};
 ghost use Rattle.core_state.specs.Beside.{IsOfRows, IsSoundBeside};
 ghost use Rattle.core_state.specs.Sound.{IsSound};
 ghost use Rattle.core_state.specs.State.{State};
@@ -10,7 +10,7 @@ ghost use Rattle.core_state.specs.Submitting.{after_submitting, with_change};
 ghost use Rattle.core_state.specs.Tables.{tables_of};
 
 use crate::laws_of_tables::a_change_of_rows_keeps_what_is_kept;
-use star_history::accepted_histories_are_settled;
+use query_meaning::accepted_histories_are_settled;
 use star_statement::outcomes_fit_the_tables;
 
 /// A declaration that the tables take leaves everything sound that a core keeps beside its seats;

@@ -1,9 +1,9 @@
 //! What a core keeps of each change beside its tables.
 ghost use Rattle.std.specs.Prelude.{◌≡◌, List, All, IfSome, map};
 ghost use Rattle.script_reader.specs.declared.statement.Statement.{Statement};
-ghost use Rattle.star_history.specs.Accepted.{AcceptsAll};
-ghost use Rattle.star_history.specs.History.{Change, store_of};
-ghost use Rattle.star_history.specs.Store.{Store, empty_store};
+ghost use Rattle.query_meaning.specs.Accepted.{AcceptsAll};
+ghost use Rattle.query_meaning.specs.History.{Change, store_of};
+ghost use Rattle.query_meaning.specs.Store.{Store, empty_store};
 ghost use Rattle.star_statement.specs.Kinds.{kind_of_change};
 ghost use Rattle.star_statement.specs.Outcome.{outcome_of};
 ghost use Rattle.core_state.specs.Logged.{EndsAscending, changes_told};
@@ -14,7 +14,7 @@ ghost use Rattle.core_state.specs.Tables.{changes_of, tables_of};
 ghost use Rattle.core_state.specs.declared.settings.RunSettings.{RunSettings};
 
 use crate::laws_of_runs::every_core_is_sound;
-use star_history::accepted_histories_are_settled;
+use query_meaning::accepted_histories_are_settled;
 
 /// The changes of a history follow from its tables and the kinds of its changes, where each delete
 /// names its positions ascending.

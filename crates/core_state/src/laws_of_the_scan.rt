@@ -4,7 +4,7 @@ ghost use Rattle.core_state.specs.Events.{MayCut};
 ghost use Rattle.core_state.specs.Sound.{IsSound};
 ghost use Rattle.core_state.specs.State.{State};
 
-use star_history::accepted_histories_are_settled;
+use query_meaning::accepted_histories_are_settled;
 
 /// A batch that the scan cuts keeps a core sound: it has the bits and keys of its rows, and less is
 /// left of each query that runs.

@@ -9,7 +9,7 @@ use Rattle.std.proofs.lemmas.List.Folds.{fold-map}
 use Rattle.star_values.specs.declared.value.Value as cell
 use Rattle.star_plan.specs.declared.place.Place.{Place}
 use Rattle.star_values.specs.Roomy.{Roomy}
-use Rattle.star_history.specs.Read.{value_by_key}
+use Rattle.query_meaning.specs.Read.{value_by_key}
 use Rattle.bit_words.specs.Sets.{Has}
 use Rattle.batch_flow.specs.Rows.{Rows}
 use Rattle.fact_versions.specs.declared.version.Version.{Version}

@@ -1,8 +1,8 @@
 -- A statement that changes the tables becomes the core's: its change is an entry more, and the fact table has its filters.
 use Rattle.event_core.proofs.Words.{◌++◌, ◌+◌, ◌<◌, ◌∙◌, ◌∷◌, ◌≡◌, ◌≤◌, [], Accepts, AcceptsAll, after_change, after_outcome, after_submitting, ap, arith, Becomes, Change, changed, changes_of, counted, empty_store, EndsAscending, entries_as, Entry, fact_columns, filter_dimensions, fold, IfSome, IsCore, IsKeyed, IsSettled, KeyedStore, kind_of_change, known_in, length, length-range_with_len, List, list_any, logged, Logged, map, Outcome, outcome_of, Parts, plain, range_with_len, references, refl, replicate, Reply, Schema, Seat, seat_as, Some, State, state_of, Statement, statements_at, Store, store_of, submitted, subst, sym, TableDef, tables_by, tables_of, Waits, with_first_filters, with_number, ℕ}
 use Rattle.std.proofs.lemmas.List.Sums.{count_by-le-length, length-filter}
-use Rattle.star_history.specs.History.{FactDeclared}
-use Rattle.star_history.proofs.LaterLemmas.{undeclared}
+use Rattle.query_meaning.specs.History.{FactDeclared}
+use Rattle.query_meaning.proofs.LaterLemmas.{undeclared}
 use Rattle.star_statement.specs.Fitting.{FitsTables}
 use Rattle.star_statement.specs.Outcome as outcome
 use Rattle.core_state.specs.Submitting.{filters_by, first_versions}

@@ -4,7 +4,7 @@ use Rattle.star_values.specs.declared.value.Kind.{Kind}
 use Rattle.star_plan.specs.Columns.{kinds_of}
 use Rattle.star_plan.specs.Over.{IsOver}
 use Rattle.star_plan.specs.Test.{Unnamed}
-use Rattle.star_history.specs.Settled.{AreRowsOf}
+use Rattle.query_meaning.specs.Settled.{AreRowsOf}
 
 -- there is nothing past a list
 none_past : {X : Type 0} (xs : List X) (place : ℕ) → slice_get xs place ≡ None → length xs ≤ place

@@ -3,7 +3,7 @@ use Rattle.event_core.proofs.Words.{◌∙◌, ◌≡◌, after_change, All, ap,
 use Rattle.std.specs.Prelude.{◌↔◌, ◌≢◌, [], IsTrue}
 use Rattle.star_statement.specs.declared.applied.ApplyFault.{ApplyFault}
 use Rattle.star_statement.specs.declared.applied.ChangeKind.TheVariants.{DeclaresFact}
-use Rattle.star_history.specs.History.{DimensionDeclared, FactDeclared, Loaded, Ended}
+use Rattle.query_meaning.specs.History.{DimensionDeclared, FactDeclared, Loaded, Ended}
 use Rattle.star_statement.specs.Kinds.{kind_of_change}
 use Rattle.core_parts.specs.Lent.{lent_to}
 use Rattle.event_core.specs.Parts.{AreBacked, beside_of, fixed_by}

@@ -40,12 +40,12 @@ pub use Rattle.pipeline_manager.specs.declared.life.QueryLife.{QueryLife}
 pub use Rattle.pipeline_manager.specs.declared.life.SlotState.{SlotState}
 pub use Rattle.pipeline_manager.specs.declared.life.SlotState.TheVariants.{Clearing, Free, Held}
 pub use Rattle.star_plan.specs.Declaration.{references}
-pub use Rattle.star_history.proofs.FoundLemmas.{find_position}
-pub use Rattle.star_history.specs.Accepted.{Accepts, AcceptsAll}
-pub use Rattle.star_history.specs.History.{after_change, Change, store_of}
-pub use Rattle.star_history.specs.Keyed.{IsKeyed, KeyedStore, plain, plain_version}
-pub use Rattle.star_history.specs.Settled.{IsSettled}
-pub use Rattle.star_history.specs.Store.{empty_store, rows_in, Store}
+pub use Rattle.query_meaning.proofs.FoundLemmas.{find_position}
+pub use Rattle.query_meaning.specs.Accepted.{Accepts, AcceptsAll}
+pub use Rattle.query_meaning.specs.History.{after_change, Change, store_of}
+pub use Rattle.query_meaning.specs.Keyed.{IsKeyed, KeyedStore, plain, plain_version}
+pub use Rattle.query_meaning.specs.Settled.{IsSettled}
+pub use Rattle.query_meaning.specs.Store.{empty_store, rows_in, Store}
 pub use Rattle.dimension_filter.specs.Changes.{filter_with, filter_without}
 pub use Rattle.dimension_filter.specs.Filter.{Filter}
 pub use Rattle.continuous_scan.proofs.LapLemmas.{range_parts}

@@ -3,7 +3,7 @@ use Rattle.std.specs.Prelude.{ℕ, ◌+◌, ◌-◌, ◌*◌, ◌==◌, if◌the
 use Rattle.bit_words.specs.Sets.{with_number}
 use Rattle.star_values.specs.Roomy.{Roomy}
 use Rattle.dimension_rows.specs.declared.dimension_row.DimensionRow.{DimensionRow}
-use Rattle.star_history.specs.Keyed.{KeyedStore}
+use Rattle.query_meaning.specs.Keyed.{KeyedStore}
 use Rattle.star_statement.specs.declared.applied.ChangeKind.{ChangeKind}
 use Rattle.star_statement.specs.declared.applied.ChangeKind.TheVariants.{DeclaresFact}
 use Rattle.pipeline_manager.specs.Changes.{after_abandon, after_built, after_cleared, after_cut, after_end, after_free, after_reserve, after_run, after_spoil, after_submit}

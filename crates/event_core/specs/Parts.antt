@@ -3,7 +3,7 @@ use Rattle.std.specs.Prelude.{◌≡◌, ◌≢◌, ℕ, Bool, Contains, IfSome,
 use Rattle.std.specs.List.{list_any}
 use Rattle.bit_words.specs.Sets.{Has}
 use Rattle.star_values.specs.Roomy.{Roomy}
-use Rattle.star_history.specs.Keyed.{KeyedStore}
+use Rattle.query_meaning.specs.Keyed.{KeyedStore}
 use Rattle.frame_pool.specs.Stock.{Stock}
 use Rattle.pipeline_manager.specs.Lives.{Lives}
 use Rattle.continuous_scan.specs.Scanning.{Scanning}

@@ -2,9 +2,9 @@
 use Rattle.std.specs.Prelude.{ℕ, List, [], ◌∷◌, length, map, slice_index_or, Option, Some, None}
 use Rattle.std.specs.Option.{option_and_then}
 use Rattle.star_plan.specs.Test.{query_of}
-use Rattle.star_history.specs.History.{Change}
-use Rattle.star_history.specs.Keyed.{plain}
-use Rattle.star_history.specs.Store.{Store}
+use Rattle.query_meaning.specs.History.{Change}
+use Rattle.query_meaning.specs.Keyed.{plain}
+use Rattle.query_meaning.specs.Store.{Store}
 use Rattle.pipeline_manager.specs.Lives.{Lives, slot_of}
 use Rattle.aggregations.specs.Grouped.{Grouped}
 use Rattle.core_state.specs.Logged.{changes_told}

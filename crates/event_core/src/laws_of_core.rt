@@ -1,7 +1,7 @@
 //! What keeps the parts of a core those of a core.
 ghost use Rattle.std.specs.Prelude.{◌≡◌, List, Option, ℕ, replicate};
-ghost use Rattle.star_history.specs.Keyed.{IsKeyed, KeyedStore, plain};
-ghost use Rattle.star_history.specs.Store.{empty_store};
+ghost use Rattle.query_meaning.specs.Keyed.{IsKeyed, KeyedStore, plain};
+ghost use Rattle.query_meaning.specs.Store.{empty_store};
 ghost use Rattle.core_state.specs.Cutting.{frame_words};
 ghost use Rattle.core_state.specs.Settings.{AreWithin, frames_of};
 ghost use Rattle.core_state.specs.Sound.{empty_core};

@@ -2,7 +2,7 @@
 ghost use Rattle.std.specs.Prelude.{◌≡◌, ◌==◌, ℕ, ◌+◌, ◌<◌, ◌≤◌, List, length, position, slice_get, All, Some};
 ghost use Rattle.star_values.specs.Roomy.{Roomy};
 ghost use Rattle.dimension_rows.specs.declared.dimension_row.DimensionRow.{DimensionRow};
-ghost use Rattle.star_history.specs.Kept.{rows_of_all};
+ghost use Rattle.query_meaning.specs.KeptTables.{rows_of_all};
 ghost use Rattle.pipeline_manager.specs.Conditions.{CanSpoil};
 ghost use Rattle.distributor.specs.Slots.{AreAttached, HaveRoom, HaveRows};
 ghost use Rattle.core_state.specs.Cutting.{after_distribute};

@@ -1,7 +1,7 @@
 //! What becomes of the parts of a core is what becomes of its state: filters.
 ghost use Rattle.std.specs.Prelude.{◌≡◌, ◌<◌, ℕ, Some, None, IsSome};
 ghost use Rattle.star_plan.specs.Test.{query_of};
-ghost use Rattle.star_history.specs.Store.{rows_in};
+ghost use Rattle.query_meaning.specs.Store.{rows_in};
 ghost use Rattle.pipeline_manager.specs.Conditions.{CanBuild, CanClear};
 ghost use Rattle.pipeline_manager.specs.Lives.{slot_of};
 ghost use Rattle.dimension_filter.specs.Changes.{filter_with, filter_without};
@@ -21,7 +21,7 @@ use crate::laws_of_core::quiet_events_leave_a_core;
 use core_state::{
     a_distributor_follows_the_core, every_step_keeps_a_core_sound, other_events_leave_a_scan,
 };
-use star_history::accepted_histories_are_settled;
+use query_meaning::accepted_histories_are_settled;
 use star_plan::rows_fit_by_their_kinds;
 
 /// A query that is built holds a slot, and may be added in it to the filter; the next version has

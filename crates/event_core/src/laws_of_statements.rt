@@ -4,8 +4,8 @@ ghost use Rattle.std.specs.Option.{option_map_or};
 ghost use Rattle.script_reader.specs.declared.statement.Statement.{Statement};
 ghost use Rattle.star_plan.specs.Test.{query_of};
 ghost use Rattle.star_plan.specs.declared.star_query.StarQuery.{StarQuery};
-ghost use Rattle.star_history.specs.History.{Change, after_change};
-ghost use Rattle.star_history.specs.Keyed.{IsKeyed, KeyedStore, plain};
+ghost use Rattle.query_meaning.specs.History.{Change, after_change};
+ghost use Rattle.query_meaning.specs.Keyed.{IsKeyed, KeyedStore, plain};
 ghost use Rattle.star_statement.specs.Kinds.{kind_of_change};
 ghost use Rattle.star_statement.specs.Outcome as outcome;
 ghost use Rattle.star_statement.specs.Outcome.{outcome_of};
@@ -32,7 +32,7 @@ use core_state::{
     changes_follow_from_the_tables, deletes_name_ascending_positions,
     every_step_keeps_a_core_sound, other_events_leave_a_scan,
 };
-use star_history::accepted_histories_are_settled;
+use query_meaning::accepted_histories_are_settled;
 use star_statement::outcomes_fit_the_tables;
 
 /// A statement that a seat submits stands behind its others, with what is told of it; a change is

@@ -2,8 +2,8 @@
 ghost use Rattle.std.specs.Prelude.{◌≡◌, ◌↔◌, ◌+◌, ◌*◌, ◌<◌, ◌≤◌, IsTrue, false, ℕ, length, map, find, option_map, replicate, [], Some, None, IfOk, IsSome};
 ghost use Rattle.std.specs.Option.{option_map_or};
 ghost use Rattle.bit_words.specs.Sets.{Has};
-ghost use Rattle.star_history.specs.Keyed.{plain};
-ghost use Rattle.star_history.specs.Store.{empty_store};
+ghost use Rattle.query_meaning.specs.Keyed.{plain};
+ghost use Rattle.query_meaning.specs.Store.{empty_store};
 ghost use Rattle.pipeline_manager.specs.Conditions.{is_open};
 ghost use Rattle.pipeline_manager.specs.Lives.{life_of};
 ghost use Rattle.pipeline_manager.specs.declared.life.SlotState.TheVariants.{Free};

@@ -2,9 +2,9 @@
 ghost use Rattle.std.specs.Prelude.{◌≡◌, ◌≢◌, ◌<◌, ◌≤◌, [], ◌∷◌, ◌++◌, All, length, map, slice_index_or, slice_set, None, Some, true, IfOk, IsErrOf, IsSome, IsTrue, OnOk, OnErr};
 ghost use Rattle.std.specs.List.{range_with_len};
 ghost use Rattle.script_reader.specs.declared.statement.Statement.{Statement};
-ghost use Rattle.star_history.specs.History.{Change};
-ghost use Rattle.star_history.specs.Keyed.{IsKeyed, plain};
-ghost use Rattle.star_history.specs.Settled.{IsSettled};
+ghost use Rattle.query_meaning.specs.History.{Change};
+ghost use Rattle.query_meaning.specs.Keyed.{IsKeyed, plain};
+ghost use Rattle.query_meaning.specs.Settled.{IsSettled};
 ghost use Rattle.star_values.specs.Roomy.{Roomy};
 ghost use Rattle.star_statement.specs.Applied.{Follows};
 ghost use Rattle.star_statement.specs.Form.{form_of_text};
@@ -31,8 +31,8 @@ use crate::logged::Logged;
 use crate::machine::Core;
 use core_parts::{AcceptedQuery, Filters, Queries, Seat, Spares, Standing};
 use pipeline_manager::Manager;
+use query_meaning::accepted_histories_are_settled;
 use script_reader::Statement;
-use star_history::accepted_histories_are_settled;
 use star_plan::Schema;
 use star_statement::{
     Applied, ApplyFault, BlockForm, ChangeKind, ReadStatement, apply, block_form,

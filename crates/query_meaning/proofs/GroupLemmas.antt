@@ -11,7 +11,7 @@ use Rattle.star_plan.specs.Groups.{key_cmp, key_of, rows_of}
 use Rattle.star_plan.specs.Joined.{Joined}
 use Rattle.star_plan.specs.Test.{Query}
 use Rattle.query_meaning.specs.Kept.{group_of, kept_group}
-use Rattle.star_history.specs.Read.{item_value_of}
+use Rattle.query_meaning.specs.Read.{item_value_of}
 use Rattle.query_meaning.specs.Tally.{taken, tallies_of}
 
 some_rows : (items : List Item) (group : List Joined) (row : Joined) → kept_group items (group ++ row ∷ []) ≡ Some (tallies_of items (group ++ row ∷ []))

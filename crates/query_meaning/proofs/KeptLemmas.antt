@@ -8,7 +8,7 @@ use Rattle.star_plan.specs.Test.{Query}
 use Rattle.fact_versions.specs.declared.version.Version.{Version}
 use Rattle.fact_versions.specs.Visible.{is_visible}
 use Rattle.dimension_rows.specs.declared.dimension_row.DimensionRow.{DimensionRow}
-use Rattle.star_history.specs.Keyed.{joined_by_keys}
+use Rattle.query_meaning.specs.Keyed.{joined_by_keys}
 use Rattle.query_meaning.specs.Kept.{keeps, kept_in}
 
 map-append : {X Y : Type 0} (f : X → Y) (xs ys : List X) → map f (xs ++ ys) ≡ map f xs ++ map f ys

@@ -1,4 +1,14 @@
--- Lemmas of this crate.
+-- Lemmas of histories and of the tables that they make, which crates above cite.
+pub mod ApartLemmas
+pub mod CommitLemmas
+pub mod FoundLemmas
+pub mod KeyLemmas
+pub mod LaterLemmas
+pub mod LoadedLemmas
+pub mod NumberLemmas
+pub mod ReadLemmas
+pub mod SettledLemmas
+-- Lemmas of how a query by itself is answered.
 mod ChosenLemmas
 mod ListLemmas
 mod PlainLemmas

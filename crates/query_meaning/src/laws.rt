@@ -14,10 +14,10 @@ ghost use Rattle.star_plan.specs.Joined.{Joined};
 ghost use Rattle.star_plan.specs.Test.{Query};
 ghost use Rattle.fact_versions.specs.declared.version.Version.{Version};
 ghost use Rattle.dimension_rows.specs.declared.dimension_row.DimensionRow.{DimensionRow};
-ghost use Rattle.star_history.specs.Keyed.{joined_by_keys};
+ghost use Rattle.query_meaning.specs.Keyed.{joined_by_keys};
 ghost use Rattle.query_meaning.specs.Finish.{all_of, answer_from, group_end};
 ghost use Rattle.query_meaning.specs.Kept.{group_of, keeps, kept_in};
-ghost use Rattle.star_history.specs.Read.{item_value_of};
+ghost use Rattle.query_meaning.specs.Read.{item_value_of};
 ghost use Rattle.query_meaning.specs.Tally.{taken, tallies_of};
 ghost use Rattle.query_meaning.specs.declared.tally.Tally.{Tally};
 

@@ -5,7 +5,7 @@ use Rattle.std.specs.Option.{option_or}
 use Rattle.std.proofs.lemmas.List.Folds.{find-append}
 use Rattle.std.proofs.lemmas.List.Sums.{sum_by-append}
 use Rattle.star_plan.specs.declared.table.Table.TheVariants as table
-use Rattle.star_history.specs.History.{versions_by}
+use Rattle.query_meaning.specs.History.{versions_by}
 use Rattle.star_statement.specs.Effect.{store_by}
 use Rattle.star_statement.specs.Outcome as outcome
 use Rattle.core_state.proofs.CutFoundLemmas.{none-found}

@@ -2,7 +2,7 @@
 use Rattle.script_run.proofs.Words.{◌++◌, ◌+◌, ◌||◌, ◌∙◌, ◌≡◌, ◌≢◌, ◌≤◌, [], ap, append-nil, Appends, AreReplied, arith, Bool, Consumes, Consumes-nil, Consumes-trans, end_of_all, end_of_halt, false, fed_with, Halt, HaltsBehind, HasEnded, HasNoStatement, inr, is_refusal, IsProperFront, length, length-append, List, list_any, MayCome, NoMemory, Ok, Option, Reading, refl, Replies, replies_of, Reply, SCRIPT_LIMIT, script_replies, script_text, some_refused, Statement, statements_of, Store, subst, sym, text_of_all, true, WriteFault, ℕ}
 use Rattle.star_io.specs.Link.{ReadingSide, WritingSide}
 use Rattle.star_io.specs.declared.run_end.RunEnd.TheVariants as end
-use Rattle.star_history.specs.Store.{empty_store}
+use Rattle.query_meaning.specs.Store.{empty_store}
 use Rattle.script_run.specs.Front.{HaltsAt, LeavesSome, Reads}
 use Rattle.script_run.specs.Replied.{AnswersWhole}
 use Rattle.script_run.specs.Run.{AnswersScript, MetNoEnd}

@@ -23,10 +23,10 @@ pub use Rattle.pipeline_manager.specs.Sound.{AreRising}
 pub use Rattle.pipeline_manager.specs.declared.life.Life.{Life}
 pub use Rattle.pipeline_manager.specs.declared.life.Life.TheVariants.{Abandoned, Answered, Building, Spoiled, Waiting}
 pub use Rattle.pipeline_manager.specs.declared.life.QueryLife.{QueryLife}
-pub use Rattle.star_history.specs.Alone.{alone}
-pub use Rattle.star_history.specs.History.{after_change, Change, DimensionDeclared, Ended, FactDeclared, Loaded, store_of}
-pub use Rattle.star_history.specs.Keyed.{plain}
-pub use Rattle.star_history.specs.Store.{Store}
+pub use Rattle.query_meaning.specs.Alone.{alone}
+pub use Rattle.query_meaning.specs.History.{after_change, Change, DimensionDeclared, Ended, FactDeclared, Loaded, store_of}
+pub use Rattle.query_meaning.specs.Keyed.{plain}
+pub use Rattle.query_meaning.specs.Store.{Store}
 pub use Rattle.reply_text.specs.Text.{text_of, text_of_all}
 pub use Rattle.reply_text.specs.declared.reply.Reply.{Reply}
 pub use Rattle.reply_text.specs.declared.reply.Reply.TheVariants.{Answer, Commit, Memory, Overflow, Refused, Table, Waited}

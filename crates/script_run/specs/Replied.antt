@@ -6,7 +6,7 @@ use Rattle.std.specs.Io.KnownBytes.{Appends}
 use Rattle.star_values.specs.declared.no_memory.NoMemory as values
 use Rattle.script_reader.specs.Reading.{Reading, StaysFed, TakesFirst}
 use Rattle.script_reader.specs.declared.statement.Statement.{Statement}
-use Rattle.star_history.specs.Store.{Store}
+use Rattle.query_meaning.specs.Store.{Store}
 use Rattle.reply_text.specs.Text.{text_of, text_of_all}
 use Rattle.reply_text.specs.declared.reply.Reply.{Reply}
 use Rattle.reply_text.specs.declared.reply.Reply.TheVariants.{Memory}

@@ -2,7 +2,7 @@
 use Rattle.std.specs.Prelude.{◌≡◌, ◌⊎◌, ℕ, suc, Bool, true, false, List, [], ◌∷◌, Some}
 use Rattle.script_reader.specs.declared.statement.Statement.{Statement}
 use Rattle.star_plan.specs.Test.{Query}
-use Rattle.star_history.specs.History.{Change, store_of}
+use Rattle.query_meaning.specs.History.{Change, store_of}
 use Rattle.star_statement.specs.Outcome as outcome
 use Rattle.star_statement.specs.Outcome.{Told, outcome_of}
 use Rattle.star_statement.specs.Script.{history_after, is_wanted_at}

@@ -1,6 +1,6 @@
 //! The replies to the statements that are whole, written one after the other.
 ghost use Rattle.script_reader.specs.Reading.{StaysFed};
-ghost use Rattle.star_history.specs.Keyed.{plain};
+ghost use Rattle.query_meaning.specs.Keyed.{plain};
 ghost use Rattle.script_run.specs.Answer.{CountsHalt};
 ghost use Rattle.script_run.specs.Replied.{AnswersWhole, GivesNext};
 

@@ -2,8 +2,8 @@
 ghost use Rattle.std.specs.Prelude.{◌≡◌, ◌++◌, IfOk, OnErr, OnOk};
 ghost use Rattle.star_plan.specs.Over.{IsOver};
 ghost use Rattle.star_plan.specs.Test.{query_of};
-ghost use Rattle.star_history.specs.Alone.{alone};
-ghost use Rattle.star_history.specs.Keyed.{plain};
+ghost use Rattle.query_meaning.specs.Alone.{alone};
+ghost use Rattle.query_meaning.specs.Keyed.{plain};
 ghost use Rattle.reply_text.specs.Text.{text_of};
 ghost use Rattle.star_statement.specs.Effect.{answer_reply, effect_of, store_after};
 ghost use Rattle.script_run.specs.Replied.{IsReplied};

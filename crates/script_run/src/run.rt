@@ -2,8 +2,8 @@
 //! soon as it is whole, before more is read.
 ghost use Rattle.std.specs.Prelude.{◌≡◌};
 ghost use Rattle.script_reader.specs.Reading.{no_reading};
-ghost use Rattle.star_history.specs.Keyed.{plain};
-ghost use Rattle.star_history.specs.Store.{empty_store};
+ghost use Rattle.query_meaning.specs.Keyed.{plain};
+ghost use Rattle.query_meaning.specs.Store.{empty_store};
 ghost use Rattle.script_run.specs.Run.{AnswersScript, CountsFaults};
 ghost use Rattle.script_run.specs.End.{end_of_all, end_of_halt};
 

@@ -12,9 +12,9 @@ use Rattle.star_plan.specs.declared.predicate.Predicate.{Predicate}
 use Rattle.star_binder.specs.Fault.{BindsDelete, is_delete}
 use Rattle.star_binder.specs.Named.{where_conjuncts}
 use Rattle.star_binder.specs.Refused.{bound_delete}
-use Rattle.star_history.specs.History.{Change, Ended}
-use Rattle.star_history.specs.Keyed.{KeyedStore, plain}
-use Rattle.star_history.specs.Store.{Store}
+use Rattle.query_meaning.specs.History.{Change, Ended}
+use Rattle.query_meaning.specs.Keyed.{KeyedStore, plain}
+use Rattle.query_meaning.specs.Store.{Store}
 use Rattle.star_store.specs.Deletes.{delete_change, positions_of}
 use Rattle.star_store.specs.Done.{Commits}
 use Rattle.star_store.specs.declared.done.Done.{Done}

@@ -12,8 +12,8 @@ use Rattle.star_plan.specs.declared.schema.Schema.{Schema}
 use Rattle.star_plan.specs.declared.table_def.TableDef.{TableDef}
 use Rattle.star_plan.specs.Schemas.{ReferencesNothing}
 use Rattle.star_binder.specs.Table.{declared_table, defined_column}
-use Rattle.star_history.specs.History.{Change, after_change}
-use Rattle.star_history.specs.Keyed.{KeyedStore, plain}
+use Rattle.query_meaning.specs.History.{Change, after_change}
+use Rattle.query_meaning.specs.Keyed.{KeyedStore, plain}
 use Rattle.reply_text.specs.declared.reply.Reply.TheVariants as reply
 use Rattle.star_statement.specs.Applied.{Follows}
 use Rattle.star_statement.specs.Kinds.{kind_of_change}

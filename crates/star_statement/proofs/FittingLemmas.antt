@@ -20,10 +20,10 @@ use Rattle.star_binder.specs.Named.{where_conjuncts}
 use Rattle.star_binder.specs.Refused.{bound_delete, bound_select}
 use Rattle.star_binder.specs.Select.{select_of, SelectParts}
 use Rattle.star_binder.specs.Table.{declared_table, defined_column}
-use Rattle.star_history.specs.Accepted.{Accepts}
-use Rattle.star_history.specs.History.{Change, DimensionDeclared, FactDeclared}
-use Rattle.star_history.specs.Settled.{IsSettled}
-use Rattle.star_history.specs.Store.{Store}
+use Rattle.query_meaning.specs.Accepted.{Accepts}
+use Rattle.query_meaning.specs.History.{Change, DimensionDeclared, FactDeclared}
+use Rattle.query_meaning.specs.Settled.{IsSettled}
+use Rattle.query_meaning.specs.Store.{Store}
 use Rattle.star_store.specs.Deletes.{delete_change}
 use Rattle.star_store.specs.Loads.{load_change}
 use Rattle.star_statement.specs.Outcome.{block_bytes, committed, declared, deleted, meaning_outcome, Outcome, outcome_by, refused, selected, outcome_of}

@@ -16,9 +16,9 @@ use Rattle.star_binder.specs.Named.{where_conjuncts}
 use Rattle.star_binder.specs.Refused.{bound_delete, bound_select}
 use Rattle.star_binder.specs.Select.{select_of}
 use Rattle.star_binder.specs.Table.{declared_table}
-use Rattle.star_history.specs.Alone.{kept}
-use Rattle.star_history.specs.History.{Change, DimensionDeclared, FactDeclared}
-use Rattle.star_history.specs.Store.{Store}
+use Rattle.query_meaning.specs.Alone.{kept}
+use Rattle.query_meaning.specs.History.{Change, DimensionDeclared, FactDeclared}
+use Rattle.query_meaning.specs.Store.{Store}
 use Rattle.star_store.specs.Deletes.{delete_change}
 use Rattle.star_store.specs.Loads.{load_change}
 use Rattle.reply_text.specs.Formed.{IsRefusal, IsTableName, IsWellFormed}

@@ -3,10 +3,10 @@ use Rattle.std.proofs.Common.{ℕ, suc, List, [], ◌∷◌, ◌++◌, Option, S
 use Rattle.std.specs.Prelude.{option_to_list}
 use Rattle.std.specs.List.{fold}
 use Rattle.script_reader.specs.declared.statement.Statement.{Statement}
-use Rattle.star_history.specs.Accepted.{Accepts, AcceptsAll}
-use Rattle.star_history.specs.History.{Change, after_change, store_of}
-use Rattle.star_history.specs.Settled.{IsSettled}
-use Rattle.star_history.specs.Store.{Store, empty_store}
+use Rattle.query_meaning.specs.Accepted.{Accepts, AcceptsAll}
+use Rattle.query_meaning.specs.History.{Change, after_change, store_of}
+use Rattle.query_meaning.specs.Settled.{IsSettled}
+use Rattle.query_meaning.specs.Store.{Store, empty_store}
 use Rattle.star_statement.specs.Fitting.{FitsTables}
 use Rattle.star_statement.specs.Outcome.{Told, Replied, Accepted, outcome_of}
 use Rattle.star_statement.specs.Script.{history_after, history_from, is_wanted_at}

@@ -38,10 +38,10 @@ use Rattle.star_binder.specs.Select.{SelectParts}
 use Rattle.star_binder.specs.Where.{IsJoinedByKeys}
 use Rattle.dimension_rows.specs.Keys.{has_key, is_key, key_of}
 use Rattle.dimension_rows.specs.declared.dimension_row.DimensionRow.{DimensionRow}
-use Rattle.star_history.specs.Alone.{foreign_key, is_matched, joined, joined_row, kept, names, row_of_key, visible, visible_rows}
-use Rattle.star_history.specs.Settled.{IsSettled}
-use Rattle.star_history.specs.Store.{PlainVersion, Store, rows_in}
-use Rattle.star_history.proofs.FoundLemmas.{position_there, second_true}
+use Rattle.query_meaning.specs.Alone.{foreign_key, is_matched, joined, joined_row, kept, names, row_of_key, visible, visible_rows}
+use Rattle.query_meaning.specs.Settled.{IsSettled}
+use Rattle.query_meaning.specs.Store.{PlainVersion, Store, rows_in}
+use Rattle.query_meaning.proofs.FoundLemmas.{position_there, second_true}
 
 -- The query of a select is the one over the tables that it names.
 

@@ -29,9 +29,9 @@ use Rattle.star_binder.specs.Named.{where_conjuncts}
 use Rattle.star_binder.specs.Refused.{bound_delete, bound_select}
 use Rattle.star_binder.specs.Select.{select_of}
 use Rattle.star_binder.specs.Table.{declared_table}
-use Rattle.star_history.specs.Alone.{alone}
-use Rattle.star_history.specs.History.{Change, DimensionDeclared, FactDeclared, Loaded, Ended, after_change, store_of}
-use Rattle.star_history.specs.Store.{Store, empty_store, rows_in}
+use Rattle.query_meaning.specs.Alone.{alone}
+use Rattle.query_meaning.specs.History.{Change, DimensionDeclared, FactDeclared, Loaded, Ended, after_change, store_of}
+use Rattle.query_meaning.specs.Store.{Store, empty_store, rows_in}
 use Rattle.star_store.specs.Deletes.{delete_change, positions_of}
 use Rattle.star_store.specs.Loads.{count_in, dangles, load_change, loaded_records, loaded_rows, most_in, repeats_a_key}
 use Rattle.reply_text.specs.declared.reply.Reply.{Reply}

@@ -12,8 +12,8 @@ use Rattle.star_plan.specs.Columns.{columns_of, kinds_of}
 use Rattle.star_plan.specs.Named.{table_named}
 use Rattle.csv_load.specs.Records.{records_in}
 use Rattle.csv_load.specs.Rows.{typed_rows}
-use Rattle.star_history.specs.History.{Change, Loaded}
-use Rattle.star_history.specs.Store.{Store, rows_in}
+use Rattle.query_meaning.specs.History.{Change, Loaded}
+use Rattle.query_meaning.specs.Store.{Store, rows_in}
 use Rattle.star_store.specs.Loads.{count_in, dangles, load_change, loaded_records, loaded_rows, most_in, repeats_a_key}
 use Rattle.star_store.proofs.ChangeLemmas.{load_change-found}
 use Rattle.star_statement.proofs.ApplyLemmas.{IsOfKind}

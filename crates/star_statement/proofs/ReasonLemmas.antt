@@ -27,8 +27,8 @@ use Rattle.star_parser.specs.Condition.{Condition}
 use Rattle.fact_versions.specs.declared.version.TheConstants.{MAX_VERSIONS}
 use Rattle.csv_load.specs.Records.{records_in}
 use Rattle.csv_load.specs.Rows.{typed_rows}
-use Rattle.star_history.specs.History.{Change, Loaded, Ended}
-use Rattle.star_history.specs.Store.{PlainVersion, Store, rows_in}
+use Rattle.query_meaning.specs.History.{Change, Loaded, Ended}
+use Rattle.query_meaning.specs.Store.{PlainVersion, Store, rows_in}
 use Rattle.star_store.specs.Deletes.{delete_change, is_ended_by, positions_of}
 use Rattle.star_store.specs.Done.{changed_rows}
 use Rattle.star_store.specs.Loads.{count_in, dangles, load_change, loaded_records, loaded_rows, most_in, repeats_a_key}

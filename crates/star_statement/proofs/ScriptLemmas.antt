@@ -8,8 +8,8 @@ use Rattle.script_reader.specs.declared.reader.TheConstants.{SCRIPT_LIMIT}
 use Rattle.script_reader.specs.declared.statement.Statement.{Statement}
 use Rattle.script_reader.specs.declared.statement.Block.TheVariants.{Absent, Closed, Unclosed}
 use Rattle.star_plan.specs.declared.table.Table.TheVariants.{Fact}
-use Rattle.star_history.specs.History.{Change, Loaded, after_change, store_of}
-use Rattle.star_history.specs.Store.{Store, empty_store}
+use Rattle.query_meaning.specs.History.{Change, Loaded, after_change, store_of}
+use Rattle.query_meaning.specs.Store.{Store, empty_store}
 use Rattle.reply_text.specs.Formed.{IsWellFormed}
 use Rattle.reply_text.specs.Text.{text_of, text_of_all}
 use Rattle.reply_text.specs.declared.reply.Reply.{Reply}

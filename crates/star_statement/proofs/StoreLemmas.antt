@@ -10,9 +10,9 @@ use Rattle.star_plan.specs.declared.table.Table.TheVariants.{Fact, Dimension}
 use Rattle.fact_versions.specs.Visible.{is_visible}
 use Rattle.fact_versions.specs.declared.version.TheConstants.{MAX_VERSIONS}
 use Rattle.dimension_rows.specs.declared.dimension_row.DimensionRow.{DimensionRow}
-use Rattle.star_history.specs.Alone.{foreign_key, is_matched, joined, joined_row, kept, names, row_of_key, visible, visible_rows}
-use Rattle.star_history.specs.History.{Change, DimensionDeclared, FactDeclared, Loaded, Ended, after_change, rows_by, versions_by, with_end, with_ends}
-use Rattle.star_history.specs.Store.{PlainVersion, Store, empty_store, rows_in}
+use Rattle.query_meaning.specs.Alone.{foreign_key, is_matched, joined, joined_row, kept, names, row_of_key, visible, visible_rows}
+use Rattle.query_meaning.specs.History.{Change, DimensionDeclared, FactDeclared, Loaded, Ended, after_change, rows_by, versions_by, with_end, with_ends}
+use Rattle.query_meaning.specs.Store.{PlainVersion, Store, empty_store, rows_in}
 use Rattle.star_statement.proofs.ValueLemmas.{AreValues, IsValue, at-or, either, filter-short, found, length-map, map_or}
 use Rattle.star_statement.proofs.AnswerLemmas.{HasValues}
 

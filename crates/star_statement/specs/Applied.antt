@@ -3,7 +3,7 @@ use Rattle.std.specs.Prelude.{◌≡◌, Option, Some, None, option_map, Result,
 use Rattle.star_values.specs.declared.no_memory.NoMemory.{NoMemory}
 use Rattle.star_plan.specs.Over.{IsOver}
 use Rattle.star_plan.specs.Test.{query_of}
-use Rattle.star_history.specs.Keyed.{KeyedStore, plain}
+use Rattle.query_meaning.specs.Keyed.{KeyedStore, plain}
 use Rattle.star_store.specs.declared.done.Done.{Done}
 use Rattle.star_values.specs.declared.statement_fault.StatementFault.{StatementFault}
 use Rattle.star_values.specs.declared.statement_fault.StatementFault.TheVariants.{Refused, Memory}

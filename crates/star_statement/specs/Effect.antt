@@ -5,9 +5,9 @@ use Rattle.std.specs.Option.{option_map_or}
 use Rattle.script_reader.specs.declared.statement.Statement.{Statement}
 use Rattle.star_plan.specs.declared.answer.Answer.{Answer}
 use Rattle.star_plan.specs.declared.answer.Answer.TheVariants.{Rows, Overflow}
-use Rattle.star_history.specs.Alone.{alone}
-use Rattle.star_history.specs.History.{Change, after_change}
-use Rattle.star_history.specs.Store.{Store}
+use Rattle.query_meaning.specs.Alone.{alone}
+use Rattle.query_meaning.specs.History.{Change, after_change}
+use Rattle.query_meaning.specs.Store.{Store}
 use Rattle.reply_text.specs.declared.reply.Reply.{Reply}
 use Rattle.reply_text.specs.declared.reply.Reply.TheVariants as reply
 use Rattle.star_statement.specs.Outcome.{Outcome, Told, Replied, Accepted, outcome_of}

@@ -1,9 +1,9 @@
 -- Which outcomes of statements fit the tables.
 use Rattle.std.specs.Prelude.{◌≡◌, Option, Some, None, IsSome}
 use Rattle.star_plan.specs.Over.{IsOver}
-use Rattle.star_history.specs.Accepted.{Accepts}
-use Rattle.star_history.specs.History.{Change}
-use Rattle.star_history.specs.Store.{Store}
+use Rattle.query_meaning.specs.Accepted.{Accepts}
+use Rattle.query_meaning.specs.History.{Change}
+use Rattle.query_meaning.specs.Store.{Store}
 use Rattle.star_statement.specs.Outcome.{Told, Replied, Accepted}
 
 -- a change, where there is one, and what is told: a reply alone, a query over the schema at

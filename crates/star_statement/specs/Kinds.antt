@@ -1,5 +1,5 @@
 -- Which kind of change a change is.
-use Rattle.star_history.specs.History.{Change, DimensionDeclared, FactDeclared, Loaded, Ended}
+use Rattle.query_meaning.specs.History.{Change, DimensionDeclared, FactDeclared, Loaded, Ended}
 use Rattle.star_statement.specs.declared.applied.ChangeKind.{ChangeKind}
 use Rattle.star_statement.specs.declared.applied.ChangeKind.TheVariants.{DeclaresDimension, DeclaresFact, Loads, Ends}
 

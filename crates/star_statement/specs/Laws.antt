@@ -1,7 +1,7 @@
 -- What holds of every statement: which replies leave the tables as they were, and
 -- how commits are numbered.
 use Rattle.std.specs.Prelude.{◌≡◌, ◌+◌}
-use Rattle.star_history.specs.Store.{Store}
+use Rattle.query_meaning.specs.Store.{Store}
 use Rattle.reply_text.specs.declared.reply.Reply.{Reply}
 use Rattle.reply_text.specs.declared.reply.Reply.TheVariants.{Table, Commit, Answer, Overflow, Memory, Refused, Waited}
 

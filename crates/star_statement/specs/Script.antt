@@ -4,8 +4,8 @@
 use Rattle.std.specs.Prelude.{ℕ, suc, Bool, ◌==◌, List, [], ◌∷◌, ◌++◌, option_to_list, if◌then◌else◌}
 use Rattle.std.specs.List.{list_any}
 use Rattle.script_reader.specs.declared.statement.Statement.{Statement}
-use Rattle.star_history.specs.History.{Change, store_of}
-use Rattle.star_history.specs.Store.{Store}
+use Rattle.query_meaning.specs.History.{Change, store_of}
+use Rattle.query_meaning.specs.Store.{Store}
 use Rattle.reply_text.specs.declared.reply.Reply.{Reply}
 use Rattle.reply_text.specs.declared.reply.Reply.TheVariants.{Memory}
 use Rattle.star_statement.specs.Effect.{effect_of, store_after}

@@ -9,12 +9,12 @@ ghost use Rattle.star_plan.specs.Test.{Query};
 ghost use Rattle.star_binder.specs.Refused.{bound_select, from_tables};
 ghost use Rattle.star_binder.specs.Select.{select_of};
 ghost use Rattle.star_binder.specs.Where.{IsJoinedByKeys, whole_where_holds};
-ghost use Rattle.star_history.specs.Alone.{alone, joined, visible, visible_rows};
-ghost use Rattle.star_history.specs.Settled.{IsSettled};
-ghost use Rattle.star_history.specs.Store.{PlainVersion, Store};
+ghost use Rattle.query_meaning.specs.Alone.{alone, joined, visible, visible_rows};
+ghost use Rattle.query_meaning.specs.Settled.{IsSettled};
+ghost use Rattle.query_meaning.specs.Store.{PlainVersion, Store};
 
+use query_meaning::one_row_joins_a_visible_version;
 use star_binder::bound_queries_keep_what_the_where_keeps;
-use star_history::one_row_joins_a_visible_version;
 
 /// A select over settled tables is answered by the rows on which its WHERE holds as it is written.
 /// Each version that its snapshot sees is joined with the rows of its keys; on that joined row the

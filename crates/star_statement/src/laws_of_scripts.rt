@@ -4,11 +4,11 @@ ghost use Rattle.star_values.specs.declared.value.Value.{Value};
 ghost use Rattle.script_reader.specs.Script.{statements_of};
 ghost use Rattle.script_reader.specs.declared.reader.TheConstants.{SCRIPT_LIMIT};
 ghost use Rattle.script_reader.specs.declared.statement.Statement.{Statement};
-ghost use Rattle.star_history.specs.Accepted.{AcceptsAll};
-ghost use Rattle.star_history.specs.Alone.{foreign_key, is_matched, visible};
-ghost use Rattle.star_history.specs.History.{Change, store_of};
-ghost use Rattle.star_history.specs.Settled.{IsSettled};
-ghost use Rattle.star_history.specs.Store.{PlainVersion, Store, empty_store, rows_in};
+ghost use Rattle.query_meaning.specs.Accepted.{AcceptsAll};
+ghost use Rattle.query_meaning.specs.Alone.{foreign_key, is_matched, visible};
+ghost use Rattle.query_meaning.specs.History.{Change, store_of};
+ghost use Rattle.query_meaning.specs.Settled.{IsSettled};
+ghost use Rattle.query_meaning.specs.Store.{PlainVersion, Store, empty_store, rows_in};
 ghost use Rattle.reply_text.specs.Formed.{IsWellFormed};
 ghost use Rattle.reply_text.specs.Text.{text_of_all};
 ghost use Rattle.reply_text.specs.declared.reply.Reply.{Reply};
@@ -17,9 +17,9 @@ ghost use Rattle.star_statement.specs.Memory.{HaveSameText, is_memory, memory_pl
 ghost use Rattle.star_statement.specs.Script.{history_from, history_of, replies_after, replies_of};
 
 use crate::laws::{outcomes_fit_the_tables, texts_are_refused_for_the_first_reason};
+use query_meaning::{accepted_histories_are_settled, one_row_joins_a_visible_version};
 use reply_text::replies_have_one_spelling;
 use star_binder::bound_queries_keep_to_their_schema;
-use star_history::{accepted_histories_are_settled, one_row_joins_a_visible_version};
 use star_parser::statements_have_their_shapes;
 use star_values::small_text_rule_is_tested;
 

@@ -15,16 +15,16 @@ use Rattle.fact_versions.specs.declared.version.Version.{Version}
 use Rattle.fact_versions.specs.Ends as ends
 use Rattle.dimension_rows.specs.declared.dimension_row.DimensionRow.{DimensionRow}
 use Rattle.csv_load.specs.Records.{records_in}
-use Rattle.star_history.specs.History.{Change, grown_at, with_end, with_ends}
-use Rattle.star_history.specs.Keyed.{HasKeyNumbers, IsKeyed, plain, plain_version}
-use Rattle.star_history.specs.Settled.{AreRowsOf, IsSettled}
-use Rattle.star_history.specs.Store.{Store, rows_in}
+use Rattle.query_meaning.specs.History.{Change, grown_at, with_end, with_ends}
+use Rattle.query_meaning.specs.Keyed.{HasKeyNumbers, IsKeyed, plain, plain_version}
+use Rattle.query_meaning.specs.Settled.{AreRowsOf, IsSettled}
+use Rattle.query_meaning.specs.Store.{Store, rows_in}
 use Rattle.star_store.specs.declared.done.Done.{Done}
 use Rattle.star_values.specs.declared.statement_fault.StatementFault.{StatementFault}
 use Rattle.star_values.specs.declared.statement_fault.StatementFault.TheVariants.{Refused, Memory}
 use Rattle.star_store.specs.Deletes.{delete_change, positions_of}
 use Rattle.star_store.specs.Done.{Commits}
-use Rattle.star_history.specs.Kept.{rows_of_all, tables_of}
+use Rattle.query_meaning.specs.KeptTables.{rows_of_all, tables_of}
 use Rattle.star_store.specs.Loads.{load_change, loaded_records}
 
 -- The checks of a load.

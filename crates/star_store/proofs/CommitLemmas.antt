@@ -9,13 +9,13 @@ use Rattle.star_plan.specs.declared.schema.Schema.{Schema}
 use Rattle.star_plan.specs.declared.table.Table.TheVariants.{Fact, Dimension}
 use Rattle.fact_versions.specs.declared.version.Version.{Version}
 use Rattle.dimension_rows.specs.declared.dimension_row.DimensionRow.{DimensionRow}
-use Rattle.star_history.specs.History.{Change, Loaded, grown_at, rows_by, versions_by}
-use Rattle.star_history.specs.Keyed.{KeyedStore, plain_version}
+use Rattle.query_meaning.specs.History.{Change, Loaded, grown_at, rows_by, versions_by}
+use Rattle.query_meaning.specs.Keyed.{KeyedStore, plain_version}
 use Rattle.star_store.specs.declared.done.Done.{Done}
 use Rattle.star_values.specs.declared.statement_fault.StatementFault.{StatementFault}
 use Rattle.star_values.specs.declared.statement_fault.StatementFault.TheVariants.{Refused, Memory}
 use Rattle.star_store.specs.Done.{Commits}
-use Rattle.star_history.specs.Kept.{rows_of_all, tables_of}
+use Rattle.query_meaning.specs.KeptTables.{rows_of_all, tables_of}
 use Rattle.star_store.specs.Fault.{Tells}
 
 -- a fault that tells its reason, where the tables are as they were

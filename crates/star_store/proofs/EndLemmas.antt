@@ -5,7 +5,7 @@ use Rattle.std.specs.Option.{option_map_or}
 use Rattle.fact_versions.specs.declared.version.Version.{Version}
 use Rattle.fact_versions.specs.Ends.{with_end}
 use Rattle.star_plan.specs.Test.{Test}
-use Rattle.star_history.specs.Keyed.{plain_version}
+use Rattle.query_meaning.specs.Keyed.{plain_version}
 use Rattle.star_store.specs.Deletes.{is_ended_by, positions_of}
 
 -- whether a delete ends the version at a position

@@ -17,8 +17,8 @@ use Rattle.star_plan.specs.Declaration.{has_key_of, references}
 use Rattle.star_plan.specs.Schemas.{IsDeclared, ReferencesAKey}
 use Rattle.dimension_rows.specs.declared.dimension_row.DimensionRow.{DimensionRow}
 use Rattle.dimension_rows.specs.Keys.{index_of}
-use Rattle.star_history.specs.Alone.{foreign_key}
-use Rattle.star_history.specs.Store.{rows_in}
+use Rattle.query_meaning.specs.Alone.{foreign_key}
+use Rattle.query_meaning.specs.Store.{rows_in}
 use Rattle.star_store.specs.Loads.{dangles, dangles_at}
 use Rattle.star_store.specs.Parts.{AreKeyNumbers, AreReferences}
 

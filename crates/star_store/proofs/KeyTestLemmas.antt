@@ -13,7 +13,7 @@ use Rattle.star_values.specs.Value.{value_cmp}
 use Rattle.star_plan.specs.Repeats.{repeats}
 use Rattle.dimension_rows.specs.declared.dimension_row.DimensionRow.{DimensionRow}
 use Rattle.dimension_rows.specs.Keys.{index_of, is_key, key_of}
-use Rattle.star_history.specs.Accepted.{HaveOtherKeys}
+use Rattle.query_meaning.specs.Accepted.{HaveOtherKeys}
 use Rattle.star_store.specs.Loads.{is_taken, repeats_a_key, same_key}
 
 -- each row has a key

@@ -24,12 +24,12 @@ use Rattle.dimension_rows.specs.declared.dimension_row.TheConstants.{MAX_DIMENSI
 use Rattle.dimension_rows.specs.declared.dimension_row.DimensionRow.{DimensionRow}
 use Rattle.dimension_rows.specs.Keys.{key_of}
 use Rattle.csv_load.specs.Rows.{typed_rows}
-use Rattle.star_history.specs.History.{Loaded, grown_at, versions_by}
-use Rattle.star_history.specs.Keyed.{plain_version}
-use Rattle.star_history.specs.Store.{Store}
+use Rattle.query_meaning.specs.History.{Loaded, grown_at, versions_by}
+use Rattle.query_meaning.specs.Keyed.{plain_version}
+use Rattle.query_meaning.specs.Store.{Store}
 use Rattle.star_values.specs.declared.statement_fault.StatementFault.{StatementFault}
 use Rattle.star_values.specs.declared.statement_fault.StatementFault.TheVariants.{Refused, Memory}
-use Rattle.star_history.specs.Kept.{rows_of_all}
+use Rattle.query_meaning.specs.KeptTables.{rows_of_all}
 use Rattle.star_store.specs.Fault.{Tells}
 use Rattle.star_store.specs.Loads.{count_in, dangles, loaded_records, loaded_rows, most_in}
 

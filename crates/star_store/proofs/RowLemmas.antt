@@ -9,7 +9,7 @@ use Rattle.star_values.specs.declared.value.Value as cell
 use Rattle.star_plan.specs.Repeats.{repeats}
 use Rattle.dimension_rows.specs.declared.dimension_row.DimensionRow.{DimensionRow}
 use Rattle.dimension_rows.specs.Keys.{index_of, key_of}
-use Rattle.star_history.specs.History.{rows_by}
+use Rattle.query_meaning.specs.History.{rows_by}
 use Rattle.star_store.specs.Loads.{is_taken, repeats_a_key, same_key}
 use Rattle.star_store.proofs.KeyTestLemmas.{HaveKeys, all_fail, free_by, neither, other_keys}
 

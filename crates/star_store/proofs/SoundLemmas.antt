@@ -15,16 +15,16 @@ use Rattle.star_plan.specs.Schemas.{ReferencesNothing}
 use Rattle.star_plan.specs.declared.TheConstants.{MAX_COLUMNS, MAX_DIMENSIONS}
 use Rattle.fact_versions.specs.declared.version.Version.{Version}
 use Rattle.dimension_rows.specs.declared.dimension_row.DimensionRow.{DimensionRow}
-use Rattle.star_history.specs.Accepted.{Accepts}
-use Rattle.star_history.specs.History.{Change, DimensionDeclared, FactDeclared, after_change}
-use Rattle.star_history.specs.Keyed.{HasKeyNumbers, KeyedStore, plain, plain_version}
-use Rattle.star_history.specs.Settled.{IsSettled}
-use Rattle.star_history.specs.Store.{PlainVersion, Store}
+use Rattle.query_meaning.specs.Accepted.{Accepts}
+use Rattle.query_meaning.specs.History.{Change, DimensionDeclared, FactDeclared, after_change}
+use Rattle.query_meaning.specs.Keyed.{HasKeyNumbers, KeyedStore, plain, plain_version}
+use Rattle.query_meaning.specs.Settled.{IsSettled}
+use Rattle.query_meaning.specs.Store.{PlainVersion, Store}
 use Rattle.star_store.specs.declared.done.Done.{Done}
 use Rattle.star_values.specs.declared.statement_fault.StatementFault.{StatementFault}
 use Rattle.star_values.specs.declared.statement_fault.StatementFault.TheVariants.{Refused, Memory}
 use Rattle.star_store.specs.Done.{Commits}
-use Rattle.star_history.specs.Kept.{AreSound, rows_of_all, tables_of}
+use Rattle.query_meaning.specs.KeptTables.{AreSound, rows_of_all, tables_of}
 
 -- settled tables stay settled by a change that they take
 abbrev pub StaysSettled : Type 0

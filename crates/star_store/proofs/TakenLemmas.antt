@@ -29,11 +29,11 @@ use Rattle.dimension_rows.specs.declared.dimension_row.DimensionRow.{DimensionRo
 use Rattle.dimension_rows.specs.Keys.{index_of}
 use Rattle.csv_load.specs.Records.{records_in}
 use Rattle.csv_load.specs.Rows.{typed_rows}
-use Rattle.star_history.specs.Accepted.{Accepts, AcceptsEnds, AcceptsFacts, AcceptsRows}
-use Rattle.star_history.specs.Alone.{foreign_key}
-use Rattle.star_history.specs.History.{Change, Ended, Loaded}
-use Rattle.star_history.specs.Settled.{IsSettled}
-use Rattle.star_history.specs.Store.{PlainVersion, Store, rows_in}
+use Rattle.query_meaning.specs.Accepted.{Accepts, AcceptsEnds, AcceptsFacts, AcceptsRows}
+use Rattle.query_meaning.specs.Alone.{foreign_key}
+use Rattle.query_meaning.specs.History.{Change, Ended, Loaded}
+use Rattle.query_meaning.specs.Settled.{IsSettled}
+use Rattle.query_meaning.specs.Store.{PlainVersion, Store, rows_in}
 use Rattle.star_store.specs.Deletes.{delete_change, is_ended_by, positions_of}
 use Rattle.star_store.specs.Loads.{count_in, dangles, dangles_at, load_change, loaded_records, loaded_rows, most_in, repeats_a_key}
 use Rattle.star_store.proofs.KeyTestLemmas.{all_fail, apart_unless_repeated, new_unless_repeated}

@@ -14,11 +14,11 @@ use Rattle.star_plan.specs.Fits.{fits_table}
 use Rattle.fact_versions.specs.declared.version.Version.{Version}
 use Rattle.dimension_rows.specs.declared.dimension_row.DimensionRow.{DimensionRow}
 use Rattle.dimension_rows.specs.Keys.{index_of}
-use Rattle.star_history.specs.Alone.{foreign_key}
-use Rattle.star_history.specs.History.{versions_by}
-use Rattle.star_history.specs.Keyed.{HasKeyNumbers, plain_version}
-use Rattle.star_history.specs.Settled.{IsPlaceOf}
-use Rattle.star_history.specs.Store.{rows_in}
+use Rattle.query_meaning.specs.Alone.{foreign_key}
+use Rattle.query_meaning.specs.History.{versions_by}
+use Rattle.query_meaning.specs.Keyed.{HasKeyNumbers, plain_version}
+use Rattle.query_meaning.specs.Settled.{IsPlaceOf}
+use Rattle.query_meaning.specs.Store.{rows_in}
 use Rattle.star_store.specs.Loads.{dangles}
 use Rattle.star_store.specs.Parts.{AreKeyNumbers}
 

@@ -6,8 +6,8 @@ use Rattle.star_values.specs.declared.refusal.Refusal.{Refusal}
 use Rattle.star_values.specs.declared.refusal.Refusal.TheVariants.{OutOfOrder}
 use Rattle.star_plan.specs.Test.{Test}
 use Rattle.star_plan.specs.Truth.{passes}
-use Rattle.star_history.specs.History.{Change, Ended}
-use Rattle.star_history.specs.Store.{PlainVersion, Store}
+use Rattle.query_meaning.specs.History.{Change, Ended}
+use Rattle.query_meaning.specs.Store.{PlainVersion, Store}
 
 -- whether a delete ends a version: no commit ended it, and the condition, if there
 -- is one, holds on its row

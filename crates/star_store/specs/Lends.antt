@@ -1,7 +1,7 @@
 -- What shared tables end as, where the store was lent to be written.
 use Rattle.std.specs.Prelude.{Option}
 use Rattle.std.specs.Borrow.{LendsIf, MutBor, Fml}
-use Rattle.star_history.specs.Keyed.{KeyedStore}
+use Rattle.query_meaning.specs.Keyed.{KeyedStore}
 use Rattle.star_store.specs.contracts.store.Store.{the_row as store_layout}
 use Rattle.star_store.specs.contracts.tables.Tables.{the_row as tables_layout}
 

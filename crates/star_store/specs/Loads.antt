@@ -18,9 +18,9 @@ use Rattle.dimension_rows.specs.Keys.{index_of, is_key, key_of}
 use Rattle.csv_load.specs.declared.read_once.BlockForm.{BlockForm}
 use Rattle.csv_load.specs.Records.{records_in}
 use Rattle.csv_load.specs.Rows.{typed_rows}
-use Rattle.star_history.specs.Alone.{foreign_key}
-use Rattle.star_history.specs.History.{Change, Loaded}
-use Rattle.star_history.specs.Store.{Store, rows_in}
+use Rattle.query_meaning.specs.Alone.{foreign_key}
+use Rattle.query_meaning.specs.History.{Change, Loaded}
+use Rattle.query_meaning.specs.Store.{Store, rows_in}
 
 -- how many rows a table has, and how many versions the fact table, ended ones included
 abbrev pub count_in : Store → Table → ℕ

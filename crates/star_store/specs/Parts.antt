@@ -7,8 +7,8 @@ use Rattle.star_plan.specs.Declaration.{references}
 use Rattle.fact_versions.specs.declared.version.TheConstants.{KEYS_IN_A_VERSION}
 use Rattle.dimension_rows.specs.declared.dimension_row.DimensionRow.{DimensionRow}
 use Rattle.dimension_rows.specs.Keys.{index_of}
-use Rattle.star_history.specs.Alone.{foreign_key}
-use Rattle.star_history.specs.Store.{rows_in}
+use Rattle.query_meaning.specs.Alone.{foreign_key}
+use Rattle.query_meaning.specs.Store.{rows_in}
 
 -- for each dimension the number of the column that references it, where one does
 abbrev pub AreReferences : Schema → List (Option ℕ) → Type 0

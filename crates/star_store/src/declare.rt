@@ -3,7 +3,7 @@ ghost use Rattle.std.specs.Prelude.{◌≡◌, ◌<◌, List, [], ◌∷◌, ◌
 ghost use Rattle.star_plan.specs.Declaration.{declared_dimension};
 ghost use Rattle.star_plan.specs.Limits.{with_dimension};
 ghost use Rattle.star_plan.specs.Schemas.{IsDeclared, ReferencesNothing};
-ghost use Rattle.star_history.specs.Kept.{rows_of_all};
+ghost use Rattle.query_meaning.specs.KeptTables.{rows_of_all};
 ghost use Rattle.star_store.specs.Fault.{Tells};
 
 use dimension_rows::{DimensionRows, Dims};

@@ -5,10 +5,10 @@ ghost use Rattle.star_plan.specs.Columns.{kinds_of};
 ghost use Rattle.star_plan.specs.Fits.{fits_table, some_test_fits};
 ghost use Rattle.star_plan.specs.Test.{test_of};
 ghost use Rattle.dimension_rows.specs.declared.dimension_row.DimensionRow.{DimensionRow};
-ghost use Rattle.star_history.specs.Keyed.{HasKeyNumbers, plain};
+ghost use Rattle.query_meaning.specs.Keyed.{HasKeyNumbers, plain};
 ghost use Rattle.star_store.specs.Deletes.{delete_change};
 ghost use Rattle.star_store.specs.Done.{Commits};
-ghost use Rattle.star_history.specs.Kept.{tables_of};
+ghost use Rattle.query_meaning.specs.KeptTables.{tables_of};
 
 use crate::done::Done;
 use crate::ends::end_versions;

@@ -5,7 +5,7 @@ ghost use Rattle.star_plan.specs.Fits.{some_test_fits};
 ghost use Rattle.star_values.specs.Value.{kinds_in};
 ghost use Rattle.star_plan.specs.Test.{test_of};
 ghost use Rattle.star_plan.specs.Truth.{passes};
-ghost use Rattle.star_history.specs.Keyed.{plain_version};
+ghost use Rattle.query_meaning.specs.Keyed.{plain_version};
 ghost use Rattle.star_store.specs.Deletes.{is_ended_by, positions_of};
 
 use fact_versions::{FactVersions, Version};

@@ -1,10 +1,10 @@
 //! What holds of the changes that statements make.
 ghost use Rattle.std.specs.Prelude.{◌≡◌, ℕ, Bool, List, Option, Ok};
 ghost use Rattle.star_plan.specs.Test.{Test};
-ghost use Rattle.star_history.specs.Accepted.{Accepts};
-ghost use Rattle.star_history.specs.History.{Change};
-ghost use Rattle.star_history.specs.Settled.{IsSettled};
-ghost use Rattle.star_history.specs.Store.{Store};
+ghost use Rattle.query_meaning.specs.Accepted.{Accepts};
+ghost use Rattle.query_meaning.specs.History.{Change};
+ghost use Rattle.query_meaning.specs.Settled.{IsSettled};
+ghost use Rattle.query_meaning.specs.Store.{Store};
 ghost use Rattle.star_store.specs.Deletes.{delete_change};
 ghost use Rattle.star_store.specs.Loads.{load_change};
 

@@ -14,11 +14,11 @@ ghost use Rattle.dimension_rows.specs.declared.dimension_row.DimensionRow.{Dimen
 ghost use Rattle.dimension_rows.specs.Keys.{key_of};
 ghost use Rattle.csv_load.specs.Records.{records_in};
 ghost use Rattle.csv_load.specs.Rows.{typed_rows};
-ghost use Rattle.star_history.specs.History.{Loaded, grown_at, rows_by, versions_by};
-ghost use Rattle.star_history.specs.Keyed.{HasKeyNumbers, IsKeyed, plain, plain_version};
-ghost use Rattle.star_history.specs.Store.{rows_in};
+ghost use Rattle.query_meaning.specs.History.{Loaded, grown_at, rows_by, versions_by};
+ghost use Rattle.query_meaning.specs.Keyed.{HasKeyNumbers, IsKeyed, plain, plain_version};
+ghost use Rattle.query_meaning.specs.Store.{rows_in};
 ghost use Rattle.star_store.specs.Done.{Commits};
-ghost use Rattle.star_history.specs.Kept.{AreSound, rows_of_all, tables_of};
+ghost use Rattle.query_meaning.specs.KeptTables.{AreSound, rows_of_all, tables_of};
 ghost use Rattle.star_store.specs.Fault.{Tells};
 ghost use Rattle.star_store.specs.Loads.{load_change, load_form, loaded_records, repeats_a_key};
 ghost use Rattle.star_store.specs.declared.done.Done.{Done};
@@ -32,7 +32,7 @@ use csv_load::{
 };
 use dimension_rows::{DimensionRows, Dims, MAX_DIMENSION_ROWS};
 use fact_versions::{FactVersions, MAX_VERSIONS, Version};
-use star_history::later_rows_move_no_key_number;
+use query_meaning::later_rows_move_no_key_number;
 use star_plan::{ColumnDef, Schema, Table, columns_of, find_table, rows_fit_by_their_kinds};
 use star_values::{ListOf, NoMemory, Refusal, SmallText, StatementFault};
 use std::alloc::Global;

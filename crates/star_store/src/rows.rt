@@ -4,7 +4,7 @@ ghost use Rattle.std.specs.List.{list_any};
 ghost use Rattle.star_plan.specs.Columns.{kinds_of};
 ghost use Rattle.star_plan.specs.Repeats.{repeats};
 ghost use Rattle.dimension_rows.specs.Keys.{key_of};
-ghost use Rattle.star_history.specs.History.{rows_by};
+ghost use Rattle.query_meaning.specs.History.{rows_by};
 ghost use Rattle.star_store.specs.Loads.{is_taken, repeats_a_key, same_key};
 
 use csv_load::LoadRows;

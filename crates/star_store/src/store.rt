@@ -6,13 +6,13 @@ ghost use Rattle.star_plan.specs.Test.{test_of};
 ghost use Rattle.star_plan.specs.Declaration.{declared_dimension, declared_fact};
 ghost use Rattle.star_plan.specs.Named.{table_named};
 ghost use Rattle.star_plan.specs.Schemas.{ReferencesNothing};
-ghost use Rattle.star_history.specs.History.{DimensionDeclared, FactDeclared};
-ghost use Rattle.star_history.specs.Keyed.{IsKeyed, plain};
-ghost use Rattle.star_history.specs.Settled.{IsSettled};
-ghost use Rattle.star_history.specs.Store.{empty_store};
+ghost use Rattle.query_meaning.specs.History.{DimensionDeclared, FactDeclared};
+ghost use Rattle.query_meaning.specs.Keyed.{IsKeyed, plain};
+ghost use Rattle.query_meaning.specs.Settled.{IsSettled};
+ghost use Rattle.query_meaning.specs.Store.{empty_store};
 ghost use Rattle.star_store.specs.Deletes.{delete_change};
 ghost use Rattle.star_store.specs.Done.{Commits, Declares};
-ghost use Rattle.star_history.specs.Kept.{rows_of_all};
+ghost use Rattle.query_meaning.specs.KeptTables.{rows_of_all};
 ghost use Rattle.star_store.specs.Loads.{load_change, load_form};
 
 use crate::declare::add_dimension;
@@ -23,7 +23,7 @@ use crate::load::{BlockToLoad, block_form, load};
 use csv_load::{BlockForm, ReadBlock};
 use dimension_rows::Dims;
 use fact_versions::FactVersions;
-use star_history::accepted_histories_are_settled;
+use query_meaning::accepted_histories_are_settled;
 use star_plan::{Predicate, Schema, TableDef, declare_fact, empty_schemas_are_declared};
 use star_values::{ListOf, NoMemory, SmallText, StatementFault};
 use std::alloc::Global;
@@ -44,8 +44,8 @@ pub struct Store {
 }
 
 impl Model for Store {
-    ghost use Rattle.star_history.specs.Keyed.{KeyedStore};
-    ghost use Rattle.star_history.specs.Kept.{AreSound, tables_of};
+    ghost use Rattle.query_meaning.specs.Keyed.{KeyedStore};
+    ghost use Rattle.query_meaning.specs.KeptTables.{AreSound, tables_of};
 
     ghost Value = { KeyedStore };
 

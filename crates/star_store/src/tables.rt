@@ -20,7 +20,7 @@ pub struct Tables {
 
 impl Model for Tables {
     ghost use Rattle.std.specs.Arc.{arc_value};
-    ghost use Rattle.star_history.specs.Keyed.{KeyedStore};
+    ghost use Rattle.query_meaning.specs.Keyed.{KeyedStore};
 
     ghost Value = { KeyedStore };
 

@@ -1,8 +1,8 @@
 use Rattle.std.proofs.Common.{◌∙◌}
 use Rattle.star_plan.specs.Joined.{value_at}
-use Rattle.star_history.specs.Kept.{rows_of_all}
-use Rattle.star_history.specs.Keyed.{joined_by_keys}
-use Rattle.star_history.specs.Read.{value_by_key}
+use Rattle.query_meaning.specs.KeptTables.{rows_of_all}
+use Rattle.query_meaning.specs.Keyed.{joined_by_keys}
+use Rattle.query_meaning.specs.Read.{value_by_key}
 use Rattle.aggregations.proofs.FoldLemmas.{folded_same}
 use Rattle.aggregations.proofs.laws.values_by_key_fold_the_same.Goals as goal
 

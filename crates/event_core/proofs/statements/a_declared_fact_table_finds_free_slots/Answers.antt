@@ -1,6 +1,6 @@
 use Rattle.event_core.proofs.Words.{◌≡◌, Accepts, All, Change, changes_of, Free, IsSettled, IsSound, kind_of_change, None, outcome_of, Some, State, state_of, Statement, Store, subst, tables_of, Told}
-use Rattle.star_history.specs.History.{DimensionDeclared, FactDeclared, Loaded, Ended}
-use Rattle.star_history.proofs.LaterLemmas.{undeclared}
+use Rattle.query_meaning.specs.History.{DimensionDeclared, FactDeclared, Loaded, Ended}
+use Rattle.query_meaning.proofs.LaterLemmas.{undeclared}
 use Rattle.star_statement.specs.Fitting.{FitsTables}
 use Rattle.star_statement.specs.Outcome.{Replied, Accepted}
 use Rattle.star_statement.specs.declared.applied.ChangeKind.TheVariants.{DeclaresDimension, DeclaresFact, Loads, Ends}

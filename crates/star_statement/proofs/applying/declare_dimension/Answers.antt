@@ -1,7 +1,7 @@
 use Rattle.std.proofs.Common.{ap, sym, ◌∙◌}
 use Rattle.star_parser.specs.Statement.{statement_of}
 use Rattle.star_plan.specs.Declaration.{declared_dimension}
-use Rattle.star_history.specs.History.{DimensionDeclared}
+use Rattle.query_meaning.specs.History.{DimensionDeclared}
 use Rattle.star_statement.proofs.DeclareLemmas.{follows_refused, references_nothing_in}
 use Rattle.star_statement.proofs.applying.declare_dimension.Goals as goal
 

@@ -1,6 +1,6 @@
 use Rattle.std.proofs.Common.{ap, refl, sym, ◌∙◌}
 use Rattle.star_plan.specs.Declaration.{declared_fact}
-use Rattle.star_history.specs.History.{FactDeclared}
+use Rattle.query_meaning.specs.History.{FactDeclared}
 use Rattle.star_statement.proofs.DeclareLemmas.{follows_declared, follows_refused}
 use Rattle.star_statement.specs.declared.applied.ChangeKind.TheVariants.{DeclaresFact}
 use Rattle.star_statement.proofs.applying.declare_fact.Goals as goal

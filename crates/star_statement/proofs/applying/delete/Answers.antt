@@ -1,7 +1,7 @@
 use Rattle.std.proofs.Common.{option_map, ap, subst, ◌∙◌}
 use Rattle.star_parser.specs.Statement.{statement_of}
 use Rattle.star_plan.specs.Test.{test_of}
-use Rattle.star_history.specs.Keyed.{plain}
+use Rattle.query_meaning.specs.Keyed.{plain}
 use Rattle.star_store.specs.Deletes.{delete_change}
 use Rattle.star_store.specs.Done.{Commits}
 use Rattle.star_statement.proofs.ApplyLemmas.{delete_bound, delete_kind, follows_committed, tests_lent}

@@ -1,6 +1,6 @@
 use Rattle.std.proofs.Common.{ap, not, refl, subst, sym, ◌∙◌, ◌≡◌}
 use Rattle.star_values.specs.declared.refusal.Refusal.TheVariants.{OutOfOrder, UnknownName}
-use Rattle.star_history.specs.Keyed.{plain}
+use Rattle.query_meaning.specs.Keyed.{plain}
 use Rattle.script_reader.specs.declared.statement.Statement.{Statement}
 use Rattle.star_store.specs.Done.{Commits}
 use Rattle.star_store.specs.Loads.{load_change}

@@ -8,9 +8,9 @@ use Rattle.star_plan.specs.Test.{Query}
 use Rattle.star_binder.specs.Refused.{bound_select, from_tables}
 use Rattle.star_binder.specs.Select.{select_of}
 use Rattle.star_binder.specs.Where.{whole_where_holds}
-use Rattle.star_history.specs.Alone.{joined, visible}
-use Rattle.star_history.specs.Settled.{IsSettled}
-use Rattle.star_history.specs.Store.{PlainVersion, Store}
+use Rattle.query_meaning.specs.Alone.{joined, visible}
+use Rattle.query_meaning.specs.Settled.{IsSettled}
+use Rattle.query_meaning.specs.Store.{PlainVersion, Store}
 use Rattle.star_statement.proofs.JoinedLemmas.{kept-where, select-joined}
 use Rattle.star_statement.proofs.laws_of_queries.selects_are_answered_by_the_rows_where_their_where_holds.Goals as goal
 

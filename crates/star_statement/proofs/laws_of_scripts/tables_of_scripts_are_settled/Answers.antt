@@ -1,7 +1,7 @@
 use Rattle.std.proofs.Common.{ℕ, List, [], sym, subst}
 use Rattle.script_reader.specs.declared.statement.Statement.{Statement}
-use Rattle.star_history.specs.History.{store_of}
-use Rattle.star_history.specs.Settled.{IsSettled}
+use Rattle.query_meaning.specs.History.{store_of}
+use Rattle.query_meaning.specs.Settled.{IsSettled}
 use Rattle.star_statement.specs.Script.{history_of}
 use Rattle.star_statement.proofs.laws_of_scripts.tables_of_scripts_are_settled.Goals as goal
 

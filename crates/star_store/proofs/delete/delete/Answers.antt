@@ -1,7 +1,7 @@
 use Rattle.std.proofs.Common.{ap, map, not, subst, sym}
 use Rattle.std.specs.Prelude.{All, option_map}
 use Rattle.star_plan.specs.Test.{test_of}
-use Rattle.star_history.specs.Keyed.{HasKeyNumbers, plain_version}
+use Rattle.query_meaning.specs.Keyed.{HasKeyNumbers, plain_version}
 use Rattle.star_store.specs.Deletes.{positions_of}
 use Rattle.star_store.proofs.ChangeLemmas.{committed_ends, keyed_ended}
 use Rattle.star_store.proofs.delete.delete.Goals as goal

@@ -6,8 +6,8 @@ use Rattle.star_values.specs.Value.{kinds_in}
 use Rattle.csv_load.specs.Records.{records_in}
 use Rattle.csv_load.specs.Rows.{typed_rows}
 use Rattle.fact_versions.specs.declared.version.TheConstants.{MAX_VERSIONS}
-use Rattle.star_history.specs.Keyed.{plain}
-use Rattle.star_history.specs.Kept.{tables_of}
+use Rattle.query_meaning.specs.Keyed.{plain}
+use Rattle.query_meaning.specs.KeptTables.{tables_of}
 use Rattle.star_store.proofs.LoadLemmas.{accepted_versions, few_versions, fit_by_kinds, length_plain, not_over, tells_dangling, typed_by, versions_of_rows}
 use Rattle.star_store.proofs.load.checked_versions.Goals as goal
 

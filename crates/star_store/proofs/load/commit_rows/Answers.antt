@@ -1,5 +1,5 @@
 use Rattle.std.proofs.Common.{◌+◌, ◌++◌, ◌∙◌, ap, refl, slice_index_or}
-use Rattle.star_history.specs.History.{rows_by}
+use Rattle.query_meaning.specs.History.{rows_by}
 use Rattle.star_store.proofs.LoadLemmas.{lent_grown, lent_same, on_err}
 use Rattle.star_store.proofs.load.commit_rows.Goals as goal
 

@@ -1,9 +1,9 @@
 use Rattle.std.proofs.Common.{◌∙◌, ap, not, refl, subst, sym, Some}
 use Rattle.star_plan.specs.declared.table.Table.TheVariants.{Fact, Dimension}
-use Rattle.star_history.specs.Keyed.{plain}
+use Rattle.query_meaning.specs.Keyed.{plain}
 use Rattle.star_store.specs.Done.{Commits}
 use Rattle.star_store.specs.Loads.{loaded_records}
-use Rattle.star_history.specs.Kept.{tables_of}
+use Rattle.query_meaning.specs.KeptTables.{tables_of}
 use Rattle.star_store.proofs.ChangeLemmas.{keyed_after, load_change-early, load_change-found, load_change-unknown, loaded_in}
 use Rattle.csv_load.specs.Records.{records_in}
 use Rattle.star_store.proofs.LoadLemmas.{over_every_table}

@@ -1,10 +1,10 @@
 use Rattle.std.proofs.Common.{subst}
 use Rattle.std.specs.Prelude.{option_map}
 use Rattle.star_plan.specs.Test.{test_of}
-use Rattle.star_history.specs.Keyed.{plain}
+use Rattle.query_meaning.specs.Keyed.{plain}
 use Rattle.star_store.specs.Deletes.{delete_change}
 use Rattle.star_store.specs.Done.{Commits}
-use Rattle.star_history.specs.Kept.{rows_of_all, tables_of}
+use Rattle.query_meaning.specs.KeptTables.{rows_of_all, tables_of}
 use Rattle.star_store.proofs.SoundLemmas.{settled_by, versions_fit}
 use Rattle.star_store.proofs.store.Store.apply_delete.Goals as goal
 
