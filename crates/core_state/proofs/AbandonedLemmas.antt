@@ -1,7 +1,7 @@
 -- Every step but the event that abandons a query leaves it as it is: whoever is abandoned after it was so before.
 use Rattle.core_state.proofs.Words.{◌+◌, ◌-◌, ◌≡◌, ◌⊎◌, [], Abandon, accepted_at, after_abandoning, after_distribute, after_give, after_outcome, after_start, after_step, ap, Build, cases_eq, Change, Cut, DimensionDeclared, Distribute, Done, end_in, Event, extent_in, Finish, first_in, first_of, flight_at, Give, inl, inr, is_held_by, life_in, life_of, List, option_map_or, outcome_of, Replying, Reserve, Some, Start, started, State, Step, Submit, subst, sym, tables_of, Told, versions_in, Wanting, with_change, with_query, ℕ, ⊎_elim}
 use Rattle.std.proofs.Common.{find}
-use Rattle.star_statement.specs.Outcome as outcome
+use Rattle.star_store.specs.Outcome as outcome
 use Rattle.pipeline_manager.specs.declared.life.Life.TheVariants as life
 use Rattle.core_state.specs.Events.{after_event, after_want}
 use Rattle.core_state.proofs.AbandonedLivesLemmas.{WereLost, started-never, were-behind, were-cut, were-ended, were-others, were-reserved, were-spoiled, were-written}

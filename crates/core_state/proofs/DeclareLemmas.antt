@@ -5,7 +5,7 @@ use Rattle.batch_flow.specs.declared.batch.TheConstants.{KEYS_IN_A_ROW}
 use Rattle.pipeline_manager.specs.Sound.{IsOfFilters}
 use Rattle.core_state.specs.Submitting.{first_version}
 use Rattle.core_state.proofs.CutFoundLemmas.{all-below, has-any, has-at}
-use Rattle.star_statement.proofs.HistoryLemmas.{accepts-more}
+use Rattle.star_store.proofs.HistoryLemmas.{accepts-more}
 use Rattle.core_state.proofs.GrownLemmas.{changes-with}
 use Rattle.core_state.proofs.ReleaseLemmas.{none-in}
 

@@ -1,7 +1,7 @@
 -- The reply to a statement that a seat takes is that of the statement's effect over the tables of its submission.
 use Rattle.core_state.proofs.Words.{◌+◌, ◌<◌, ◌∙◌, ◌∷◌, ◌≡◌, ◌≤◌, [], after_steps, after_submitting, alone, answer_of, ap, arith, awaited_at, awaited_by, Change, changes_of, cond, Done, eq-eqb, eqb, find, FitsTables, Grouping, inl, inr, IsRight, IsSettled, IsSound, length, List, MayStepAll, next_ready, None, Option, option_map, outcome_of, Pending, Query, Ready, refl, seat_at, slice_get, Some, State, Statement, Step, Store, Submit, subst, sym, tables_of, Told, Whole, ℕ}
-use Rattle.star_statement.specs.Effect.{answer_reply, effect_of, reply_to}
-use Rattle.star_statement.specs.Outcome as outcome
+use Rattle.star_store.specs.Effect.{answer_reply, effect_of, reply_to}
+use Rattle.star_store.specs.Outcome as outcome
 use Rattle.core_state.specs.Answers.{Gives}
 use Rattle.core_state.specs.Events.{after_event}
 use Rattle.core_state.proofs.AnswerLemmas.{IgnoresOrder, reply-right}

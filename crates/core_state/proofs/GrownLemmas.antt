@@ -1,6 +1,6 @@
 -- Rows that are loaded, and versions that are ended, leave everything sound that a core keeps beside its seats.
 use Rattle.core_state.proofs.Words.{◌++◌, ◌∙◌, ◌∷◌, ◌≡◌, ◌≤◌, [], Accepts, AcceptsAll, after_change, All, All-push, ap, arith, Change, changes_of, empty_store, EndsAscending, Entry, fold-append, IsOfRows, IsSettled, IsSound, IsSoundBeside, kept, List, map-append, Query, State, Store, store_of, subst, sym, tables_by, tables_of, with_entry, ℕ}
-use Rattle.star_statement.proofs.HistoryLemmas.{accepts-more}
+use Rattle.star_store.proofs.HistoryLemmas.{accepts-more}
 use Rattle.core_state.proofs.GivenLemmas.{Settles}
 use Rattle.core_state.proofs.GrownBatchLemmas.{batches-grown}
 use Rattle.core_state.proofs.GrownFilterLemmas.{filters-grown, hands-grown}

@@ -1,6 +1,6 @@
 -- No later step changes an answer.
 use Rattle.core_state.proofs.Words.{◌+◌, ◌∙◌, ◌∷◌, ◌≡◌, ◌≤◌, ◌⊎◌, [], accepted_at, Accepts, after_change, after_outcome, after_step, after_steps, after_submitting, alone, ap, arith, Change, changes_of, DimensionDeclared, Fact, FitsTables, inl, inr, IsSettled, IsSound, List, Loaded, MayStep, MayStepAll, None, Option, outcome_of, Query, refl, Some, State, Statement, Step, Store, subst, sym, tables_by, tables_of, Told, ℕ}
-use Rattle.star_statement.specs.Outcome as outcome
+use Rattle.star_store.specs.Outcome as outcome
 use Rattle.core_state.specs.Submitting.{filters_by}
 use Rattle.core_state.proofs.GivenLemmas.{Settles}
 use Rattle.core_state.proofs.GrownLemmas.{tables-with}

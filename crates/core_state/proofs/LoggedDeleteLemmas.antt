@@ -8,7 +8,7 @@ use Rattle.star_plan.specs.declared.table.Table.{Table}
 use Rattle.star_plan.specs.Named.{table_named}
 use Rattle.star_store.specs.Deletes.{is_ended_by, positions_of}
 use Rattle.star_store.specs.Loads.{count_in, dangles, load_change, loaded_records, loaded_rows, most_in, repeats_a_key}
-use Rattle.star_statement.specs.Outcome.{outcome_of}
+use Rattle.star_store.specs.Outcome.{outcome_of}
 
 range-ascends : (first count : ℕ) → AllPairs (λ x y. x < y) (range_with_len first count)
 range-ascends first count i j d before within =

@@ -2,7 +2,7 @@
 use Rattle.core_state.proofs.Words.{◌++◌, ◌+◌, ◌<◌, ◌∙◌, ◌∷◌, ◌≡◌, ◌≢◌, ◌≤◌, ◌⊎◌, [], Accepts, AcceptsAll, after_change, All, All-head, All-tail, ap, arith, Change, Dimension, DimensionDeclared, DimensionRow, Ended, EndsAscending, Fact, FactDeclared, facts_loaded_by, fold, get_or, get_or-set_same, get_or_append_left, in_grown, inl, inr, IsDated, IsSettled, length, length-append, List, Loaded, map, None, option_map_or, PlainVersion, positions_ended_by, refl, rows_by, rows_in, rows_loaded_by, Some, Store, TableDef, ℕ}
 use Rattle.query_meaning.proofs.LaterLemmas.{rows_in_declared, undeclared}
 use Rattle.query_meaning.proofs.LoadedLemmas.{loaded_in}
-use Rattle.star_statement.specs.Kinds.{kind_of_change}
+use Rattle.star_store.specs.Kinds.{kind_of_change}
 use Rattle.core_state.specs.Logged.{change_told, changes_told, no_table}
 use Rattle.core_state.proofs.LoggedPlaceLemmas.{positions-new, positions-other-ends, positions-other-rows}
 use Rattle.core_state.proofs.LoggedRowsLemmas.{facts-later, facts-new, facts-with-ends, rows-later, rows-new}

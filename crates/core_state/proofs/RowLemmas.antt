@@ -1,6 +1,6 @@
 -- Rows of seats: what a statement and a reply do to that of their seat, what stands past the seats, and what is in a hand.
 use Rattle.core_state.proofs.Words.{◌++◌, ◌+◌, ◌<◌, ◌∙◌, ◌∷◌, ◌≡◌, ◌≢◌, ◌≤◌, [], after_outcome, after_submitting, after_taking, All, All-cons, All-head, All-nil, All-tail, All-weaker, ap, append-nil, arith, Change, cond, Contains, drop, empty_seat, Entry, eqb, Event, false, filter, find, Flight, frame_words, get_or, get_or-set_other, get_or-set_same, get_or_past, Hand, held_by, IfSome, is_held_by, IsEnabled, IsSound, IsSoundBatch, IsSoundHand, length, List, map, MaySpoil, ne_eqb, None, Option, option_map_or, outcome_of, Pending, refl, Seat, seat_at, set, slice_get, Some, State, Statement, sym, tables_of, take, Told, with_query, with_statement, ℕ}
-use Rattle.star_statement.specs.Outcome as outcome
+use Rattle.star_store.specs.Outcome as outcome
 use Rattle.std.specs.Prelude.{option_to_list}
 use Rattle.core_state.specs.Events.{LeavesSeats, after_event, after_want}
 use Rattle.core_state.specs.Fronts.{Passes, SubmitsRow, TakesRow}

@@ -7,8 +7,8 @@ use Rattle.core_state.specs.Submitting.{Grouping, Ready, Whole, awaited_by, next
 use Rattle.core_state.specs.Rows.{row_of}
 use Rattle.reply_text.specs.declared.reply.Reply.{Reply}
 use Rattle.star_plan.specs.Answer.{answer_of}
-use Rattle.star_statement.specs.Effect.{answer_reply}
-use Rattle.star_statement.specs.Outcome as outcome
+use Rattle.star_store.specs.Effect.{answer_reply}
+use Rattle.star_store.specs.Outcome as outcome
 use Rattle.std.specs.Prelude.{slice_get}
 use Rattle.core_state.proofs.GivenLemmas.{Settles}
 use Rattle.core_state.proofs.HandTablesLemmas.{accepts-rest}

@@ -1,6 +1,6 @@
 -- A statement that a seat submits keeps a core sound.
 use Rattle.core_state.proofs.Words.{◌+◌, ◌<◌, Accepts, after_outcome, after_submitting, Change, changes_of, DimensionDeclared, Ended, EndsAscending, FactDeclared, FitsTables, IfSome, IsOfRows, IsSettled, IsSound, IsSoundBeside, length, Loaded, None, Option, outcome_of, Reply, Some, State, Statement, Store, tables_of, Told, with_change, with_entry, ℕ}
-use Rattle.star_statement.specs.Outcome as outcome
+use Rattle.star_store.specs.Outcome as outcome
 use Rattle.core_state.proofs.DeclaredLemmas.{declared-beside}
 use Rattle.core_state.proofs.GivenLemmas.{Settles}
 use Rattle.core_state.proofs.LoggedDeleteLemmas.{outcome-ascends}

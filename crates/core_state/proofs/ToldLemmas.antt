@@ -1,6 +1,6 @@
 -- A core is sound after a statement by what is told of it: a reply, with a change or without one, or that it is accepted.
 use Rattle.core_state.proofs.Words.{◌+◌, ◌<◌, ◌∙◌, ◌∷◌, ◌≡◌, ◌≢◌, [], Accepted, accepted_at, All, All-head, All-push, All-tail, all_pairs_push, ap, AreSoundSeats, arith, Change, changes_of, cond, Contains, empty_seat, EndsAscending, Entry, Filters, get_or, IfSome, IsOver, IsSettled, IsSome, IsSomeAnd, IsSound, IsSoundBeside, length, length-set, List, map, ne_eqb, None, Option, option_map, Query, query_in-push_same, QueryLife, refl, Reply, Seat, Some, State, subst, sym, tables_of, Told, versions_in, with_statement, ℕ}
-use Rattle.star_statement.specs.Outcome as outcome
+use Rattle.star_store.specs.Outcome as outcome
 use Rattle.pipeline_manager.specs.declared.life.Life.TheVariants as life
 use Rattle.core_state.specs.Settings.{AreWithin}
 use Rattle.core_state.proofs.AskLemmas.{accepted-push_same, accepted_as, asked_now, beside-asked, of-numbers, still-asked}

@@ -1,7 +1,7 @@
 -- What events leave of what each slot shows.
 use Rattle.core_state.proofs.Words.{◌+◌, ◌<◌, ◌∙◌, ◌≡◌, ◌≢◌, [], accepted_at, after_build, after_build_wants, after_clear, after_finish, after_give, after_outcome, after_release, after_reserving, ap, arith, Bool, CanBuild, CanFree, cases_eq, Change, Clearing, cond, DimensionDeclared, false, Filter, forgotten, Free, get_or, get_or-set_other, get_or-set_same, gets_rows, given_up, grouped_of, Held, holder_of, inl, inr, is_ending, is_held_by, IsSound, length, length-set, Life, life_in, life_of, List, Lives, map, MayFinish, MayReserve, None, oldest-waits, Option, option_and_then, option_map_or, query_in, query_in-push_other, QueryLife, refl, set, slot_at, slot_of, SlotState, Some, start_at, start_in, State, subst, sym, true, versions_in, with_built, with_change, with_dimension, with_life, with_query, with_slot, with_version, without_dimension, ℕ, ⊎_elim}
 use Rattle.std.proofs.Common.{find}
-use Rattle.star_statement.specs.Outcome as outcome
+use Rattle.star_store.specs.Outcome as outcome
 use Rattle.pipeline_manager.specs.Conditions.{IsOver, gives_up}
 use Rattle.pipeline_manager.specs.declared.life.Life.TheVariants as life
 use Rattle.core_state.proofs.AskLemmas.{accepted-push}

@@ -1,6 +1,6 @@
 -- No step takes a statement back, or changes what is asked.
 use Rattle.core_state.proofs.Words.{◌+◌, ◌∷◌, ◌≡◌, [], Abandon, accepted_at, after_abandoning, after_outcome, after_step, after_submitting, after_taking, ap, arith, CanAbandon, cases_eq, cases_lt, Contains, Contains-append_left, Done, empty_seat, Event, forgotten, get_or, get_or-set_other, get_or-set_same, get_or_past, HasAccepted, IsEnabled, IsSound, length, List, MayStep, outcome_of, Query, refl, Replying, Seat, seat_at, set, State, Statement, Step, Submit, subst, sym, tables_of, take, Wanting, with_statement, with_taken, without_pending, ℕ, ⊎_elim}
-use Rattle.star_statement.specs.Outcome as outcome
+use Rattle.star_store.specs.Outcome as outcome
 use Rattle.core_state.specs.Events.{after_event, after_want}
 use Rattle.core_state.proofs.AnewLemmas.{forgets, has-anew}
 use Rattle.core_state.proofs.WholeFrameLemmas.{Frame, StayAsked, asked-bare, bare-without, by-option, frame-want, makes-done}

@@ -1,6 +1,6 @@
 -- What a statement changes beside the seat that submits it, which no other seat sees.
 use Rattle.core_state.proofs.Words.{◌+◌, ◌∙◌, ◌≡◌, [], after_outcome, Change, DimensionDeclared, grouped_of, option_map_or, refl, Some, State, subst, sym, Told, versions_in, with_change, with_query, with_seat, with_statement, ℕ}
-use Rattle.star_statement.specs.Outcome as outcome
+use Rattle.star_store.specs.Outcome as outcome
 use Rattle.pipeline_manager.specs.declared.life.Life.TheVariants as life
 use Rattle.core_state.specs.Submitting.{with_outcome}
 use Rattle.core_state.proofs.WholeFrameLemmas.{Leaves, StayAsked, asked-behind, by-option}

@@ -78,9 +78,9 @@ pub use Rattle.aggregations.specs.Folding.{with_row}
 pub use Rattle.aggregations.specs.Grouped.{Grouped, grouped_of}
 pub use Rattle.distributor.specs.Folded.{versions_for, versions_of, with_batch, with_versions}
 pub use Rattle.reply_text.specs.declared.reply.Reply.{Reply}
-pub use Rattle.star_statement.specs.Fitting.{FitsTables}
-pub use Rattle.star_statement.specs.Outcome.{block_bytes, committed, declared, deleted, meaning_outcome, Outcome, outcome_by, outcome_of, refused, selected, Told}
-pub use Rattle.star_statement.specs.Text.{meaning_of}
+pub use Rattle.star_store.specs.Fitting.{FitsTables}
+pub use Rattle.star_store.specs.Outcome.{block_bytes, committed, declared, deleted, meaning_outcome, Outcome, outcome_by, outcome_of, refused, selected, Told}
+pub use Rattle.star_store.specs.Text.{meaning_of}
 pub use Rattle.core_state.specs.Admitting.{after_build, after_build_wants, after_clear, after_finish, after_release, after_reserving, after_start, selection_in, versions_in_hands, with_built, with_version}
 pub use Rattle.core_state.specs.Answers.{IsRight}
 pub use Rattle.core_state.specs.Beside.{IsOfRows, IsSoundBeside, with_entry}

@@ -5,7 +5,7 @@ use Rattle.star_plan.specs.Joined.{Joined}
 use Rattle.star_plan.specs.Test.{Query}
 use Rattle.query_meaning.specs.Alone.{alone}
 use Rattle.query_meaning.specs.Store.{Store}
-use Rattle.star_statement.specs.Effect.{answer_reply}
+use Rattle.star_store.specs.Effect.{answer_reply}
 use Rattle.reply_text.specs.declared.reply.Reply.{Reply}
 use Rattle.reply_text.specs.declared.reply.Reply.TheVariants.{Memory}
 use Rattle.pipeline_manager.specs.Lives.{life_of}

@@ -8,8 +8,8 @@ use Rattle.star_plan.specs.declared.table_def.TableDef.{TableDef}
 use Rattle.dimension_rows.specs.declared.dimension_row.DimensionRow.{DimensionRow}
 use Rattle.query_meaning.specs.History.{Change, DimensionDeclared, FactDeclared, Loaded, Ended}
 use Rattle.query_meaning.specs.Store.{PlainVersion, Store, rows_in}
-use Rattle.star_statement.specs.declared.applied.ChangeKind.{ChangeKind}
-use Rattle.star_statement.specs.declared.applied.ChangeKind.TheVariants.{DeclaresDimension, DeclaresFact, Loads, Ends}
+use Rattle.star_store.specs.declared.applied.ChangeKind.{ChangeKind}
+use Rattle.star_store.specs.declared.applied.ChangeKind.TheVariants.{DeclaresDimension, DeclaresFact, Loads, Ends}
 
 -- a table without a name and columns, where none was declared
 abbrev pub no_table : TableDef

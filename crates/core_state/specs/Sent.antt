@@ -6,9 +6,9 @@ use Rattle.query_meaning.specs.Alone.{alone}
 use Rattle.query_meaning.specs.Store.{Store}
 use Rattle.reply_text.specs.declared.reply.Reply.{Reply}
 use Rattle.reply_text.specs.declared.reply.Reply.TheVariants.{Memory}
-use Rattle.star_statement.specs.Effect.{answer_reply}
-use Rattle.star_statement.specs.Outcome as outcome
-use Rattle.star_statement.specs.Outcome.{Told, outcome_of}
+use Rattle.star_store.specs.Effect.{answer_reply}
+use Rattle.star_store.specs.Outcome as outcome
+use Rattle.star_store.specs.Outcome.{Told, outcome_of}
 use Rattle.core_state.specs.State.{Entry, Pending, Taken}
 use Rattle.core_state.specs.Submitting.{awaited_by, taken_by}
 use Rattle.core_state.specs.Tables.{tables_by}

@@ -12,7 +12,7 @@ use Rattle.star_plan.specs.declared.table.Table.TheVariants.{Fact, Dimension}
 use Rattle.star_plan.specs.declared.table_def.TableDef.{TableDef}
 use Rattle.query_meaning.specs.HistoryExamples.{sale, sales, store}
 use Rattle.query_meaning.specs.History.{DimensionDeclared, FactDeclared, Loaded}
-use Rattle.star_statement.specs.Outcome.{Accepted, only_tells}
+use Rattle.star_store.specs.Outcome.{Accepted, only_tells}
 use Rattle.aggregations.specs.Grouped.{Tally}
 use Rattle.core_parts.specs.InFlight.{numbers_in_hand}
 use Rattle.core_state.specs.declared.event.Event.{Event}

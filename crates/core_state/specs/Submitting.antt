@@ -4,8 +4,8 @@ use Rattle.std.specs.Prelude.{ℕ, ◌+◌, ◌==◌, List, [], ◌∷◌, ◌++
 use Rattle.std.specs.Option.{option_and_then, option_map_or}
 use Rattle.script_reader.specs.declared.statement.Statement.{Statement}
 use Rattle.query_meaning.specs.History.{Change, FactDeclared}
-use Rattle.star_statement.specs.Outcome as outcome
-use Rattle.star_statement.specs.Outcome.{Told, outcome_of}
+use Rattle.star_store.specs.Outcome as outcome
+use Rattle.star_store.specs.Outcome.{Told, outcome_of}
 use Rattle.reply_text.specs.declared.reply.Reply.{Reply}
 use Rattle.reply_text.specs.declared.reply.Reply.TheVariants.{Memory}
 use Rattle.pipeline_manager.specs.Changes.{after_abandon, after_submit}

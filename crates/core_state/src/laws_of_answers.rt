@@ -16,7 +16,7 @@ ghost use Rattle.core_state.specs.Tables.{tables_of};
 use crate::laws_of_runs::every_step_keeps_a_core_sound;
 use query_meaning::{accepted_histories_are_settled, later_changes_are_not_seen};
 use star_plan::answers_ignore_the_order_of_rows;
-use star_statement::outcomes_fit_the_tables;
+use star_store::outcomes_fit_the_tables;
 
 /// What a seat may take is right: the reply that it was told, `memory` to a query that found none,
 /// and to an answered query groups that answer it as it is alone at its snapshot; such groups are

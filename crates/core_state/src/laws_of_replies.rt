@@ -2,8 +2,8 @@
 //! order of its statements.
 ghost use Rattle.std.specs.Prelude.{◌≡◌, ◌≢◌, ℕ, ◌+◌, ◌<◌, ◌≤◌, List, [], ◌∷◌, ◌++◌, length, map, drop, slice_get, AllPairs, Some, None, IsSome, IfSome};
 ghost use Rattle.script_reader.specs.declared.statement.Statement.{Statement};
-ghost use Rattle.star_statement.specs.Effect.{effect_of};
-ghost use Rattle.star_statement.specs.Outcome.{outcome_of};
+ghost use Rattle.star_store.specs.Effect.{effect_of};
+ghost use Rattle.star_store.specs.Outcome.{outcome_of};
 ghost use Rattle.core_state.specs.Answers.{Gives};
 ghost use Rattle.core_state.specs.Sound.{IsSound};
 ghost use Rattle.core_state.specs.State.{Pending, State};
@@ -15,7 +15,7 @@ ghost use Rattle.core_state.specs.declared.event.Event.TheVariants.{Submit};
 use crate::laws_of_runs::every_step_keeps_a_core_sound;
 use query_meaning::{accepted_histories_are_settled, later_changes_are_not_seen};
 use star_plan::answers_ignore_the_order_of_rows;
-use star_statement::outcomes_fit_the_tables;
+use star_store::outcomes_fit_the_tables;
 
 /// A step leaves what a seat waits for as it was told: it is still waited for with the same, or it
 /// is waited for no more; only a submission adds to it, and only by its own number.

@@ -21,7 +21,7 @@ ghost use Rattle.core_state.specs.declared.event.Event.{Event};
 use crate::laws_of_answers::a_reply_that_may_be_taken_is_right;
 use crate::laws_of_runs::every_step_keeps_a_core_sound;
 use query_meaning::{accepted_histories_are_settled, later_changes_are_not_seen};
-use star_statement::outcomes_fit_the_tables;
+use star_store::outcomes_fit_the_tables;
 
 /// A row tells the reply: on any core with this row, what the seat may take as the reply to
 /// the first statement that it waits for is right for that statement behind the entries before

@@ -11,7 +11,7 @@ ghost use Rattle.core_state.specs.Tables.{tables_of};
 
 use crate::laws_of_tables::a_change_of_rows_keeps_what_is_kept;
 use query_meaning::accepted_histories_are_settled;
-use star_statement::outcomes_fit_the_tables;
+use star_store::outcomes_fit_the_tables;
 
 /// A declaration that the tables take leaves everything sound that a core keeps beside its seats;
 /// that of the fact table makes its filters.

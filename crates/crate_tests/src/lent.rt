@@ -19,7 +19,7 @@ use event_core::{
 use pipeline_manager::Life;
 use reply_text::print_reply;
 use script_reader::{NextStatement, ScriptReader, Statement};
-use star_statement::ReadStatement;
+use star_store::ReadStatement;
 use star_values::{ByteText, NoMemory};
 use std::alloc::Global;
 use std::hash::RandomState;

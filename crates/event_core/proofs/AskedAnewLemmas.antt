@@ -3,7 +3,7 @@ use Rattle.event_core.proofs.Words.{◌++◌, ◌+◌, ◌<◌, ◌∙◌, ◌�
 use Rattle.std.proofs.lemmas.List.Elements.{All-weaker}
 use Rattle.std.proofs.lemmas.List.Sums.{get_or-le-sum_by}
 use Rattle.reply_text.specs.declared.reply.Reply.TheVariants as reply
-use Rattle.star_statement.specs.Outcome as outcome
+use Rattle.star_store.specs.Outcome as outcome
 use Rattle.pipeline_manager.specs.Sound as managed
 use Rattle.pipeline_manager.specs.Sound.{FitsSlots, slots_held}
 use Rattle.pipeline_manager.specs.declared.life.Life.TheVariants as managed_life

@@ -3,8 +3,8 @@ use Rattle.event_core.proofs.Words.{◌++◌, ◌+◌, ◌<◌, ◌∙◌, ◌�
 use Rattle.std.proofs.lemmas.List.Sums.{count_by-le-length, length-filter}
 use Rattle.query_meaning.specs.History.{FactDeclared}
 use Rattle.query_meaning.proofs.LaterLemmas.{undeclared}
-use Rattle.star_statement.specs.Fitting.{FitsTables}
-use Rattle.star_statement.specs.Outcome as outcome
+use Rattle.star_store.specs.Fitting.{FitsTables}
+use Rattle.star_store.specs.Outcome as outcome
 use Rattle.core_state.specs.Submitting.{filters_by, first_versions}
 use Rattle.core_state.proofs.GrownLemmas.{tables-with}
 use Rattle.core_parts.specs.Filters.{no_probes}

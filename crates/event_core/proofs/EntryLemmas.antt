@@ -1,8 +1,8 @@
 -- The entries of a log that grows by a change, told from the tables after it.
 use Rattle.event_core.proofs.Words.{◌++◌, ◌+◌, ◌∙◌, ◌∷◌, ◌≡◌, [], Accepts, AcceptsAll, after_change, All, All-push, ap, arith, Change, ChangeKind, changes_of, Dimension, empty_store, EndsAscending, entries_as, Entry, Fact, fold-append, kind_of_change, length, length-map, List, Logged, map, map_push, refl, Store, store_of, sym, tables_by, ℕ}
-use Rattle.star_statement.specs.declared.applied.ChangeKind.TheVariants.{DeclaresDimension, DeclaresFact, Loads, Ends}
+use Rattle.star_store.specs.declared.applied.ChangeKind.TheVariants.{DeclaresDimension, DeclaresFact, Loads, Ends}
 use Rattle.core_state.specs.Logged.{changes_told}
-use Rattle.star_statement.proofs.HistoryLemmas.{accepts-more}
+use Rattle.star_store.proofs.HistoryLemmas.{accepts-more}
 use Rattle.event_core.specs.Seen.{entries_with}
 
 -- the changes of a history follow from its tables and their kinds

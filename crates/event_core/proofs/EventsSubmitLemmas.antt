@@ -3,10 +3,10 @@ use Rattle.event_core.proofs.Words.{◌++◌, ◌+◌, ◌<◌, ◌∙◌, ◌�
 use Rattle.std.proofs.Common.{Err, Result}
 use Rattle.std.specs.Result.{OnErr}
 use Rattle.std.proofs.Math.Seq.{map-set_same}
-use Rattle.star_statement.specs.Outcome as outcome
-use Rattle.star_statement.specs.declared.applied.ApplyFault.{ApplyFault}
-use Rattle.star_statement.specs.declared.applied.Applied.TheVariants.{Replied, Accepted}
-use Rattle.star_statement.specs.declared.applied.ChangeKind.TheVariants.{DeclaresFact}
+use Rattle.star_store.specs.Outcome as outcome
+use Rattle.star_store.specs.declared.applied.ApplyFault.{ApplyFault}
+use Rattle.star_store.specs.declared.applied.Applied.TheVariants.{Replied, Accepted}
+use Rattle.star_store.specs.declared.applied.ChangeKind.TheVariants.{DeclaresFact}
 use Rattle.core_state.specs.State as state
 use Rattle.core_parts.specs.Filters.{dimensions_of, first_filters}
 use Rattle.core_parts.proofs.FirstFilterLemmas.{dimensions_of-first, length-first}

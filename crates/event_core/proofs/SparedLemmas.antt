@@ -5,7 +5,7 @@ use Rattle.std.proofs.lemmas.Bool.{false≢true}
 use Rattle.std.proofs.lemmas.List.{get_or-replicate, length-replicate}
 use Rattle.std.proofs.lemmas.List.Elements.{All-contains_itself, All-weaker, Contains-append_cases, Contains-append_left, Contains-append_right}
 use Rattle.std.proofs.lemmas.List.Folds.{find-append}
-use Rattle.star_statement.specs.declared.applied.ChangeKind.TheVariants.{DeclaresFact}
+use Rattle.star_store.specs.declared.applied.ChangeKind.TheVariants.{DeclaresFact}
 use Rattle.filter_order.specs.Filtered.{first_version, first_versions}
 use Rattle.filter_order.specs.Filters.{first_filters, versions_left}
 use Rattle.filter_order.specs.Spares.{first_spares, HasPlace, is_present, references_to, spare_at, Spares, with_all_returned, with_all_taken, with_returned, with_spare}

@@ -2,7 +2,7 @@
 use Rattle.event_core.proofs.Words.{◌<◌, ◌≡◌, after_submitting, ap, length, Parts, refl, state_of, Statement, subst, sym}
 use Rattle.std.proofs.Common.{Bool, false, Err, Ok, inl, ℕ}
 use Rattle.std.specs.Prelude.{◌↔◌, ◌≢◌, [], IsTrue}
-use Rattle.star_statement.specs.Text.{may_change_tables, meaning_of}
+use Rattle.star_store.specs.Text.{may_change_tables, meaning_of}
 use Rattle.core_state.specs.Events.{after_event}
 use Rattle.core_state.specs.Sound.{IsSound}
 use Rattle.event_core.specs.Parts.{beside_of}

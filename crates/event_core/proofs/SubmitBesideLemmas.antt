@@ -1,10 +1,10 @@
 -- What is beside the state stays as it is where a statement is submitted: the tables and the filters change only where nothing is out.
 use Rattle.event_core.proofs.Words.{◌∙◌, ◌≡◌, after_change, All, ap, Bool, Change, Changed, ChangeKind, false, Follows, IsCore, KeyedStore, Lives, None, Ok, Option, option_map_or, outcome_of, Parts, plain, refl, Reply, Some, Statement, Store, sym, true, with_filters_for}
 use Rattle.std.specs.Prelude.{◌↔◌, ◌≢◌, [], IsTrue}
-use Rattle.star_statement.specs.declared.applied.ApplyFault.{ApplyFault}
-use Rattle.star_statement.specs.declared.applied.ChangeKind.TheVariants.{DeclaresFact}
+use Rattle.star_store.specs.declared.applied.ApplyFault.{ApplyFault}
+use Rattle.star_store.specs.declared.applied.ChangeKind.TheVariants.{DeclaresFact}
 use Rattle.query_meaning.specs.History.{DimensionDeclared, FactDeclared, Loaded, Ended}
-use Rattle.star_statement.specs.Kinds.{kind_of_change}
+use Rattle.star_store.specs.Kinds.{kind_of_change}
 use Rattle.core_parts.specs.Lent.{lent_to}
 use Rattle.event_core.specs.Parts.{AreBacked, beside_of, fixed_by}
 use Rattle.event_core.proofs.EventsSubmitLemmas.{IsChange, some-change, undeclared-before, UndeclaredLaw}

@@ -1,6 +1,6 @@
 -- The parts after a statement are those of a core.
 use Rattle.event_core.proofs.Words.{◌*◌, ◌++◌, ◌+◌, ◌<◌, ◌∙◌, ◌∷◌, ◌≡◌, [], Accepted, after_outcome, after_step, after_submitting, All, ap, AreTablesOf, arith, attached_for, attached_to, Becomes, Done, Event, frames_of, IsCore, IsEnabled, IsNew, IsScannedAs, IsSome, IsSound, known_in, LeavesAttached, LeavesScan, length, length-map, List, map, MayStep, None, of-numbers, Outcome, outcome_of, Parts, QueryLife, refl, Reply, RunSettings, Scanning, Seat, seat_as, State, state_of, Statement, statements_at, Step, Submit, submitted, subst, sym, tables_of, Waits, ℕ}
-use Rattle.star_statement.specs.Outcome as outcome
+use Rattle.star_store.specs.Outcome as outcome
 use Rattle.core_state.specs.Events.{after_event}
 use Rattle.event_core.proofs.SubmittedSeatLemmas.{seats-one, statement_of}
 

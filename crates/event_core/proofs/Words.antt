@@ -57,11 +57,11 @@ pub use Rattle.aggregations.specs.Grouped.{Grouped, grouped_of}
 pub use Rattle.distributor.specs.Folded.{after_batch}
 pub use Rattle.distributor.specs.Slots.{AreAttached}
 pub use Rattle.reply_text.specs.declared.reply.Reply.{Reply}
-pub use Rattle.star_statement.specs.Applied.{Follows}
-pub use Rattle.star_statement.specs.Kinds.{kind_of_change}
-pub use Rattle.star_statement.specs.Outcome.{Outcome, outcome_of, Told}
-pub use Rattle.star_statement.specs.declared.applied.Applied.TheVariants.{Changed}
-pub use Rattle.star_statement.specs.declared.applied.ChangeKind.{ChangeKind}
+pub use Rattle.star_store.specs.Applied.{Follows}
+pub use Rattle.star_store.specs.Kinds.{kind_of_change}
+pub use Rattle.star_store.specs.Outcome.{Outcome, outcome_of, Told}
+pub use Rattle.star_store.specs.declared.applied.Applied.TheVariants.{Changed}
+pub use Rattle.star_store.specs.declared.applied.ChangeKind.{ChangeKind}
 pub use Rattle.star_values.proofs.PlaceLemmas.{refill-all}
 pub use Rattle.core_parts.proofs.TurnLemmas.{first_of}
 pub use Rattle.core_parts.specs.Asked.{AreFinished, AreRising, asked_at, AskedQueries, AskedQuery, known_in, with_kept, with_kept_at}

@@ -4,8 +4,8 @@ use Rattle.bit_words.specs.Sets.{with_number}
 use Rattle.star_values.specs.Roomy.{Roomy}
 use Rattle.dimension_rows.specs.declared.dimension_row.DimensionRow.{DimensionRow}
 use Rattle.query_meaning.specs.Keyed.{KeyedStore}
-use Rattle.star_statement.specs.declared.applied.ChangeKind.{ChangeKind}
-use Rattle.star_statement.specs.declared.applied.ChangeKind.TheVariants.{DeclaresFact}
+use Rattle.star_store.specs.declared.applied.ChangeKind.{ChangeKind}
+use Rattle.star_store.specs.declared.applied.ChangeKind.TheVariants.{DeclaresFact}
 use Rattle.pipeline_manager.specs.Changes.{after_abandon, after_built, after_cleared, after_cut, after_end, after_free, after_reserve, after_run, after_spoil, after_submit}
 use Rattle.pipeline_manager.specs.Lives.{extent_in}
 use Rattle.pipeline_manager.specs.declared.life.SlotState.TheVariants.{Free}

@@ -4,7 +4,7 @@ use Rattle.std.specs.Option.{option_map_or}
 use Rattle.star_plan.specs.Answer.{answer_of}
 use Rattle.star_plan.specs.Joined.{Joined}
 use Rattle.star_plan.specs.Test.{Query}
-use Rattle.star_statement.specs.Effect.{answer_reply}
+use Rattle.star_store.specs.Effect.{answer_reply}
 use Rattle.reply_text.specs.declared.reply.Reply.{Reply}
 use Rattle.reply_text.specs.declared.reply.Reply.TheVariants.{Memory}
 use Rattle.aggregations.specs.Grouped.{grouped_of}

@@ -1,7 +1,7 @@
 -- What a core has become where it took an event.
 use Rattle.std.specs.Prelude.{◌≡◌, ◌≢◌, ◌↔◌, ◌⊎◌, List, [], ◌∷◌, ℕ, All, IsErrOf, IsTrue, OnErr, OnOk, Option, None, Some, Result}
 use Rattle.script_reader.specs.declared.statement.Statement.{Statement}
-use Rattle.star_statement.specs.Text.{may_change_tables, meaning_of}
+use Rattle.star_store.specs.Text.{may_change_tables, meaning_of}
 use Rattle.core_state.specs.Cutting.{after_give}
 use Rattle.core_state.specs.Events.{AreFed, IsEnabled, after_event, after_want}
 use Rattle.core_state.specs.Sound.{IsSound}

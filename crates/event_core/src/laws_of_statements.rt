@@ -6,9 +6,9 @@ ghost use Rattle.star_plan.specs.Test.{query_of};
 ghost use Rattle.star_plan.specs.declared.star_query.StarQuery.{StarQuery};
 ghost use Rattle.query_meaning.specs.History.{Change, after_change};
 ghost use Rattle.query_meaning.specs.Keyed.{IsKeyed, KeyedStore, plain};
-ghost use Rattle.star_statement.specs.Kinds.{kind_of_change};
-ghost use Rattle.star_statement.specs.Outcome as outcome;
-ghost use Rattle.star_statement.specs.Outcome.{outcome_of};
+ghost use Rattle.star_store.specs.Kinds.{kind_of_change};
+ghost use Rattle.star_store.specs.Outcome as outcome;
+ghost use Rattle.star_store.specs.Outcome.{outcome_of};
 ghost use Rattle.reply_text.specs.declared.reply.Reply.{Reply};
 ghost use Rattle.reply_text.specs.declared.reply.Reply.TheVariants.{Memory};
 ghost use Rattle.aggregations.specs.Grouped.{Grouped, grouped_of};
@@ -33,7 +33,7 @@ use core_state::{
     every_step_keeps_a_core_sound, other_events_leave_a_scan,
 };
 use query_meaning::accepted_histories_are_settled;
-use star_statement::outcomes_fit_the_tables;
+use star_store::outcomes_fit_the_tables;
 
 /// A statement that a seat submits stands behind its others, with what is told of it; a change is
 /// logged, and a query waits.

@@ -1,5 +1,5 @@
 //! What is kept of a change beside the tables.
-use star_statement::ChangeKind;
+use star_store::ChangeKind;
 
 /// A statement that changed the tables. Its rows and positions are in the tables alone.
 #[derive(Clone, Copy, Debug, PartialEq, Eq)]

@@ -6,12 +6,12 @@ ghost use Rattle.query_meaning.specs.History.{Change};
 ghost use Rattle.query_meaning.specs.Keyed.{IsKeyed, plain};
 ghost use Rattle.query_meaning.specs.Settled.{IsSettled};
 ghost use Rattle.star_values.specs.Roomy.{Roomy};
-ghost use Rattle.star_statement.specs.Applied.{Follows};
-ghost use Rattle.star_statement.specs.Form.{form_of_text};
-ghost use Rattle.star_statement.specs.Kinds.{kind_of_change};
-ghost use Rattle.star_statement.specs.Outcome.{outcome_of};
-ghost use Rattle.star_statement.specs.Text.{may_change_tables, meaning_of};
-ghost use Rattle.star_statement.specs.declared.applied.ChangeKind.TheVariants.{DeclaresFact};
+ghost use Rattle.star_store.specs.Applied.{Follows};
+ghost use Rattle.star_store.specs.Form.{form_of_text};
+ghost use Rattle.star_store.specs.Kinds.{kind_of_change};
+ghost use Rattle.star_store.specs.Outcome.{outcome_of};
+ghost use Rattle.star_store.specs.Text.{may_change_tables, meaning_of};
+ghost use Rattle.star_store.specs.declared.applied.ChangeKind.TheVariants.{DeclaresFact};
 ghost use Rattle.pipeline_manager.specs.Changes.{after_submit};
 ghost use Rattle.pipeline_manager.specs.Conditions.{IsNew};
 ghost use Rattle.pipeline_manager.specs.declared.life.SlotState.TheVariants.{Free};
@@ -34,11 +34,10 @@ use pipeline_manager::Manager;
 use query_meaning::accepted_histories_are_settled;
 use script_reader::Statement;
 use star_plan::Schema;
-use star_statement::{
-    Applied, ApplyFault, BlockForm, ChangeKind, ReadStatement, apply, block_form,
+use star_store::{
+    Applied, ApplyFault, BlockForm, ChangeKind, ReadStatement, Tables, apply, block_form,
     outcomes_fit_the_tables,
 };
-use star_store::Tables;
 use star_values::{ListOf, NoMemory};
 use std::alloc::Global;
 

@@ -13,7 +13,7 @@ use crate::laws_of_steps::every_core_is_sound;
 use crate::machine::Core;
 use core_state::Event;
 use script_reader::Statement;
-use star_statement::{ApplyFault, ReadStatement};
+use star_store::{ApplyFault, ReadStatement};
 use star_values::NoMemory;
 
 /// Why an event was not taken.

@@ -9,7 +9,7 @@ ghost use Rattle.make_load.specs.Made.{IsSummed, IsTextOf, line_of};
 use crate::printing::print_summary;
 use crate::reading::summary;
 use star_io::RunEnd;
-use star_statement::replies_are_well_formed;
+use star_store::replies_are_well_formed;
 use star_values::{ByteText, NoMemory};
 use std::alloc::Global;
 

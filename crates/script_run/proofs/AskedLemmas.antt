@@ -1,6 +1,6 @@
 -- What a statement leaves of the tables and of the queries.
 use Rattle.script_run.proofs.Words.{◌+◌, ◌<◌, ◌∙◌, ◌≡◌, after_change, after_outcome, after_submitting, All-weaker, ap, arith, Change, DimensionDeclared, entries-by, IsSound, IsSoundQuery, None, of-numbers, Option, option_map_or, outcome_of, refl, Some, State, Statement, store_after, tables_by, tables_of, Told, with_change, ℕ}
-use Rattle.star_statement.specs.Outcome as outcome
+use Rattle.star_store.specs.Outcome as outcome
 use Rattle.pipeline_manager.specs.Conditions.{IsNew}
 use Rattle.core_state.proofs.GrownLemmas.{tables-with}
 

@@ -3,7 +3,7 @@ use Rattle.script_run.proofs.Words.{◌≡◌, Bool, false, is_wait, length, Lis
 use Rattle.std.specs.Str.{IsUtf8, is_utf8}
 use Rattle.std.proofs.lemmas.Str.{IsUtf8-from_is_utf8, is_utf8-from_IsUtf8}
 use Rattle.star_parser.specs.Parsed.{parsed_of}
-use Rattle.star_statement.specs.Text.{meaning_of, parsed_meaning}
+use Rattle.star_store.specs.Text.{meaning_of, parsed_meaning}
 
 -- a line that is UTF-8 is what it is parsed as
 pub wait-utf8 : (statement : Statement) → IsUtf8 statement.line

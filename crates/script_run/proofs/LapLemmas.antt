@@ -2,8 +2,8 @@
 use Rattle.script_run.proofs.Words.{◌*◌, ◌++◌, ◌+◌, ◌/◌, ◌<◌, ◌∙◌, ◌∷◌, ◌≡◌, ◌≤◌, ◌⊎◌, [], ap, append-nil, arith, CountsOne, count_by, Entry, fold-append, GoesRound, is_query, is_wait, IsTrue, laps_of, LapsOn, List, meaning_of, means_wait, Memory, None, Ok, Option, outcome_by, Pending, placed, queries_awaited, refl, Refusal, Reply, Result, rows_needed, seat_at, State, Statement, Store, subst, suc, sym, tables_by, take, versions_in, Waited, zero, ℕ, ⊎_elim}
 use Rattle.std.proofs.Math.Nat.{mul-le-mul}
 use Rattle.star_parser.specs.Statement as written
-use Rattle.star_statement.specs.Outcome as outcome
-use Rattle.star_statement.specs.Outcome.{outcome_of}
+use Rattle.star_store.specs.Outcome as outcome
+use Rattle.star_store.specs.Outcome.{outcome_of}
 use Rattle.core_state.specs.Fronts.{IsDue}
 use Rattle.core_state.specs.Rows.{sight_of}
 use Rattle.core_state.specs.Sent.{AnswersTold, AreRepliesTo, Given, IsReplyTo, Sent, pendings_of, statement_in, statements_in}

@@ -3,7 +3,7 @@ use Rattle.script_run.proofs.Words.{◌*◌, ◌+◌, ◌-◌, ◌/◌, ◌<◌,
 use Rattle.std.proofs.Math.Nat.{lt-mul-div-succ, le-div_iff_mul-le, mul-div_left, mul_comm, div-mul-le_self}
 use Rattle.star_plan.specs.declared.answer.Answer as answers
 use Rattle.star_plan.specs.declared.answer.Answer.TheVariants as answer
-use Rattle.star_statement.specs.Outcome as outcome
+use Rattle.star_store.specs.Outcome as outcome
 use Rattle.core_state.specs.Sent.{AnswersTold, AreRepliesTo, Given, Lost, Sent, pending_behind, pendings_of, told_behind}
 use Rattle.script_run.specs.Laps.{places_of}
 

@@ -6,8 +6,8 @@ use Rattle.std.proofs.lemmas.List.Folds.{find-append}
 use Rattle.std.proofs.lemmas.List.Sums.{sum_by-append}
 use Rattle.star_plan.specs.declared.table.Table.TheVariants as table
 use Rattle.query_meaning.specs.History.{versions_by}
-use Rattle.star_statement.specs.Effect.{store_by}
-use Rattle.star_statement.specs.Outcome as outcome
+use Rattle.star_store.specs.Effect.{store_by}
+use Rattle.star_store.specs.Outcome as outcome
 use Rattle.core_state.proofs.CutFoundLemmas.{none-found}
 use Rattle.core_state.proofs.LoggedPlaceLemmas.{length-all-ended}
 use Rattle.core_state.proofs.RowLemmas.{submits-row}

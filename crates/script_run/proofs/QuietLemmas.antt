@@ -6,8 +6,8 @@ use Rattle.script_reader.specs.declared.statement.Block.{Block}
 use Rattle.star_parser.specs.Statement as written
 use Rattle.star_plan.specs.Test.{Test}
 use Rattle.star_plan.specs.declared.table_def.TableDef.{TableDef}
-use Rattle.star_statement.specs.Outcome.{Accepted, Replied}
-use Rattle.star_statement.specs.Outcome.{committed, declared, deleted, meaning_outcome, outcome_of, refused, selected}
+use Rattle.star_store.specs.Outcome.{Accepted, Replied}
+use Rattle.star_store.specs.Outcome.{committed, declared, deleted, meaning_outcome, outcome_of, refused, selected}
 
 -- where a query is asked there is no change
 abbrev pub QuietBy : Told → Option Change → Type 0

@@ -2,7 +2,7 @@
 -- statements, where memory was wanted at some places.
 use Rattle.script_run.proofs.Words.{◌++◌, ◌∙◌, ◌∷◌, ◌≡◌, ◌≢◌, ◌⊎◌, [], Accepted, accepted_by, All, All-cons, All-head, All-nil, All-tail, alone, answer_reply, Answered, ap, append-nil, append_assoc, awaited_by, BeginAnswered, Bool, Change, changes_of, cond, Entry, eq-eqb, eqb, false, find, history_after, IfSome, inl, inr, length, life_of, List, Lives, map, map-append, MayBegin, Memory, None, Option, option_map, option_to_list, outcome_of, queries_among, Query, QueryLife, refl, replies_after, Reply, reply_to, Some, Statement, store_of, subst, suc, sym, tables_by, take, taken_by, Taken, Told, true, ℕ, ⊎_elim}
 use Rattle.std.proofs.Math.Seq.{take-append_seam}
-use Rattle.star_statement.specs.Outcome as outcome
+use Rattle.star_store.specs.Outcome as outcome
 use Rattle.core_state.specs.Sent.{AnswersTold, AreEntriesOf, AreOfOthers, AreRepliesTo, Given, IsReplyBehind, Lost, Sent, entry_made, numbers_in, pending_behind, statements_in, takens_of}
 use Rattle.core_state.specs.Submitting.{asked_by}
 use Rattle.script_run.specs.Answered.{AreAnswered, IsAnswered}

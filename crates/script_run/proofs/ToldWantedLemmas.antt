@@ -1,6 +1,6 @@
 -- The history and the queries of statements, where memory was wanted for the first of them, and where it has its effect.
 use Rattle.script_run.proofs.Words.{◌<◌, ◌∙◌, ◌∷◌, ◌≡◌, ◌≤◌, [], Accepted, All, ap, arith, BeginAnswered, Bool, Change, effect_of, false, history_after, if◌then◌else◌, inl, inr, is_wanted_at, List, Lives, MayBegin, Memory, outcome_of, Query, refl, replies_after, Reply, Statement, store_of, subst, suc, sym, Told, true, ℕ, ⊎_elim}
-use Rattle.star_statement.specs.Outcome as outcome
+use Rattle.star_store.specs.Outcome as outcome
 use Rattle.script_run.specs.Told.{AreQueriesOf, BeginWith, ByWanted, history_from}
 use Rattle.script_run.proofs.WantedLemmas.{earlier, first-wanted, not-wanted, past-wanted, replies-effect, replies-wanted, with-place}
 

@@ -30,11 +30,11 @@ pub use Rattle.query_meaning.specs.Store.{Store}
 pub use Rattle.reply_text.specs.Text.{text_of, text_of_all}
 pub use Rattle.reply_text.specs.declared.reply.Reply.{Reply}
 pub use Rattle.reply_text.specs.declared.reply.Reply.TheVariants.{Answer, Commit, Memory, Overflow, Refused, Table, Waited}
-pub use Rattle.star_statement.specs.Effect.{answer_reply, effect_of, reply_to, store_after}
-pub use Rattle.star_statement.specs.Laws.{AgreesWith}
-pub use Rattle.star_statement.specs.Outcome.{Outcome, outcome_by, outcome_of, Told}
-pub use Rattle.star_statement.specs.Script.{history_after, is_wanted_at, replies_after, replies_of}
-pub use Rattle.star_statement.specs.Text.{meaning_of}
+pub use Rattle.star_store.specs.Effect.{answer_reply, effect_of, reply_to, store_after}
+pub use Rattle.star_store.specs.Laws.{AgreesWith}
+pub use Rattle.star_store.specs.Outcome.{Outcome, outcome_by, outcome_of, Told}
+pub use Rattle.star_store.specs.Script.{history_after, is_wanted_at, replies_after, replies_of}
+pub use Rattle.star_store.specs.Text.{meaning_of}
 pub use Rattle.core_state.proofs.AcceptedLemmas.{find-holds}
 pub use Rattle.core_state.proofs.AskLemmas.{of-numbers}
 pub use Rattle.core_state.proofs.LaterLemmas.{entries-by}

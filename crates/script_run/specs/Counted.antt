@@ -5,7 +5,7 @@ use Rattle.core_state.specs.Submitting.{awaited_by, seat_at}
 use Rattle.core_state.specs.Tables.{tables_of, versions_in}
 use Rattle.script_reader.specs.declared.statement.Statement.{Statement}
 use Rattle.reply_text.specs.declared.reply.Reply.{Reply}
-use Rattle.star_statement.specs.Outcome.{Told, outcome_of}
+use Rattle.star_store.specs.Outcome.{Told, outcome_of}
 use Rattle.pipeline_manager.specs.Lives.{life_of}
 use Rattle.pipeline_manager.specs.Conditions.{is_open}
 use Rattle.pipeline_manager.specs.declared.life.Life.{Life}

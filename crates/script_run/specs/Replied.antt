@@ -10,7 +10,7 @@ use Rattle.query_meaning.specs.Store.{Store}
 use Rattle.reply_text.specs.Text.{text_of, text_of_all}
 use Rattle.reply_text.specs.declared.reply.Reply.{Reply}
 use Rattle.reply_text.specs.declared.reply.Reply.TheVariants.{Memory}
-use Rattle.star_statement.specs.Effect.{effect_of, store_after}
+use Rattle.star_store.specs.Effect.{effect_of, store_after}
 use Rattle.script_run.specs.Answer.{HasNoStatement}
 use Rattle.script_run.specs.Front.{HaltsAt, LeavesSome, Reads}
 use Rattle.script_run.specs.Run.{is_refusal}

@@ -11,7 +11,7 @@ use Rattle.script_reader.specs.declared.reader.TheConstants.{SCRIPT_LIMIT}
 use Rattle.reply_text.specs.Text.{text_of_all}
 use Rattle.reply_text.specs.declared.reply.Reply.{Reply}
 use Rattle.reply_text.specs.declared.reply.Reply.TheVariants.{Memory, Refused}
-use Rattle.star_statement.specs.Script.{replies_of}
+use Rattle.star_store.specs.Script.{replies_of}
 
 -- the bytes of a script within the limit
 abbrev pub within_limit : List ℕ → List ℕ

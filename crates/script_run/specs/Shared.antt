@@ -6,7 +6,7 @@ use Rattle.star_io.specs.declared.run_end.RunEnd.TheVariants.{ReadFault, WriteFa
 use Rattle.script_reader.specs.Script.{statements_of}
 use Rattle.script_reader.specs.declared.statement.Statement.{Statement}
 use Rattle.reply_text.specs.declared.reply.Reply.{Reply}
-use Rattle.star_statement.specs.Script.{history_of, replies_of}
+use Rattle.star_store.specs.Script.{history_of, replies_of}
 use Rattle.core_state.specs.Rows.{Sight, empty_row, sight_of}
 use Rattle.core_state.specs.State.{State}
 use Rattle.core_state.specs.Tables.{changes_of, versions_in}

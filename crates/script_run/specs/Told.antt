@@ -3,11 +3,11 @@ use Rattle.std.specs.Prelude.{◌≡◌, ◌⊎◌, ℕ, suc, Bool, true, false,
 use Rattle.script_reader.specs.declared.statement.Statement.{Statement}
 use Rattle.star_plan.specs.Test.{Query}
 use Rattle.query_meaning.specs.History.{Change, store_of}
-use Rattle.star_statement.specs.Outcome as outcome
-use Rattle.star_statement.specs.Outcome.{Told, outcome_of}
-use Rattle.star_statement.specs.Script.{history_after, is_wanted_at}
+use Rattle.star_store.specs.Outcome as outcome
+use Rattle.star_store.specs.Outcome.{Told, outcome_of}
+use Rattle.star_store.specs.Script.{history_after, is_wanted_at}
 -- both stand with the script, and are passed on here to those who read what a core tells
-pub use Rattle.star_statement.specs.Script.{history_from, history_of}
+pub use Rattle.star_store.specs.Script.{history_from, history_of}
 use Rattle.pipeline_manager.specs.Lives.{Lives, life_of}
 use Rattle.pipeline_manager.specs.declared.life.Life.TheVariants.{Answered}
 use Rattle.core_state.specs.State.{Accepted, State}

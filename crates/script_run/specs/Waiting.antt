@@ -3,7 +3,7 @@ use Rattle.std.specs.Prelude.{Bool, true, false, Result, Ok}
 use Rattle.star_values.specs.declared.refusal.Refusal.{Refusal}
 use Rattle.script_reader.specs.declared.statement.Statement.{Statement}
 use Rattle.star_parser.specs.Statement as written
-use Rattle.star_statement.specs.Text.{meaning_of}
+use Rattle.star_store.specs.Text.{meaning_of}
 
 -- what a statement means is that it waits
 abbrev pub means_wait : Result written.Statement Refusal → Bool

@@ -1,7 +1,7 @@
 //! What a seat that has a core by itself comes to.
 ghost use Rattle.std.specs.Prelude.{◌≡◌, ℕ, List, ◌++◌, All};
 ghost use Rattle.reply_text.specs.declared.reply.Reply.{Reply};
-ghost use Rattle.star_statement.specs.Script.{history_from, replies_after};
+ghost use Rattle.star_store.specs.Script.{history_from, replies_after};
 ghost use Rattle.core_state.specs.Sent.{AreEntriesOf, AreRepliesTo, Sent, statements_in};
 ghost use Rattle.core_state.specs.State.{Entry};
 ghost use Rattle.core_state.specs.Tables.{changes_of};

@@ -5,7 +5,7 @@ ghost use Rattle.star_plan.specs.Test.{query_of};
 ghost use Rattle.query_meaning.specs.Alone.{alone};
 ghost use Rattle.query_meaning.specs.Keyed.{plain};
 ghost use Rattle.reply_text.specs.Text.{text_of};
-ghost use Rattle.star_statement.specs.Effect.{answer_reply, effect_of, store_after};
+ghost use Rattle.star_store.specs.Effect.{answer_reply, effect_of, store_after};
 ghost use Rattle.script_run.specs.Replied.{IsReplied};
 ghost use Rattle.script_run.specs.Run.{is_refusal};
 
@@ -13,8 +13,7 @@ use query_meaning::answer_alone;
 use reply_text::{Reply, print_reply};
 use script_reader::Statement;
 use star_plan::{Answer, StarQuery};
-use star_statement::{Applied, ReadStatement, apply_alone};
-use star_store::Store;
+use star_store::{Applied, ReadStatement, Store, apply_alone};
 use star_values::{ByteText, NoMemory};
 use std::alloc::Global;
 use std::hash::RandomState;

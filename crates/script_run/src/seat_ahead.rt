@@ -7,7 +7,7 @@ ghost use Rattle.script_run.specs.SeatTurns.{Stays, StaysReady};
 use board_lock::{BoardLock, BoardSeat};
 use event_core::{Core, own_steps_keep_a_board};
 use script_reader::{Block, Statement};
-use star_statement::{BlockForm, ReadStatement};
+use star_store::{BlockForm, ReadStatement};
 use std::alloc::Global;
 use std::sync::Wait;
 

@@ -20,7 +20,7 @@ use board_lock::{BoardLock, BoardSeat};
 use event_core::{Core, own_steps_keep_a_board};
 use script_reader::{Block, NextStatement, ScriptReader, Statement};
 use star_io::Sink;
-use star_statement::ReadStatement;
+use star_store::ReadStatement;
 use std::sync::Wait;
 use worker_gate::Gate;
 

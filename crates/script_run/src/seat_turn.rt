@@ -23,7 +23,7 @@ use event_core::{
     what_is_beside_stays_lent,
 };
 use script_reader::Statement;
-use star_statement::ReadStatement;
+use star_store::ReadStatement;
 use std::alloc::Global;
 use std::sync::Wait;
 use worker_gate::{Look, Signal, give_if_done, signal_behind, signal_if_more, worker_look};

@@ -2,7 +2,7 @@
 ghost use Rattle.std.specs.Prelude.{◌≡◌, length, IfOk};
 ghost use Rattle.script_reader.specs.declared.statement.Block.{Block};
 ghost use Rattle.star_parser.specs.Parsed.{parsed_of};
-ghost use Rattle.star_statement.specs.Text.{parsed_meaning};
+ghost use Rattle.star_store.specs.Text.{parsed_meaning};
 ghost use Rattle.script_run.specs.Waiting.{is_wait, means_wait};
 
 use script_reader::Statement;

@@ -5,3 +5,14 @@ pub mod Done
 pub mod Fault
 pub mod Lends
 pub mod Parts
+-- What a statement does, and the replies to a list of statements.
+pub mod Script
+pub mod Memory
+pub mod Fitting
+pub mod Effect
+pub mod Outcome
+pub mod Kinds
+pub mod Text
+pub mod Form
+pub mod Applied
+pub mod Laws

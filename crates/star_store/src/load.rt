@@ -81,7 +81,11 @@ const COUNTED_FIRST: usize = 4 * 1024 * 1024;
 
 /// Whether a block has more records than any table has room for, whose rows need not be made then.
 /// Of a block that is not large this is not asked.
-pub fn is_over_every_table(alloc: Global, block: &[u8], header: bool) -> Result<bool, NoMemory>
+pub(crate) fn is_over_every_table(
+    alloc: Global,
+    block: &[u8],
+    header: bool,
+) -> Result<bool, NoMemory>
     ensures { IfOk result (λ over.
         IsTrue over → MAX_VERSIONS < length (records_in header block.now)) }
 {

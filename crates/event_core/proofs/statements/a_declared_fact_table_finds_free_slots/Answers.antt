@@ -1,9 +1,9 @@
 use Rattle.event_core.proofs.Words.{◌≡◌, Accepts, All, Change, changes_of, Free, IsSettled, IsSound, kind_of_change, None, outcome_of, Some, State, state_of, Statement, Store, subst, tables_of, Told}
 use Rattle.query_meaning.specs.History.{DimensionDeclared, FactDeclared, Loaded, Ended}
 use Rattle.query_meaning.proofs.LaterLemmas.{undeclared}
-use Rattle.star_statement.specs.Fitting.{FitsTables}
-use Rattle.star_statement.specs.Outcome.{Replied, Accepted}
-use Rattle.star_statement.specs.declared.applied.ChangeKind.TheVariants.{DeclaresDimension, DeclaresFact, Loads, Ends}
+use Rattle.star_store.specs.Fitting.{FitsTables}
+use Rattle.star_store.specs.Outcome.{Replied, Accepted}
+use Rattle.star_store.specs.declared.applied.ChangeKind.TheVariants.{DeclaresDimension, DeclaresFact, Loads, Ends}
 use Rattle.event_core.proofs.statements.a_declared_fact_table_finds_free_slots.Goals as goal
 
 -- a change with an outcome that fits the tables is one that they take

@@ -1,13 +1,13 @@
 use Rattle.event_core.proofs.Words.{◌+◌, ◌<◌, ◌∙◌, ◌≡◌, after_submitting, ap, arith, AskedQueries, AskedQuery, Becomes, Changed, Follows, get_or, IsCore, KeyedStore, length, Lives, Ok, outcome_of, Parts, plain, refl, state_of, subst, sym, the_view}
 use Rattle.std.proofs.Common.{Err}
 use Rattle.std.proofs.lemmas.Result.{err_from_is_err_and}
-use Rattle.star_statement.specs.declared.applied.Applied.{Applied}
-use Rattle.star_statement.specs.declared.applied.Applied.TheVariants.{Replied, Accepted}
+use Rattle.star_store.specs.declared.applied.Applied.{Applied}
+use Rattle.star_store.specs.declared.applied.Applied.TheVariants.{Replied, Accepted}
 use Rattle.event_core.proofs.EventsSubmitLemmas.{IsChange, accepts, changes, on-error, replies, same-parts, seat-kept, seat-there, some-change, statements_in, undeclared-before}
 use Rattle.event_core.proofs.LetGoLemmas.{finished-on, on-same, on-submitted}
 use Rattle.event_core.proofs.SparedLemmas.{spare-changed, spare-ready}
-use Rattle.star_statement.specs.declared.applied.ApplyFault.{ApplyFault}
-use Rattle.star_statement.specs.declared.applied.ApplyFault.TheVariants.{Busy}
+use Rattle.star_store.specs.declared.applied.ApplyFault.{ApplyFault}
+use Rattle.star_store.specs.declared.applied.ApplyFault.TheVariants.{Busy}
 use Rattle.event_core.proofs.SubmitBesideLemmas.{beside-stays, changed-stays, lent-somewhere}
 use Rattle.event_core.specs.Parts.{AreBacked, beside_of}
 use Rattle.event_core.proofs.machine.Core.submit.Goals as goal
