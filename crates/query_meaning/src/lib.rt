@@ -1,9 +1,10 @@
-//! What do the tables hold after a history, and what is one query's answer over them, by itself? The
-//! definitions, in `specs/`, and their laws; and the answer in code, which goes over the versions once,
-//! for that query alone.
+//! What do the tables hold after a history, and what is one query's answer over them, by itself?
+//! The definitions, in `specs/`, and their laws; and the answer in code, which goes over the
+//! versions once, for that query alone.
 #![tactic(auto)]
 
 mod answer;
+mod asked;
 mod chosen;
 mod finish;
 mod groups;

@@ -1,6 +1,6 @@
-//! What statements do to the tables of a star schema, and what they are answered: the tables as they are
-//! kept, one change at a time, and above them what each statement says. Statements are read in
-//! `script_reader`, and queries are evaluated elsewhere.
+//! What statements do to the tables of a star schema, and what they are answered: the tables as
+//! they are kept, one change at a time, and above them what each statement says. Statements are
+//! read in `script_reader`, and queries are evaluated elsewhere.
 #![tactic(auto)]
 
 mod applied;

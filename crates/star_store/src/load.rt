@@ -37,9 +37,11 @@ use star_plan::{ColumnDef, Schema, Table, columns_of, find_table, rows_fit_by_th
 use star_values::{ListOf, NoMemory, Refusal, SmallText, StatementFault};
 use std::alloc::Global;
 
-/// A block to be loaded, with a header or without one. It may have been read before.
+/// A block to be loaded into the table of a name, with a header or without one. It may have been
+/// read before.
 #[derive(Drop)]
 pub(crate) struct BlockToLoad<'a> {
+    pub(crate) name: &'a SmallText,
     pub(crate) header: bool,
     pub(crate) block: &'a [u8],
     pub(crate) read: Option<ReadBlock<'a>>,
@@ -121,6 +123,7 @@ fn read_for<'a>(
 {
     let form = form_for(alloc, columns, load.header)?;
     let BlockToLoad {
+        name: _,
         header,
         block,
         read,
@@ -348,31 +351,30 @@ fn load_facts(
     Ok(commit_versions(facts, versions, commits)?)
 }
 
-/// Loads a block into the table of a name, as the next commit.
+/// Loads a block into the table of its name, as the next commit.
 pub(crate) fn load(
     alloc: Global,
     schema: &Schema,
     dims: &mut Dims,
     facts: &mut FactVersions,
     commits: &mut u64,
-    name: &SmallText,
     load: BlockToLoad<'_>,
 ) -> Result<Done, StatementFault>
     requires sound { AreSound (tables_of schema.now dims.old facts.old commits.old) }
     ensures commits { Commits
         (load_change (plain (tables_of schema.now dims.old facts.old commits.old))
-        name.now load.entry.header load.entry.block.now)
+        load.entry.name.now load.entry.header load.entry.block.now)
         (tables_of schema.now dims.old facts.old commits.old)
         (tables_of schema.now dims.new facts.new commits.new) result }
     ensures keyed { IsKeyed (tables_of schema.now dims.new facts.new commits.new) }
     ensures known { IsErrOf result StatementFault.Memory →
-        IsSome schema.now.fact × IsSome (table_named schema.now name.now) }
+        IsSome schema.now.fact × IsSome (table_named schema.now load.entry.name.now) }
 {
     later_rows_move_no_key_number();
     if schema.fact.is_none() {
         return Err(StatementFault::Refused(Refusal::OutOfOrder));
     }
-    let Some(table) = find_table(schema, name) else {
+    let Some(table) = find_table(schema, load.name) else {
         return Err(StatementFault::Refused(Refusal::UnknownName));
     };
     let over = is_over(alloc, &load)?;

@@ -18,7 +18,7 @@ ghost use Rattle.star_store.specs.Loads.{load_change, load_form};
 use crate::declare::add_dimension;
 use crate::delete::delete;
 use crate::done::Done;
-use crate::laws::changes_of_statements_are_taken;
+use crate::laws_of_tables::changes_of_statements_are_taken;
 use crate::load::{BlockToLoad, block_form, load};
 use csv_load::{BlockForm, ReadBlock};
 use dimension_rows::Dims;
@@ -169,8 +169,8 @@ impl Store {
             &mut self.dims,
             &mut self.facts,
             &mut self.commits,
-            table,
             BlockToLoad {
+                name: table,
                 header,
                 block,
                 read,

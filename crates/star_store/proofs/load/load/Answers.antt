@@ -11,14 +11,14 @@ use Rattle.star_store.proofs.load.load.Goals as goal
 
 pub returns-then-is_none-clause-commits : goal.returns-then-is_none-clause-commits
 returns-then-is_none-clause-commits c = (
-  load_change-early (plain (tables_of c.args.schema.now c.args.dims.now c.args.facts.now c.args.commits.now)) c.args.name.now c.args.load.header c.args.load.block.now
+  load_change-early (plain (tables_of c.args.schema.now c.args.dims.now c.args.facts.now c.args.commits.now)) c.args.load.name.now c.args.load.header c.args.load.block.now
       (ap not c.if-is_none.ensures),
   refl,
 )
 
 pub returns-in_default-clause-commits : goal.returns-in_default-clause-commits
 returns-in_default-clause-commits c = (
-  load_change-unknown (plain (tables_of c.args.schema.now c.args.dims.now c.args.facts.now c.args.commits.now)) c.args.name.now c.args.load.header c.args.load.block.now
+  load_change-unknown (plain (tables_of c.args.schema.now c.args.dims.now c.args.facts.now c.args.commits.now)) c.args.load.name.now c.args.load.header c.args.load.block.now
       (ap not c.if-is_none.ensures) (sym c.find_table.ensures ∙ c.in_default.is),
   refl,
 )
@@ -26,7 +26,7 @@ returns-in_default-clause-commits c = (
 pub returns-then-over-clause-commits : goal.returns-then-over-clause-commits
 returns-then-over-clause-commits c =
     let old = plain (tables_of c.args.schema.now c.args.dims.now c.args.facts.now c.args.commits.now) in (
-      load_change-found old c.args.name.now c.args.load.header c.args.load.block.now c.in-Some.table
+      load_change-found old c.args.load.name.now c.args.load.header c.args.load.block.now c.in-Some.table
           (ap not c.if-is_none.ensures) (sym c.find_table.ensures ∙ c.in-Some.is)
           ∙ over_every_table old c.in-Some.table (records_in c.args.load.header c.args.load.block.now) (c.in_ok-over.ensures c.if-over.true),
       refl,
@@ -39,7 +39,7 @@ load_facts-requires-clause-loaded c =
 pub returns-in-Fact-clause-commits : goal.returns-in-Fact-clause-commits
 returns-in-Fact-clause-commits c =
     let old = tables_of c.args.schema.now c.args.dims.now c.args.facts.now c.args.commits.now in
-    let found = load_change-found (plain old) c.args.name.now c.args.load.header c.args.load.block.now Fact
+    let found = load_change-found (plain old) c.args.load.name.now c.args.load.header c.args.load.block.now Fact
     (ap not c.if-is_none.ensures) (sym c.find_table.ensures ∙ c.in-Some.is ∙ ap Some c.in-Fact.is) in
     subst (λ change. Commits change old (tables_of c.args.schema.now c.args.dims.now c.load_facts.new.facts c.load_facts.new.commits) c.load_facts.result)
     (sym found)
@@ -50,7 +50,7 @@ returns-in-Fact-clause-commits c =
 pub returns-in-Dimension-clause-commits : goal.returns-in-Dimension-clause-commits
 returns-in-Dimension-clause-commits c =
     let old = tables_of c.args.schema.now c.args.dims.now c.args.facts.now c.args.commits.now in
-    let found = load_change-found (plain old) c.args.name.now c.args.load.header c.args.load.block.now (Dimension c.in-Dimension.number)
+    let found = load_change-found (plain old) c.args.load.name.now c.args.load.header c.args.load.block.now (Dimension c.in-Dimension.number)
     (ap not c.if-is_none.ensures) (sym c.find_table.ensures ∙ c.in-Some.is ∙ ap Some c.in-Dimension.is) in
     subst (λ change. Commits change old (tables_of c.args.schema.now c.load_dimension.new.dims c.args.facts.now c.load_dimension.new.commits) c.load_dimension.result)
     (sym found)
