@@ -22,5 +22,3 @@ mod EntryLemmas
 mod RowsLemmas
 mod OrderedRowsLemmas
 mod FoundLemmas
-mod SumLemmas
-mod KeepLemmas

@@ -10,4 +10,3 @@ pub mod Finish
 pub mod Entries
 pub mod Numbered
 pub mod Ways
-pub mod Columns

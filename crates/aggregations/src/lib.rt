@@ -2,14 +2,13 @@
 #![tactic(auto)]
 
 mod absorbing;
-mod adding;
+mod block_rows;
 mod code_entry;
 mod crossing;
 mod ending;
 mod finding;
 mod flat_cell;
 mod groups;
-mod keeping;
 mod kept_groups;
 mod keys;
 mod laws;
@@ -20,6 +19,7 @@ mod taking;
 mod taking_rows;
 mod texts;
 
+pub use block_rows::BlockRows;
 pub use crossing::groups_may_be_sent;
 pub use groups::Groups;
 pub use laws::{

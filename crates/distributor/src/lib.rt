@@ -9,7 +9,6 @@ mod crossing;
 mod distributor;
 mod giving;
 mod going;
-mod id_table;
 mod joining;
 mod kind_table;
 mod landing;
