@@ -18,12 +18,4 @@ pub mod JoinLemmas
 pub mod GiveLemmas
 pub mod SharingLemmas
 pub mod HeldLemmas
-pub mod OwnLemmas
-pub mod ComingLemmas
-pub mod SeatLemmas
-pub mod LoopLemmas
-pub mod FoldedLemmas
-pub mod LandLemmas
-pub mod NewLemmas
-pub mod CrossingLemmas
 pub mod LendingLemmas

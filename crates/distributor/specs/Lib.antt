@@ -6,7 +6,4 @@ pub mod Sharings
 pub mod Making
 pub mod Counted
 pub mod Blocks
-pub mod Apart
-pub mod Shared
-pub mod Seats
 pub mod Adding

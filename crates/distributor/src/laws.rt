@@ -8,10 +8,9 @@ ghost use Rattle.dimension_rows.specs.declared.dimension_row.DimensionRow.{Dimen
 ghost use Rattle.aggregations.specs.Grouped.{Grouped};
 ghost use Rattle.aggregations.specs.Homes.{CodesAreOfOneKey};
 ghost use Rattle.aggregations.specs.Partial.{PartsAdd, PartsCommute};
-ghost use Rattle.distributor.specs.Apart.{MayFoldApart};
 ghost use Rattle.distributor.specs.Folded.{versions_for, with_versions};
 
-use aggregations::{codes_are_of_one_key, parts_may_come_in_any_order, rows_may_be_folded_apart};
+use aggregations::{codes_are_of_one_key, parts_may_come_in_any_order};
 
 /// A row goes into the groups of exactly those slots whose bit it has, and
 /// behind the rows before it.
@@ -47,11 +46,4 @@ pub(crate) fn kinds_may_wait()
 {
     codes_are_of_one_key();
     parts_may_come_in_any_order();
-}
-
-/// Rows may be folded apart, and taken in at any time.
-pub(crate) fn rows_fold_apart()
-    ensures { MayFoldApart }
-{
-    rows_may_be_folded_apart();
 }

@@ -1,7 +1,7 @@
 -- Parts whose state is known are those of a core where they fit that state.
 use Rattle.event_core.proofs.Words.{after_step, All, AreTablesOf, attached_for, attached_to, Becomes, frame_words, frames_of, IsCore, IsScannedAs, IsSome, IsSound, List, MayStep, Option, Parts, State, state_of, Step, subst, sym}
 use Rattle.std.specs.Prelude.{◌≡◌, None}
-use Rattle.distributor.specs.Shared.{Lending}
+use Rattle.shared_distributor.specs.Shared.{Lending}
 
 -- each step keeps a core sound
 abbrev pub KeepSound : Type 0

@@ -22,7 +22,7 @@ use Rattle.pipeline_manager.specs.contracts.manager.Manager as manager
 use Rattle.pipeline_manager.specs.contracts.manager.Manager.TheInside as inside_manager
 use Rattle.filter_order.proofs.filters.Filters.TheSendSync as filters
 use Rattle.filter_order.proofs.spares.Spares.TheSendSync as spares
-use Rattle.distributor.proofs.CrossingLemmas.{shared_send}
+use Rattle.shared_distributor.proofs.CrossingLemmas.{shared_send}
 use Rattle.frame_pool.proofs.pool.Pool.TheSendSync as pool
 use Rattle.event_core.specs.contracts.machine.Core as core
 use Rattle.event_core.specs.contracts.machine.Core.TheInside as inside_core

@@ -1,7 +1,7 @@
 -- What is beside the state, and events leave: the workers to which batches are lent, where batches in flight change.
 use Rattle.event_core.proofs.Words.{◌++◌, ◌+◌, ◌∙◌, ◌∷◌, ◌≡◌, ◌≢◌, [], All, All-head, All-tail, ap, append-nil, arith, Bool, cond, cons_option, drop, false, filter_map, filter_map-append, Filters, Flight, flight_behind, is_none, lent_to, List, Lives, map, None, none-some, Option, option_map, Parts, passed_in, refl, Rows, same_Some, set, slice_get, Some, subst, suc, sym, take, true, zero, ℕ}
 use Rattle.event_core.specs.Lent.{IsHome}
-use Rattle.distributor.specs.Shared.{Lending}
+use Rattle.shared_distributor.specs.Shared.{Lending}
 use Rattle.core_parts.specs.InFlight.{passed_through}
 use Rattle.core_parts.specs.Passed.{behind_all}
 use Rattle.core_state.specs.State as state

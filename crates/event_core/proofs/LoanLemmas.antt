@@ -1,7 +1,7 @@
 -- What is out with seats rests on batches that are lent: where one is lent, and where it comes home.
 use Rattle.event_core.proofs.Words.{◌++◌, ◌<◌, ◌∙◌, ◌∷◌, ◌≡◌, ◌≢◌, ◌≤◌, ◌⊎◌, [], All, All-contains, All-head, All-tail, AllPairs, ap, arith, Bool, cases_eq, cases_lt, cond, cons_option, Contains, drop, eq-eqb, eqb, false, filter_map, find, Flight, flights_as, get_or, get_or-set_other, get_or-set_same, get_or_past, Has, IfSome, inl, inr, Known, length, length-set, lent_to, List, ne_eqb, None, none-some, Option, option_map, option_map_or, Parts, Reach, refl, same_Some, set, slice_get, Some, some-at, subst, suc, sym, take, true, zero, ℕ}
 use Rattle.query_meaning.specs.Keyed.{KeyedStore}
-use Rattle.distributor.specs.Shared.{Lending}
+use Rattle.shared_distributor.specs.Shared.{Lending}
 use Rattle.core_parts.specs.InFlight.{passed_through}
 use Rattle.core_state.specs.State as state
 use Rattle.event_core.specs.Lent.{IsHome}

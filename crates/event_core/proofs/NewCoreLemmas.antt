@@ -1,7 +1,7 @@
 -- The parts of a new core.
 use Rattle.event_core.proofs.Words.{◌*◌, ◌+◌, ◌∙◌, ◌∷◌, ◌≡◌, ◌≤◌, [], All, All-nil, ap, AreWithin, arith, AskedQueries, AskedQuery, Becomes, empty_core, empty_store, first_parts, Flight, frame_words, frames_of, Free, HasRoom, IsKeyed, KeyedStore, List, Lives, Logged, map, new_scan, None, Parts, parts_by, plain, plain_version, refl, replicate, Roomy, RunSettings, Scanning, Stock, Store, Submitted, subst, sym, Version, ℕ}
 use Rattle.query_meaning.specs.Keyed.{HasKeyNumbers}
-use Rattle.distributor.specs.Shared.{SharedGroups}
+use Rattle.shared_distributor.specs.Shared.{SharedGroups}
 use Rattle.core_state.specs.State as state
 use Rattle.core_parts.specs.Filters.{no_filters}
 use Rattle.event_core.specs.Parts.{first_marks}

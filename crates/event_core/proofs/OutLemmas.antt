@@ -2,7 +2,7 @@
 use Rattle.event_core.proofs.Words.{◌<◌, ◌∙◌, ◌∷◌, ◌≡◌, [], after_end, after_reserve, after_spoil, All, All-cons, All-contains, All-head, All-nil, All-tail, ap, AreIdle, arith, AskedQuery, bit_at, Bool, Building, Clearing, cond, cons_option, eqb, eq-eqb, eqb-true, false, Flight, flight_as, flights_as, fold, Free, get_or, Has, Held, holder_of, holds-slot, IfSome, is_some, IsCore, KeyedStore, Known, known_in, length, lent_to, life_of, List, list_any_none, Lives, map, MayFinish, None, none-some, OnRoster, Option, option_map, option_map_or, Parts, Reach, reaches_in, refl, replicate, same_Some, set, slot_at, slot_of, SlotState, slots_of, Some, state_of, subst, suc, sym, true, with_life, with_slot, zero, ℕ}
 use Rattle.std.proofs.lemmas.List.{get_or_default}
 use Rattle.std.proofs.lemmas.List.Folds.{Any-from_list_any}
-use Rattle.distributor.specs.Shared.{IsInside, Lending}
+use Rattle.shared_distributor.specs.Shared.{IsInside, Lending}
 use Rattle.pipeline_manager.specs.Changes.{after_built, given_up, with_dimension}
 use Rattle.pipeline_manager.specs.Lives.{oldest_waiting}
 use Rattle.core_parts.specs.InFlight.{passed_through}

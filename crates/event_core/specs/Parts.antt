@@ -8,7 +8,7 @@ use Rattle.frame_pool.specs.Stock.{Stock}
 use Rattle.pipeline_manager.specs.Lives.{Lives}
 use Rattle.continuous_scan.specs.Scanning.{Scanning}
 use Rattle.aggregations.specs.Grouped.{Grouped}
-use Rattle.distributor.specs.Shared.{Lending, SharedGroups}
+use Rattle.shared_distributor.specs.Shared.{Lending, SharedGroups}
 use Rattle.core_state.specs.State as state
 use Rattle.core_state.specs.declared.settings.RunSettings.{RunSettings}
 use Rattle.core_parts.specs.Asked.{AskedQueries, AskedQuery}

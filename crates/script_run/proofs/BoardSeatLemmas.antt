@@ -14,7 +14,7 @@ use Rattle.board_lock.specs.Views.{AreUnmadeEmpty, first_view, fixed_in, joined_
 use Rattle.board_lock.specs.declared.seat.BoardLock.{BoardLock}
 use Rattle.board_lock.specs.declared.seat.BoardSeat.{BoardSeat}
 use Rattle.board_lock.specs.declared.view.View.{View}
-use Rattle.distributor.specs.Shared.{Lending}
+use Rattle.shared_distributor.specs.Shared.{Lending}
 use Rattle.event_core.specs.Board.{CoreRow, core_entries, core_row, core_settings, first_row}
 use Rattle.event_core.specs.Parts.{Beside, Loan, Parts, beside_of, first_beside, loan_of}
 use Rattle.worker_gate.specs.Turns.{IsReady, IsSeated, sight_in}

@@ -3,7 +3,7 @@ use Rattle.std.proofs.Math.ListN.{length-replicate}
 use Rattle.event_core.proofs.NewCoreLemmas.{becomes-empty, room-made}
 use Rattle.event_core.proofs.SparedLemmas.{spare-none}
 use Rattle.core_parts.specs.Asked.{AreOver, HasBegun, IsOver}
-use Rattle.distributor.specs.Shared.{SharedGroups}
+use Rattle.shared_distributor.specs.Shared.{SharedGroups}
 use Rattle.event_core.specs.Parts.{first_marks}
 use Rattle.event_core.proofs.OutLemmas.{backed-none, beside-first}
 use Rattle.event_core.proofs.machine.Core.new.Goals as goal

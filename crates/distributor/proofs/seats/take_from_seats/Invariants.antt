@@ -1,5 +1,0 @@
-use Rattle.distributor.proofs.LoopLemmas.{AreTakenFrom}
-use Rattle.distributor.proofs.seats.take_from_seats.Given as goal
-
-abbrev pub invariant-loop-k : goal.invariant-loop-k
-invariant-loop-k l = AreTakenFrom l.slot l.initial.home l.initial.seats l.home l.seats l.k

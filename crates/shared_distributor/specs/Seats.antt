@@ -1,0 +1,69 @@
+-- What seats have of a shared distributor, and what is seen of it.
+use Rattle.std.specs.Prelude.{◌≡◌, ◌≢◌, ℕ, ◌<◌, ◌≤◌, List, [], All, IsSome, Option, None, Some, length, map, slice_index, ⊤}
+use Rattle.std.specs.List.{range_with_len}
+use Rattle.bit_words.specs.Sets.{Has}
+use Rattle.aggregations.specs.Grouped.{Grouped}
+use Rattle.shared_distributor.specs.declared.seats.LentGroups.{LentGroups}
+use Rattle.shared_distributor.specs.declared.seats.SeatGroups.{SeatGroups}
+use Rattle.shared_distributor.specs.declared.seats.SeatGroups.TheVariants.{NotYet, AtHome, Away}
+use Rattle.shared_distributor.specs.Apart.{HasMoved, IsSlot, at_slot, count_in, seen_with}
+use Rattle.shared_distributor.specs.Shared.{Lending}
+
+-- the groups that a seat has of its own, at home or as they went out
+abbrev pub own_in : SeatGroups → List (Option Grouped)
+own_in NotYet = []
+own_in (AtHome own) = own
+own_in (Away lent) = lent.groups.value
+
+-- what went out with a seat
+abbrev pub lending_in : SeatGroups → Option Lending
+lending_in NotYet = None
+lending_in (AtHome own) = None
+lending_in (Away lent) = Some (record { slots = lent.slots; groups = lent.groups.value })
+
+-- what each seat has at a slot
+abbrev pub owns_at : (slot : ℕ) → List SeatGroups → List (Option Grouped)
+owns_at slot seats = map (λ seat. at_slot slot (own_in seat)) seats
+
+-- what is seen of a slot
+abbrev pub seen_at : List SeatGroups → (home : List (Option Grouped)) → (slot : ℕ) → Option Grouped
+seen_at seats home slot = seen_with (owns_at slot seats) (at_slot slot home)
+
+-- what is seen of all slots
+abbrev pub seen_of : List SeatGroups → (home : List (Option Grouped)) → List (Option Grouped)
+seen_of seats home = map (seen_at seats home) (range_with_len 0 (length home))
+
+-- what went out has groups at each slot of its own that has some at home, and at no
+-- others; and how many is known
+pub record IsOut (home : List (Option Grouped)) (lent : LentGroups) : Type 0 where
+  pub long : length lent.groups.value ≡ length home
+  pub inside : (slot : ℕ) → IsSome (at_slot slot lent.groups.value) → Has lent.slots slot
+  pub there : (slot : ℕ) → Has lent.slots slot → IsSome (at_slot slot home)
+      → IsSome (at_slot slot lent.groups.value)
+  pub counts : (slot : ℕ) → slot < length home
+      → slice_index lent.counts slot ≡ count_in (at_slot slot lent.groups.value)
+
+-- what a seat has is as wide as what is at home
+abbrev pub IsSeat : List (Option Grouped) → SeatGroups → Type 0
+IsSeat home NotYet = ⊤
+IsSeat home (AtHome own) = length own ≡ length home
+IsSeat home (Away lent) = IsOut home lent
+
+-- what holds of a shared distributor
+pub record AreShared (home : List (Option Grouped)) (all : List SeatGroups) : Type 0 where
+  pub some : 1 ≤ length home
+  pub few : length home ≤ 64
+  pub slots : (slot : ℕ) → IsSlot (at_slot slot home) (owns_at slot all)
+  pub seats : All (IsSeat home) all
+
+-- a seat has nothing at a slot any more, and is as it was else
+pub record IsWithout (slot : ℕ) (old new : SeatGroups) : Type 0 where
+  pub none : at_slot slot (own_in new) ≡ None
+  pub others : (other : ℕ) → other ≢ slot → at_slot other (own_in new) ≡ at_slot other (own_in old)
+  pub lending : lending_in new ≡ lending_in old
+  pub seat : (home : List (Option Grouped)) → IsSeat home old → IsSeat home new
+
+-- what a seat and home have at all slots has changed, and nothing that is seen
+abbrev pub HaveMoved : (home own later kept : List (Option Grouped)) → Type 0
+HaveMoved home own later kept = (slot : ℕ) → HasMoved [] (at_slot slot home) (at_slot slot own)
+    (at_slot slot later) (at_slot slot kept)
