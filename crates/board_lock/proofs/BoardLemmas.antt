@@ -14,7 +14,7 @@ use Rattle.atomic_table.proofs.Lists.{at_set, set_here, set_else, set_again, at_
 use Rattle.board_lock.specs.declared.view.View.{View}
 use Rattle.board_lock.specs.declared.view.Parted.{Parted}
 use Rattle.board_lock.specs.Views.{row_in, list_in, fixed_in, longer_of, spent_view, entered, left, split_view, new_view, parted_of, with_parted, having_seen, Finds, Keeps}
-use Rattle.board_lock.specs.Rule.{one_if, seated, Stays, Leads, Suits, IsHome, IsBoard, Takes, Gives, Looks, ComparesWith, Compares}
+use Rattle.board_lock.specs.Rule.{one_if, seated, Stays, Leads, KnowsRightly, IsStateHome, IsBoard, TakesTurn, GivesBack, Looks, ComparesWith, Compares}
 use Rattle.board_lock.proofs.ListLemmas.{begins-itself, begins-then, begins-both, longer-is, seated-set, seated-spent, seated-snoc, two-seats, there, snoc-at}
 
 module _ {S : Type 0} where
@@ -31,7 +31,7 @@ module _ {S : Type 0} where
 
   -- the state stays where it is, where one view changes in other things
   place-set : (turn : ℕ) (homes : List (maybe.Option (Option S))) (views : List (View S)) (home : S) (k : ℕ) (v w : View S) → get_elem? views k ≡ some v → v.live ≡ w.live → v.inside ≡ w.inside → v.last ≡ w.last
-      → IsHome turn homes views home → IsHome turn homes (set views k w) home
+      → IsStateHome turn homes views home → IsStateHome turn homes (set views k w) home
   place-set turn homes views home k v w at live inside last place = ⊎_elim (λ free. inl free) (λ t.
       let held = t.4 in
       inr (dite (ℕ_discrete t.0 k)
@@ -67,7 +67,7 @@ module _ {S Row Entry Fixed : Type 0} (row : S → ℕ → Row) (empty : Row) (c
   Keeping = IsBoard row empty commits fixed
 
   abbrev Fits : ℕ → List (View S) → S → ℕ → View S → Type 0
-  Fits = Suits row empty commits fixed
+  Fits = KnowsRightly row empty commits fixed
 
   abbrev Remains : List (View S) → S → Parted S → Type 0
   Remains = Stays row empty commits
@@ -124,14 +124,14 @@ module _ {S Row Entry Fixed : Type 0} (row : S → ℕ → Row) (empty : Row) (c
         own = refl;
         goes_on = begins-itself (commits home');
         settled = refl;
-        spare = λ i h. let less = subst (λ (n : ℕ). n ≤ i) (length-set views k w) h in (unmade i less, unmade i less);
+        spare = λ i h. let less = subst (λ (n : ℕ). n ≤ i) (length-set views k w) h in record { last = unmade i less; seen = unmade i less };
         parted = λ i p h. remains turn turn' views home home' k v w at live m _ (s.parted i p h);
         leads = λ z. leads-set views k v w v w at refl refl refl (s.leads z);
       }
 
   -- one seat's view, the turn and the state change
   moved : (s : Table) (r : Keeping s) (k : ℕ) (v w : View S) (turn' : ℕ) (home' : S) (homes' : List (maybe.Option (Option S))) → get_elem? s.views k ≡ some v → v.live ≡ true → w.live ≡ true
-      → Moves r.turn turn' r.home home' k → ((j : ℕ) → length s.views ≤ j → row home' j ≡ empty) → Fits turn' (set s.views k w) home' k w → IsHome turn' homes' (set s.views k w) home'
+      → Moves r.turn turn' r.home home' k → ((j : ℕ) → length s.views ≤ j → row home' j ≡ empty) → Fits turn' (set s.views k w) home' k w → IsStateHome turn' homes' (set s.views k w) home'
       → Keeping record { words = set s.words 0 turn'; homes = homes'; views = set s.views k w }
   moved s r k v w turn' home' homes' at live live' m unmade mine place = record {
     turn = turn';
@@ -159,13 +159,13 @@ module _ {S Row Entry Fixed : Type 0} (row : S → ℕ → Row) (empty : Row) (c
       (inr (k, entered v r.home, turn', ap (λ (hs : List (maybe.Option (Option S))). set hs 0 none) homes, record { seat = set_here s.views k (entered v r.home) (there s.views k v at); live = live; inside = refl; last = refl }))
 
   enters-next : (slots id : ℕ) (me : Me (Option S) (View S)) (number : ℕ) → me.0.live ≡ true → me.0.number ≡ number → me.1 ≡ []
-      → Allows Keeping slots id me 0 (λ n. either (eqb n 0) (number + 1) n) (Takes row empty commits fixed me)
+      → Allows Keeping slots id me 0 (λ n. either (eqb n 0) (number + 1) n) (TakesTurn row empty commits fixed me)
   enters-next slots id me number live is bare s r deep at small =
       let mine = r.each id me.0 at live in
       let here : number ≡ id = sym is ∙ mine.number in
       let found : get_or s.words 0 0 ≡ r.turn = ap (λ (ws : List ℕ). get_or ws 0 0) r.words in
       exchanged (get_or s.words 0 0) 0 (number + 1)
-      (λ n. (w : View S) × (a : Act (Option S)) × Valid s.homes me.1 a × Keeping (stepped s 0 n id me.1 w a) × Takes row empty commits fixed me (get_or s.words 0 0) (w, carried_after me.1 a))
+      (λ n. (w : View S) × (a : Act (Option S)) × Valid s.homes me.1 a × Keeping (stepped s 0 n id me.1 w a) × TakesTurn row empty commits fixed me (get_or s.words 0 0) (w, carried_after me.1 a))
       (λ free. ⊎_elim
       (λ (p : (r.turn ≡ 0) × (s.homes ≡ some (Some r.home) ∷ [])). (
         entered me.0 r.home,
@@ -182,9 +182,9 @@ module _ {S Row Entry Fixed : Type 0} (row : S → ℕ → Row) (empty : Row) (c
 
   -- the turn is taken as 1 more than the seat's number
   pub enters : (slots id : ℕ) (me : Me (Option S) (View S)) (number turn : ℕ) → turn ≡ number + 1 → me.0.live ≡ true → me.0.number ≡ number → me.1 ≡ []
-      → Allows Keeping slots id me 0 (λ n. either (eqb n 0) turn n) (Takes row empty commits fixed me)
+      → Allows Keeping slots id me 0 (λ n. either (eqb n 0) turn n) (TakesTurn row empty commits fixed me)
   enters slots id me number turn next live is bare =
-      subst (λ (t : ℕ). Allows Keeping slots id me 0 (λ n. either (eqb n 0) t n) (Takes row empty commits fixed me)) (sym next) (enters-next slots id me number live is bare)
+      subst (λ (t : ℕ). Allows Keeping slots id me 0 (λ n. either (eqb n 0) t n) (TakesTurn row empty commits fixed me)) (sym next) (enters-next slots id me number live is bare)
 
   gives-home : (s : Table) (r : Keeping s) (k : ℕ) (v : View S) (state : S) → get_elem? s.views k ≡ some v → v.live ≡ true → r.turn ≡ suc k → s.homes ≡ none ∷ [] → v.last ≡ Some r.home → Keeps row empty commits fixed v state
       → Keeping record { words = set s.words 0 0; homes = set s.homes 0 (some (Some state)); views = set s.views k (left v state) }
@@ -206,7 +206,7 @@ module _ {S Row Entry Fixed : Type 0} (row : S → ℕ → Row) (empty : Row) (c
   held other (x ∷ xs) = unwrap_or x.1 other
 
   gives-free : (slots id : ℕ) (me : Me (Option S) (View S)) (state : S) → me.0.live ≡ true → me.0.inside ≡ true → me.1 ≡ (0, Some state) ∷ [] → Keeps row empty commits fixed me.0 state
-      → Allows Keeping slots id me 0 (λ _. 0) (λ _ after. Gives me after)
+      → Allows Keeping slots id me 0 (λ _. 0) (λ _ after. GivesBack me after)
   gives-free slots id me state live inside out kept s r deep at small =
       let mine = r.each id me.0 at live in
       let turn : r.turn ≡ suc id = mine.turned inside in
@@ -225,16 +225,16 @@ module _ {S Row Entry Fixed : Type 0} (row : S → ℕ → Row) (empty : Row) (c
 
   -- the turn is given as 0
   pub gives-turn : (slots id : ℕ) (me : Me (Option S) (View S)) (state : S) (turn : ℕ) → turn ≡ 0 → me.0.live ≡ true → me.0.inside ≡ true → me.1 ≡ (0, Some state) ∷ [] → Keeps row empty commits fixed me.0 state
-      → Allows Keeping slots id me 0 (λ _. turn) (λ _ after. Gives me after)
+      → Allows Keeping slots id me 0 (λ _. turn) (λ _ after. GivesBack me after)
   gives-turn slots id me state turn free live inside out kept =
-      subst (λ (t : ℕ). Allows Keeping slots id me 0 (λ _. t) (λ _ after. Gives me after)) (sym free) (gives-free slots id me state live inside out kept)
+      subst (λ (t : ℕ). Allows Keeping slots id me 0 (λ _. t) (λ _ after. GivesBack me after)) (sym free) (gives-free slots id me state live inside out kept)
 
   pub looks : (slots id : ℕ) (me : Me (Option S) (View S)) → me.0.live ≡ true → me.0.number ≡ 0 → Allows Keeping slots id me 0 (λ n. n) (λ _ after. Looks row empty me after)
   looks slots id me live first s r deep at small =
       let mine = r.each id me.0 at live in
       let made = (mine.leads (sym mine.number ∙ first)).made in
       let spare = mine.spare me.0.made (omega arith) in
-      (me.0, keeps, tt, unmoved s r id me.0 me.1 at, (refl, spare.0, spare.1))
+      (me.0, keeps, tt, unmoved s r id me.0 me.1 at, (refl, spare))
 
   -- a joined seat stays so where a seat is made
   remains-split : (views : List (View S)) (home : S) (k : ℕ) (v w new : View S) → get_elem? views k ≡ some v → v.live ≡ true → (p : Parted S) → Remains views home p → Remains (set views k w ++ new ∷ []) home p
@@ -254,6 +254,20 @@ module _ {S Row Entry Fixed : Type 0} (row : S → ℕ → Row) (empty : Row) (c
       let was = l.made in let sum = l.counted in
       record { made = omega arith; counted = omega arith }
 
+  -- a seat suits among other seats, of which there are no fewer, with another count of those made and another list of those joined
+  suits-among : (turn : ℕ) (views views' : List (View S)) (home : S) (k : ℕ) (v : View S) (made : ℕ) (joined : List (Parted S)) → ((i : ℕ) → length views' ≤ i → length views ≤ i)
+      → All (Remains views' home) joined → (k ≡ 0 → Leads views' (record v { made = made; joined = joined })) → Fits turn views home k v → Fits turn views' home k (record v { made = made; joined = joined })
+  suits-among turn views views' home k v made joined less parted leads s = record {
+    number = s.number;
+    turned = s.turned;
+    own = s.own;
+    goes_on = s.goes_on;
+    settled = s.settled;
+    spare = λ i h. let empty_row = s.spare i (less i h) in record { last = empty_row.last; seen = empty_row.seen };
+    parted = parted;
+    leads = leads;
+  }
+
   -- all seats suit where the first one made another
   suits-split : (turn : ℕ) (views : List (View S)) (home : S) (k : ℕ) (v : View S) → get_elem? views k ≡ some v → v.live ≡ true → k ≡ 0 → Fits turn views home k v → ((j : ℕ) → length views ≤ j → row home j ≡ empty)
       → ((j : ℕ) (d : View S) → get_elem? views j ≡ some d → d.live ≡ true → Fits turn views home j d)
@@ -265,26 +279,12 @@ module _ {S Row Entry Fixed : Type 0} (row : S → ℕ → Row) (empty : Row) (c
       let less : (i : ℕ) → length views' ≤ i → length views ≤ i = λ i h. omega arith in
       let some_seat = there views k v at in
       ⊎_elim (λ old. ⊎_elim
-      (λ (t : (j ≡ k) × (w ≡ d)). subst (λ (z : ℕ × View S). Fits turn views' home z.0 z.1) (λ i. (sym t.0 i, t.1 i)) record {
-        number = mine.number;
-        turned = mine.turned;
-        own = mine.own;
-        goes_on = mine.goes_on;
-        settled = mine.settled;
-        spare = λ i h. mine.spare i (less i h);
-        parted = λ i p h. remains-split views home k v w new at live _ (mine.parted i p h);
-        leads = λ z. leads-split views k v at live (mine.leads z);
-      })
-      (λ (t : (j ≢ k) × (get_elem? views j ≡ some d)). let s = each j d t.1 alive in record {
-        number = s.number;
-        turned = s.turned;
-        own = s.own;
-        goes_on = s.goes_on;
-        settled = s.settled;
-        spare = λ i h. s.spare i (less i h);
-        parted = λ i p h. remains-split views home k v w new at live _ (s.parted i p h);
-        leads = λ z. absurd (t.0 (z ∙ sym first));
-      }) (at_set views k j w d old))
+      (λ (t : (j ≡ k) × (w ≡ d)). subst (λ (z : ℕ × View S). Fits turn views' home z.0 z.1) (λ i. (sym t.0 i, t.1 i))
+      (suits-among turn views views' home k v w.made v.joined less
+      (λ i p h. remains-split views home k v w new at live _ (mine.parted i p h)) (λ z. leads-split views k v at live (mine.leads z)) mine))
+      (λ (t : (j ≢ k) × (get_elem? views j ≡ some d)). let s = each j d t.1 alive in
+      suits-among turn views views' home j d d.made d.joined less
+      (λ i p h. remains-split views home k v w new at live _ (s.parted i p h)) (λ z. absurd (t.0 (z ∙ sym first))) s) (at_set views k j w d old))
       (λ (t : (j ≡ length (set views k w)) × (new ≡ d)).
       let made = (mine.leads first).made in
       let place : j ≡ v.made = (let here = t.0 in omega arith) in
@@ -292,15 +292,15 @@ module _ {S Row Entry Fixed : Type 0} (row : S → ℕ → Row) (empty : Row) (c
       subst (λ (z : View S). Fits turn views' home j z) t.1 record {
         number = sym place;
         turned = λ inside. absurd (true≢false (sym inside));
-        own = unmade j (let here = t.0 in omega arith) ∙ sym spare.0;
+        own = unmade j (let here = t.0 in omega arith) ∙ sym spare.last;
         goes_on = mine.goes_on;
         settled = mine.settled;
-        spare = λ i h. mine.spare i (less i h);
+        spare = λ i h. let empty_row = mine.spare i (less i h) in record { last = empty_row.last; seen = empty_row.seen };
         parted = All-none (Remains views' home);
         leads = λ z. absurd (let here = t.0 in omega arith);
       }) (snoc-at (set views k w) new d j e)
 
-  place-longer : (turn : ℕ) (homes : List (maybe.Option (Option S))) (views more : List (View S)) (home : S) → IsHome turn homes views home → IsHome turn homes (views ++ more) home
+  place-longer : (turn : ℕ) (homes : List (maybe.Option (Option S))) (views more : List (View S)) (home : S) → IsStateHome turn homes views home → IsStateHome turn homes (views ++ more) home
   place-longer turn homes views more home place = ⊎_elim (λ free. inl free) (λ t. inr (t.0, t.1, t.2, t.3, record { seat = at_longer views more t.0 t.1 t.4.seat; live = t.4.live; inside = t.4.inside; last = t.4.last })) place
 
   pub splits : (id : ℕ) (v : View S) → v.live ≡ true → v.number ≡ 0 → Splits Keeping id v (split_view v) (new_view v)
@@ -352,34 +352,21 @@ module _ {S Row Entry Fixed : Type 0} (row : S → ℕ → Row) (empty : Row) (c
         spent = ap (λ (i : ℕ). get_elem? views' i) theirs.number ∙ set_here (set views k both) other spent_view (there (set views k both) other w at');
         own = subst (λ (i : ℕ). row home i ≡ row_in row empty w.last i) (sym theirs.number) theirs.own;
         goes_on = theirs.goes_on;
-        spare = λ i h. (theirs.spare i (less i h)).1;
+        spare = λ i h. (theirs.spare i (less i h)).seen;
       } in
       ⊎_elim (λ (t : (j ≡ other) × (spent_view ≡ d)). absurd (true≢false (sym alive ∙ ap (λ (u : View S). u.live) (sym t.1))))
       (λ (t : (j ≢ other) × (get_elem? (set views k both) j ≡ some d)). ⊎_elim
-      (λ (t : (j ≡ k) × (both ≡ d)). subst (λ (z : ℕ × View S). Fits turn views' home z.0 z.1) (λ i. (sym t.0 i, t.1 i)) record {
-        number = mine.number;
-        turned = mine.turned;
-        own = mine.own;
-        goes_on = mine.goes_on;
-        settled = mine.settled;
-        spare = λ i h. mine.spare i (less i h);
-        parted = All-cons (Remains views' home) (parted_of w) v.joined parted (λ i p h. remain _ (mine.parted i p h));
-        leads = λ z. leads-join views k other v w at at' live' (mine.leads z);
-      })
-      (λ (t : (j ≢ k) × (get_elem? views j ≡ some d)). let s = each j d t.1 alive in record {
-        number = s.number;
-        turned = s.turned;
-        own = s.own;
-        goes_on = s.goes_on;
-        settled = s.settled;
-        spare = λ i h. s.spare i (less i h);
-        parted = λ i p h. remain _ (s.parted i p h);
-        leads = λ z. absurd (t.0 (z ∙ sym first));
-      }) (at_set views k j both d t.1)) (at_set (set views k both) other j spent_view d e)
+      (λ (t : (j ≡ k) × (both ≡ d)). subst (λ (z : ℕ × View S). Fits turn views' home z.0 z.1) (λ i. (sym t.0 i, t.1 i))
+      (suits-among turn views views' home k v v.made (parted_of w ∷ v.joined) less
+      (All-cons (Remains views' home) (parted_of w) v.joined parted (λ i p h. remain _ (mine.parted i p h)))
+      (λ z. leads-join views k other v w at at' live' (mine.leads z)) mine))
+      (λ (t : (j ≢ k) × (get_elem? views j ≡ some d)). let s = each j d t.1 alive in
+      suits-among turn views views' home j d d.made d.joined less
+      (λ i p h. remain _ (s.parted i p h)) (λ z. absurd (t.0 (z ∙ sym first))) s) (at_set views k j both d t.1)) (at_set (set views k both) other j spent_view d e)
 
   -- the state stays where it is, where a seat that is outside is spent
   place-spent : (turn : ℕ) (homes : List (maybe.Option (Option S))) (views : List (View S)) (home : S) (k : ℕ) (w : View S) → get_elem? views k ≡ some w → w.inside ≡ false
-      → IsHome turn homes views home → IsHome turn homes (set views k spent_view) home
+      → IsStateHome turn homes views home → IsStateHome turn homes (set views k spent_view) home
   place-spent turn homes views home k w at outside place = ⊎_elim (λ free. inl free) (λ t.
       let other : t.0 ≢ k = (λ e. let same : t.1 ≡ w = some-injective t.1 w (sym t.4.seat ∙ (ap (λ (i : ℕ). get_elem? views i) e ∙ at)) in
       absurd (true≢false (sym t.4.inside ∙ (ap (λ (u : View S). u.inside) same ∙ outside)))) in
@@ -416,7 +403,7 @@ module _ {S Row Entry Fixed : Type 0} (row : S → ℕ → Row) (empty : Row) (c
         own = mine.own;
         goes_on = begins.2;
         settled = mine.settled;
-        spare = λ i h. let less : length s.views ≤ i = omega arith in ((mine.spare i less).0, longer-is commits (λ (o : Option S). row_in row empty o i ≡ empty) v.seen p.seen (mine.spare i less).1 (theirs.spare i less));
+        spare = λ i h. let less : length s.views ≤ i = omega arith in record { last = (mine.spare i less).last; seen = longer-is commits (λ (o : Option S). row_in row empty o i ≡ empty) v.seen p.seen (mine.spare i less).seen (theirs.spare i less) };
         parted = λ i q h. remains r.turn r.turn s.views r.home r.home k v w at live m _ (mine.parted i q h);
         leads = λ z. leads-set s.views k v w v w at refl refl refl (mine.leads z);
       } in
@@ -424,7 +411,7 @@ module _ {S Row Entry Fixed : Type 0} (row : S → ℕ → Row) (empty : Row) (c
         w,
         subst (λ (n : ℕ). Keeping record { words = set s.words 0 n; homes = s.homes; views = set s.views k w }) (sym found)
             (moved s r k v w r.turn r.home s.homes at live live m r.unmade suits (place-set r.turn s.homes s.views r.home k v w at refl refl refl r.place)),
-        (refl, begins.0, begins.1),
+        (refl, record { mine = begins.0; others = begins.1 }),
       )
 
   pub compares : (slots id : ℕ) (me : Me (Option S) (View S)) → me.0.live ≡ true → Allows Keeping slots id me 0 (λ n. n) (λ _ after. Compares commits me after)

@@ -4,6 +4,7 @@ use Rattle.std.specs.Prelude.{◌≡◌, [], ◌∷◌, true, false, None}
 use Rattle.board_lock.specs.declared.seat.BoardLock.{BoardLock}
 use Rattle.board_lock.specs.declared.seat.BoardSeat.{BoardSeat}
 use Rattle.board_lock.specs.declared.view.View.{View}
+use Rattle.board_lock.specs.Views.{split_view}
 
 module _ {S : Type 0} where
   -- what a seat knows
@@ -23,6 +24,13 @@ module _ {S : Type 0} where
   IsSameSeat before after =
       (after.seat.table_id ≡ before.seat.table_id) × (after.seat.id ≡ before.seat.id)
       × (after.number ≡ before.number)
+
+  -- the first seat made one more, and is the same, inside or outside as it was
+  pub record MakesOneMore (before after : BoardSeat S) : Type 0 where
+    pub same : IsSameSeat before after
+    pub outside : IsOutside before → IsOutside after
+    pub inside : IsInside before → IsInside after
+    pub made : view_of after ≡ split_view (view_of before)
 
   -- the seat is one of this board
   abbrev pub IsOf : BoardLock S → BoardSeat S → Type 0

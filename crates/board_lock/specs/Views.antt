@@ -9,6 +9,12 @@ abbrev pub row_in : {S Row : Type 0} → (S → ℕ → Row) → Row → Option 
 row_in row empty None k = empty
 row_in row empty (Some state) k = row state k
 
+-- the row of a number is empty in both states that a seat noted
+pub record HasEmptyRow {S Row : Type 0} (row : S → ℕ → Row) (empty : Row) (view : View S) (k : ℕ)
+    : Type 0 where
+  pub last : row_in row empty view.last k ≡ empty
+  pub seen : row_in row empty view.seen k ≡ empty
+
 -- the commits of a noted state
 abbrev pub list_in : {S Entry : Type 0} → (S → List Entry) → Option S → List Entry
 list_in commits None = []
@@ -23,6 +29,12 @@ fixed_in fixed (Some state) = Some (fixed state)
 abbrev pub longer_of : {S Entry : Type 0} → (S → List Entry) → Option S → Option S → Option S
 longer_of commits a b =
     if nat_le (length (list_in commits a)) (length (list_in commits b)) then b else a
+
+-- the list of a noted state begins with the lists of two others
+pub record BeginsWithBoth {S Entry : Type 0} (commits : S → List Entry) (one other after : Option S)
+    : Type 0 where
+  pub mine : IsPrefix (list_in commits one) (list_in commits after)
+  pub others : IsPrefix (list_in commits other) (list_in commits after)
 
 module _ {S : Type 0} where
   -- the first seat knows the opening state

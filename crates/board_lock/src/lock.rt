@@ -1,11 +1,10 @@
 //! The calls of the lock. What each promises holds in every order in which threads make them.
 ghost use Rattle.std.specs.Prelude.{◌≡◌, ℕ, true, ◌+◌, ◌<◌, ◌≤◌, ◌∷◌, [], IfOk, IfErr, MatchResult, Some, length};
-ghost use mathlib.Core.List.{IsPrefix};
-ghost use Rattle.board_lock.specs.Views.{row_in, list_in, first_view, entered, left, split_view, new_view};
+ghost use Rattle.board_lock.specs.Views.{HasEmptyRow, BeginsWithBoth, first_view, entered, left, new_view};
 ghost use Rattle.board_lock.specs.Views.{joined_view, Finds, Keeps, AreUnmadeEmpty};
-ghost use Rattle.board_lock.specs.Rule.{Takes, Looks, Compares};
+ghost use Rattle.board_lock.specs.Rule.{TakesTurn, Looks, Compares};
 ghost use Rattle.board_lock.specs.declared.seat.TheConstants.{MAX_SEATS};
-ghost use Rattle.board_lock.specs.Seats.{view_of, IsOutside, IsInside, IsSameSeat, IsOf};
+ghost use Rattle.board_lock.specs.Seats.{view_of, IsOutside, IsInside, IsSameSeat, MakesOneMore, IsOf};
 
 use crate::bell::Bell;
 use crate::board::Board;
@@ -119,16 +118,11 @@ impl<S: Board> BoardLock<S> {
         requires own { IsOf self.now seat.old }
         requires first { (view_of seat.old).number ≡ 0 }
         requires room { (view_of seat.old).made < self.now.seats }
-        ensures same { IsSameSeat seat.old seat.new }
-        ensures outside { IsOutside seat.old → IsOutside seat.new }
-        ensures inside { IsInside seat.old → IsInside seat.new }
-        ensures made { view_of seat.new ≡ split_view (view_of seat.old) }
+        ensures seat { MakesOneMore seat.old seat.new }
         ensures new { IsOf self.now result × IsOutside result
             × (view_of result ≡ new_view (view_of seat.old)) }
-        ensures empty { row_in S.Board.row S.Board.empty (view_of result).last
-            (view_of result).number ≡ S.Board.empty }
-        ensures unseen { row_in S.Board.row S.Board.empty (view_of result).seen
-            (view_of result).number ≡ S.Board.empty }
+        ensures empty { HasEmptyRow S.Board.row S.Board.empty (view_of result)
+            (view_of result).number }
     {
         self.look(&mut seat.seat);
         let other = self.table.shared.split_seat::<Parting>(&mut seat.seat);
@@ -147,7 +141,7 @@ impl<S: Board> BoardLock<S> {
         requires own { IsOf self.now seat.old }
         requires outside { IsOutside seat.old }
         ensures same { IsSameSeat seat.old seat.new }
-        ensures takes { Takes S.Board.row S.Board.empty S.Board.commits S.Board.fixed
+        ensures takes { TakesTurn S.Board.row S.Board.empty S.Board.commits S.Board.fixed
             seat.old.seat.me result seat.new.seat.me }
     {
         let turn = seat.number as u64 + 1;
@@ -161,7 +155,7 @@ impl<S: Board> BoardLock<S> {
         requires own { IsOf self.now seat.old }
         requires outside { IsOutside seat.old }
         ensures same { IsSameSeat seat.old seat.new }
-        ensures takes { Takes S.Board.row S.Board.empty S.Board.commits S.Board.fixed
+        ensures takes { TakesTurn S.Board.row S.Board.empty S.Board.commits S.Board.fixed
             seat.old.seat.me result seat.new.seat.me }
     {
         'tries: for _ in 0..SPINS {
@@ -249,10 +243,8 @@ impl<S: Board> BoardLock<S> {
         ensures same { IsSameSeat seat.old seat.new × IsOutside seat.new }
         ensures joined { view_of seat.new
             ≡ joined_view S.Board.commits (view_of seat.old) (view_of other) }
-        ensures mine { IsPrefix (list_in S.Board.commits (view_of seat.old).seen)
-            (list_in S.Board.commits (view_of seat.new).seen) }
-        ensures others { IsPrefix (list_in S.Board.commits (view_of other).seen)
-            (list_in S.Board.commits (view_of seat.new).seen) }
+        ensures seen { BeginsWithBoth S.Board.commits (view_of seat.old).seen
+            (view_of other).seen (view_of seat.new).seen }
     {
         let BoardSeat {
             seat: other,

@@ -3,8 +3,8 @@
 ghost use Rattle.std.specs.Prelude.{◌≡◌, ◌≢◌, ℕ, ◌<◌, ◌++◌, ◌∷◌, [], IfOk, IfErr, slice_set};
 ghost use mathlib.Core.List.{IsPrefix};
 ghost use Rattle.board_lock.specs.Views.{row_in, list_in};
-ghost use Rattle.board_lock.specs.Seats.{view_of, IsOutside, IsSameSeat, IsOf};
-ghost use Rattle.board_lock.specs.Small.{small_row, small_entries, Submits, IsSameTeam};
+ghost use Rattle.board_lock.specs.Seats.{view_of, IsOutside, IsOf};
+ghost use Rattle.board_lock.specs.Small.{small_row, small_entries, ComesOutAgain, SubmitsBehind};
 
 use crate::board::Board;
 use crate::seat::{BoardLock, BoardSeat};
@@ -80,14 +80,9 @@ pub fn submit_once<R: Wait>(
     requires own { IsOf lock.now seat.old }
     requires outside { IsOutside seat.old }
     requires three { seat.old.number < 3 }
-    ensures same { IsSameSeat seat.old seat.new × IsOutside seat.new }
-    ensures team { IsSameTeam (view_of seat.old) (view_of seat.new) }
-    ensures before { IfOk result (λ before.
-        before ≡ row_in small_row 0 (view_of seat.old).last seat.old.number) }
-    ensures row { IfOk result (λ before.
-        row_in small_row 0 (view_of seat.new).last seat.new.number ≡ statement) }
-    ensures entry { IfOk result (λ before. Submits (list_in small_entries (view_of seat.old).seen)
-        statement (list_in small_entries (view_of seat.new).seen)) }
+    ensures again { ComesOutAgain seat.old seat.new }
+    ensures submitted { IfOk result (λ before.
+        SubmitsBehind seat.old seat.new before statement) }
     ensures seen { IsPrefix (list_in small_entries (view_of seat.old).seen)
         (list_in small_entries (view_of seat.new).seen) }
 {

@@ -49,18 +49,18 @@ impl<S: Board> TableRule<Option<S>, View<S>, Snapshot<S>> for Turns {
 pub(crate) struct Take;
 
 impl<S: Board> Play<Option<S>, View<S>> for Take {
-    ghost use Rattle.board_lock.specs.Rule.{Takes};
+    ghost use Rattle.board_lock.specs.Rule.{TakesTurn};
 
-    ghost then = { λ _. Takes S.Board.row S.Board.empty S.Board.commits S.Board.fixed };
+    ghost then = { λ _. TakesTurn S.Board.row S.Board.empty S.Board.commits S.Board.fixed };
 }
 
 // The turn is given.
 pub(crate) struct Give;
 
 impl<S> Play<Option<S>, View<S>> for Give {
-    ghost use Rattle.board_lock.specs.Rule.{Gives};
+    ghost use Rattle.board_lock.specs.Rule.{GivesBack};
 
-    ghost then = { λ _ before _ after. Gives before after };
+    ghost then = { λ _ before _ after. GivesBack before after };
 }
 
 // The first seat looks before it splits.

@@ -83,18 +83,22 @@ pub fn rows_go_by_what_is_asked()
         CanTestAll running version → CanAskAll (asked_by running) version }
 {}
 
-/// Cuts over tables of 1,000, 5 and 3 rows. Of three queries over five rows each gets all five.
-pub fn cuts_are_computed()
+/// Cuts over tables of 1,000, 5 and 3 rows, of a query that runs alone.
+pub fn one_query_is_cut_up_to_the_end_of_the_rows()
     ensures whole { (query : StarQuery) → range_of 1000 1024 (one_over query 1000) ≡ (0, 1000) }
     ensures first_of_two { (query : StarQuery) → range_of 5 4 (one_over query 5) ≡ (0, 4) }
     ensures second_of_two { (query : StarQuery) →
         range_of 5 4 (after_cut 5 4 (one_over query 5)) ≡ (4, 5) }
+    ensures three { (query : StarQuery) →
+        range_of 3 1 (after_cut 3 1 (after_cut 3 1 (one_over query 3))) ≡ (2, 3) }
+{}
+
+/// A cut of three queries over five rows ends where one of them started. Each gets all five.
+pub fn three_queries_are_cut_where_each_started()
     ensures before_second { (query : StarQuery) → range_of 5 4 (second_of_three query) ≡ (3, 5) }
     ensures to_second { (query : StarQuery) → range_of 5 4 (third_of_three query) ≡ (0, 3) }
     ensures to_end { (query : StarQuery) →
         range_of 5 4 (after_cut 5 4 (third_of_three query)) ≡ (3, 5) }
     ensures ends { (query : StarQuery) →
         (after_cut 5 4 (after_cut 5 4 (third_of_three query))).running ≡ (None ∷ None ∷ None ∷ []) }
-    ensures three { (query : StarQuery) →
-        range_of 3 1 (after_cut 3 1 (after_cut 3 1 (one_over query 3))) ≡ (2, 3) }
 {}

@@ -1,7 +1,7 @@
 //! Which integers stand for all others where the range tests of a column are asked. What these
 //! let pass is in `by_value`.
 ghost use Rattle.std.specs.Prelude.{◌≡◌, ◌==◌, All, IfSome};
-ghost use Rattle.continuous_scan.specs.ByValue.{IsConditionInside, IsInside, IsTestInside, IsWider, Surrounds};
+ghost use Rattle.continuous_scan.specs.ByValue.{IsConditionInside, IsBoundInside, IsTestInside, IsWider, Surrounds};
 
 use star_plan::{Bounds, Condition, RangeTest};
 
@@ -37,7 +37,7 @@ pub(crate) struct ValueRange {
 /// Limits within which a bound is too, if there is one.
 fn with_bound(limits: Limits, bound: &Option<i64>) -> Limits
     ensures wider { IsWider limits result }
-    ensures inside { IsInside result bound.now }
+    ensures inside { IsBoundInside result bound.now }
 {
     match bound {
         None => limits,
@@ -63,8 +63,8 @@ fn with_one_more(limits: Limits) -> Limits
 /// Limits within which the bounds of one range test more are too.
 fn with_bounds(limits: Limits, bounds: &Bounds) -> Limits
     ensures wider { IsWider limits result }
-    ensures least { IsInside result bounds.now.least }
-    ensures greatest { IsInside result bounds.now.greatest }
+    ensures least { IsBoundInside result bounds.now.least }
+    ensures greatest { IsBoundInside result bounds.now.greatest }
 {
     let more = with_one_more(limits);
     let below = with_bound(more, &bounds.least);

@@ -1,4 +1,4 @@
-//! What runs in the slots of a scan. Which positions that gives is in `range`.
+//! What runs in the slots of a scan. Which positions that gives is in `scan`.
 ghost use Rattle.std.specs.Prelude.{◌≡◌, ◌<◌, ◌≤◌, ◌-◌, ◌++◌, length, map, replicate, slice_set, None, Some, IfOk};
 ghost use Rattle.continuous_scan.specs.Range.{some_run, cut_slot};
 ghost use Rattle.continuous_scan.specs.Stamped.{roster_of};

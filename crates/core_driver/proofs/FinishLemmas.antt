@@ -1,8 +1,9 @@
 -- What turn after turn leaves, from the call on.
-use Rattle.core_driver.proofs.Words.{◌*◌, ◌+◌, ◌-◌, ◌∷◌, ◌≡◌, ◌≤◌, [], Admits, All, All-weaker, AnswersAll, AreTurns, arith, count_by, false, find, find-none, HasLap, inl, inr, is_to_start, is_unfinished, IsDriven, IsFinished, IsLanded, IsLed, IsLedCutting, IsOfAdmission, IsOfLanding, IsOfRound, IsRunning, IsSettled, IsSound, IsTurn, IsWholeTurn, LandsAndTurns, length, Life, List, MayGoOn, None, NoneIsToStart, Option, QueryLife, refl, SharesLap, Some, SomeRuns, State, StepsKeep, subst, true, unfinished_in, versions_in, ℕ, ⊎_elim}
+use Rattle.core_driver.proofs.Words.{◌*◌, ◌+◌, ◌-◌, ◌∷◌, ◌≡◌, ◌≤◌, [], Admits, All, All-weaker, AreTurns, arith, count_by, false, find, find-none, HasLap, inl, inr, is_to_start, is_unfinished, IsDriven, IsFinished, IsLanded, IsLed, IsLedCutting, IsOfAdmission, IsOfLanding, IsOfRound, IsRunning, IsSound, IsTurn, IsWholeTurn, LandsAndTurns, length, Life, List, MayGoOn, None, NoneIsToStart, Option, QueryLife, refl, SharesLap, Some, SomeRuns, State, StepsKeep, subst, true, unfinished_in, versions_in, ℕ, ⊎_elim}
 use Rattle.std.proofs.Common.{◌++◌}
 use Rattle.pipeline_manager.specs.declared.life.Life.TheVariants as life
 use Rattle.event_core.specs.declared.choosing.EventKind.TheVariants as kind
+use Rattle.core_driver.specs.Driven.{FinishesAll}
 use Rattle.core_driver.proofs.CuttingLemmas.{admission-cuts, count-led, cutting-joined, cutting-wider, cuts-nothing, landing-cuts, led-of}
 use Rattle.core_driver.proofs.DoneLemmas.{answers-all}
 use Rattle.core_driver.proofs.KindLemmas.{some-of-first, some-of-more}
@@ -129,16 +130,15 @@ gone-round keep bound first old mid new gone more sound left admits round =
     less-left bound gone.cut more new (lap-goes keep more (bound - gone.cut) old mid new sound left.1 admits round) left.0
 
 -- after one turn more
-pub gone-on : StepsKeep → (first old new : State) → IsSound first → HasGone first old → MayGoOn old → IsWholeTurn old new → IsSettled new
-    → HasGone first new
-gone-on keep first old new sound gone may whole settled =
+pub gone-on : StepsKeep → (first old new : State) → IsSound first → HasGone first old → MayGoOn old → IsWholeTurn old new → HasGone first new
+gone-on keep first old new sound gone may whole =
     let so_sound : IsSound old = led-sound keep IsDriven first old (gone-driven first old gone) sound in
     let round = count-led IsOfRound whole.mid new (led-round whole.mid new whole.round) in
     record {
       cut = gone.cut + round.0;
       led = cutting-joined IsDriven gone.cut round.0 first old new gone.led
           (halves-cut round.0 old whole.mid new whole.admits.led round.1);
-      landed = settled-landed new settled;
+      landed = settled-landed new whole.settled;
       turns = record {
         landed = gone.turns.landed;
         turns = gone.turns.turns ++ new ∷ [];
@@ -154,13 +154,13 @@ gone-on keep first old new sound gone may whole settled =
 pub gone-lap : StepsKeep → (first old new : State) → IsSound first → HasGone first old → MayGoOn old → IsTurn old new → SharesLap first new
 gone-lap keep first old new sound gone may turn =
     let so_sound : IsSound old = led-sound keep IsDriven first old (gone-driven first old gone) sound in
-    let more = count-led IsOfRound turn.0 new turn.1.1 in
+    let more = count-led IsOfRound turn.mid new turn.round in
     record {
       cut = gone.cut + more.0;
-      led = cutting-joined IsDriven gone.cut more.0 first old new gone.led (halves-cut more.0 old turn.0 new turn.1.0.led more.1);
+      led = cutting-joined IsDriven gone.cut more.0 first old new gone.led (halves-cut more.0 old turn.mid new turn.admits.led more.1);
       none = λ none. absurd (never-goes old (gone.none none).0 may);
-      once = λ few none. (gone-round keep (versions_in first) first old turn.0 new gone more.0 so_sound (gone.once few none) turn.1.0 more.1).0;
-      twice = λ few. (gone-round keep (2 * versions_in first) first old turn.0 new gone more.0 so_sound (gone.twice few) turn.1.0 more.1).0;
+      once = λ few none. (gone-round keep (versions_in first) first old turn.mid new gone more.0 so_sound (gone.once few none) turn.admits more.1).0;
+      twice = λ few. (gone-round keep (2 * versions_in first) first old turn.mid new gone more.0 so_sound (gone.twice few) turn.admits more.1).0;
     }
 
 -- the lap so far
@@ -174,7 +174,7 @@ gone-shares first now gone = record {
 }
 
 -- where queries may not go on, all is done
-pub gone-finishes : StepsKeep → (first now : State) → IsSound first → HasGone first now → (MayGoOn now → ⊥) → IsFinished now
+gone-finishes : StepsKeep → (first now : State) → IsSound first → HasGone first now → (MayGoOn now → ⊥) → IsFinished now
 gone-finishes keep first now sound gone stops =
     finishes now (led-sound keep IsDriven first now (gone-driven first now gone) sound) gone.landed
     (λ event is enabled. stops (event, (some-of-first kind.Reserve (kind.Build ∷ kind.Start ∷ kind.Cut ∷ []) event is, enabled)))
@@ -205,6 +205,11 @@ gone-finishes keep first now sound gone stops =
     ))
 
 -- and each query that was open is answered, or found no memory
-pub gone-answers : StepsKeep → (first now : State) → IsSound first → HasGone first now → (MayGoOn now → ⊥) → AnswersAll first now
-gone-answers keep first now sound gone stops =
-    answers-all keep first now sound (gone-driven first now gone) (gone-finishes keep first now sound gone stops)
+pub gone-all : StepsKeep → (first now : State) → IsSound first → HasGone first now → (MayGoOn now → ⊥) → FinishesAll first now
+gone-all keep first now sound gone stops =
+    let finished = gone-finishes keep first now sound gone stops in
+    record {
+      turns = gone.turns;
+      finished = finished;
+      answers = answers-all keep first now sound (gone-driven first now gone) finished;
+    }

@@ -1,6 +1,7 @@
 -- No batch comes into a hand but by an event that takes one.
-use Rattle.core_driver.proofs.Words.{◌≡◌, All, All-filter, All-push, All-weaker, AreIdle, Build, Clear, Cut, cut_flight, Distribute, eqb, Event, EventKind, Finish, Flight, IsLed, IsOfKind, IsReorder, IsStill, IsThrough, None, not, refl, Release, Reserve, ScanState, Some, Start, State, subst, sym, Took, ℕ, ⊎_elim}
+use Rattle.core_driver.proofs.Words.{◌∙◌, ◌≡◌, All, All-filter, All-push, All-weaker, AreIdle, Build, Clear, Cut, cut_flight, Distribute, eqb, Event, EventKind, Finish, Flight, IsLed, IsOfKind, IsReorder, IsStill, IsThrough, None, not, refl, Release, Reserve, ScanState, Some, Start, State, StaysIdle, subst, sym, Took, ℕ, ⊎_elim}
 use Rattle.core_state.specs.Events.{after_event}
+use Rattle.event_core.specs.Parts.{Parts}
 use Rattle.core_driver.proofs.LedLemmas.{led-holds}
 use Rattle.core_driver.proofs.TakenLemmas.{distributes, still-leaves}
 
@@ -51,3 +52,10 @@ idle-through state through =
 -- nor does one come into a hand where the filters are ordered
 pub idle-reordered : (old new : State) → IsLed IsReorder old new → AreIdle old → AreIdle new
 idle-reordered = led-holds IsReorder AreIdle (λ event old new is took idle. idle-still event old new (subst IsStill (sym is) tt) took idle)
+
+-- what stays so, and does then
+pub stays-then : (old mid new : Parts) → StaysIdle old mid → StaysIdle mid new → StaysIdle old new
+stays-then old mid new first second = record {
+  idle = λ idle. second.idle (first.idle idle);
+  beside = second.beside ∙ first.beside;
+}

@@ -25,7 +25,7 @@ abbrev holds : QueryLife → SlotState → Bool
 holds entry slot = is_under_way entry.life && is_held_by entry.query slot
 
 -- each query holds one slot at most, and none unless it is built for or runs
-held-one : (lives : Lives) → managed.IsSound lives → (entry : QueryLife) → count_by (holds entry) lives.slots ≤ one_if (is_under_way entry.life)
+held-one : (lives : Lives) → managed.AreSoundLives lives → (entry : QueryLife) → count_by (holds entry) lives.slots ≤ one_if (is_under_way entry.life)
 held-one lives sound entry = by_test (is_under_way entry.life)
   where
     by_test : (t : Bool) → count_by (λ slot. t && is_held_by entry.query slot) lives.slots ≤ one_if t
@@ -63,7 +63,7 @@ unfinished-both life.Waiting = refl
 unfinished-both other = refl
 
 -- the slots that are not free are no more than the queries that are built for or run
-pub slots-for-all : (state : State) → managed.IsSound state.lives → All (IsFreeOrUnderWay state.lives) state.lives.slots
+pub slots-for-all : (state : State) → managed.AreSoundLives state.lives → All (IsFreeOrUnderWay state.lives) state.lives.slots
     → unfinished_in state ≤ length state.lives.slots → HasSlotsForAll state
 slots-for-all state sound allowed few =
     let both = count-both (λ entry. is_waiting entry.life) (λ entry. is_under_way entry.life) (λ entry. is_unfinished entry.life)

@@ -1,6 +1,6 @@
 -- How many positions are cut in turns, where there is a slot for each query.
 use Rattle.core_driver.proofs.Words.{◌*◌, ◌-◌, ◌≡◌, ◌≤◌, Admits, arith, first_in, HasLap, inl, inr, IsLanded, IsLed, IsLedCutting, IsOfAdmission, IsOfLanding, IsOfRound, IsSound, EndsWithin, length, State, StepsKeep, subst, sym, unfinished_in, versions_in, ℕ, ⊎_elim}
-use Rattle.core_driver.specs.Lap.{HasBegun, IsBound, IsToBegin}
+use Rattle.core_driver.specs.Lap.{HasLapBegun, IsBound, IsToBegin}
 use Rattle.core_driver.proofs.CuttingLemmas.{led-of}
 use Rattle.core_driver.proofs.LapAdmitLemmas.{Admitted, AllBegan}
 use Rattle.core_driver.proofs.LapBeginLemmas.{began-none, first-admitted, led-admitted, versions-admitted, within-any, within-began}
@@ -37,7 +37,7 @@ begins-within left old mid sound begins admits =
     subst (λ n. EndsWithin n mid) (let is : versions_in mid ≡ left = omega arith in is) (within-began mid sound began)) begins.is_bound
 
 -- once all are admitted, the lap has begun
-begun : StepsKeep → (left : ℕ) (old mid : State) → IsSound old → HasLap left old → Admits old mid → HasBegun left mid
+begun : StepsKeep → (left : ℕ) (old mid : State) → IsSound old → HasLap left old → Admits old mid → HasLapBegun left mid
 begun keep left old mid sound has admits = ⊎_elim
     (λ begins.
     let after : Admitted old mid = led-admitted old mid admits.led in
@@ -46,7 +46,7 @@ begun keep left old mid sound has admits = ⊎_elim
       none = none-to-start old mid later (after.slots begins.slots) admits;
       within = begins-within left old mid later begins after;
     })
-    (λ began. subst (HasBegun left) (sym (none-admitted old mid began.none admits.led)) began) has
+    (λ began. subst (HasLapBegun left) (sym (none-admitted old mid began.none admits.led)) began) has
 
 -- a round behind an admission cuts no more positions than the lap has left, and keeps it
 pub lap-goes : StepsKeep → (cut left : ℕ) (old mid new : State) → IsSound old → HasLap left old → Admits old mid

@@ -1,6 +1,7 @@
 -- What the phases of a turn leave.
 use Rattle.core_driver.proofs.Words.{◌<◌, ◌∷◌, ◌≡◌, ◌≤◌, [], All, All-head, All-tail, arith, Clear, Cut, CutsAll, Distribute, Event, EventKind, Finish, Give, inl, inr, IsCut, IsDriven, IsFreeOrUnderWay, IsLanded, IsLed, IsOfLanding, IsOfRound, IsOfSome, IsReorder, IsRound, IsSound, kind_of, List, MayCut, Option, refl, Release, Reorder, Rises, Some, State, StepsKeep, subst, sym, Take, Took, TookAll, TookSome, work_in, ⊎_elim}
 use Rattle.event_core.specs.declared.choosing.EventKind.TheVariants as kind
+use Rattle.core_driver.specs.Work.{CutsMore}
 use Rattle.core_driver.proofs.LandLemmas.{landed-stays}
 use Rattle.core_driver.proofs.LedLemmas.{led-holds, led-joined, led-keeps, led-sound, led-wider, took-sound}
 use Rattle.core_driver.proofs.PassedLemmas.{reordered-lives, same-work, took-hands, work-reordered}
@@ -129,16 +130,12 @@ led-round old new round =
     led-joined IsOfRound old round.cut new (cut-round old round.cut round.cuts.led)
     (rest-led round.cut round.landed new round.lands round.orders.led)
 
--- what cuts leave of the count of positions stays so through the rest of a round
-pub stays-risen : StepsKeep → (old mid new : State) → IsSound old → IsLed IsOfRound old mid → IsLed IsOfRound mid new
-    → (MayCut old → Rises old.scan.cut mid.scan.cut) → MayCut old → Rises old.scan.cut new.scan.cut
-stays-risen keep old mid new sound first second rises may =
-    rises-stays keep old.scan.cut mid new (round-driven mid new second) (led-sound keep IsOfRound old mid first sound) (rises may)
-
--- and so does less work
-pub stays-fallen : StepsKeep → (old mid new : State) → IsSound old → IsLed IsOfRound old mid → IsLed IsOfRound mid new
-    → (MayCut old → work_in mid < work_in old) → MayCut old → work_in new < work_in old
-stays-fallen keep old mid new sound first second falls may =
-    let less = falls may in
-    let rest = work-round keep mid new second (led-sound keep IsOfRound old mid first sound) in
-    omega arith
+-- what cuts leave of the count of positions and of the work stays so through the rest of a round
+pub more-stays : StepsKeep → (old mid new : State) → IsSound old → IsLed IsOfRound old mid → IsLed IsOfRound mid new → CutsMore old mid
+    → CutsMore old new
+more-stays keep old mid new sound first second more =
+    let so_sound : IsSound mid = led-sound keep IsOfRound old mid first sound in
+    record {
+      cuts = λ may. rises-stays keep old.scan.cut mid new (round-driven mid new second) so_sound (more.cuts may);
+      less = λ may. let less = more.less may in let rest = work-round keep mid new second so_sound in omega arith;
+    }

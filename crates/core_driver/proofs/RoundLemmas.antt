@@ -1,5 +1,5 @@
 -- What a round of the driver leaves, by its phases.
-use Rattle.core_driver.proofs.Words.{◌<◌, ◌∷◌, ◌≡◌, [], All-head, All-tail, All-weaker, arith, Clearing, Event, EventKind, Free, Held, IsFreeOrRuns, IsFreeOrUnderWay, IsLanded, IsLed, IsOfKind, IsOfSome, IsRunning, IsSettled, IsSomeAnd, IsSound, IsUnderWay, length, Life, life_in, List, NoneMayCome, NoneOfMayCome, Option, SlotState, Some, State, subst, suc, sym, zero, ℕ}
+use Rattle.core_driver.proofs.Words.{◌<◌, ◌∷◌, ◌≡◌, [], All-head, All-tail, All-weaker, arith, Clearing, Event, EventKind, Free, Held, IsFreeOrRuns, IsFreeOrUnderWay, IsLanded, IsLed, IsOfKind, IsOfSome, IsRunning, IsQuiet, IsSomeAnd, IsSound, IsUnderWay, length, Life, life_in, List, NoneMayCome, NoneOfMayCome, Option, SlotState, Some, State, subst, suc, sym, zero, ℕ}
 use Rattle.std.specs.Prelude.{slice_index_or}
 use Rattle.pipeline_manager.specs.declared.life.Life.TheVariants as life
 use Rattle.event_core.specs.declared.choosing.EventKind.TheVariants as kind
@@ -41,7 +41,7 @@ round-lands passed landed free through distributed no_more freed no_others sound
     (none-others kind.Finish (kind.Clear ∷ kind.Release ∷ []) free no_others)))
 
 -- a settled core is landed
-pub settled-landed : (state : State) → IsSettled state → IsLanded state
+pub settled-landed : (state : State) → IsQuiet state → IsLanded state
 settled-landed state settled = record {
   landed = settled.landed;
   slots = All-weaker (IsFreeOrRuns state.lives) (IsFreeOrUnderWay state.lives) by_state state.lives.slots settled.slots;

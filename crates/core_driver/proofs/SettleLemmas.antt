@@ -1,5 +1,5 @@
 -- What a sound core is where no more events of some kinds may come.
-use Rattle.core_driver.proofs.Words.{◌∙◌, ◌∷◌, ◌≡◌, ◌≢◌, ◌⊎◌, [], All, All-get_or, All-nil, Any, ap, arith, Bool, Build, Clear, cond, Cut, eqb, false, find, find-none, Finish, Free, get_or_default, inl, inr, is_free, is_waiting, IsFinished, IsLanded, IsRunning, IsSettled, IsSomeAnd, IsSound, length, Life, life_in, life_of, List, None, NoneMayCome, oldest_waiting, Option, option_map, query_in, QueryLife, refl, Release, Reserve, Some, Start, State, subst, suc, sym, true, zero, ℕ, ⊎_elim}
+use Rattle.core_driver.proofs.Words.{◌∙◌, ◌∷◌, ◌≡◌, ◌≢◌, ◌⊎◌, [], All, All-get_or, All-nil, Any, ap, arith, Bool, Build, Clear, cond, Cut, eqb, false, find, find-none, Finish, Free, get_or_default, inl, inr, is_waiting, IsFinished, IsLanded, IsRunning, IsQuiet, IsSomeAnd, IsSound, length, Life, life_in, life_of, List, None, NoneMayCome, oldest_waiting, Option, option_map, query_in, QueryLife, refl, Release, Reserve, Some, Start, State, subst, suc, sym, true, zero, ℕ, ⊎_elim}
 use Rattle.core_state.specs.Found.{is_on_roster}
 use Rattle.event_core.specs.declared.choosing.EventKind.TheVariants as kind
 use Rattle.core_driver.proofs.SlotEndLemmas.{NoneIsBuilding, none-building, none-open, slots-free, slots-run, slots-under-way}
@@ -38,7 +38,7 @@ lands state sound landed no_finish no_clear no_release = record {
     none-on slot = subst (All (λ flight. is_on_roster slot flight ≡ false)) (sym landed) (All-nil (λ flight. is_on_roster slot flight ≡ false))
 
 -- and no query is built for
-pub settles : (state : State) → IsLanded state → NoneIsBuilding state.lives → IsSettled state
+pub settles : (state : State) → IsLanded state → NoneIsBuilding state.lives → IsQuiet state
 settles state landed none = record {
   landed = landed.landed;
   slots = slots-run state.lives none landed.slots;

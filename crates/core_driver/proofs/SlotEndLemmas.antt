@@ -1,11 +1,11 @@
 -- Which slots and lives are left where no more calls may come.
-use Rattle.core_driver.proofs.Words.{◌<◌, ◌∙◌, ◌∷◌, ◌≡◌, ◌≢◌, ◌≤◌, [], All, All-head, All-tail, All-weaker, ap, arith, bit_at, CanBuild, CanClear, CanEnd, CanFree, CanRun, cases_eq, Clearing, cond, eq-eqb, false, Free, get_or, Held, is_held_by, is_open, is_waiting, IsFreeOrRuns, IsFreeOrUnderWay, IsOver, IsRunning, IsSomeAnd, IsToClear, IsTrue, IsUnderWay, length, Life, life_in, life_of, List, Lives, Option, option_map, option_map_or, query_in, query_in-found, QueryLife, refl, slot_at, slots_held, SlotState, Some, subst, sum_by-cons, sym, true, ℕ, ⊎_elim}
+use Rattle.core_driver.proofs.Words.{◌<◌, ◌∙◌, ◌∷◌, ◌≡◌, ◌≢◌, ◌≤◌, [], All, All-head, All-tail, All-weaker, ap, arith, bit_at, CanBuild, CanClear, CanEnd, CanFree, CanRun, cases_eq, Clearing, cond, eq-eqb, false, Free, get_or, Held, is_held_by, is_open, is_waiting, IsFreeOrRuns, IsFreeOrUnderWay, IsHolderOver, IsRunning, IsSomeAnd, IsToClear, IsTrue, IsUnderWay, length, Life, life_in, life_of, List, Lives, Option, option_map, option_map_or, query_in, query_in-found, QueryLife, refl, slot_at, slots_held, SlotState, Some, subst, sum_by-cons, sym, true, ℕ, ⊎_elim}
 use Rattle.std.proofs.lemmas.List.Elements.{All-from_get_or}
 use Rattle.std.proofs.lemmas.List.Sums.{get_or-le-sum_by}
 use Rattle.bit_words.proofs.SetLemmas.{no_members}
 use Rattle.pipeline_manager.specs.Conditions.{gives_up}
 use Rattle.pipeline_manager.specs.Lives.{built_of}
-use Rattle.pipeline_manager.specs.Sound.{FitsSlots, IsSound}
+use Rattle.pipeline_manager.specs.Sound.{FitsSlots, AreSoundLives}
 use Rattle.pipeline_manager.specs.declared.life.Life.TheVariants as life
 
 -- no query is built for
@@ -41,7 +41,7 @@ under-way (Some life.Abandoned) held fits some stays = absurd (stays refl)
 under-way other held fits some stays = absurd (omega arith)
 
 -- where no slot may be taken from its query, cleared or released, each is free, or its query is under way
-pub slots-under-way : (lives : Lives) → IsSound lives → ((slot : ℕ) → CanEnd slot lives → ⊥)
+pub slots-under-way : (lives : Lives) → AreSoundLives lives → ((slot : ℕ) → CanEnd slot lives → ⊥)
     → ((slot dimension : ℕ) → CanClear slot dimension lives → ⊥) → ((slot : ℕ) → CanFree slot lives → ⊥)
     → All (IsFreeOrUnderWay lives) lives.slots
 slots-under-way lives sound no_end no_clear no_free =
@@ -57,7 +57,7 @@ slots-under-way lives sound no_end no_clear no_free =
     by_state slot Free low is = tt
     by_state slot (Held query built) low is =
         under-way (life_in lives.queries query) (slots_held query lives.slots) (sound.held query) (held-some lives slot query built low is)
-        (λ over. no_end slot (subst (λ state. IsOver state lives) (sym is) over))
+        (λ over. no_end slot (subst (λ state. IsHolderOver state lives) (sym is) over))
     by_state slot (Clearing left) low is = absurd (cleared slot left is)
 
 -- a query that is under way, and is not built for, runs
@@ -103,7 +103,7 @@ not-open life.Abandoned fits rests = refl
 not-open other fits rests = absurd (omega arith)
 
 -- where all slots are free and no query waits, none is open
-pub none-open : (lives : Lives) → IsSound lives → All (λ slot. slot ≡ Free) lives.slots → All (λ entry. is_waiting entry.life ≡ false) lives.queries
+pub none-open : (lives : Lives) → AreSoundLives lives → All (λ slot. slot ≡ Free) lives.slots → All (λ entry. is_waiting entry.life ≡ false) lives.queries
     → All (λ entry. is_open entry.life ≡ false) lives.queries
 none-open lives sound free rest = λ place d low.
     let entry : QueryLife = get_or lives.queries place d in

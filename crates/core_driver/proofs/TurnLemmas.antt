@@ -1,6 +1,6 @@
 -- What is said of the life of a query stays said of it through calls.
 use Rattle.core_driver.proofs.Words.{◌∙◌, ◌≡◌, after_reserve, cut_life, Life, life_in, List, Lives, oldest-waits, Option, QueryLife, Some, started, subst, sym, with_life, ℕ}
-use Rattle.pipeline_manager.specs.Sound.{IsSound}
+use Rattle.pipeline_manager.specs.Sound.{AreSoundLives}
 use Rattle.pipeline_manager.specs.declared.life.Life.TheVariants as life
 use Rattle.core_state.proofs.SaysLemmas.{reserved-cases, says-written}
 
@@ -24,7 +24,7 @@ says-turned Says query old new queries number was turns =
     says-written Says query new queries number (λ other is says. turns (subst Says (sym is ∙ was) says))
 
 -- the query that waits the longest gets a slot
-pub says-waited : (Says : Option Life → Type 0) (slot : ℕ) (lives : Lives) (number : ℕ) → IsSound lives
+pub says-waited : (Says : Option Life → Type 0) (slot : ℕ) (lives : Lives) (number : ℕ) → AreSoundLives lives
     → (Says (Some life.Waiting) → Says (Some life.Building)) → Says (life_in lives.queries number)
     → Says (life_in (after_reserve slot lives).queries number)
 says-waited Says slot lives number sound turns says =

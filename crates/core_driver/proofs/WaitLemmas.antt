@@ -1,7 +1,7 @@
 -- The query that waits the longest stays the one, while others are admitted.
-use Rattle.core_driver.proofs.Words.{◌<◌, ◌∙◌, ◌∷◌, ◌≡◌, [], after_built, after_reserve, All, All-head, All-tail, ap, AreRising, Bool, cases_eq, cond, eqb, eqb-true, false, find, Free, get_or, Held, is_free, is_waiting, length, length-set, Life, life_in, life_in-same, life_of, List, Lives, None, oldest-waits, oldest_waiting, Option, option_map, option_map_or, query_in-found, QueryLife, refl, set, slot_at, slot_of, Some, started, subst, sym, true, with_dimension, with_life, with_slot, ℕ, ⊎_elim}
+use Rattle.core_driver.proofs.Words.{◌<◌, ◌∙◌, ◌∷◌, ◌≡◌, [], after_built, after_reserve, All, All-head, All-tail, ap, AreRising, Bool, cases_eq, cond, eqb, eqb-true, false, find, Free, get_or, Held, is_waiting, length, length-set, Life, life_in, life_in-same, life_of, List, Lives, None, oldest-waits, oldest_waiting, Option, option_map, option_map_or, query_in-found, QueryLife, refl, set, slot_at, slot_of, Some, started, subst, sym, true, with_dimension, with_life, with_slot, ℕ, ⊎_elim}
 use Rattle.std.proofs.lemmas.List.{get_or-set_other, get_or-set_same}
-use Rattle.pipeline_manager.specs.Sound.{IsSound}
+use Rattle.pipeline_manager.specs.Sound.{AreSoundLives}
 use Rattle.pipeline_manager.specs.declared.life.Life.TheVariants as life
 
 -- what is found first of the queries that wait
@@ -75,7 +75,7 @@ next-built query other dimension lives next = by_slot (slot_of lives other)
     }
 
 -- another life of one that is built for
-pub next-written : (query other : ℕ) (new : Life) (lives : Lives) → IsSound lives → life_of lives other ≡ Some life.Building
+pub next-written : (query other : ℕ) (new : Life) (lives : Lives) → AreSoundLives lives → life_of lives other ≡ Some life.Building
     → is_waiting new ≡ false → IsNext query lives → IsNext query (record lives { queries = with_life other new lives.queries })
 next-written query other new lives sound was calm next = record {
   oldest = oldest-stays other new lives.queries (rests other life.Building lives.queries sound.rising was refl) calm ∙ next.oldest;
@@ -93,7 +93,7 @@ started-rests start extent = by_test (eqb extent 0)
     by_test false = refl
 
 -- `reserve`: it waits no longer
-pub next-reserved : (query slot : ℕ) (lives : Lives) → IsSound lives → oldest_waiting lives ≡ Some query
+pub next-reserved : (query slot : ℕ) (lives : Lives) → AreSoundLives lives → oldest_waiting lives ≡ Some query
     → life_of (after_reserve slot lives) query ≡ Some life.Building
 next-reserved query slot lives sound oldest =
     ap (λ o. life_of (option_map_or (λ number. record lives { queries = with_life number life.Building lives.queries; slots = set lives.slots slot (Held number 0) }) o lives) query) oldest

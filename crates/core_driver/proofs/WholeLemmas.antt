@@ -1,5 +1,5 @@
 -- What a whole turn leaves, by its two halves: an admission, and a round.
-use Rattle.core_driver.proofs.Words.{◌<◌, ◌∷◌, ◌≡◌, ◌⊎◌, [], Admits, All, All-cons, All-nil, ap, arith, Build, Cut, Event, EventKind, Free, get_or, inl, inr, is_free, IsDriven, IsEnabled, IsLanded, IsLed, IsOfAdmission, IsOfRound, IsSettled, IsSome, IsSound, kind_of, length, List, MayCut, MayGoOn, None, Option, position-Some, refl, Reserve, Rises, ScanState, SlotState, Some, Start, State, StepsKeep, subst, sym, TookSome, work_in, ℕ, ⊎_elim}
+use Rattle.core_driver.proofs.Words.{◌<◌, ◌∷◌, ◌≡◌, ◌⊎◌, [], Admits, All, All-cons, All-nil, ap, arith, Build, Cut, Event, EventKind, Free, get_or, inl, inr, is_free, IsDriven, IsEnabled, IsLanded, IsLed, IsOfAdmission, IsOfRound, IsQuiet, IsSome, IsSound, kind_of, length, List, MayCut, MayGoOn, None, Option, position-Some, refl, Reserve, Rises, ScanState, SlotState, Some, Start, State, StepsKeep, subst, sym, TookSome, work_in, ℕ, ⊎_elim}
 use Rattle.std.specs.Prelude.{false, position, true}
 use Rattle.event_core.specs.declared.choosing.EventKind.TheVariants as kind
 use Rattle.core_driver.specs.Driven.{AdmitsOldest}
@@ -22,7 +22,7 @@ pub halves-driven : (old mid new : State) → IsLed IsOfAdmission old mid → Is
 halves-driven old mid new first second = led-joined IsDriven old mid new (admission-driven old mid first) (round-driven mid new second)
 
 -- no query is built for once all are admitted, so a core that landed is settled
-pub turn-settles : (old mid new : State) → Admits old mid → IsLed IsOfRound mid new → IsLanded new → IsSettled new
+pub turn-settles : (old mid new : State) → Admits old mid → IsLed IsOfRound mid new → IsLanded new → IsQuiet new
 turn-settles old mid new admits led landed = settles new landed (none-building-led mid new led (builds-none mid admits.build admits.start))
 
 -- a slot that is free, by its place

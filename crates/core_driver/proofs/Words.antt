@@ -14,7 +14,7 @@ pub use Rattle.bit_words.specs.Sets.{Has}
 pub use Rattle.pipeline_manager.proofs.LifeLemmas.{life_in-same, oldest-waits}
 pub use Rattle.pipeline_manager.proofs.QueryLemmas.{query_in-found}
 pub use Rattle.pipeline_manager.specs.Changes.{after_built, after_cleared, after_end, after_free, after_reserve, after_run, after_spoil, covered, cut_life, cut_query, given_up, is_ending, renewed, started, with_answer, with_dimension, with_life, with_slot, without_dimension}
-pub use Rattle.pipeline_manager.specs.Conditions.{CanBuild, CanClear, CanEnd, CanFree, CanRun, is_open, IsOver, IsRunning, IsToClear}
+pub use Rattle.pipeline_manager.specs.Conditions.{CanBuild, CanClear, CanEnd, CanFree, CanRun, is_open, IsHolderOver, IsRunning, IsToClear}
 pub use Rattle.pipeline_manager.specs.Lives.{extent_in, is_free, is_held_by, is_waiting, life_in, life_of, Lives, oldest_waiting, query_in, slot_at, slot_of}
 pub use Rattle.pipeline_manager.specs.Sound.{AreRising, IsLeft, slots_held}
 pub use Rattle.pipeline_manager.specs.declared.life.Life.{Life}
@@ -44,6 +44,6 @@ pub use Rattle.event_core.specs.Chosen.{AreIdle, IsOfKind, kind_of, NoneMayCome}
 pub use Rattle.event_core.specs.Seen.{state_of}
 pub use Rattle.event_core.specs.Took.{IsLed, IsSpoilt, Took, TookAll}
 pub use Rattle.event_core.specs.declared.choosing.EventKind.{EventKind}
-pub use Rattle.core_driver.specs.Driven.{Admits, AnswersAll, AreTurns, CutsAll, IsCut, IsDriven, IsFinished, IsFreeOrRuns, IsFreeOrUnderWay, IsLanded, IsOfAdmission, IsOfLanding, IsOfRound, IsOfSome, IsReorder, IsRound, IsSettled, IsTurn, IsUnderWay, IsWholeTurn, LandsAndTurns, MayGoOn, NoneOfMayCome, Rises}
+pub use Rattle.core_driver.specs.Driven.{Admits, AnswersAll, AreTurns, CutsAll, IsCut, IsDriven, IsFinished, IsFreeOrRuns, IsFreeOrUnderWay, IsLanded, IsOfAdmission, IsOfLanding, IsOfRound, IsOfSome, IsReorder, IsRound, IsQuiet, IsTurn, IsUnderWay, IsWholeTurn, LandsAndTurns, MayGoOn, NoneOfMayCome, Rises, StaysIdle}
 pub use Rattle.core_driver.specs.Lap.{BeganAt, CameRound, HasLap, HasSlotsForAll, is_to_start, is_unfinished, IsEnd, IsLedCutting, IsLeftBetween, IsOnItsWay, IsToComeRound, EndsWithin, NoneIsToStart, positions_of, SharesLap, SomeRuns, TookCutting, unfinished_in}
 pub use Rattle.core_driver.specs.Work.{all_to_cut, steps_to_free, TookSome, work_in}

@@ -1,6 +1,6 @@
 -- Fewer steps are left for the lives and slots after each call, and no more is to be cut.
-use Rattle.core_driver.proofs.Words.{◌+◌, ◌<◌, ◌≡◌, ◌≤◌, after_built, after_cleared, after_end, after_free, after_reserve, after_run, after_spoil, all_to_cut, arith, CanBuild, CanClear, CanEnd, CanFree, CanRun, Clearing, extent_in, Free, given_up, Held, is_free, IsOver, IsToClear, length, life_in, Lives, oldest-waits, oldest_waiting, option_map_or, refl, set, slot_at, SlotState, Some, started, steps_to_free, subst, sum_by, sym, with_dimension, with_life, with_slot, ℕ}
-use Rattle.pipeline_manager.specs.Sound.{IsSound}
+use Rattle.core_driver.proofs.Words.{◌+◌, ◌<◌, ◌≡◌, ◌≤◌, after_built, after_cleared, after_end, after_free, after_reserve, after_run, after_spoil, all_to_cut, arith, CanBuild, CanClear, CanEnd, CanFree, CanRun, Clearing, extent_in, Free, given_up, Held, is_free, IsHolderOver, IsToClear, length, life_in, Lives, oldest-waits, oldest_waiting, option_map_or, refl, set, slot_at, SlotState, Some, started, steps_to_free, subst, sum_by, sym, with_dimension, with_life, with_slot, ℕ}
+use Rattle.pipeline_manager.specs.Sound.{AreSoundLives}
 use Rattle.pipeline_manager.specs.declared.life.Life.TheVariants as life
 use Rattle.core_driver.proofs.WorkLifeLemmas.{WritesOver, cut-started, no-more-answered, steps-started, steps_in, written-over}
 use Rattle.core_driver.proofs.WorkSlotLemmas.{FiltersAreBelow, building-holds, free-built, free-cleared, free-released, free-reserved, free-taken, there-clearing, there-held}
@@ -11,7 +11,7 @@ pub record HaveLess (old new : Lives) : Type 0 where
   pub steps : steps_in new.queries + sum_by steps_to_free new.slots < steps_in old.queries + sum_by steps_to_free old.slots
 
 -- `reserve`
-pub less-reserved : (slot query : ℕ) (lives : Lives) → IsSound lives → oldest_waiting lives ≡ Some query → slot < length lives.slots
+pub less-reserved : (slot query : ℕ) (lives : Lives) → AreSoundLives lives → oldest_waiting lives ≡ Some query → slot < length lives.slots
     → slot_at lives slot ≡ Free → HaveLess lives (after_reserve slot lives)
 less-reserved slot query lives sound oldest there is_free =
     subst (λ o. HaveLess lives (option_map_or reserved o lives)) (sym oldest) (record {
@@ -26,7 +26,7 @@ less-reserved slot query lives sound oldest there is_free =
     written = written-over query life.Waiting life.Building lives.queries sound.rising (oldest-waits lives.queries query sound.rising oldest)
 
 -- `built`
-pub less-built : (query dimension : ℕ) (lives : Lives) → IsSound lives → FiltersAreBelow 8 lives → CanBuild query dimension lives
+pub less-built : (query dimension : ℕ) (lives : Lives) → AreSoundLives lives → FiltersAreBelow 8 lives → CanBuild query dimension lives
     → HaveLess lives (after_built query dimension lives)
 less-built query dimension lives sound below can =
     let held = building-holds lives query dimension sound can in
@@ -36,7 +36,7 @@ less-built query dimension lives sound below can =
     (record { cut = omega arith; steps = omega arith })
 
 -- `run`
-pub less-started : (query start : ℕ) (lives : Lives) → IsSound lives → CanRun query lives → HaveLess lives (after_run query start lives)
+pub less-started : (query start : ℕ) (lives : Lives) → AreSoundLives lives → CanRun query lives → HaveLess lives (after_run query start lives)
 less-started query start lives sound can =
     let extent : ℕ = extent_in lives.queries query in
     let written = written-over query life.Building (started start extent) lives.queries sound.rising can.building in
@@ -45,7 +45,7 @@ less-started query start lives sound can =
     record { cut = omega (arith, written.cut); steps = omega (arith, written.steps) }
 
 -- `spoil`, where filters are built
-pub less-spoiled : (query : ℕ) (lives : Lives) → IsSound lives → life_in lives.queries query ≡ Some life.Building
+pub less-spoiled : (query : ℕ) (lives : Lives) → AreSoundLives lives → life_in lives.queries query ≡ Some life.Building
     → HaveLess lives (after_spoil query lives)
 less-spoiled query lives sound building =
     let written = written-over query life.Building life.Spoiled lives.queries sound.rising building in
@@ -55,7 +55,7 @@ less-spoiled query lives sound building =
 pub less-ended : (slot : ℕ) (lives : Lives) → CanEnd slot lives → HaveLess lives (after_end slot lives)
 less-ended slot lives over = by_state (slot_at lives slot) refl over
   where
-    by_state : (state : SlotState) → slot_at lives slot ≡ state → IsOver state lives → HaveLess lives (given_up slot state lives)
+    by_state : (state : SlotState) → slot_at lives slot ≡ state → IsHolderOver state lives → HaveLess lives (given_up slot state lives)
     by_state Free is ends = absurd ends
     by_state (Held query built) is ends =
         let fewer = free-taken lives.slots slot query built (there-held lives.slots slot query built is) is in
@@ -64,7 +64,7 @@ less-ended slot lives over = by_state (slot_at lives slot) refl over
     by_state (Clearing left) is ends = absurd ends
 
 -- `cleared`
-pub less-cleared : (slot dimension : ℕ) (lives : Lives) → IsSound lives → FiltersAreBelow 8 lives → CanClear slot dimension lives
+pub less-cleared : (slot dimension : ℕ) (lives : Lives) → AreSoundLives lives → FiltersAreBelow 8 lives → CanClear slot dimension lives
     → HaveLess lives (after_cleared slot dimension lives)
 less-cleared slot dimension lives sound below can = by_state (slot_at lives slot) refl can
   where

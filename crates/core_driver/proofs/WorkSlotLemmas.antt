@@ -3,7 +3,7 @@ use Rattle.core_driver.proofs.Words.{◌+◌, ◌<◌, ◌∙◌, ◌≡◌, All
 use Rattle.std.proofs.Common.{IsSome}
 use Rattle.std.proofs.lemmas.List.{get_or_past}
 use Rattle.pipeline_manager.specs.Conditions.{is_begun}
-use Rattle.pipeline_manager.specs.Sound.{IsOfFilters, IsSound}
+use Rattle.pipeline_manager.specs.Sound.{IsOfFilters, AreSoundLives}
 use Rattle.pipeline_manager.proofs.HolderLemmas.{built_of-holder, slot_of-begun}
 use Rattle.core_driver.proofs.SizeLemmas.{size-most, size-with, size-without}
 
@@ -62,13 +62,13 @@ holds-slot lives query some = by_slot (slot_of lives query) refl some
         (slot, by_state slot (slot_at lives slot) first at.0 refl at.1)
 
 -- a query that is built for holds a slot
-pub building-holds : (lives : Lives) (query dimension : ℕ) → IsSound lives → CanBuild query dimension lives
+pub building-holds : (lives : Lives) (query dimension : ℕ) → AreSoundLives lives → CanBuild query dimension lives
     → (slot : ℕ) × ((built : ℕ) × Holds lives query slot built)
 building-holds lives query dimension sound can =
     holds-slot lives query (slot_of-begun lives query sound (ap (λ o. option_map_or is_begun o false) can.building))
 
 -- a slot for whose query one more filter is built has one step less to come
-pub free-built : (lives : Lives) (query dimension slot built : ℕ) → IsSound lives → FiltersAreBelow 8 lives → CanBuild query dimension lives
+pub free-built : (lives : Lives) (query dimension slot built : ℕ) → AreSoundLives lives → FiltersAreBelow 8 lives → CanBuild query dimension lives
     → Holds lives query slot built
     → sum_by steps_to_free (set lives.slots slot (with_dimension dimension (slot_at lives slot))) < sum_by steps_to_free lives.slots
 free-built lives query dimension slot built sound below can holds =
@@ -88,7 +88,7 @@ free-taken slots slot query built there is =
     omega arith
 
 -- so has one that is cleared of a dimension
-pub free-cleared : (lives : Lives) (slot dimension left : ℕ) → IsSound lives → FiltersAreBelow 8 lives → slot < length lives.slots
+pub free-cleared : (lives : Lives) (slot dimension left : ℕ) → AreSoundLives lives → FiltersAreBelow 8 lives → slot < length lives.slots
     → slot_at lives slot ≡ Clearing left → Has left dimension
     → sum_by steps_to_free (set lives.slots slot (without_dimension dimension (slot_at lives slot))) < sum_by steps_to_free lives.slots
 free-cleared lives slot dimension left sound below there is has =

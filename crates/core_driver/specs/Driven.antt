@@ -3,7 +3,7 @@ use Rattle.std.specs.Prelude.{◌≡◌, ◌⊎◌, ℕ, ◌<◌, List, [], ◌�
 use Rattle.pipeline_manager.specs.Conditions.{IsRunning, is_open}
 use Rattle.pipeline_manager.specs.Lives.{Lives, free_slot, life_of, oldest_waiting}
 use Rattle.pipeline_manager.specs.declared.life.Life.{Life}
-use Rattle.pipeline_manager.specs.declared.life.Life.TheVariants.{Waiting, Building, Running, Ending, Answered, Spoiled, Abandoned}
+use Rattle.pipeline_manager.specs.declared.life.Life.TheVariants.{Waiting, Building, Running, Answered, Spoiled}
 use Rattle.pipeline_manager.specs.declared.life.SlotState.{SlotState}
 use Rattle.pipeline_manager.specs.declared.life.SlotState.TheVariants.{Free, Held, Clearing}
 use Rattle.core_state.specs.Events.{IsEnabled}
@@ -12,8 +12,10 @@ use Rattle.core_state.specs.State.{State}
 use Rattle.core_state.specs.Tables.{tables_of}
 use Rattle.core_parts.specs.Filtered.{order_by}
 use Rattle.core_state.specs.declared.event.Event.{Event}
-use Rattle.core_state.specs.declared.event.Event.TheVariants.{Submit, Reserve, Build, Start, Cut, Take, Carry, Give, Distribute, Finish, Clear, Release, Reorder, Abandon}
-use Rattle.event_core.specs.Chosen.{IsOfKind, NoneMayCome}
+use Rattle.core_state.specs.declared.event.Event.TheVariants.{Submit, Reserve, Build, Start, Cut, Carry, Clear, Reorder, Abandon}
+use Rattle.event_core.specs.Chosen.{AreIdle, IsOfKind, NoneMayCome}
+use Rattle.event_core.specs.Parts.{Parts, beside_of}
+use Rattle.event_core.specs.Seen.{state_of}
 use Rattle.event_core.specs.Took.{IsLed, MayWantMemory}
 use Rattle.event_core.specs.declared.choosing.EventKind.{EventKind}
 use Rattle.event_core.specs.declared.choosing.EventKind.TheVariants as kind
@@ -41,6 +43,11 @@ pub record MayWantOne (kinds : List EventKind) (state : State) : Type 0 where
 -- a filter may be cleared of a slot
 abbrev pub MayClear : State → Type 0
 MayClear state = (slot : ℕ) × (dimension : ℕ) × IsEnabled state (Clear slot dimension)
+
+-- where no batch was in a hand none is, and what is beside the state stays
+pub record StaysIdle (old new : Parts) : Type 0 where
+  pub idle : AreIdle (state_of old) → AreIdle (state_of new)
+  pub beside : beside_of new ≡ beside_of old
 
 -- an event by which no query begins to run, none is submitted, none is abandoned, and
 -- no worker carries a batch
@@ -109,7 +116,7 @@ pub record IsLanded (state : State) : Type 0 where
   pub slots : All (IsFreeOrUnderWay state.lives) state.lives.slots
 
 -- no batch is in flight, no slot is being cleared, and every query that holds a slot runs
-pub record IsSettled (state : State) : Type 0 where
+pub record IsQuiet (state : State) : Type 0 where
   pub landed : state.scan.flights ≡ []
   pub slots : All (IsFreeOrRuns state.lives) state.lives.slots
 
@@ -160,24 +167,31 @@ pub record OrdersFilters (old new : State) : Type 0 where
   pub led : IsLed IsReorder old new
   pub order : IsSome (tables_of new).schema.fact → new.filters.order ≡ order_by new.filters
 
--- a round: batches are cut, as many as can be, what is in flight lands, and the filters are ordered
+-- a round: batches are cut, as many as can be, what is in flight lands and is so at the end, and
+-- the filters are ordered
 pub record IsRound (old new : State) : Type 0 where
   pub cut : State
   pub landed : State
   pub cuts : CutsAll old cut
   pub lands : IsLed IsOfLanding cut landed
   pub orders : OrdersFilters landed new
+  pub ends : IsLanded new
 
--- a whole turn: queries are admitted, as far as they can be, and a round follows
+-- a whole turn: queries are admitted, as far as they can be, a round follows, and then every query
+-- that holds a slot runs
 pub record IsWholeTurn (old new : State) : Type 0 where
   pub mid : State
   pub admits : Admits old mid
   pub round : IsRound mid new
+  pub settled : IsQuiet new
 
--- a turn: queries are admitted, as far as they can be, and a round follows, which
--- ends where memory is wanted
-abbrev pub IsTurn : (old new : State) → Type 0
-IsTurn old new = (mid : State) × (Admits old mid × IsLed IsOfRound mid new)
+-- a turn of the driver's events: queries are admitted, as far as they can be, and a round follows,
+-- which ends where memory is wanted
+pub record IsTurn (old new : State) : Type 0 where
+  pub mid : State
+  pub admits : Admits old mid
+  pub round : IsLed IsOfRound mid new
+  pub driven : IsLed IsDriven old new
 
 -- whole turns, one after the other, through these states
 abbrev pub AreTurns : List State → (old new : State) → Type 0
@@ -190,3 +204,10 @@ pub record LandsAndTurns (old new : State) : Type 0 where
   pub turns : List State
   pub lands : IsLed IsOfLanding old landed
   pub each : AreTurns turns landed new
+
+-- turn after turn all came to its end, and every query that might still be answered is answered, or
+-- found no memory
+pub record FinishesAll (old new : State) : Type 0 where
+  pub turns : LandsAndTurns old new
+  pub finished : IsFinished new
+  pub answers : AnswersAll old new

@@ -3,7 +3,7 @@ use Rattle.std.specs.Prelude.{◌≡◌, ◌⊎◌, ℕ, ◌+◌, ◌-◌, ◌*�
 use Rattle.pipeline_manager.specs.Conditions.{IsRunning}
 use Rattle.pipeline_manager.specs.Lives.{is_free, is_waiting}
 use Rattle.pipeline_manager.specs.declared.life.Life.{Life}
-use Rattle.pipeline_manager.specs.declared.life.Life.TheVariants.{Waiting, Building, Running, Ending, Answered, Spoiled, Abandoned}
+use Rattle.pipeline_manager.specs.declared.life.Life.TheVariants.{Waiting, Building, Running}
 use Rattle.core_state.specs.Cutting.{end_in, first_in}
 use Rattle.core_state.specs.State.{State}
 use Rattle.core_state.specs.Tables.{versions_in}
@@ -96,13 +96,13 @@ pub record IsToBegin (left : ℕ) (state : State) : Type 0 where
   pub is_bound : IsBound left state
 
 -- the lap has begun: no query is to begin to run any more, and the scan is on its way
-pub record HasBegun (left : ℕ) (state : State) : Type 0 where
+pub record HasLapBegun (left : ℕ) (state : State) : Type 0 where
   pub none : NoneIsToStart state
   pub within : EndsWithin left state
 
 -- the lap in which at most so many positions more are cut is to begin, or has begun
 abbrev pub HasLap : (left : ℕ) → State → Type 0
-HasLap left state = IsToBegin left state ⊎ HasBegun left state
+HasLap left state = IsToBegin left state ⊎ HasLapBegun left state
 
 -- how many positions an event cuts
 abbrev pub positions_of : Event → State → ℕ

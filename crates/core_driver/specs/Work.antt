@@ -3,12 +3,14 @@ use Rattle.std.specs.Prelude.{◌≡◌, ◌⊎◌, ℕ, ◌+◌, ◌-◌, ◌*�
 use Rattle.std.specs.Int.{bit_at}
 use Rattle.std.specs.List.{range_with_len}
 use Rattle.pipeline_manager.specs.declared.life.Life.{Life}
-use Rattle.pipeline_manager.specs.declared.life.Life.TheVariants.{Waiting, Building, Running, Ending, Answered, Spoiled, Abandoned}
+use Rattle.pipeline_manager.specs.declared.life.Life.TheVariants.{Waiting, Building, Running}
 use Rattle.pipeline_manager.specs.declared.life.QueryLife.{QueryLife}
 use Rattle.pipeline_manager.specs.declared.life.SlotState.{SlotState}
 use Rattle.pipeline_manager.specs.declared.life.SlotState.TheVariants.{Free, Held, Clearing}
+use Rattle.core_state.specs.Events.{MayCut}
 use Rattle.core_state.specs.State.{State}
 use Rattle.core_state.specs.Tables.{versions_in}
+use Rattle.core_driver.specs.Driven.{AdmitsOldest, MayGoOn, Rises}
 
 -- how many positions are still to be cut for a query with this extent and life
 abbrev pub to_cut : (extent : ℕ) → Life → ℕ
@@ -55,3 +57,16 @@ work_in state = 2 * cuts_in state
 -- events were taken that left less work, or none was taken
 abbrev pub TookSome : (old new : State) → Type 0
 TookSome old new = (new ≡ old) ⊎ (work_in new < work_in old)
+
+-- where a batch might be cut, the count of positions rises, and less work is left
+pub record CutsMore (old new : State) : Type 0 where
+  pub cuts : MayCut old → Rises old.scan.cut new.scan.cut
+  pub less : MayCut old → work_in new < work_in old
+
+-- queries were brought on: the one that waited the longest does not wait any more, where a slot was
+-- free, the count of positions rises where a batch might be cut, and less work is left where a
+-- query might be admitted or a batch cut
+pub record BringsOn (old new : State) : Type 0 where
+  pub admits : AdmitsOldest old new
+  pub cuts : MayCut old → Rises old.scan.cut new.scan.cut
+  pub less : MayGoOn old → work_in new < work_in old

@@ -1,15 +1,16 @@
-//! A turn, and turn after turn until every query is answered.
-ghost use Rattle.std.specs.Prelude.{◌≡◌, ◌↔◌, ◌<◌, IsTrue, OnErr, OnOk};
-ghost use Rattle.core_state.specs.Events.{MayCut};
+//! A turn, and turn after turn until every query is answered. Each step takes events of some kinds,
+//! as long as one may come.
+ghost use Rattle.std.specs.Prelude.{◌≡◌, ◌↔◌, ◌<◌, All, IfSome, IsTrue, OnErr, OnOk, false, true};
+ghost use Rattle.core_state.specs.Events.{IsEnabled};
+ghost use Rattle.core_state.specs.declared.event.Event.{Event};
 ghost use Rattle.event_core.specs.Chosen.{AreIdle};
 ghost use Rattle.event_core.specs.Parts.{beside_of};
 ghost use Rattle.event_core.specs.Seen.{state_of};
-ghost use Rattle.event_core.specs.Took.{IsLed};
-ghost use Rattle.core_driver.specs.Driven.{Admits, AdmitsOldest, AnswersAll, CutsAll, IsDriven, IsFinished, IsLanded, IsOfLanding, IsOfRound, IsRound, IsSettled, IsTurn, IsWholeTurn, LandsAndTurns, MayClear, MayGoOn, OrdersFilters, Rises};
+ghost use Rattle.event_core.specs.Took.{IsLed, Took};
+ghost use Rattle.core_driver.specs.Driven.{Admits, CutsAll, FinishesAll, IsDriven, IsLanded, IsOfLanding, IsOfRound, IsOfSome, IsRound, IsTurn, IsWholeTurn, MayClear, MayGoOn, MayWantOne, NeverWants, NoneOfMayCome, OrdersFilters, StaysIdle};
 ghost use Rattle.core_driver.specs.Lap.{SharesLap};
-ghost use Rattle.core_driver.specs.Work.{TookSome, work_in};
+ghost use Rattle.core_driver.specs.Work.{BringsOn, CutsMore, TookSome, work_in};
 
-use crate::taking::{next_of, take_all, try_take_all};
 use core_state::{Event, every_step_keeps_a_core_sound};
 use event_core::{Core, EventKind, every_core_is_sound};
 use star_values::NoMemory;
@@ -38,18 +39,11 @@ const GOING_ON: [EventKind; 4] = [
 /// events before that leave it.
 pub fn turn<R: Threads + Sync>(rt: &R, core: &mut Core) -> Result<(), NoMemory>
     requires { AreIdle (state_of core.old) }
-    ensures driven { IsLed IsDriven (state_of core.old) (state_of core.new) }
     ensures turn { IsTurn (state_of core.old) (state_of core.new) }
     ensures whole { OnOk result (IsWholeTurn (state_of core.old) (state_of core.new)) }
-    ensures settled { OnOk result (IsSettled (state_of core.new)) }
-    ensures admits { AdmitsOldest (state_of core.old) (state_of core.new) }
-    ensures cuts { MayCut (state_of core.old) →
-        Rises (state_of core.old).scan.cut (state_of core.new).scan.cut }
-    ensures less { MayGoOn (state_of core.old) →
-        work_in (state_of core.new) < work_in (state_of core.old) }
+    ensures on { BringsOn (state_of core.old) (state_of core.new) }
     ensures memory { OnErr result (MayClear (state_of core.new)) }
-    ensures idle { AreIdle (state_of core.new) }
-    ensures beside { beside_of core.new ≡ beside_of core.old }
+    ensures stays { StaysIdle core.old core.new }
 {
     // Both are called for what they ensure.
     every_step_keeps_a_core_sound();
@@ -65,13 +59,10 @@ pub fn turn<R: Threads + Sync>(rt: &R, core: &mut Core) -> Result<(), NoMemory>
 pub fn finish_all<R: Threads + Sync>(rt: &R, core: &mut Core) -> Result<(), NoMemory>
     requires { AreIdle (state_of core.old) }
     ensures driven { IsLed IsDriven (state_of core.old) (state_of core.new) }
-    ensures turns { OnOk result (LandsAndTurns (state_of core.old) (state_of core.new)) }
-    ensures finished { OnOk result (IsFinished (state_of core.new)) }
-    ensures answers { OnOk result (AnswersAll (state_of core.old) (state_of core.new)) }
+    ensures finishes { OnOk result (FinishesAll (state_of core.old) (state_of core.new)) }
     ensures lap { SharesLap (state_of core.old) (state_of core.new) }
     ensures memory { OnErr result (MayClear (state_of core.new)) }
-    ensures idle { AreIdle (state_of core.new) }
-    ensures beside { beside_of core.new ≡ beside_of core.old }
+    ensures stays { StaysIdle core.old core.new }
 {
     // Both are called for what they ensure.
     every_step_keeps_a_core_sound();
@@ -87,8 +78,7 @@ pub fn finish_all<R: Threads + Sync>(rt: &R, core: &mut Core) -> Result<(), NoMe
 fn admit(core: &mut Core)
     ensures admits { Admits (state_of core.old) (state_of core.new) }
     ensures some { TookSome (state_of core.old) (state_of core.new) }
-    ensures idle { AreIdle (state_of core.old) → AreIdle (state_of core.new) }
-    ensures beside { beside_of core.new ≡ beside_of core.old }
+    ensures stays { StaysIdle core.old core.new }
 {
     take_all(core, &ADMISSION);
 }
@@ -99,14 +89,9 @@ fn go_round<R: Threads + Sync>(rt: &R, core: &mut Core) -> Result<(), NoMemory>
     requires { AreIdle (state_of core.old) }
     ensures led { IsLed IsOfRound (state_of core.old) (state_of core.new) }
     ensures round { OnOk result (IsRound (state_of core.old) (state_of core.new)) }
-    ensures landed { OnOk result (IsLanded (state_of core.new)) }
-    ensures cuts { MayCut (state_of core.old) →
-        Rises (state_of core.old).scan.cut (state_of core.new).scan.cut }
-    ensures less { MayCut (state_of core.old) →
-        work_in (state_of core.new) < work_in (state_of core.old) }
+    ensures more { CutsMore (state_of core.old) (state_of core.new) }
     ensures memory { OnErr result (MayClear (state_of core.new)) }
-    ensures idle { AreIdle (state_of core.new) }
-    ensures beside { beside_of core.new ≡ beside_of core.old }
+    ensures stays { StaysIdle core.old core.new }
 {
     // Both are called for what they ensure.
     every_step_keeps_a_core_sound();
@@ -120,12 +105,8 @@ fn go_round<R: Threads + Sync>(rt: &R, core: &mut Core) -> Result<(), NoMemory>
 /// Cuts batches while a frame is free and a query runs.
 fn cut(core: &mut Core)
     ensures all { CutsAll (state_of core.old) (state_of core.new) }
-    ensures cuts { MayCut (state_of core.old) →
-        Rises (state_of core.old).scan.cut (state_of core.new).scan.cut }
-    ensures less { MayCut (state_of core.old) →
-        work_in (state_of core.new) < work_in (state_of core.old) }
-    ensures idle { AreIdle (state_of core.old) → AreIdle (state_of core.new) }
-    ensures beside { beside_of core.new ≡ beside_of core.old }
+    ensures more { CutsMore (state_of core.old) (state_of core.new) }
+    ensures stays { StaysIdle core.old core.new }
 {
     // Both are called for what they ensure.
     every_step_keeps_a_core_sound();
@@ -140,8 +121,7 @@ fn land<R: Threads + Sync>(rt: &R, core: &mut Core) -> Result<(), NoMemory>
     ensures led { IsLed IsOfLanding (state_of core.old) (state_of core.new) }
     ensures landed { OnOk result (IsLanded (state_of core.new)) }
     ensures memory { OnErr result (MayClear (state_of core.new)) }
-    ensures idle { AreIdle (state_of core.new) }
-    ensures beside { beside_of core.new ≡ beside_of core.old }
+    ensures stays { StaysIdle core.old core.new }
 {
     // Both are called for what they ensure.
     every_step_keeps_a_core_sound();
@@ -154,7 +134,7 @@ fn land<R: Threads + Sync>(rt: &R, core: &mut Core) -> Result<(), NoMemory>
 /// Orders the filters by their drop rates, where there are any.
 fn reorder(core: &mut Core)
     ensures orders { OrdersFilters (state_of core.old) (state_of core.new) }
-    ensures beside { beside_of core.new ≡ beside_of core.old }
+    ensures stays { StaysIdle core.old core.new }
 {
     // Before the fact table is declared there are no filters to order, and nothing has changed.
     let _ = core.step(Event::Reorder);
@@ -165,4 +145,68 @@ fn may_go_on(core: &Core) -> bool
     ensures { IsTrue result ↔ MayGoOn (state_of core.now) }
 {
     next_of(core, &GOING_ON).is_some()
+}
+
+/// Takes events of these kinds, none of which wants memory, as long as one of them may come.
+fn take_all(core: &mut Core, kinds: &[EventKind])
+    requires { All NeverWants kinds.now }
+    ensures led { IsLed (IsOfSome kinds.now) (state_of core.old) (state_of core.new) }
+    ensures none { NoneOfMayCome kinds.now (state_of core.new) }
+    ensures some { TookSome (state_of core.old) (state_of core.new) }
+    ensures stays { StaysIdle core.old core.new }
+{
+    // An event that finds no memory would be left, and those behind it: of
+    // these kinds there is none.
+    let _ = try_take_all(core, kinds);
+}
+
+/// Takes events of these kinds, as long as one of them may come. Where memory is wanted for one,
+/// those before it were taken.
+fn try_take_all(core: &mut Core, kinds: &[EventKind]) -> Result<(), NoMemory>
+    ensures led { IsLed (IsOfSome kinds.now) (state_of core.old) (state_of core.new) }
+    ensures none { OnOk result (NoneOfMayCome kinds.now (state_of core.new)) }
+    ensures some { TookSome (state_of core.old) (state_of core.new) }
+    ensures memory { OnErr result (MayWantOne kinds.now (state_of core.new)) }
+    ensures stays { StaysIdle core.old core.new }
+{
+    'events: while take_one(core, kinds)? {}
+    Ok(())
+}
+
+/// Takes an event of one of these kinds, and tells whether one might come. Where memory is wanted
+/// for it, it may still come.
+fn take_one(core: &mut Core, kinds: &[EventKind]) -> Result<bool, NoMemory>
+    ensures taken { result ≡ Ok true →
+        (event : Event)
+        × (IsOfSome kinds.now event × Took event (state_of core.old) (state_of core.new)) }
+    ensures less { result ≡ Ok true → work_in (state_of core.new) < work_in (state_of core.old) }
+    ensures none { result ≡ Ok false →
+        (core.new ≡ core.old) × NoneOfMayCome kinds.now (state_of core.old) }
+    ensures err { OnErr result (core.new ≡ core.old) }
+    ensures memory { OnErr result (MayWantOne kinds.now (state_of core.new)) }
+    ensures beside { beside_of core.new ≡ beside_of core.old }
+{
+    // It is called for what it ensures.
+    every_core_is_sound(core);
+    let Some(event) = next_of(core, kinds) else {
+        return Ok(false);
+    };
+    match core.step(event) {
+        Ok(()) => Ok(true),
+        Err(_) => Err(NoMemory),
+    }
+}
+
+/// An event of one of these kinds that may come, the first kinds first.
+fn next_of(core: &Core, kinds: &[EventKind]) -> Option<Event>
+    ensures kind { IfSome result (IsOfSome kinds.now) }
+    ensures enabled { IfSome result (IsEnabled (state_of core.now)) }
+    ensures none { result ≡ None → NoneOfMayCome kinds.now (state_of core.now) }
+{
+    for kind in kinds {
+        if let Some(event) = core.next_event(*kind) {
+            return Some(event);
+        }
+    }
+    None
 }

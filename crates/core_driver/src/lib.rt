@@ -2,6 +2,5 @@
 #![tactic(auto)]
 
 mod driver;
-mod taking;
 
 pub use driver::{finish_all, turn};

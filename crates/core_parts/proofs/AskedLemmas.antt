@@ -10,7 +10,7 @@ use Rattle.std.proofs.lemmas.List.Quantifiers.{position-Some}
 use Rattle.aggregations.specs.Grouped.{Grouped}
 use Rattle.star_values.proofs.PlaceLemmas.{refill-all}
 use Rattle.star_values.proofs.RisingLemmas.{RisesBy, changed_if, find-at, map-missing, map-written, missing-nowhere}
-use Rattle.core_parts.specs.Asked.{AreRising, AskedEntry, AskedQuery, IsNoneOf, asked_at, asked_in, handed_in, with_kept_at}
+use Rattle.core_parts.specs.Asked.{AreAskedRising, AskedEntry, AskedQuery, IsNoneOf, asked_at, asked_in, handed_in, with_kept_at}
 
 -- the number of a query
 abbrev pub number_of : AskedEntry → ℕ
@@ -36,7 +36,7 @@ abbrev pub place_in : List AskedEntry → (number : ℕ) → Option ℕ
 place_in entries number = position (λ entry. eqb entry.asked.number number) entries
 
 -- the numbers rise by place
-pub rising-entries : (entries : List AskedEntry) → AreRising (asked_in entries) → RisesBy number_of entries
+pub rising-entries : (entries : List AskedEntry) → AreAskedRising (asked_in entries) → RisesBy number_of entries
 rising-entries entries rising = λ j k d low within.
     let many : length (asked_in entries) ≡ length entries = length-map entries plain in
     let first : (get_or (asked_in entries) j d.asked).number ≡ (get_or entries j d).asked.number =
@@ -80,7 +80,7 @@ place-within entries place number d is =
     (there.0, eqb-true _ number there.1)
 
 -- is what is found of it
-pub found-place : (entries : List AskedEntry) (place number : ℕ) (d : AskedEntry) → AreRising (asked_in entries)
+pub found-place : (entries : List AskedEntry) (place number : ℕ) (d : AskedEntry) → AreAskedRising (asked_in entries)
     → Some place ≡ place_in entries number → asked_at (asked_in entries) number ≡ Some (get_or entries place d).asked
 found-place entries place number d rising is =
     let there = place-within entries place number d is in
@@ -89,7 +89,7 @@ found-place entries place number d rising is =
 
 -- what is written at a place of a number changes the one of the number alone
 pub written : (change : AskedEntry → AskedEntry) (entries : List AskedEntry) (place number : ℕ) (d new : AskedEntry)
-    → AreRising (asked_in entries) → Some place ≡ place_in entries number → new ≡ change (get_or entries place d)
+    → AreAskedRising (asked_in entries) → Some place ≡ place_in entries number → new ≡ change (get_or entries place d)
     → set entries place new ≡ map (changed_if number_of number change) entries
 written change entries place number d new rising is made =
     let there = place-within entries place number d is in
@@ -112,7 +112,7 @@ kept-written change kept keeps number (entry ∷ entries) =
 
 pub kept-at : (change : AskedEntry → AskedEntry) (kept : Option Grouped)
     → ((entry : AskedEntry) → (change entry).asked ≡ record entry.asked { kept = kept }) → (entries : List AskedEntry) (place number : ℕ)
-    (d new : AskedEntry) → AreRising (asked_in entries) → Some place ≡ place_in entries number → new ≡ change (get_or entries place d)
+    (d new : AskedEntry) → AreAskedRising (asked_in entries) → Some place ≡ place_in entries number → new ≡ change (get_or entries place d)
     → asked_in (set entries place new) ≡ with_kept_at number kept (asked_in entries)
 kept-at change kept keeps entries place number d new rising is made =
     ap asked_in (written change entries place number d new rising is made) ∙ kept-written change kept keeps number entries

@@ -12,7 +12,7 @@ use Rattle.pipeline_manager.specs.Lives.{Lives}
 use Rattle.star_values.specs.Faded.{Faded}
 use Rattle.star_values.proofs.PlaceLemmas.{find-holds, find-none}
 use Rattle.star_values.proofs.RisingLemmas.{IsMissing, find-missing, head_is_only, map-missing, tail_rises}
-use Rattle.core_parts.specs.Asked.{AreBare, AreFinished, AreRising, AskedEntry, AskedQueries, AskedQuery, HasBegun, IsNotAmong, IsOver, asked_at, asked_in, handed_in, with_kept_at}
+use Rattle.core_parts.specs.Asked.{AreBare, AreFinished, AreAskedRising, AskedEntry, AskedQueries, AskedQuery, HasBegun, IsNotAmong, IsQueryOver, asked_at, asked_in, handed_in, with_kept_at}
 use Rattle.core_parts.specs.LetGo.{IsDone, IsForgotten}
 use Rattle.core_parts.proofs.AskedLemmas.{handed-drop, plain}
 use Rattle.core_parts.proofs.GoneLemmas.{items-settled}
@@ -30,13 +30,13 @@ seen asked = record {
 }
 
 -- what rises rises behind the first of it
-rising-rest : (gone rest : List AskedQuery) → AreRising (gone ++ rest) → AreRising rest
+rising-rest : (gone rest : List AskedQuery) → AreAskedRising (gone ++ rest) → AreAskedRising rest
 rising-rest [] rest rising = rising
 rising-rest (first ∷ gone) rest rising = rising-rest gone rest (tail_rises number_of first (gone ++ rest) rising)
 
-pub rest-rises : (asked : Faded AskedEntry) (now : AskedQueries) → seen asked ≡ now → AreRising now.items → AreRising (asked_in asked.rest)
+pub rest-rises : (asked : Faded AskedEntry) (now : AskedQueries) → seen asked ≡ now → AreAskedRising now.items → AreAskedRising (asked_in asked.rest)
 rest-rises asked now is rising =
-    rising-rest (asked_in asked.gone) (asked_in asked.rest) (subst (λ (all : AskedQueries). AreRising all.items) (sym is) rising)
+    rising-rest (asked_in asked.gone) (asked_in asked.rest) (subst (λ (all : AskedQueries). AreAskedRising all.items) (sym is) rising)
 
 -- a query that is not among the first is found behind them
 found-behind : (gone rest : List AskedQuery) (number : ℕ) → IsNotAmong gone number → asked_at (gone ++ rest) number ≡ asked_at rest number
@@ -50,7 +50,7 @@ rest-found asked now number is apart =
     ∙ found-behind (asked_in asked.gone) (asked_in asked.rest) number (subst (λ (all : AskedQueries). IsNotAmong all.gone number) (sym is) apart)
 
 -- and one that is found behind them is not among them
-found-apart : (gone rest : List AskedQuery) (number : ℕ) (entry : AskedQuery) → AreRising (gone ++ rest) → asked_at rest number ≡ Some entry
+found-apart : (gone rest : List AskedQuery) (number : ℕ) (entry : AskedQuery) → AreAskedRising (gone ++ rest) → asked_at rest number ≡ Some entry
     → IsNotAmong gone number
 found-apart [] rest number entry rising found = refl
 found-apart (first ∷ gone) rest number entry rising found =
@@ -74,7 +74,7 @@ none-else None = refl
 none-else (Some entry) = refl
 
 -- what is kept beside a query is found behind those that were let go
-kept-behind : (gone rest : List AskedQuery) (number : ℕ) → AreRising (gone ++ rest) → AreBare gone
+kept-behind : (gone rest : List AskedQuery) (number : ℕ) → AreAskedRising (gone ++ rest) → AreBare gone
     → option_and_then (λ entry. entry.kept) (asked_at rest number) ≡ option_and_then (λ entry. entry.kept) (asked_at (gone ++ rest) number)
 kept-behind gone rest number rising bare = by_found (asked_at rest number) refl
   where
@@ -89,15 +89,15 @@ kept-behind gone rest number rising bare = by_found (asked_at rest number) refl
         ap (option_and_then (λ (entry : AskedQuery). entry.kept))
         (sym (found-behind gone rest number (found-apart gone rest number entry rising found) ∙ found))
 
-pub rest-kept : (asked : Faded AskedEntry) (now : AskedQueries) (number : ℕ) → seen asked ≡ now → AreRising now.items
+pub rest-kept : (asked : Faded AskedEntry) (now : AskedQueries) (number : ℕ) → seen asked ≡ now → AreAskedRising now.items
     → AreBare (asked_in asked.gone)
     → option_and_then (λ entry. entry.kept) (asked_at (asked_in asked.rest) number) ≡ option_and_then (λ entry. entry.kept) (asked_at now.items number)
 rest-kept asked now number is rising bare =
-    kept-behind (asked_in asked.gone) (asked_in asked.rest) number (subst (λ (all : AskedQueries). AreRising all.items) (sym is) rising) bare
+    kept-behind (asked_in asked.gone) (asked_in asked.rest) number (subst (λ (all : AskedQueries). AreAskedRising all.items) (sym is) rising) bare
     ∙ ap (λ (all : AskedQueries). option_and_then (λ (entry : AskedQuery). entry.kept) (asked_at all.items number)) is
 
 -- one beside which something is kept is found so
-pub kept-found : (asked : Faded AskedEntry) (now : AskedQueries) (number : ℕ) → seen asked ≡ now → AreRising now.items
+pub kept-found : (asked : Faded AskedEntry) (now : AskedQueries) (number : ℕ) → seen asked ≡ now → AreAskedRising now.items
     → AreBare (asked_in asked.gone) → IsSome (option_and_then (λ entry. entry.kept) (asked_at now.items number))
     → asked_at (asked_in asked.rest) number ≡ asked_at now.items number
 kept-found asked now number is rising bare some =
@@ -115,7 +115,7 @@ kept-found asked now number is rising bare some =
     by_found (Some entry) found has =
         sym found
         ∙ sym (found-behind gone rest number
-        (found-apart gone rest number entry (subst (λ (all : AskedQueries). AreRising all.items) (sym is) rising) found))
+        (found-apart gone rest number entry (subst (λ (all : AskedQueries). AreAskedRising all.items) (sym is) rising) found))
         ∙ ap (λ (all : AskedQueries). asked_at all.items number) is
 
 -- what is kept beside one that is not among the first is so of all
@@ -198,7 +198,7 @@ forgotten-items lives old new forgotten =
 pub forgotten-finished : (lives : Lives) (old new : Faded AskedEntry) → IsForgotten lives old new → AreFinished lives (seen old)
     → AreFinished lives (seen new)
 forgotten-finished lives old new forgotten finished = record {
-  over = all-asked (λ (entry : AskedQuery). IsOver lives entry.number) lives old new (λ entry done. done.over) forgotten finished.over;
+  over = all-asked (λ (entry : AskedQuery). IsQueryOver lives entry.number) lives old new (λ entry done. done.over) forgotten finished.over;
   begun = subst (λ list. All (HasBegun lives) (handed_in list)) (sym forgotten.rest)
       (handed-drop (HasBegun lives) forgotten.count old.rest finished.begun);
 }

@@ -1,5 +1,5 @@
 -- The accepted queries as the code holds them.
-use Rattle.std.specs.Prelude.{◌≡◌, ◌≢◌, ℕ, Bool, true, false, not, ◌==◌, ◌<◌, if◌then◌else◌, List, All, AllPairs, filter, find, map, Option, None, IsSomeAnd}
+use Rattle.std.specs.Prelude.{◌≡◌, ◌≢◌, ℕ, Bool, true, false, not, ◌==◌, ◌<◌, if◌then◌else◌, List, All, AllPairs, filter, find, map, Option, None, IsSome, IsSomeAnd}
 use Rattle.star_plan.specs.declared.star_query.StarQuery.{StarQuery}
 use Rattle.star_plan.specs.Test.{query_of}
 use Rattle.pipeline_manager.specs.Conditions.{is_open}
@@ -18,8 +18,8 @@ pub record AskedQuery : Type 0 where
   pub kept : Option Grouped
 
 -- each has a greater number than those before it
-abbrev pub AreRising : List AskedQuery → Type 0
-AreRising asked = AllPairs (λ entry later. entry.number < later.number) asked
+abbrev pub AreAskedRising : List AskedQuery → Type 0
+AreAskedRising asked = AllPairs (λ entry later. entry.number < later.number) asked
 
 -- the accepted query of a number
 abbrev pub asked_at : List AskedQuery → (number : ℕ) → Option AskedQuery
@@ -75,13 +75,20 @@ IsNotAmong asked number = asked_at asked number ≡ None
 abbrev pub IsNoneOf : List ℕ → (number : ℕ) → Type 0
 IsNoneOf numbers number = All (λ other. other ≢ number) numbers
 
+-- among accepted queries, each with a greater number than those before it, is that of this number,
+-- and it was not handed on
+pub record CanHandOn (number : ℕ) (asked : List AskedQuery) (handed : List ℕ) : Type 0 where
+  pub rising : AreAskedRising asked
+  pub there : IsSome (asked_at asked number)
+  pub whole : IsNoneOf handed number
+
 -- the query of this number was answered, spoiled or abandoned
-abbrev pub IsOver : Lives → (number : ℕ) → Type 0
-IsOver lives number = IsSomeAnd (life_of lives number) (λ life. is_open life ≡ false)
+abbrev pub IsQueryOver : Lives → (number : ℕ) → Type 0
+IsQueryOver lives number = IsSomeAnd (life_of lives number) (λ life. is_open life ≡ false)
 
 -- so were these
 abbrev pub AreOver : Lives → List AskedQuery → Type 0
-AreOver lives asked = All (λ entry. IsOver lives entry.number) asked
+AreOver lives asked = All (λ entry. IsQueryOver lives entry.number) asked
 
 -- whether a query is still to be given rows
 abbrev pub is_to_start : Life → Bool

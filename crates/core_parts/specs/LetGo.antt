@@ -2,12 +2,12 @@
 use Rattle.std.specs.Prelude.{◌≡◌, ℕ, ◌++◌, List, All, take, drop, None}
 use Rattle.pipeline_manager.specs.Lives.{Lives}
 use Rattle.star_values.specs.Faded.{Faded}
-use Rattle.core_parts.specs.Asked.{AskedEntry, IsOver}
+use Rattle.core_parts.specs.Asked.{AskedEntry, IsQueryOver}
 
 -- a query is over, and nothing is kept beside it
 pub record IsDone (lives : Lives) (entry : AskedEntry) : Type 0 where
   pub bare : entry.asked.kept ≡ None
-  pub over : IsOver lives entry.asked.number
+  pub over : IsQueryOver lives entry.asked.number
 
 -- so are all of these
 abbrev pub AreDone : Lives → List AskedEntry → Type 0

@@ -5,7 +5,7 @@ ghost use Rattle.std.specs.Arc.{arc_value};
 ghost use Rattle.std.specs.List.Sorted.{IsPartitionPoint};
 ghost use Rattle.std.specs.Option.{option_and_then, option_map_or};
 ghost use Rattle.core_parts.specs.LetGo.{AreDone, IsDone, IsForgotten};
-ghost use Rattle.core_parts.specs.Asked.{AreFinished, AreRising, IsNoneOf, IsNotAmong, IsOver, asked_at, asked_in, handed_in, with_kept_at};
+ghost use Rattle.core_parts.specs.Asked.{AreFinished, AreAskedRising, CanHandOn, IsNoneOf, IsNotAmong, IsQueryOver, asked_at, asked_in, handed_in, with_kept_at};
 
 use crate::accepted_query::AcceptedQuery;
 use aggregations::Groups;
@@ -87,7 +87,7 @@ impl Queries {
 
     /// The query of a number, which was not let go. It is whole unless it was handed on.
     pub fn asked_of(&self, number: u64) -> &AcceptedQuery
-        requires rising { AreRising self.now.items }
+        requires rising { AreAskedRising self.now.items }
         requires there { IsSome (asked_at self.now.items number) }
         requires stands { IsNotAmong self.now.gone number }
         ensures asked { asked_at self.now.items number ≡ Some result.now.asked }
@@ -98,7 +98,7 @@ impl Queries {
 
     /// The snapshot of the query of a number beside which something is kept.
     pub fn snapshot_of(&self, number: u64) -> u64
-        requires { AreRising self.now.items }
+        requires { AreAskedRising self.now.items }
         ensures { IsSome (option_and_then (λ entry. entry.kept) (asked_at self.now.items number)) →
             result ≡ option_map_or (λ entry. entry.snapshot) (asked_at self.now.items number) 0 }
     {
@@ -107,10 +107,8 @@ impl Queries {
 
     /// Hands the query of a number on, which was neither let go nor handed on before.
     pub fn hand_on(&mut self, number: u64) -> Arc<StarQuery, Global>
-        requires rising { AreRising self.old.items }
-        requires there { IsSome (asked_at self.old.items number) }
         requires stands { IsNotAmong self.old.gone number }
-        requires whole { IsNoneOf self.old.handed number }
+        requires can { CanHandOn number self.old.items self.old.handed }
         ensures query { IfSome (asked_at self.old.items number) (λ entry.
             arc_value result ≡ entry.query) }
         ensures items { self.new.items ≡ self.old.items }
@@ -122,7 +120,7 @@ impl Queries {
 
     /// Lets the query of a number go, which was not let go before, and what is kept beside it.
     pub fn give_up(&mut self, number: u64)
-        requires rising { AreRising self.old.items }
+        requires rising { AreAskedRising self.old.items }
         requires stands { IsNotAmong self.old.gone number }
         ensures items { self.new.items ≡ with_kept_at number None self.old.items }
         ensures gone { self.new.gone ≡ self.old.gone }
@@ -133,7 +131,7 @@ impl Queries {
 
     /// Keeps these groups, or none, beside the query of a number, which was not let go.
     pub fn keep(&mut self, number: u64, kept: Option<Groups>)
-        requires rising { AreRising self.old.items }
+        requires rising { AreAskedRising self.old.items }
         requires stands { IsNotAmong self.old.gone number }
         ensures { self.new ≡ record self.old { items = with_kept_at number kept self.old.items } }
     {
@@ -142,7 +140,7 @@ impl Queries {
 
     /// Takes what is kept beside the query of a number away, if something is.
     pub fn take_kept(&mut self, number: u64) -> Option<Groups>
-        requires { AreRising self.old.items }
+        requires { AreAskedRising self.old.items }
         ensures groups { result
             ≡ option_and_then (λ entry. entry.kept) (asked_at self.old.items number) }
         ensures left { self.new
@@ -162,7 +160,7 @@ impl Queries {
 
 /// The place of the accepted query of a number.
 fn place_of(asked: &[AcceptedQuery], number: u64) -> Option<usize>
-    requires { AreRising (asked_in asked.now) }
+    requires { AreAskedRising (asked_in asked.now) }
     ensures place { result ≡ position (λ entry. entry.asked.number == number) asked.now }
     ensures there { option_and_then (slice_get asked.now) result
         ≡ find (λ entry. entry.asked.number == number) asked.now }
@@ -177,7 +175,7 @@ fn place_of(asked: &[AcceptedQuery], number: u64) -> Option<usize>
 
 /// The place of the first query with this number or a greater one.
 fn first_from(asked: &[AcceptedQuery], number: u64) -> usize
-    requires { AreRising (asked_in asked.now) }
+    requires { AreAskedRising (asked_in asked.now) }
     ensures bound { result ≤ length asked.now }
     ensures halves { IsPartitionPoint (λ entry. entry.asked.number < number)
         (λ entry. number ≤ entry.asked.number) asked.now result }
@@ -187,7 +185,7 @@ fn first_from(asked: &[AcceptedQuery], number: u64) -> usize
 
 /// The accepted query of a number.
 fn asked_of(asked: &[AcceptedQuery], number: u64) -> &AcceptedQuery
-    requires rising { AreRising (asked_in asked.now) }
+    requires rising { AreAskedRising (asked_in asked.now) }
     requires there { IsSome (asked_at (asked_in asked.now) number) }
     ensures asked { asked_at (asked_in asked.now) number ≡ Some result.now.asked }
     ensures whole { IsNoneOf (handed_in asked.now) number → result.now.whole ≡ true }
@@ -198,7 +196,7 @@ fn asked_of(asked: &[AcceptedQuery], number: u64) -> &AcceptedQuery
 
 /// The snapshot of an accepted query, 0 where none has this number.
 fn snapshot_of(asked: &[AcceptedQuery], number: u64) -> u64
-    requires { AreRising (asked_in asked.now) }
+    requires { AreAskedRising (asked_in asked.now) }
     ensures { result
         ≡ option_map_or (λ entry. entry.snapshot) (asked_at (asked_in asked.now) number) 0 }
 {
@@ -210,9 +208,7 @@ fn snapshot_of(asked: &[AcceptedQuery], number: u64) -> u64
 
 /// Hands the query of a number on.
 fn hand_on(asked: &mut [AcceptedQuery], number: u64) -> Arc<StarQuery, Global>
-    requires rising { AreRising (asked_in asked.old) }
-    requires there { IsSome (asked_at (asked_in asked.old) number) }
-    requires whole { IsNoneOf (handed_in asked.old) number }
+    requires { CanHandOn number (asked_in asked.old) (handed_in asked.old) }
     ensures query { IfSome (asked_at (asked_in asked.old) number) (λ entry.
         arc_value result ≡ entry.query) }
     ensures length { length asked.new ≡ length asked.old }
@@ -225,7 +221,7 @@ fn hand_on(asked: &mut [AcceptedQuery], number: u64) -> Arc<StarQuery, Global>
 
 /// Lets the query of a number go, and what is kept beside it.
 fn give_up(asked: &mut [AcceptedQuery], number: u64)
-    requires { AreRising (asked_in asked.old) }
+    requires { AreAskedRising (asked_in asked.old) }
     ensures length { length asked.new ≡ length asked.old }
     ensures items { asked_in asked.new ≡ with_kept_at number None (asked_in asked.old) }
     ensures handed { All (Contains (number ∷ handed_in asked.old)) (handed_in asked.new) }
@@ -237,7 +233,7 @@ fn give_up(asked: &mut [AcceptedQuery], number: u64)
 
 /// Keeps these groups, or none, beside the query of a number.
 fn keep(asked: &mut [AcceptedQuery], number: u64, kept: Option<Groups>)
-    requires { AreRising (asked_in asked.old) }
+    requires { AreAskedRising (asked_in asked.old) }
     ensures length { length asked.new ≡ length asked.old }
     ensures items { asked_in asked.new ≡ with_kept_at number kept (asked_in asked.old) }
     ensures handed { handed_in asked.new ≡ handed_in asked.old }
@@ -249,7 +245,7 @@ fn keep(asked: &mut [AcceptedQuery], number: u64, kept: Option<Groups>)
 
 /// Takes what is kept beside the query of a number away, if something is.
 fn take_kept(asked: &mut [AcceptedQuery], number: u64) -> Option<Groups>
-    requires { AreRising (asked_in asked.old) }
+    requires { AreAskedRising (asked_in asked.old) }
     ensures groups { result
         ≡ option_and_then (λ entry. entry.kept) (asked_at (asked_in asked.old) number) }
     ensures length { length asked.new ≡ length asked.old }
@@ -302,7 +298,7 @@ fn is_done(asked: &AcceptedQuery, manager: &Manager) -> bool
 
 /// Whether a query was answered, spoiled or abandoned.
 fn is_over(number: u64, manager: &Manager) -> bool
-    ensures { IsTrue result → IsOver manager.now number }
+    ensures { IsTrue result → IsQueryOver manager.now number }
 {
     match manager.life(number) {
         None => false,

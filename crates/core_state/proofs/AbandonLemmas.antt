@@ -25,7 +25,7 @@ spoiled = record { kept = λ state accepted extent none. none; rostered = tt; ge
 
 -- a core is sound where a query has no answer, and its seats are
 sound-lost : (query : ℕ) (old lost : Life) (state : State) (seats : List Seat) → IsLost lost → life_in state.lives.queries query ≡ Some old
-    → managed.IsSound (record state.lives { queries = with_life query lost state.lives.queries }) → length seats ≡ length state.seats
+    → managed.AreSoundLives (record state.lives { queries = with_life query lost state.lives.queries }) → length seats ≡ length state.seats
     → StayTaken state.seats seats
     → AreSoundSeats (kept_anew state (forgotten query) (with_life query lost state.lives.queries) seats state.scan) → IsSound state
     → IsSound (kept_anew state (forgotten query) (with_life query lost state.lives.queries) seats state.scan)

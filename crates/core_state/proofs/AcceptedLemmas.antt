@@ -43,7 +43,7 @@ accepted-rising state queries rising i j d before low =
         ∙ get_or-map (λ e. e.query) state.lives.queries k none 0 low_lives
 
 -- who holds a slot has a life
-pub held-life : (lives : Lives) (slot query built : ℕ) → managed.IsSound lives → slot < length lives.slots
+pub held-life : (lives : Lives) (slot query built : ℕ) → managed.AreSoundLives lives → slot < length lives.slots
     → slot_at lives slot ≡ Held query built → IsSome (query_in lives.queries query)
 held-life lives slot query built sound there holds = by_found (query_in lives.queries query) (sound.held query)
   where

@@ -16,7 +16,7 @@ later state seats statement accepted queries = record state {
 }
 
 -- who holds a slot has a number that was given
-pub held-low : (state : State) → managed.IsSound state.lives → AreSoundQueries state → (slot query built : ℕ) → slot < length state.lives.slots
+pub held-low : (state : State) → managed.AreSoundLives state.lives → AreSoundQueries state → (slot query built : ℕ) → slot < length state.lives.slots
     → slot_at state.lives slot ≡ Held query built → query ≤ state.numbers.statement
 held-low state lives queries slot query built there holds =
     let asked = some-of (accepted_at state.accepted query)
@@ -55,7 +55,7 @@ query-later state seats statement accepted queries still above stay asked old =
 -- all that is sound beside the seats is so still, where the queries are and nothing was asked too soon
 pub beside-later : (state : State) (seats : List Seat) (statement : ℕ) (accepted : List Accepted) (queries : List QueryLife)
     → length seats ≡ length state.seats → Still state (later state seats statement accepted queries)
-    → AreSoundQueries (later state seats statement accepted queries) → managed.IsSound (record state.lives { queries = queries })
+    → AreSoundQueries (later state seats statement accepted queries) → managed.AreSoundLives (record state.lives { queries = queries })
     → IsQuietBefore (later state seats statement accepted queries) → IsSoundBeside state
     → IsSoundBeside (later state seats statement accepted queries)
 beside-later state seats statement accepted queries count still sound_queries lives quiet old = record {

@@ -80,8 +80,8 @@ sound-with_built query dimension slot built accepted state can sound there at ho
           let number : query ≡ holder = cc in
           subst (λ o. IfSome o (λ now. IsTrue (gets_rows now) → (other : ℕ) → Has state.lives.filters other → Has more other))
           (sym (subst (λ n. life_in state.lives.queries n ≡ Some life.Building) number can.building)) (λ gets other has. cc);
-      lives = subst (λ s. managed.IsSound (with_slot slot (with_dimension dimension s) state.lives)) holds
-          (subst (λ o. managed.IsSound (option_map_or (λ s. with_slot s (with_dimension dimension (slot_at state.lives s)) state.lives) o state.lives)) at
+      lives = subst (λ s. managed.AreSoundLives (with_slot slot (with_dimension dimension s) state.lives)) holds
+          (subst (λ o. managed.AreSoundLives (option_map_or (λ s. with_slot s (with_dimension dimension (slot_at state.lives s)) state.lives) o state.lives)) at
           (sound-after_built Has-with query dimension state.lives can sound.slots.lives));
       keeps = λ filter. refl;
       next = λ filter old same.

@@ -45,7 +45,7 @@ cleared-by slot dimension state sound (Clearing left) holds can =
           let both : Held entry.number on.held.0 ≡ Clearing left =
           sym on.held.1 ∙ subst (λ at. slot_at state.lives at ≡ Clearing left) (sym same) holds in cc;
       built = λ holder built is. absurd (let both : Clearing (without left (2 ^ dimension)) ≡ Held holder built = is in cc);
-      lives = subst (λ s. managed.IsSound (with_slot slot (without_dimension dimension s) state.lives)) holds
+      lives = subst (λ s. managed.AreSoundLives (with_slot slot (without_dimension dimension s) state.lives)) holds
           (sound-after_cleared Has-less slot dimension state.lives there sound.slots.lives);
       keeps = λ filter. refl;
       next = λ filter old same. cleared-next state slot (without left (2 ^ dimension)) filter old;

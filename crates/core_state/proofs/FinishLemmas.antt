@@ -1,7 +1,7 @@
 -- A slot that is taken from its query keeps a core sound.
 use Rattle.core_state.proofs.Words.{◌++◌, ◌<◌, ◌||◌, ◌↔◌, ◌∙◌, ◌∷◌, ◌≡◌, ◌≢◌, ◌≤◌, [], Accepted, after_finish, All, All-cons, All-contains, All-nil, ap, append-nil, AreSoundQueries, Bool, Clearing, cond, covered, eq-eqb, eqb, extent_in, false, FitsSlot, flat_map, Flight, Free, get_or, gets_rows, given_up, Has, Held, IfSome, inr, is_ending, is_on_roster, IsKept, IsOnRoster, IsPermutation, IsSound, IsTrue, kept_at, length, length-set, Life, life_in, life_in-other, List, list_any, MayBeOnRoster, MayFinish, None, Option, option_map_or, positions_for, QueryLife, range_with_len, refl, set, slice_get, slot_at, SlotState, Some, State, subst, sym, tables_of, true, versions_in, with_life, ℕ, ⊎_elim}
 use Rattle.std.proofs.Common.{find}
-use Rattle.pipeline_manager.specs.Conditions.{IsOver}
+use Rattle.pipeline_manager.specs.Conditions.{IsHolderOver}
 use Rattle.pipeline_manager.specs.Sound as managed
 use Rattle.pipeline_manager.specs.declared.life.Life.TheVariants as life
 use Rattle.pipeline_manager.proofs.EndLemmas.{sound-ended}
@@ -63,7 +63,7 @@ kept-finished slot query built state sound there holds landed accepted extent sa
 
 sound-given_up : (slot query built : ℕ) (state : State) (queries : List QueryLife) → slot < length state.lives.slots
     → slot_at state.lives slot ≡ Held query built → All (λ flight. is_on_roster slot flight ≡ false) state.scan.flights
-    → managed.IsSound (record state.lives { queries = queries; slots = set state.lives.slots slot (Clearing built) })
+    → managed.AreSoundLives (record state.lives { queries = queries; slots = set state.lives.slots slot (Clearing built) })
     → AreSoundQueries (held_now state queries (set state.lives.slots slot (Clearing built)) state.filters state.numbers.version)
     → StaysWanted state queries
     → ((other : ℕ) → other ≢ query → life_in queries other ≡ life_in state.lives.queries other)
@@ -114,7 +114,7 @@ ending-life (Some life.Ending) e = refl
 ending-life other e = cc
 
 sound-by_state : (slot : ℕ) (state : State) → MayFinish slot state → IsSound state → (holder : SlotState) → slot_at state.lives slot ≡ holder
-    → IsOver holder state.lives → IsSound (record state { lives = given_up slot holder state.lives })
+    → IsHolderOver holder state.lives → IsSound (record state { lives = given_up slot holder state.lives })
 sound-by_state slot state can sound Free holds over = absurd over
 sound-by_state slot state can sound (Clearing left) holds over = absurd over
 sound-by_state slot state can sound (Held query built) holds over =
@@ -123,7 +123,7 @@ sound-by_state slot state can sound (Held query built) holds over =
     there : slot < length state.lives.slots
     there = slot-there state.lives.slots slot (λ is. let both : Held query built ≡ Free = sym holds ∙ is in cc)
 
-    ended : managed.IsSound (given_up slot (Held query built) state.lives)
+    ended : managed.AreSoundLives (given_up slot (Held query built) state.lives)
     ended = sound-ended slot query built state.lives there holds over sound.slots.lives
 
     queries_of : Bool → List QueryLife
@@ -137,7 +137,7 @@ sound-by_state slot state can sound (Held query built) holds over =
     by_test true is =
         let was : life_in state.lives.queries query ≡ Some life.Ending = ending-life (life_in state.lives.queries query) is in
         sound-given_up slot query built state (with_life query life.Answered state.lives.queries) there holds can.landed
-        (subst (λ t. managed.IsSound (record state.lives { queries = queries_of t; slots = slots })) is ended)
+        (subst (λ t. managed.AreSoundLives (record state.lives { queries = queries_of t; slots = slots })) is ended)
         (queries-written state query life.Ending life.Answered slots state.filters state.numbers.version was
         (λ accepted extent same found was.
         kept-finished slot query built state sound there holds can.landed accepted extent same was.2 (was.1 refl) was.0)
@@ -146,7 +146,7 @@ sound-by_state slot state can sound (Held query built) holds over =
         (λ other apart. life_in-other state.lives.queries query other life.Answered apart) (extents-written query life.Answered state.lives.queries) sound
     by_test false is =
         sound-given_up slot query built state state.lives.queries there holds can.landed
-        (subst (λ t. managed.IsSound (record state.lives { queries = queries_of t; slots = slots })) is ended)
+        (subst (λ t. managed.AreSoundLives (record state.lives { queries = queries_of t; slots = slots })) is ended)
         (record { same = sound.queries.same; each = sound.queries.each }) (λ number. (λ h. h, λ h. h, λ h. h)) (λ other apart. refl)
         (λ other. refl) sound
 

@@ -35,7 +35,7 @@ pub held-there : (lives : Lives) (slot query built : ℕ) → slot_at lives slot
 held-there lives slot query built holds = slot-there lives.slots slot (λ is. let both : Free ≡ Held query built = sym is ∙ holds in cc)
 
 -- a query holds one slot at most
-pub one-slot : (lives : Lives) → managed.IsSound lives → (slot other query built rest : ℕ)
+pub one-slot : (lives : Lives) → managed.AreSoundLives lives → (slot other query built rest : ℕ)
     → slot_at lives slot ≡ Held query built → slot_at lives other ≡ Held query rest → slot ≡ other
 one-slot lives sound slot other query built rest holds also = same_Some slot other
     (sym (slot_of-holder lives slot query built sound (held-there lives slot query built holds) holds)
@@ -92,7 +92,7 @@ of-holds state slots slot number is = by_test (eqb (bit_at slots slot) 1) refl i
     by_test false has e = cc
 
 -- the queries of a set of slots are different
-pub fed-apart : (state : State) → managed.IsSound state.lives → (slots : ℕ) → AllPairs (λ query other. query ≢ other) (fed_in state slots)
+pub fed-apart : (state : State) → managed.AreSoundLives state.lives → (slots : ℕ) → AllPairs (λ query other. query ≢ other) (fed_in state slots)
 fed-apart state sound slots = found-apart (fed_of state slots) same (length state.lives.slots) 0
   where
     same : (a b number : ℕ) → fed_of state slots a ≡ Some number → fed_of state slots b ≡ Some number → a ≡ b
@@ -122,7 +122,7 @@ fed-among state slots slot number has is =
     list_any_at (λ other. eqb other number) (fed_in state slots) there.0 number there.1 (eq-eqb (get_or (fed_in state slots) there.0 number) number there.2)
 
 -- and that of another slot is not
-pub not-among : (state : State) → managed.IsSound state.lives → (slots slot number built : ℕ) → slot_at state.lives slot ≡ Held number built
+pub not-among : (state : State) → managed.AreSoundLives state.lives → (slots slot number built : ℕ) → slot_at state.lives slot ≡ Held number built
     → eqb (bit_at slots slot) 1 ≡ false → list_any (λ other. eqb other number) (fed_in state slots) ≡ false
 not-among state sound slots slot number built holds none =
     list_any_none (λ other. eqb other number) (fed_in state slots)

@@ -5,7 +5,8 @@ use Rattle.std.proofs.lemmas.Bool.{leb-true}
 use Rattle.std.proofs.lemmas.Simd.{map-map}
 use Rattle.std.proofs.lemmas.List.Sorted.{IsPermutation-map}
 use Rattle.star_plan.specs.Joined.{kept_of}
-use Rattle.core_state.proofs.PermutedLemmas.{filter-IsPermutation, filter_map-IsPermutation}
+use Rattle.core_state.proofs.PermutedLemmas.{filter_map-IsPermutation}
+use Rattle.star_plan.proofs.PermutationLemmas.{filter-IsPermutation}
 
 -- the kept rows come in the order of the rows
 kept-IsPermutation : (query : Query) (rows others : List Joined) → IsPermutation rows others → IsPermutation (kept_of query rows) (kept_of query others)

@@ -63,7 +63,7 @@ fits-beside state slot other before after beside apart (Clearing left) fits = λ
 
 -- what the next version of a filter has to give
 pub record IsNextVersion (state : State) (slot : ℕ) (now : SlotState) (before after : Filter) : Type 0 where
-  pub table : table.IsSound after
+  pub table : table.IsFilterTable after
   pub ascending : AreAscending after.stored
   pub beside : IsBeside slot before after
   pub fits : FitsSlot state.accepted (tables_of state) after slot now
@@ -94,7 +94,7 @@ pub record Versions (state : State) (slot dimension : ℕ) (now : SlotState) (ch
   pub off : (entry : OnRoster) → IsOnRoster state.lives state.accepted entry → entry.slot ≢ slot
   pub built : (holder built : ℕ) → now ≡ Held holder built → IfSome (life_in state.lives.queries holder)
       (λ life. IsTrue (gets_rows life) → (other : ℕ) → Has state.lives.filters other → Has built other)
-  pub lives : managed.IsSound (record state.lives { slots = set state.lives.slots slot now })
+  pub lives : managed.AreSoundLives (record state.lives { slots = set state.lives.slots slot now })
   pub keeps : (filter : Filter) → (change filter).dimension ≡ filter.dimension
   pub next : (filter : Filter) → IsSoundFilter state.accepted (tables_of state) state.lives.slots state.lives.filters filter → filter.dimension ≡ dimension → IsNextVersion state slot now filter (change filter)
   pub others : (filter : Filter) → IsSoundFilter state.accepted (tables_of state) state.lives.slots state.lives.filters filter → filter.dimension ≢ dimension → FitsSlot state.accepted (tables_of state) filter slot now

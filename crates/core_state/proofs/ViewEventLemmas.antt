@@ -2,7 +2,7 @@
 use Rattle.core_state.proofs.Words.{◌+◌, ◌<◌, ◌∙◌, ◌≡◌, ◌≢◌, [], accepted_at, after_build, after_build_wants, after_clear, after_finish, after_give, after_outcome, after_release, after_reserving, ap, arith, Bool, CanBuild, CanFree, cases_eq, Change, Clearing, cond, DimensionDeclared, false, Filter, forgotten, Free, get_or, get_or-set_other, get_or-set_same, gets_rows, given_up, grouped_of, Held, holder_of, inl, inr, is_ending, is_held_by, IsSound, length, length-set, Life, life_in, life_of, List, Lives, map, MayFinish, MayReserve, None, oldest-waits, Option, option_and_then, option_map_or, query_in, query_in-push_other, QueryLife, refl, set, slot_at, slot_of, SlotState, Some, start_at, start_in, State, subst, sym, true, versions_in, with_built, with_change, with_dimension, with_life, with_query, with_slot, with_version, without_dimension, ℕ, ⊎_elim}
 use Rattle.std.proofs.Common.{find}
 use Rattle.star_store.specs.Outcome as outcome
-use Rattle.pipeline_manager.specs.Conditions.{IsOver, gives_up}
+use Rattle.pipeline_manager.specs.Conditions.{IsHolderOver, gives_up}
 use Rattle.pipeline_manager.specs.declared.life.Life.TheVariants as life
 use Rattle.core_state.proofs.AskLemmas.{accepted-push}
 use Rattle.core_state.proofs.BesideLemmas.{held-low}
@@ -208,7 +208,7 @@ views-finish state slot sound may = by_slot (slot_at state.lives slot) refl may.
     ended : (built : ℕ) → List QueryLife → State
     ended built queries = record state { lives = record state.lives { queries = queries; slots = set state.lives.slots slot (Clearing built) } }
 
-    by_queries : (query built : ℕ) → slot_at state.lives slot ≡ Held query built → IsOver (Held query built) state.lives
+    by_queries : (query built : ℕ) → slot_at state.lives slot ≡ Held query built → IsHolderOver (Held query built) state.lives
         → (queries : List QueryLife) → OthersStay state (ended built queries) query → IsTakenFrom state (ended built queries) slot
     by_queries query built is over queries others =
         let low : slot < length state.lives.slots = held-there state.lives slot query built is in
@@ -227,13 +227,13 @@ views-finish state slot sound may = by_slot (slot_at state.lives slot) refl may.
           };
         }
 
-    by_test : (query built : ℕ) → slot_at state.lives slot ≡ Held query built → IsOver (Held query built) state.lives → (t : Bool)
+    by_test : (query built : ℕ) → slot_at state.lives slot ≡ Held query built → IsHolderOver (Held query built) state.lives → (t : Bool)
         → IsTakenFrom state (ended built (cond {A = List QueryLife} t (with_life query life.Answered state.lives.queries) state.lives.queries)) slot
     by_test query built is over true = by_queries query built is over (with_life query life.Answered state.lives.queries)
         (λ number apart. (query-other query life.Answered state.lives.queries number apart, refl))
     by_test query built is over false = by_queries query built is over state.lives.queries (λ number apart. (refl, refl))
 
-    by_slot : (now : SlotState) → slot_at state.lives slot ≡ now → IsOver now state.lives
+    by_slot : (now : SlotState) → slot_at state.lives slot ≡ now → IsHolderOver now state.lives
         → IsTakenFrom state (record state { lives = given_up slot now state.lives }) slot
     by_slot Free is over = absurd over
     by_slot (Held query built) is over = by_test query built is over (option_map_or is_ending (life_in state.lives.queries query) false)

@@ -55,7 +55,7 @@ FitsSlot accepted store filter slot (Clearing left) =
 -- asks for, nothing at other slots, and stores rows of its dimension alone
 pub record IsSoundFilter (accepted : List Accepted) (store : Store) (holders : List SlotState)
     (filters : ℕ) (filter : Filter) : Type 0 where
-  pub table : table.IsSound filter
+  pub table : table.IsFilterTable filter
   pub ascending : AreAscending filter.stored
   pub is_filter : Has filters filter.dimension
   pub slots : (slot : ℕ) → slot < length holders
@@ -123,7 +123,7 @@ pub record IsSoundBatch (words : ℕ) (store : Store) (lives : Lives) (accepted 
 -- query on the batch's roster, whatever became of the filter since
 pub record IsSoundTask (filters : ℕ) (store : Store) (flight : Flight)
     (filter : Filter) : Type 0 where
-  pub table : table.IsSound filter
+  pub table : table.IsFilterTable filter
   pub is_filter : Has filters filter.dimension
   pub not_passed : has_passed flight filter.dimension ≡ false
   pub encodes : All (λ entry. Encodes filter entry.slot entry.query entry.snapshot

@@ -160,7 +160,7 @@ pub record AreSoundQueries (state : State) : Type 0 where
 
 -- the slots and lives, and every filter is built for a query that runs or is ending
 pub record AreSoundSlots (state : State) : Type 0 where
-  pub lives : managed.IsSound state.lives
+  pub lives : managed.AreSoundLives state.lives
   pub count : length state.lives.slots ≡ state.settings.slots
   pub built : (slot query built : ℕ) → slot < length state.lives.slots
       → slot_at state.lives slot ≡ Held query built

@@ -15,14 +15,11 @@ ghost use Rattle.core_state.specs.Submitting.{after_abandoning, after_taking, gr
 ghost use Rattle.core_state.specs.declared.event.Event.{Event};
 ghost use Rattle.core_state.specs.declared.settings.RunSettings.{RunSettings};
 
-/// What a distributor of the core has at each slot, through the events: nothing of an empty core;
+/// What a distributor of the core has at a slot, where a query begins to get rows or ceases to:
 /// Start attaches the groups of no rows at the slot of a query that begins its lap, where nothing
 /// was; Finish and Abandon detach what the query of the slot had; what is detached as a query is
-/// answered is what the core keeps as its answer; the other events leave all as it is, also where
-/// memory is wanted for a filter, and so does a reply that is taken.
+/// answered is what the core keeps as its answer.
 pub fn a_distributor_follows_the_core()
-    ensures empty { (settings : RunSettings) →
-        attached_to (empty_core settings) ≡ replicate settings.slots None }
     ensures start { (state : State) (query slot : ℕ) (accepted : Accepted) → IsSound state →
         CanRun query state.lives → slot_of state.lives query ≡ Some slot →
         accepted_at state.accepted query ≡ Some accepted →
@@ -41,11 +38,22 @@ pub fn a_distributor_follows_the_core()
     ensures abandon { (state : State) (query : ℕ) → IsSound state → CanAbandon query state.lives →
         attached_to (after_abandoning query state)
         ≡ detached_for state.lives query (attached_to state) }
-    ensures others { (state : State) (event : Event) → IsSound state → IsEnabled state event →
+{}
+
+/// Every other event that folds no rows leaves what a distributor of the core has, also where
+/// memory is wanted for a filter, and so does a reply that is taken.
+pub fn other_events_leave_a_distributor()
+    ensures event { (state : State) (event : Event) → IsSound state → IsEnabled state event →
         LeavesAttached event →
         attached_to (after_event event state) ≡ attached_to state }
     ensures wants { (state : State) (query dimension : ℕ) → CanBuild query dimension state.lives →
         attached_to (after_build_wants query state) ≡ attached_to state }
     ensures taken { (state : State) (seat : ℕ) → IsSound state → IsSome (next_ready state seat) →
         attached_to (after_taking seat state) ≡ attached_to state }
+{}
+
+/// A new distributor has what that of an empty core has: nothing at any slot.
+pub fn a_new_distributor_is_that_of_an_empty_core()
+    ensures { (settings : RunSettings) →
+        attached_to (empty_core settings) ≡ replicate settings.slots None }
 {}

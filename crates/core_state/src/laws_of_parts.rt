@@ -28,9 +28,9 @@ use query_meaning::{accepted_histories_are_settled, key_numbers_are_found_by_key
 use star_plan::rows_fit_by_their_kinds;
 
 /// A scan that has what runs in the core, and tables with key numbers that are the core's: the scan
-/// may cut, some query runs in it, it cuts the positions and the batch that the core cuts, and has
-/// what runs in the core behind that cut.
-pub fn a_scan_cuts_what_the_core_cuts()
+/// may cut wherever the core may. Its queries may be asked of every version, a batch has room in a
+/// frame, and some query runs.
+pub fn a_scan_may_cut_where_the_core_may()
     ensures may { (state : State) (scan : Scanning) (keyed : KeyedStore) → IsSound state →
         IsScannedAs state scan →
         AreTablesOf state keyed →
@@ -43,6 +43,14 @@ pub fn a_scan_cuts_what_the_core_cuts()
     ensures runs { (state : State) (scan : Scanning) → MayCut state → IsSound state →
         IsScannedAs state scan →
         IsTrue (some_run scan.running) }
+{
+    accepted_histories_are_settled();
+    rows_fit_by_their_kinds();
+}
+
+/// Such a scan cuts the positions and the batch that the core cuts, and has what runs in the core
+/// behind that cut.
+pub fn a_scan_cuts_what_the_core_cuts()
     ensures range { (state : State) (scan : Scanning) (keyed : KeyedStore) → IsSound state →
         IsScannedAs state scan → AreTablesOf state keyed →
         (scanned.first_in (length keyed.versions) scan ≡ first_in state)
@@ -58,9 +66,7 @@ pub fn a_scan_cuts_what_the_core_cuts()
         IsScannedAs (after_cutting state)
         (scanned.after_cut (length keyed.versions) state.settings.batch scan) }
 {
-    accepted_histories_are_settled();
     key_numbers_are_found_by_keys();
-    rows_fit_by_their_kinds();
 }
 
 /// A query that starts in the core may start in the slot that it holds, and the scan has it as the

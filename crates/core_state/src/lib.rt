@@ -31,7 +31,10 @@ mod story;
 pub use event::Event;
 pub use laws::an_empty_core_is_sound;
 pub use laws_of_answers::{a_reply_that_may_be_taken_is_right, later_steps_change_no_answer};
-pub use laws_of_attached::a_distributor_follows_the_core;
+pub use laws_of_attached::{
+    a_distributor_follows_the_core, a_new_distributor_is_that_of_an_empty_core,
+    other_events_leave_a_distributor,
+};
 pub use laws_of_batches::{
     a_carried_batch_keeps_a_core_sound, a_distributed_batch_keeps_a_core_sound,
     a_given_batch_keeps_a_core_sound, a_taken_batch_keeps_a_core_sound,
@@ -47,8 +50,8 @@ pub use laws_of_hands::{
 pub use laws_of_order::a_new_order_keeps_a_core_sound;
 pub use laws_of_parts::{
     a_new_scan_is_that_of_an_empty_core, a_scan_cuts_what_the_core_cuts,
-    a_scan_starts_what_the_core_starts, a_scan_stops_what_the_core_stops,
-    other_events_leave_a_scan,
+    a_scan_may_cut_where_the_core_may, a_scan_starts_what_the_core_starts,
+    a_scan_stops_what_the_core_stops, other_events_leave_a_scan,
 };
 pub use laws_of_points::{a_beginning_of_what_was_sent_stands_alone, points_rise};
 pub use laws_of_queries::{
@@ -82,4 +85,9 @@ pub use laws_of_the_whole::{
     no_step_takes_a_statement_back, only_abandon_abandons,
 };
 pub use settings::RunSettings;
-pub use story::{batches_are_carried, two_filters_are_carried, two_queries_share_a_scan};
+pub use story::{
+    a_carried_batch_keeps_its_order, a_filter_clears_the_bits_of_one_query,
+    a_hand_keeps_the_versions_of_its_carry, batches_are_carried,
+    carried_batches_count_as_taken_ones, each_query_is_answered_behind_its_last_batch,
+    two_filters_are_carried, two_queries_share_a_scan,
+};

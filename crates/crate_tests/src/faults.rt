@@ -2,11 +2,11 @@
 ghost use Rattle.std.specs.Prelude.{◌≤◌};
 ghost use Rattle.script_run.specs.Home.{IsAtRest};
 
-use crate::served::{NEVER, SETTINGS, link_of};
+use crate::served::{NEVER, SETTINGS, host_of, link_of};
 use board_lock::BoardLock;
 use core_state::RunSettings;
 use event_core::Core;
-use script_run::{SeatFront, run_script};
+use script_run::{Host, SeatFront, run_script};
 use session_server::{SessionEnd, open_server, serve_session};
 use star_io::{ListSink, PairLink, PieceSource, RunEnd};
 use star_values::NoMemory;
@@ -107,9 +107,7 @@ enum Came {
 
 /// Runs a script with so many workers.
 fn end_of<R: Threads + Wait + Sync>(
-    rt: &R,
-    alloc: Global,
-    hash_keys: RandomState,
+    host: Host<&R>,
     workers: u32,
     source: &mut PieceSource,
     sink: &mut ListSink,
@@ -122,7 +120,7 @@ fn end_of<R: Threads + Wait + Sync>(
         batch: 1,
         seats: workers + 1,
     };
-    run_script(rt, alloc, hash_keys, settings, source, sink, &NoGate).end
+    run_script(host, settings, source, sink, &NoGate).end
 }
 
 /// What a run is that ended so, and wrote this of all replies, where a read after which these are
@@ -144,9 +142,7 @@ fn came_of(end: RunEnd, written: &[u8], all: &[u8], due: &[u8]) -> Came {
 /// What comes of a run of the steps whose call of this number fails: its source gives 7 bytes at
 /// once, and its sink takes 8.
 fn cut_at<R: Threads + Wait + Sync>(
-    rt: &R,
-    alloc: Global,
-    hash_keys: RandomState,
+    host: Host<&R>,
     workers: u32,
     side: Side,
     call: u64,
@@ -157,26 +153,28 @@ fn cut_at<R: Threads + Wait + Sync>(
         Side::Reads => (call, NEVER),
         Side::Writes => (NEVER, call),
     };
-    let all = replies_within(alloc, &STEPS, NEVER)?;
-    let due = replies_within(alloc, &STEPS, call.saturating_mul(PIECE))?;
-    let mut source = PieceSource::new(script_of(alloc, &STEPS)?, 7, [read].to_vec(alloc)?);
-    let mut sink = ListSink::new(alloc, 8, [write].to_vec(alloc)?);
-    let end = end_of(rt, alloc, hash_keys, workers, &mut source, &mut sink);
+    let all = replies_within(host.alloc, &STEPS, NEVER)?;
+    let due = replies_within(host.alloc, &STEPS, call.saturating_mul(PIECE))?;
+    let mut source = PieceSource::new(
+        script_of(host.alloc, &STEPS)?,
+        7,
+        [read].to_vec(host.alloc)?,
+    );
+    let mut sink = ListSink::new(host.alloc, 8, [write].to_vec(host.alloc)?);
+    let end = end_of(host, workers, &mut source, &mut sink);
     Ok(came_of(end, sink.bytes(), all.as_slice(), due.as_slice()))
 }
 
 /// Whether a run of the steps is cut at each of its calls in turn.
 fn are_cut<R: Threads + Wait + Sync>(
-    rt: &R,
-    alloc: Global,
-    hash_keys: RandomState,
+    host: Host<&R>,
     workers: u32,
     side: Side,
 ) -> Result<bool, AllocError>
     requires { workers ≤ 16 }
 {
     for call in 0..MOST_CALLS {
-        match cut_at(rt, alloc, hash_keys, workers, side, call)? {
+        match cut_at(host, workers, side, call)? {
             Came::Cut => {}
             Came::Whole => return Ok(call > 20),
             Came::Wrong => return Ok(false),
@@ -187,11 +185,11 @@ fn are_cut<R: Threads + Wait + Sync>(
 
 #[test]
 fn a_run_ends_at_each_read_and_at_each_write_that_fails(rt: HostRuntime) -> Result<(), Fail> {
-    let hash_keys = RandomState::new(&rt)?;
-    assert!(rt; are_cut(&rt, rt.alloc(), hash_keys, 0, Side::Reads)?);
-    assert!(rt; are_cut(&rt, rt.alloc(), hash_keys, 0, Side::Writes)?);
-    assert!(rt; are_cut(&rt, rt.alloc(), hash_keys, 2, Side::Reads)?);
-    assert!(rt; are_cut(&rt, rt.alloc(), hash_keys, 2, Side::Writes)?);
+    let host = host_of(&rt)?;
+    assert!(rt; are_cut(host, 0, Side::Reads)?);
+    assert!(rt; are_cut(host, 0, Side::Writes)?);
+    assert!(rt; are_cut(host, 2, Side::Reads)?);
+    assert!(rt; are_cut(host, 2, Side::Writes)?);
     Ok(())
 }
 

@@ -1,12 +1,12 @@
 //! Sessions through `serve`, each begun once the link of the one before was let go: what the
 //! earlier ones committed the later ones see, also behind one whose link fails.
-use crate::served::{NEVER, link_of};
+use crate::served::{NEVER, host_of, link_of};
 use crate::workers::{MOST_LOOKS, REPLIES, SCRIPT};
 use core_state::RunSettings;
+use script_run::Host;
 use session_server::serve;
 use star_io::{Door, Failed, Link, PairLink, ServeEnd, Sink, Source};
 use std::alloc::{AllocError, Global};
-use std::hash::RandomState;
 use std::sync::Wait;
 use std::sync::atomic::Ordering::SeqCst;
 use std::sync::atomic::{AtomicBool, AtomicU64};
@@ -247,45 +247,39 @@ fn add_links(
 
 /// Serves the four sessions, and says whether the door ended behind them and each was replied to.
 fn are_served<R: Threads + Wait + Sync>(
-    rt: &R,
-    alloc: Global,
-    hash_keys: RandomState,
+    host: Host<&R>,
     links: Vec<PairLink>,
     notes: &Notes,
 ) -> bool {
     let mut door = InTurn::new(links, notes);
-    let end = serve(rt, alloc, hash_keys, SETTINGS, 5432, 0, &mut door, &NoGate);
+    let end = serve(host, SETTINGS, 5432, 0, &mut door, &NoGate);
     end == ServeEnd::Ended && notes.are_right()
 }
 
 /// Serves the four sessions, of which the third has a link that fails at the read and at the write
 /// of these numbers.
 fn are_served_with<R: Threads + Wait + Sync>(
-    rt: &R,
-    alloc: Global,
-    hash_keys: RandomState,
+    host: Host<&R>,
     read_fault: u64,
     write_fault: u64,
     notes: &Notes,
 ) -> Result<bool, AllocError> {
-    let mut links = Vec::new(alloc);
-    add_links(alloc, &mut links, read_fault, write_fault)?;
-    Ok(are_served(rt, alloc, hash_keys, links, notes))
+    let mut links = Vec::new(host.alloc);
+    add_links(host.alloc, &mut links, read_fault, write_fault)?;
+    Ok(are_served(host, links, notes))
 }
 
 /// Whether all are served whichever read of the third link fails, or else whichever write: each in
 /// turn, until no call has the number.
 fn are_always_served<R: Threads + Wait + Sync>(
-    rt: &R,
-    alloc: Global,
-    hash_keys: RandomState,
+    host: Host<&R>,
     of_reads: bool,
 ) -> Result<bool, AllocError> {
     for number in 0..MOST_CALLS {
         let notes = Notes::new();
         let read_fault = if of_reads { number } else { NEVER };
         let write_fault = if of_reads { NEVER } else { number };
-        if !are_served_with(rt, alloc, hash_keys, read_fault, write_fault, &notes)? {
+        if !are_served_with(host, read_fault, write_fault, &notes)? {
             return Ok(false);
         }
         if !notes.failed.load(SeqCst) {
@@ -297,14 +291,8 @@ fn are_always_served<R: Threads + Wait + Sync>(
 
 #[test]
 fn sessions_see_what_those_before_them_committed(rt: HostRuntime) -> Result<(), Fail> {
-    let hash_keys = RandomState::new(&rt)?;
-    assert!(rt;
-        are_always_served(&rt, rt.alloc(), hash_keys, true)?,
-        "where a read fails"
-    );
-    assert!(rt;
-        are_always_served(&rt, rt.alloc(), hash_keys, false)?,
-        "where a write fails"
-    );
+    let host = host_of(&rt)?;
+    assert!(rt; are_always_served(host, true)?, "where a read fails");
+    assert!(rt; are_always_served(host, false)?, "where a write fails");
     Ok(())
 }

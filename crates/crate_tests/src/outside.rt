@@ -2,9 +2,9 @@
 //! go on, a connection, and a client that is served.
 use crate::workers::{MOST_LOOKS, REPLIES, SCRIPT};
 use core_state::RunSettings;
+use script_run::Host;
 use session_server::serve;
 use star_io::{Door, Failed, ServeEnd, Sink, Source, StdSink, StdSource, TcpDoor};
-use std::alloc::Global;
 use std::hash::RandomState;
 use std::io::{self, ErrorKind, Read, Write};
 use std::net::{Ipv4Addr, Net, Shutdown, TcpListener, TcpStream};
@@ -156,13 +156,11 @@ const SERVER: RunSettings = RunSettings {
 
 /// Serves the next connection that comes to a port.
 fn serve_one<R: Threads + Wait + Net<Listener = TcpListener, Stream = TcpStream> + Sync>(
-    rt: &R,
-    alloc: Global,
-    hash_keys: RandomState,
+    host: Host<&R>,
     port: u16,
 ) -> ServeEnd {
-    let mut door = TcpDoor::new(rt);
-    serve(rt, alloc, hash_keys, SERVER, port, 1, &mut door, &NoGate)
+    let mut door = TcpDoor::new(host.rt);
+    serve(host, SERVER, port, 1, &mut door, &NoGate)
 }
 
 #[test]
@@ -172,7 +170,15 @@ fn a_client_gets_its_replies(rt: HostRuntime) -> io::Result<()> {
     let (got, end) = join_mut(
         &rt,
         &mut || gets_replies(&rt, port),
-        &mut || serve_one(&rt, rt.alloc(), hash_keys, port),
+        &mut || {
+            let alloc = rt.alloc();
+            let host = Host {
+                rt: &rt,
+                alloc,
+                hash_keys,
+            };
+            serve_one(host, port)
+        },
     );
     assert_eq!(rt; end, ServeEnd::Ended);
     assert!(rt; got);

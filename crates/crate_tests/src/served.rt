@@ -1,5 +1,6 @@
 //! Connections, to which no stored run of a program comes.
 use core_state::RunSettings;
+use script_run::Host;
 use session_server::serve;
 use star_io::{
     ListDoor, ListSink, PairLink, PieceSource, ServeEnd, a_read_leaves_the_writes,
@@ -7,6 +8,8 @@ use star_io::{
 };
 use std::alloc::{AllocError, Global};
 use std::hash::RandomState;
+use std::io;
+use std::random::RandomSource;
 use std::test::Fail;
 use worker_gate::NoGate;
 
@@ -47,15 +50,23 @@ fn a_link_keeps_its_sides_apart(rt: HostRuntime) -> Result<(), Fail> {
     Ok(())
 }
 
+/// What the machine of a test gives to a run, with keys of hashes that are drawn at random.
+pub(crate) fn host_of<R: AllocGlobal + RandomSource>(rt: &R) -> io::Result<Host<&R>> {
+    Ok(Host {
+        rt,
+        alloc: rt.alloc(),
+        hash_keys: RandomState::new(rt)?,
+    })
+}
+
 #[test]
 fn connections_are_served_until_the_door_ends(rt: HostRuntime) -> Result<(), Fail> {
-    let alloc = rt.alloc();
-    let hash_keys = RandomState::new(&rt)?;
-    let mut links = Vec::new(alloc);
-    links.push(link_of(alloc, "wait\n", NEVER, NEVER)?)?;
-    let mut door = ListDoor::new(links, Vec::new(alloc));
+    let host = host_of(&rt)?;
+    let mut links = Vec::new(host.alloc);
+    links.push(link_of(host.alloc, "wait\n", NEVER, NEVER)?)?;
+    let mut door = ListDoor::new(links, Vec::new(host.alloc));
     assert_eq!(rt;
-        serve(&rt, alloc, hash_keys, SETTINGS, 5432, 0, &mut door, &NoGate),
+        serve(host, SETTINGS, 5432, 0, &mut door, &NoGate),
         ServeEnd::Ended
     );
     Ok(())

@@ -2,9 +2,10 @@
 //! one time, outside of the lock.
 ghost use Rattle.std.specs.Prelude.{◌≤◌};
 
+use crate::served::host_of;
 use core_state::RunSettings;
 use make_load::{MadeEnd, make_script, print_summary, run_made, summary};
-use script_run::{run_alone, run_script};
+use script_run::{Host, run_alone, run_script};
 use star_io::{ListSink, PieceSource, RunEnd};
 use star_values::{ByteText, NoMemory};
 use std::alloc::{AllocError, Global};
@@ -27,14 +28,7 @@ const BEGIN: &[u8] = b"summary statements 85 commits 18 answers 60 rows ";
 const SALES: u32 = 100_000;
 
 /// Whether the made workload of so many sales is told in this line by a run with so many workers.
-fn is_told<R: Threads + Wait + Sync>(
-    rt: &R,
-    alloc: Global,
-    hash_keys: RandomState,
-    workers: u32,
-    sales: u32,
-    line: &[u8],
-) -> bool
+fn is_told<R: Threads + Wait + Sync>(host: Host<&R>, workers: u32, sales: u32, line: &[u8]) -> bool
     requires workers { workers ≤ 16 }
     requires sales { sales ≤ 1000000 }
 {
@@ -44,24 +38,18 @@ fn is_told<R: Threads + Wait + Sync>(
         batch: 256,
         seats: workers + 1,
     };
-    let mut sink = ListSink::new(alloc, 1 << 16, Vec::new(alloc));
-    let end = run_made(rt, alloc, hash_keys, settings, 7, sales, &mut sink, &NoGate).end;
+    let mut sink = ListSink::new(host.alloc, 1 << 16, Vec::new(host.alloc));
+    let end = run_made(host, settings, 7, sales, &mut sink, &NoGate).end;
     end == MadeEnd::Clean && sink.bytes() == line
 }
 
 #[test]
 fn the_made_workload_is_told_in_a_line(rt: HostRuntime) -> Result<(), Fail> {
-    let hash_keys = RandomState::new(&rt)?;
+    let host = host_of(&rt)?;
     let line = LINE_OF_NONE.as_bytes();
-    assert!(rt;
-        is_told(&rt, rt.alloc(), hash_keys, 0, 0, line),
-        "without workers"
-    );
-    assert!(rt; is_told(&rt, rt.alloc(), hash_keys, 1, 0, line), "with one");
-    assert!(rt;
-        is_told(&rt, rt.alloc(), hash_keys, 8, 0, line),
-        "with eight"
-    );
+    assert!(rt; is_told(host, 0, 0, line), "without workers");
+    assert!(rt; is_told(host, 1, 0, line), "with one");
+    assert!(rt; is_told(host, 8, 0, line), "with eight");
     Ok(())
 }
 
@@ -95,22 +83,13 @@ fn line_alone(alloc: Global, hash_keys: RandomState) -> Result<ByteText, NoMemor
 
 #[test]
 fn the_large_made_workload_is_told_as_by_queries_alone(rt: HostRuntime) -> Result<(), Fail> {
-    let hash_keys = RandomState::new(&rt)?;
-    let line = line_alone(rt.alloc(), hash_keys)?;
+    let host = host_of(&rt)?;
+    let line = line_alone(host.alloc, host.hash_keys)?;
     let line = line.as_bytes();
     assert!(rt; line.starts_with(BEGIN));
-    assert!(rt;
-        is_told(&rt, rt.alloc(), hash_keys, 0, SALES, line),
-        "without workers"
-    );
-    assert!(rt;
-        is_told(&rt, rt.alloc(), hash_keys, 1, SALES, line),
-        "with one"
-    );
-    assert!(rt;
-        is_told(&rt, rt.alloc(), hash_keys, 8, SALES, line),
-        "with eight"
-    );
+    assert!(rt; is_told(host, 0, SALES, line), "without workers");
+    assert!(rt; is_told(host, 1, SALES, line), "with one");
+    assert!(rt; is_told(host, 8, SALES, line), "with eight");
     Ok(())
 }
 
@@ -209,9 +188,7 @@ impl Gate for ThreeAtOnce {
 
 /// Whether a run with two workers and a row in each batch, behind a gate, replies so to a source.
 fn replies_from<R: Threads + Wait + Sync>(
-    rt: &R,
-    alloc: Global,
-    hash_keys: RandomState,
+    host: Host<&R>,
     mut source: PieceSource,
     mut sink: ListSink,
     gate: &ThreeAtOnce,
@@ -222,27 +199,26 @@ fn replies_from<R: Threads + Wait + Sync>(
         batch: 1,
         seats: 3,
     };
-    let end = run_script(rt, alloc, hash_keys, settings, &mut source, &mut sink, gate).end;
+    let end = run_script(host, settings, &mut source, &mut sink, gate).end;
     end == RunEnd::Clean && sink.bytes() == REPLIES.as_bytes()
 }
 
 /// Whether it replies so to the script.
 fn replies<R: Threads + Wait + Sync>(
-    rt: &R,
-    alloc: Global,
-    hash_keys: RandomState,
+    host: Host<&R>,
     gate: &ThreeAtOnce,
 ) -> Result<bool, AllocError> {
-    let script = SCRIPT.as_bytes().to_vec(alloc)?;
-    let source = PieceSource::new(script, 4096, Vec::new(alloc));
-    let sink = ListSink::new(alloc, 4096, Vec::new(alloc));
-    Ok(replies_from(rt, alloc, hash_keys, source, sink, gate))
+    let script = SCRIPT.as_bytes().to_vec(host.alloc)?;
+    let source = PieceSource::new(script, 4096, Vec::new(host.alloc));
+    let sink = ListSink::new(host.alloc, 4096, Vec::new(host.alloc));
+    Ok(replies_from(host, source, sink, gate))
 }
 
 #[test]
 fn the_front_and_two_workers_pass_batches_at_one_time(rt: HostRuntime) -> Result<(), Fail> {
     let gate = ThreeAtOnce::new();
-    assert!(rt; replies(&rt, rt.alloc(), RandomState::new(&rt)?, &gate)?);
+    let host = host_of(&rt)?;
+    assert!(rt; replies(host, &gate)?);
     assert!(rt; !gate.failed.load(SeqCst), "some batch was alone");
     Ok(())
 }

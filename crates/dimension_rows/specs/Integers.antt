@@ -7,14 +7,15 @@ use Rattle.star_values.specs.First.{AreIntegerColumns, AreCodeColumns}
 use Rattle.dimension_rows.specs.declared.dimension_row.DimensionRow.{DimensionRow}
 
 -- the first rows have these integers in a column
-pub record AreFirst (rows : List DimensionRow) (column : ℕ) (integers : List ℤ) : Type 0 where
+pub record HaveFirstIntegers (rows : List DimensionRow) (column : ℕ) (integers : List ℤ)
+    : Type 0 where
   pub few : length integers ≤ length rows
   pub each : (place : ℕ) (entry : DimensionRow) → place < length integers
       → slice_get rows place ≡ Some entry
       → slice_get entry.row column ≡ Some (Int (slice_index_or integers place (pos 0)))
 
 -- the first rows have values of these codes in a column
-pub record AreFirstCodes (rows : List DimensionRow) (column : ℕ) (codes : List ℕ) : Type 0 where
+pub record HaveFirstCodes (rows : List DimensionRow) (column : ℕ) (codes : List ℕ) : Type 0 where
   pub few : length codes ≤ length rows
   pub each : (place : ℕ) (entry : DimensionRow) → place < length codes
       → slice_get rows place ≡ Some entry

@@ -1,15 +1,13 @@
 //! The parts that rows, their index and their columns consist of, and how one
 //! more row goes into each.
-ghost use Rattle.std.specs.Prelude.{◌≡◌, ℕ, ◌≤◌, ◌<◌, ◌+◌, [], ◌∷◌, ◌++◌, List, length, nat_eq, IsSome, IfSome, None, OnOk};
-ghost use Rattle.std.specs.HashMap.{get, spare};
+ghost use Rattle.std.specs.Prelude.{◌≡◌, ℕ, [], ◌∷◌, ◌++◌, List, length, OnOk};
 ghost use Rattle.std.specs.declared.random_state.RandomState.{RandomState};
 ghost use Rattle.dimension_rows.specs.Integers.{AreColumns};
-ghost use Rattle.dimension_rows.specs.Keys.{key_of, index_of};
 ghost use Rattle.dimension_rows.specs.declared.dimension_row.DimensionRow.{DimensionRow};
 ghost use Rattle.star_values.specs.First.{KeepCodes, KeepIntegers};
-ghost use Rattle.dimension_rows.specs.Parts.{AreIndexed, HaveRoom};
+ghost use Rattle.dimension_rows.specs.Parts.{HavePartsRoom, IsIndexed, MayFollow, PutsRow};
 
-use crate::dimension_row::{DimensionRow, MAX_DIMENSION_ROWS};
+use crate::dimension_row::DimensionRow;
 use crate::key_hash::row_hash;
 use star_values::{CodeColumns, IntegerColumns, ListWithRoom, NoMemory, Row};
 use std::collections::HashMap;
@@ -41,61 +39,56 @@ fn append_to_columns(
     of_integers.and(of_codes)
 }
 
+/// What rows are kept in: the rows themselves, the links by which a key is found, and the columns
+/// beside them.
+#[derive(Debug, Drop)]
+pub(crate) struct RowParts {
+    pub(crate) rows: ListWithRoom<DimensionRow>,
+    pub(crate) older: OlderRows,
+    pub(crate) newest: NewestRows,
+    pub(crate) integers: IntegerColumns,
+    pub(crate) codes: CodeColumns,
+}
+
 /// Puts a row behind all others, into the room that each part has, and its integers and
 /// the codes of its texts into the columns. An `Err` says that some of those found no
 /// memory, and nothing of the row.
 pub(crate) fn push_row(
     hash_keys: RandomState,
-    rows: &mut ListWithRoom<DimensionRow>,
-    older: &mut OlderRows,
-    newest: &mut NewestRows,
-    integers: &mut IntegerColumns,
-    codes: &mut CodeColumns,
+    parts: &mut RowParts,
     entry: DimensionRow,
 ) -> Result<(), NoMemory>
-    requires indexed { AreIndexed hash_keys rows.old.items older.old.items (get nat_eq newest.old) }
-    requires room { HaveRoom 1 rows.old.room older.old.room (spare newest.old) }
-    requires few { length rows.old.items < MAX_DIMENSION_ROWS }
-    requires key { IsSome (key_of entry.row) }
-    requires fresh { IfSome (key_of entry.row) (λ key. index_of rows.old.items key ≡ None) }
-    ensures items { rows.new.items ≡ rows.old.items ++ entry ∷ [] }
-    ensures indexed { AreIndexed hash_keys rows.new.items older.new.items (get nat_eq newest.new) }
-    ensures columns { AreColumns rows.old.items integers.old codes.old →
-        AreColumns rows.new.items integers.new codes.new }
-    ensures kept { OnOk result
-        (KeepIntegers (length rows.old.items) entry.row integers.old integers.new
-        × KeepCodes (length rows.old.items) entry.row codes.old codes.new) }
-    ensures rows_room { rows.new.room + 1 ≡ rows.old.room }
-    ensures older_room { older.new.room + 1 ≡ older.old.room }
-    ensures newest_room { spare newest.old ≤ spare newest.new + 1 }
+    requires indexed { IsIndexed hash_keys parts.old }
+    requires room { HavePartsRoom 1 parts.old }
+    requires follows { MayFollow parts.old.rows.items entry.row }
+    ensures puts { PutsRow hash_keys entry parts.old parts.new }
+    ensures columns { AreColumns parts.old.rows.items parts.old.integers parts.old.codes →
+        AreColumns parts.new.rows.items parts.new.integers parts.new.codes }
+    ensures kept { OnOk result (KeepIntegers (length parts.old.rows.items) entry.row
+        parts.old.integers parts.new.integers
+        × KeepCodes (length parts.old.rows.items) entry.row parts.old.codes parts.new.codes) }
 {
-    let before = rows.len();
-    let kept = append_to_columns(integers, codes, before, &entry.row);
-    let inserted: Result<Option<u32>, _> = newest.insert(
-        row_hash(hash_keys, &entry.row),
-        before as u32,
-    );
-    older.push_reserved(inserted.unwrap());
-    rows.push_reserved(entry);
+    let before = parts.rows.len();
+    let kept = append_to_columns(&mut parts.integers, &mut parts.codes, before, &entry.row);
+    let inserted: Result<Option<u32>, _> = parts
+        .newest
+        .insert(row_hash(hash_keys, &entry.row), before as u32);
+    parts.older.push_reserved(inserted.unwrap());
+    parts.rows.push_reserved(entry);
     kept
 }
 
 /// Makes room for this many more rows in each part. Where that fails, what each part has stays.
-pub(crate) fn reserve_rows(
-    rows: &mut ListWithRoom<DimensionRow>,
-    older: &mut OlderRows,
-    newest: &mut NewestRows,
-    more: usize,
-) -> Result<(), NoMemory>
-    ensures items { rows.new.items ≡ rows.old.items }
+pub(crate) fn reserve_rows(parts: &mut RowParts, more: usize) -> Result<(), NoMemory>
+    ensures items { parts.new.rows.items ≡ parts.old.rows.items }
+    ensures columns { (parts.new.integers ≡ parts.old.integers)
+        × (parts.new.codes ≡ parts.old.codes) }
     ensures indexed { (hash_keys : RandomState) →
-        AreIndexed hash_keys rows.old.items older.old.items (get nat_eq newest.old)
-        → AreIndexed hash_keys rows.new.items older.new.items (get nat_eq newest.new) }
-    ensures enough { OnOk result (HaveRoom more rows.new.room older.new.room (spare newest.new)) }
-    ensures grows { (room : ℕ) → HaveRoom room rows.old.room older.old.room (spare newest.old) →
-        HaveRoom room rows.new.room older.new.room (spare newest.new) }
+        IsIndexed hash_keys parts.old → IsIndexed hash_keys parts.new }
+    ensures enough { OnOk result (HavePartsRoom more parts.new) }
+    ensures grows { (room : ℕ) → HavePartsRoom room parts.old → HavePartsRoom room parts.new }
 {
-    newest.reserve(more)?;
-    older.reserve(more)?;
-    rows.reserve(more)
+    parts.newest.reserve(more)?;
+    parts.older.reserve(more)?;
+    parts.rows.reserve(more)
 }

@@ -15,7 +15,7 @@ use Rattle.event_core.proofs.SubmittedCoreLemmas.{Laws, becomes-after, new-numbe
 use Rattle.event_core.proofs.SubmittedSeatLemmas.{seats-known, seats-one, statement_of}
 
 -- a query that was not submitted holds no slot
-unheld : (lives : Lives) (query : ℕ) → managed.IsSound lives → IsNew query lives → slot_of lives query ≡ None
+unheld : (lives : Lives) (query : ℕ) → managed.AreSoundLives lives → IsNew query lives → slot_of lives query ≡ None
 unheld lives query sound new = by_place (slot_of lives query) refl
   where
     missing : life_in lives.queries query ≡ None

@@ -1,5 +1,5 @@
 -- Accepted queries of the parts and of the state that they stand for, and what is kept of them.
-use Rattle.event_core.proofs.Words.{◌<◌, ◌∙◌, ◌∷◌, ◌≡◌, ◌≢◌, [], Accepted, accepted_as, accepted_at, accepted_in, All, All-cons, All-head, All-map, All-nil, All-tail, ap, AreRising, arith, asked_at, AskedQuery, attached_for, attached_or, Bool, cases_eq, cond, eq-eqb, eqb, eqb-true, false, find-passes, forgotten, get_or, get_or-map, Grouped, IsCore, IsSome, length, List, Lives, map, ne_eqb, None, Option, option_map, Parts, query_of, QueryLife, refl, Some, subst, suc, sym, true, with_kept, with_kept_at, ℕ, ⊎_elim}
+use Rattle.event_core.proofs.Words.{◌<◌, ◌∙◌, ◌∷◌, ◌≡◌, ◌≢◌, [], Accepted, accepted_as, accepted_at, accepted_in, All, All-cons, All-head, All-map, All-nil, All-tail, ap, AreAskedRising, arith, asked_at, AskedQuery, attached_for, attached_or, Bool, cases_eq, cond, eq-eqb, eqb, eqb-true, false, find-passes, forgotten, get_or, get_or-map, Grouped, IsCore, IsSome, length, List, Lives, map, ne_eqb, None, Option, option_map, Parts, query_of, QueryLife, refl, Some, subst, suc, sym, true, with_kept, with_kept_at, ℕ, ⊎_elim}
 use Rattle.std.proofs.Math.ListN as lists
 use Rattle.pipeline_manager.specs.Sound as managed
 use Rattle.pipeline_manager.specs.declared.life.Life.TheVariants as life
@@ -46,7 +46,7 @@ numbers-seen lives attached (first ∷ asked) = ap (λ rest. first.number ∷ re
 
 -- the numbers of lives rise, and so do those of queries that have the same
 numbers-rise : (queries : List QueryLife) (asked : List AskedQuery) → managed.AreRising queries
-    → map (λ (entry : AskedQuery). entry.number) asked ≡ map (λ (entry : QueryLife). entry.query) queries → AreRising asked
+    → map (λ (entry : AskedQuery). entry.number) asked ≡ map (λ (entry : QueryLife). entry.query) queries → AreAskedRising asked
 numbers-rise queries asked rising same j k d low within =
     let many : length asked ≡ length queries =
     sym (lists.length-map asked number_of) ∙ ap length same ∙ lists.length-map queries query_of_life in
@@ -72,13 +72,13 @@ numbers-rise queries asked rising same j k d low within =
         ∙ get_or-map query_of_life queries place none d.number there
 
 -- the numbers of accepted queries rise
-pub asked-rise : (parts : Parts) → IsCore parts → AreRising parts.asked
+pub asked-rise : (parts : Parts) → IsCore parts → AreAskedRising parts.asked
 asked-rise parts core =
     numbers-rise parts.lives.queries parts.asked core.sound.slots.lives.rising
     (sym (numbers-seen parts.lives parts.attached parts.asked) ∙ core.sound.queries.same)
 
 -- where numbers rise, a number is that of one query alone
-pub found-alone : (asked : List AskedQuery) (query : ℕ) (entry : AskedQuery) → AreRising asked → asked_at asked query ≡ Some entry
+pub found-alone : (asked : List AskedQuery) (query : ℕ) (entry : AskedQuery) → AreAskedRising asked → asked_at asked query ≡ Some entry
     → All (λ other. other.number ≡ query → other ≡ entry) asked
 found-alone [] query entry rising found = All-nil (λ (other : AskedQuery). other.number ≡ query → other ≡ entry)
 found-alone (first ∷ asked) query entry rising found =

@@ -14,7 +14,7 @@ use Rattle.event_core.proofs.LivedLemmas.{IsSeenAs, QuietEventsLeave, becomes-li
 use Rattle.event_core.proofs.NextVersionLemmas.{has-few, has-present, is-present, with-next}
 
 -- the slot is there, and what it is cleared of is a filter
-to-clear : (lives : Lives) (slot dimension : ℕ) → managed.IsSound lives → CanClear slot dimension lives
+to-clear : (lives : Lives) (slot dimension : ℕ) → managed.AreSoundLives lives → CanClear slot dimension lives
     → (slot < length lives.slots) × Has lives.filters dimension
 to-clear lives slot dimension sound can = by_state (slot_at lives slot) refl can
   where

@@ -69,7 +69,7 @@ enough-of law state scan rows size sound same in_step can after entry found = by
 -- the lives of the queries may go on by a cut
 lives-cut : LeftLaw → (state : State) (scan : Scanning) (rows size : ℕ) → MayCut state → IsSound state → IsScannedAs state scan
     → AreInStep scan → CanCut rows size scan → first_in rows scan < end_in rows size scan
-    → conditions.CanCut (first_in rows scan) (end_in rows size scan - 1) state.lives
+    → conditions.CanCutRange (first_in rows scan) (end_in rows size scan - 1) state.lives
 lives-cut law state scan rows size may sound same in_step can after = record {
   running = may.running;
   in_order = omega arith;
@@ -91,10 +91,12 @@ pub can-cut-next : LeftLaw → (parts : Parts) → IsCore parts → MayCut (stat
     (end_in (length parts.tables.versions) parts.settings.batch parts.scan)
     → CanCutNext parts
 can-cut-next law parts core may can tests room runs nearest = record {
-  frame = some-inside parts.pool.inside may.frame;
-  words = subst (λ n. parts.settings.batch * (1 + KEYS_IN_A_ROW) ≤ n) (sym core.words) room;
-  scan = can.1;
-  tests = tests;
+  into = record {
+    frame = some-inside parts.pool.inside may.frame;
+    room = subst (λ n. parts.settings.batch * (1 + KEYS_IN_A_ROW) ≤ n) (sym core.words) room;
+    can = can.1;
+    tests = tests;
+  };
   runs = runs;
   first = nearest.after;
   last = nearest.last;

@@ -1,6 +1,6 @@
 -- The parts of a core where a slot is finished.
 use Rattle.event_core.proofs.Words.{◌∙◌, ◌≡◌, ◌≢◌, Accepted, accepted_as, accepted_at, accepted_in, after_end, after_finish, All, ap, asked_at, AskedQuery, attached_for, attached_or, attached_to, Becomes, cases_eq, Done, Event, false, Finish, finished, get_or, get_or_from_slice_get, Grouped, Held, held-accepted, held-there, IsCore, IsEnabled, IsKept, IsScannedAs, IsSome, IsSound, IsTrue, known_in, LeavesScan, Life, life_of, List, MayFinish, None, Option, option_map_or, Parts, reaches_in, refl, Scanning, set, slice_get, slot_at, slot_of-holder, Some, State, state_of, subst, sym, tables_of, true, unheld, with_kept_at, ℕ, ⊎_elim}
-use Rattle.pipeline_manager.specs.Conditions.{IsOver, gives_up}
+use Rattle.pipeline_manager.specs.Conditions.{IsHolderOver, gives_up}
 use Rattle.pipeline_manager.specs.declared.life.Life.TheVariants as life
 use Rattle.core_state.specs.Events.{after_event}
 use Rattle.core_state.specs.Submitting.{groups_in}
@@ -158,7 +158,7 @@ over-nothing : (parts : Parts) (slot query built : ℕ) → IsCore parts → May
     → slot_at parts.lives slot ≡ Held query built → life_of parts.lives query ≢ Some life.Ending
     → attached_for parts.lives parts.attached query ≡ None
 over-nothing parts slot query built core may holds apart =
-    by_life (life_of parts.lives query) refl (subst (λ now. IsOver now parts.lives) holds may.over)
+    by_life (life_of parts.lives query) refl (subst (λ now. IsHolderOver now parts.lives) holds may.over)
   where
     there : (asked : AskedQuery) × (asked_at parts.asked query ≡ Some asked)
     there = holder-asked parts slot query built core holds

@@ -1,6 +1,6 @@
 -- What is beside the state, and events leave: the workers to which batches are lent, where batches in flight change.
 use Rattle.event_core.proofs.Words.{◌++◌, ◌+◌, ◌∙◌, ◌∷◌, ◌≡◌, ◌≢◌, [], All, All-head, All-tail, ap, append-nil, arith, Bool, cond, cons_option, drop, false, filter_map, filter_map-append, Filters, Flight, flight_behind, is_none, lent_to, List, Lives, map, None, none-some, Option, option_map, Parts, passed_in, refl, Rows, same_Some, set, slice_get, Some, subst, suc, sym, take, true, zero, ℕ}
-use Rattle.event_core.specs.Lent.{IsHome}
+use Rattle.event_core.specs.Lent.{IsNotLent}
 use Rattle.shared_distributor.specs.Shared.{Lending}
 use Rattle.core_parts.specs.InFlight.{passed_through}
 use Rattle.core_parts.specs.Passed.{behind_all}
@@ -150,7 +150,7 @@ lent-passed filters flights new is =
         (ap (λ o. cond {A = Rows} (is_none o) (behind_all filters.versions filters.order flight.batch) flight.batch) held)
 
 -- the batch in the hand of a worker who is at home is not lent
-pub home-held : (worker : ℕ) (flights : List Flight) (place : ℕ) (one : IsHeldAt worker flights place) → IsHome worker (lent_to flights)
+pub home-held : (worker : ℕ) (flights : List Flight) (place : ℕ) (one : IsHeldAt worker flights place) → IsNotLent worker (lent_to flights)
     → one.flight.lent ≡ false
 home-held worker flights place one home = by_lent one.flight.lent refl
   where

@@ -7,7 +7,7 @@ use Rattle.std.proofs.lemmas.List.Folds.{find-append}
 use Rattle.pipeline_manager.proofs.LifeLemmas.{life_in-same, oldest-waits}
 use Rattle.pipeline_manager.specs.Changes.{cut_life, started}
 use Rattle.pipeline_manager.specs.declared.life.Life.TheVariants as life
-use Rattle.core_parts.specs.Asked.{AreOver, HasBegun, IsNoneOf, IsNotAmong, IsOver, is_to_start}
+use Rattle.core_parts.specs.Asked.{AreOver, HasBegun, IsNoneOf, IsNotAmong, IsQueryOver, is_to_start}
 use Rattle.core_state.proofs.SaysLemmas.{ended-cases, reserved-cases, says-cut, says-spoiled, says-written}
 use Rattle.core_state.proofs.WholeLivesLemmas.{IsOpenOr, StaysOver, lives-abandoned, lives-cut, lives-ended, lives-reserved, lives-same, lives-spoiled, lives-written, open-by, open-so, over-behind}
 
@@ -25,12 +25,12 @@ pub open-stands : (lives : Lives) (gone : List AskedQuery) (number : ℕ) → Ar
 open-stands lives [] number over may = refl
 open-stands lives (first ∷ gone) number over may =
     by_test (eqb first.number number) refl
-    (open-stands lives gone number (All-tail (λ (entry : AskedQuery). IsOver lives entry.number) first gone over) may)
+    (open-stands lives gone number (All-tail (λ (entry : AskedQuery). IsQueryOver lives entry.number) first gone over) may)
   where
     by_test : (t : Bool) → eqb first.number number ≡ t → IsNotAmong gone number
         → cond {A = Option AskedQuery} t (Some first) (asked_at gone number) ≡ None
     by_test true same behind = absurd (past-test is_open (life_of lives number)
-        (subst (IsOver lives) (eqb-true first.number number same) (All-head (λ (entry : AskedQuery). IsOver lives entry.number) first gone over)) may)
+        (subst (IsQueryOver lives) (eqb-true first.number number same) (All-head (λ (entry : AskedQuery). IsQueryOver lives entry.number) first gone over)) may)
     by_test false other behind = behind
 
 -- nor was one that is Building, and it was not handed on
@@ -71,7 +71,7 @@ pub finished-more : (old new : Lives) (was now : AskedQueries) → GoOn old.quer
     → (All (HasBegun new) was.handed → All (HasBegun new) now.handed) → AreFinished old was → AreFinished new now
 finished-more old new was now on gone handed finished = record {
   over = subst (AreOver new) (sym gone)
-      (All-weaker (λ (entry : AskedQuery). IsOver old entry.number) (λ (entry : AskedQuery). IsOver new entry.number)
+      (All-weaker (λ (entry : AskedQuery). IsQueryOver old entry.number) (λ (entry : AskedQuery). IsQueryOver new entry.number)
       (λ entry. stays-past old.queries new.queries entry.number on.over) was.gone finished.over);
   begun = handed (All-weaker (HasBegun old) (HasBegun new) on.begun was.handed finished.begun);
 }

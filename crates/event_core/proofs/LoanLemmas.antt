@@ -4,7 +4,7 @@ use Rattle.query_meaning.specs.Keyed.{KeyedStore}
 use Rattle.shared_distributor.specs.Shared.{Lending}
 use Rattle.core_parts.specs.InFlight.{passed_through}
 use Rattle.core_state.specs.State as state
-use Rattle.event_core.specs.Lent.{IsHome}
+use Rattle.event_core.specs.Lent.{IsNotLent}
 use Rattle.event_core.specs.Parts.{AreBacked, Beside, beside_of, Fixed, fixed_by, IsBacked, is_any_out, LeavesLoans, lent_as, lent_batches, LentBatch, Loan, loan_of}
 use Rattle.event_core.proofs.EventsHandLemmas.{IsHeldAt, is_in_hand}
 use Rattle.event_core.proofs.SparedLemmas.{contains-cases, contains-first, contains-more, contains-none}
@@ -111,7 +111,7 @@ beside-lent old new same seat = by_lending (get_or old.out seat None) refl
 -- Who has something out.
 
 -- a seat to which no batch is lent has nothing out
-home-batches : (worker : ℕ) (flights : List Flight) → IsHome worker (lent_to flights)
+home-batches : (worker : ℕ) (flights : List Flight) → IsNotLent worker (lent_to flights)
     → (batch : LentBatch) → Contains (lent_batches flights) batch → batch.worker ≢ worker
 home-batches worker [] home batch has = absurd (contains-none batch has)
 home-batches worker (flight ∷ flights) home batch has =
@@ -128,7 +128,7 @@ home-batches worker (flight ∷ flights) home batch has =
     lent_by : Bool → Option state.Hand → Option ℕ
     lent_by t o = cond {A = Option ℕ} t (option_map (λ (hand : state.Hand). hand.worker) o) None
 
-    behind : (o : Option ℕ) → All (λ other. other ≢ worker) (cons_option o (lent_to flights)) → IsHome worker (lent_to flights)
+    behind : (o : Option ℕ) → All (λ other. other ≢ worker) (cons_option o (lent_to flights)) → IsNotLent worker (lent_to flights)
     behind None all = all
     behind (Some one) all = All-tail (λ other. other ≢ worker) one (lent_to flights) all
 
@@ -145,7 +145,7 @@ home-batches worker (flight ∷ flights) home batch has =
     by_case later (inl is) = first flight.lent flight.hand is home
     by_case later (inr more) = later more
 
-pub home-none : (parts : Parts) (worker : ℕ) → AreBacked (beside_of parts) → IsHome worker (lent_to parts.flights)
+pub home-none : (parts : Parts) (worker : ℕ) → AreBacked (beside_of parts) → IsNotLent worker (lent_to parts.flights)
     → get_or parts.out worker None ≡ None
 home-none parts worker backed home = by_lending (get_or parts.out worker None) refl
   where

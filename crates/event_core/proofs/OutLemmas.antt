@@ -2,7 +2,7 @@
 use Rattle.event_core.proofs.Words.{◌<◌, ◌∙◌, ◌∷◌, ◌≡◌, [], after_end, after_reserve, after_spoil, All, All-cons, All-contains, All-head, All-nil, All-tail, ap, AreIdle, arith, AskedQuery, bit_at, Bool, Building, Clearing, cond, cons_option, eqb, eq-eqb, eqb-true, false, Flight, flight_as, flights_as, fold, Free, get_or, Has, Held, holder_of, holds-slot, IfSome, is_some, IsCore, KeyedStore, Known, known_in, length, lent_to, life_of, List, list_any_none, Lives, map, MayFinish, None, none-some, OnRoster, Option, option_map, option_map_or, Parts, Reach, reaches_in, refl, replicate, same_Some, set, slot_at, slot_of, SlotState, slots_of, Some, state_of, subst, suc, sym, true, with_life, with_slot, zero, ℕ}
 use Rattle.std.proofs.lemmas.List.{get_or_default}
 use Rattle.std.proofs.lemmas.List.Folds.{Any-from_list_any}
-use Rattle.shared_distributor.specs.Shared.{IsInside, Lending}
+use Rattle.shared_distributor.specs.Shared.{IsAllIn, Lending}
 use Rattle.pipeline_manager.specs.Changes.{after_built, given_up, with_dimension}
 use Rattle.pipeline_manager.specs.Lives.{oldest_waiting}
 use Rattle.core_parts.specs.InFlight.{passed_through}
@@ -41,7 +41,7 @@ clear-all slot flights clear = all-found lent_as (λ (batch : LentBatch). ¬ (Ha
     (λ k d low batch is. clear-lent slot (get_or flights k d) batch is (clear k d low))
 
 -- and it is not out
-pub not-out : (parts : Parts) (slot : ℕ) → AreBacked (beside_of parts) → AreClearOf slot parts.flights → IsInside slot parts.out
+pub not-out : (parts : Parts) (slot : ℕ) → AreBacked (beside_of parts) → AreClearOf slot parts.flights → IsAllIn slot parts.out
 not-out parts slot backed clear = λ k d low.
     by_lending k (get_or parts.out k None) (get_or parts.out k d) (get_or_default parts.out k None d low) (backed k)
   where
@@ -82,7 +82,7 @@ clear-rosters parts slot core none =
 
 -- a slot that may be taken from its query is not out
 pub finish-inside : (parts now : Parts) (slot : ℕ) → parts ≡ now → IsCore parts → MayFinish slot (state_of now) → AreBacked (beside_of parts)
-    → IsInside slot parts.out
+    → IsAllIn slot parts.out
 finish-inside parts now slot is core may backed =
     not-out parts slot backed (clear-rosters parts slot core
     (subst (λ (p : Parts). All (λ flight. is_on_roster slot flight ≡ false) (state_of p).scan.flights) (sym is) may.landed))
@@ -117,7 +117,7 @@ building-clear parts query slot asked starts = λ k d low.
 
 -- nor is one that a query holds which begins its lap
 pub start-inside : (parts : Parts) (query slot : ℕ) (asked : AskedQuery) → Starting parts query slot asked → AreBacked (beside_of parts)
-    → IsInside slot parts.out
+    → IsAllIn slot parts.out
 start-inside parts query slot asked starts backed =
     not-out parts slot backed (clear-rosters parts slot starts.core (building-clear parts query slot asked starts))
 

@@ -69,7 +69,7 @@ abbrev with_clearing : (slot built : ℕ) → Lives → Lives
 with_clearing slot built lives = record lives { slots = set lives.slots slot (Clearing built) }
 
 -- a query that held it holds none
-cleared-none : (lives : Lives) (slot query built : ℕ) → managed.IsSound lives → slot_at lives slot ≡ Held query built
+cleared-none : (lives : Lives) (slot query built : ℕ) → managed.AreSoundLives lives → slot_at lives slot ≡ Held query built
     → slot_of (with_clearing slot built lives) query ≡ None
 cleared-none lives slot query built sound holds = by_place (slot_of (with_clearing slot built lives) query) refl
   where
@@ -98,14 +98,14 @@ ended-slots : (lives : Lives) (slot query built : ℕ) → slot_at lives slot �
 ended-slots lives slot query built holds = ap (λ now. (given_up slot now lives).slots) holds
 
 -- nothing is attached for the query of a slot that is finished
-pub ended-here : (lives : Lives) (attached : List (Option Grouped)) (slot query built : ℕ) → managed.IsSound lives
+pub ended-here : (lives : Lives) (attached : List (Option Grouped)) (slot query built : ℕ) → managed.AreSoundLives lives
     → slot_at lives slot ≡ Held query built → attached_for (after_end slot lives) (set attached slot None) query ≡ None
 ended-here lives attached slot query built sound holds =
     ap (λ slots. attached_for (record lives { slots = slots }) (set attached slot None) query) (ended-slots lives slot query built holds)
     ∙ ap (at_place (set attached slot None)) (cleared-none lives slot query built sound holds)
 
 -- the others keep theirs
-pub ended-elsewhere : (lives : Lives) (attached : List (Option Grouped)) (slot query built : ℕ) → managed.IsSound lives
+pub ended-elsewhere : (lives : Lives) (attached : List (Option Grouped)) (slot query built : ℕ) → managed.AreSoundLives lives
     → slot_at lives slot ≡ Held query built → LeavesOthers lives (after_end slot lives) attached (set attached slot None) query
 ended-elsewhere lives attached slot query built sound holds number apart =
     ap (λ slots. attached_for (record lives { slots = slots }) (set attached slot None) number) (ended-slots lives slot query built holds)

@@ -94,7 +94,7 @@ module _ (lives : Lives) (scan : Scanning) (slots slot : ℕ) (now : Lives) (lef
   }
 
   -- a query that holds the slot, which is in the set
-  module _ (query : ℕ) (sound : managed.IsSound now) (there : slot < length lives.slots) (found : held_of now slots slot ≡ Some query) where
+  module _ (query : ℕ) (sound : managed.AreSoundLives now) (there : slot < length lives.slots) (found : held_of now slots slot ≡ Some query) where
     -- it holds the slot
     holds : (built : ℕ) × (slot_at now slot ≡ Held query built)
     holds = holder-held query (slot_at now slot) (in-set (eqb (bit_at slots slot) 1) (holder_of (slot_at now slot)) query found)

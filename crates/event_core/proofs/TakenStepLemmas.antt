@@ -1,13 +1,13 @@
 -- Events that were taken are steps of the core.
 use Rattle.std.specs.Prelude.{◌≡◌, ◌⊎◌, List, [], ◌∷◌, refl}
 use Rattle.event_core.proofs.Words.{after_event, after_step, Build, Distribute, Done, Event, inl, inr, IsEnabled, MayStep, State, Step, subst, TookAll, Wanting}
-use Rattle.event_core.specs.Took.{IsOf, IsSpoilt, StepsFor}
+use Rattle.event_core.specs.Took.{IsEventOf, IsSpoilt, StepsFor}
 
 -- a step of this event that may come and gives this state
 pub record StepFor (event : Event) (old new : State) : Type 0 where
   pub step : Step
   pub may : MayStep old step
-  pub is_of : IsOf event step
+  pub is_of : IsEventOf event step
   pub after : new ≡ after_step step old
 
 spoilt-step : (event : Event) (old new : State) → IsEnabled old event → IsSpoilt event old new → StepFor event old new

@@ -46,7 +46,7 @@ pub use Rattle.query_meaning.specs.History.{after_change, Change, store_of}
 pub use Rattle.query_meaning.specs.Keyed.{IsKeyed, KeyedStore, plain, plain_version}
 pub use Rattle.query_meaning.specs.Settled.{IsSettled}
 pub use Rattle.query_meaning.specs.Store.{empty_store, rows_in, Store}
-pub use Rattle.dimension_filter.specs.Changes.{filter_with, filter_without}
+pub use Rattle.dimension_filter.specs.Changes.{CanAdd, filter_with, filter_without}
 pub use Rattle.dimension_filter.specs.Filter.{Filter}
 pub use Rattle.continuous_scan.proofs.LapLemmas.{range_parts}
 pub use Rattle.continuous_scan.specs.Calls.{CanCut}
@@ -64,7 +64,7 @@ pub use Rattle.star_store.specs.declared.applied.Applied.TheVariants.{Changed}
 pub use Rattle.star_store.specs.declared.applied.ChangeKind.{ChangeKind}
 pub use Rattle.star_values.proofs.PlaceLemmas.{refill-all}
 pub use Rattle.core_parts.proofs.TurnLemmas.{first_of}
-pub use Rattle.core_parts.specs.Asked.{AreFinished, AreRising, asked_at, AskedQueries, AskedQuery, known_in, with_kept, with_kept_at}
+pub use Rattle.core_parts.specs.Asked.{AreFinished, AreAskedRising, asked_at, AskedQueries, AskedQuery, known_in, with_kept, with_kept_at}
 pub use Rattle.core_parts.specs.Filters.{next_of, plus, with_new}
 pub use Rattle.core_parts.specs.Flights.{entry_by, flight_as, flights_as, passed_in, roster_by, Through, Wants}
 pub use Rattle.core_parts.specs.InFlight.{passed_by}
@@ -106,7 +106,7 @@ pub use Rattle.core_state.specs.declared.event.Event.TheVariants.{Abandon, Build
 pub use Rattle.core_state.specs.declared.settings.RunSettings.{RunSettings}
 pub use Rattle.event_core.specs.Changes.{abandoned, accepted, built, changed, cleared, cut_into, distributed, finished, first_parts, forgotten_at, given, logged, reordered, reserved, started, statements_at, submitted, taken, unbuilt, unheld, with_filters_for, with_first_filters}
 pub use Rattle.event_core.specs.Chosen.{AreIdle, IsPassing, NoneMayCome}
-pub use Rattle.event_core.specs.Core.{AreHolders, Becomes, CanAdd, CanCutNext, HasRoom, holders_in, IsCore, LeavesRest}
+pub use Rattle.event_core.specs.Core.{AreHolders, Becomes, CanCutNext, HasRoom, holders_in, IsCore, LeavesRest}
 pub use Rattle.event_core.specs.Parts.{Parts, parts_by}
 pub use Rattle.event_core.specs.Seen.{accepted_as, accepted_in, attached_for, attached_or, entries_as, state_of}
 pub use Rattle.event_core.specs.Taking.{kept_for, ready_with, snapshot_for}

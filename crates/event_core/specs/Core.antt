@@ -1,20 +1,17 @@
 -- What holds of the parts of every core.
-use Rattle.std.specs.Prelude.{◌≡◌, ◌≢◌, ℕ, ◌+◌, ◌-◌, ◌*◌, ◌<◌, ◌≤◌, List, [], length, filter_map, slice_index_or, All, None, IsSome, IsTrue, ◌==◌, if◌then◌else◌}
+use Rattle.std.specs.Prelude.{◌≡◌, ◌≢◌, ℕ, ◌+◌, ◌-◌, ◌*◌, ◌<◌, ◌≤◌, List, [], length, filter_map, slice_index_or, All, None, IsSome, IsTrue, true, ◌==◌, if◌then◌else◌}
 use Rattle.std.specs.Int.{bit_at}
 use Rattle.std.specs.List.{range_with_len}
 use Rattle.std.specs.Option.{option_map_or}
-use Rattle.bit_words.specs.Sets.{Has}
-use Rattle.star_values.specs.Value.{kinds_in}
 use Rattle.star_values.specs.Roomy.{Roomy}
-use Rattle.star_plan.specs.Fits.{selection_fits}
-use Rattle.star_plan.specs.Test.{Selection}
-use Rattle.dimension_rows.specs.declared.dimension_row.DimensionRow.{DimensionRow}
 use Rattle.batch_flow.specs.declared.batch.TheConstants.{KEYS_IN_A_ROW}
+use Rattle.fact_versions.specs.declared.version.Version.{Version}
+use Rattle.frame_pool.specs.Stock.{Stock}
 use Rattle.pipeline_manager.specs.Conditions as managed
 use Rattle.pipeline_manager.specs.Lives.{Lives, slot_at}
-use Rattle.dimension_filter.specs.Filter.{Filter, is_stored, vector_of}
 use Rattle.continuous_scan.specs.Calls.{CanCut}
 use Rattle.continuous_scan.specs.Range.{end_in, first_in, some_run}
+use Rattle.continuous_scan.specs.Scanning.{Scanning}
 use Rattle.continuous_scan.specs.Stamped.{CanTestAll}
 use Rattle.core_state.specs.Cutting.{frame_words}
 use Rattle.core_state.specs.Found.{holder_of}
@@ -24,6 +21,7 @@ use Rattle.core_state.specs.Settings.{frames_of}
 use Rattle.core_state.specs.Sound.{IsSound}
 use Rattle.core_state.specs.State.{State}
 use Rattle.core_state.specs.declared.settings.RunSettings.{RunSettings}
+use Rattle.core_parts.specs.Asked.{AskedEntry, AskedQueries}
 use Rattle.core_parts.specs.Lent.{Flight}
 use Rattle.event_core.specs.Parts.{Parts}
 use Rattle.event_core.specs.Seen.{attached_for, state_of}
@@ -51,16 +49,6 @@ pub record Becomes (parts : Parts) (after : State) : Type 0 where
   pub state : state_of parts ≡ after
   pub core : IsCore parts
 
--- a filter may have a query in a slot: no row has the slot, only rows of the dimension are stored,
--- and what the query takes may be asked of each of these
-pub record CanAdd (slot : ℕ) (selection : Selection) (rows : List DimensionRow)
-    (filter : Filter) : Type 0 where
-  pub few : slot < 64
-  pub clear_complement : ¬ (Has filter.complement slot)
-  pub clear : (key : ℕ) → ¬ (Has (vector_of filter key) slot)
-  pub within : (key : ℕ) → IsTrue (is_stored filter key) → key < length rows
-  pub fits : All (λ entry. IsTrue (selection_fits (kinds_in entry.row) selection)) rows
-
 -- for each slot the number of the query that holds it, and 0 where none does
 pub record AreHolders (lives : Lives) (holders : List ℕ) : Type 0 where
   pub count : length lives.slots ≤ length holders
@@ -68,21 +56,38 @@ pub record AreHolders (lives : Lives) (holders : List ℕ) : Type 0 where
       slice_index_or holders slot 0
       ≡ option_map_or (λ number. number) (holder_of (slot_at lives slot)) 0
 
--- a batch may be cut: a frame is free, and long enough; the scan and the lives of the queries
--- can go on by its positions
+-- a scan may cut a batch of this size off these versions, into a frame of the pool: one is free,
+-- and long enough
+pub record CanCutInto (size : ℕ) (versions : List Version) (scan : Scanning)
+    (pool : Stock) : Type 0 where
+  pub frame : pool.inside ≢ []
+  pub room : size * (1 + KEYS_IN_A_ROW) ≤ pool.words
+  pub can : CanCut (length versions) size scan
+  pub tests : All (CanTestAll scan.running) versions
+
+-- a batch may be cut: the scan may cut it, and the lives of the queries can go on by its positions
 pub record CanCutNext (parts : Parts) : Type 0 where
-  pub frame : parts.pool.inside ≢ []
-  pub words : parts.settings.batch * (1 + KEYS_IN_A_ROW) ≤ parts.pool.words
-  pub scan : CanCut (length parts.tables.versions) parts.settings.batch parts.scan
-  pub tests : All (CanTestAll parts.scan.running) parts.tables.versions
+  pub into : CanCutInto parts.settings.batch parts.tables.versions parts.scan parts.pool
   pub runs : IsTrue (some_run parts.scan.running)
   pub first : first_in (length parts.tables.versions) parts.scan
       < end_in (length parts.tables.versions) parts.settings.batch parts.scan
   pub last : end_in (length parts.tables.versions) parts.settings.batch parts.scan
       ≤ length parts.tables.versions
-  pub lives : managed.CanCut (first_in (length parts.tables.versions) parts.scan)
+  pub lives : managed.CanCutRange (first_in (length parts.tables.versions) parts.scan)
       (end_in (length parts.tables.versions) parts.settings.batch parts.scan - 1) parts.lives
   pub few : length parts.flights < frames_of parts.settings
+
+-- a query may be put behind the others that were accepted: room was made for it, it is whole, and
+-- its number is new
+pub record CanAccept (query : AskedEntry) (asked : AskedQueries) (lives : Lives) : Type 0 where
+  pub room : 0 < asked.room
+  pub whole : query.whole ≡ true
+  pub is_new : managed.IsNew query.asked.number lives
+
+-- which accepted queries were let go, and which were handed on, is left as it was
+pub record LeavesPast (old new : AskedQueries) : Type 0 where
+  pub gone : new.gone ≡ old.gone
+  pub handed : new.handed ≡ old.handed
 
 -- what holds of a core beside its state is left as it was
 pub record LeavesRest (old new : Parts) : Type 0 where

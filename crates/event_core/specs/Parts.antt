@@ -152,6 +152,12 @@ loan_of parts seat = option_map
 abbrev pub LeavesLoans : (seat : ℕ) → (old new : Parts) → Type 0
 LeavesLoans seat old new = (other : ℕ) → other ≢ seat → loan_of new other ≡ loan_of old other
 
+-- this is out with the seats then, and the tables and the marks are as they were
+pub record OutBecomes (lendings : List (Option Lending)) (old new : Parts) : Type 0 where
+  pub out : new.out ≡ lendings
+  pub tables : new.tables ≡ old.tables
+  pub marks : new.marks ≡ old.marks
+
 -- the marks of a core before its first event
 abbrev pub first_marks : Marks
 first_marks = record { closing = false; distributed = 0; waiting = false }

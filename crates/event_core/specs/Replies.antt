@@ -1,5 +1,5 @@
 -- What a reply that was taken is.
-use Rattle.std.specs.Prelude.{◌≡◌, ◌⊎◌, ℕ, List, find, option_map, Option, false}
+use Rattle.std.specs.Prelude.{◌≡◌, ◌⊎◌, ℕ, List, find, option_map, slice_get, Option, None, IfSome, IsSome, false}
 use Rattle.std.specs.Option.{option_map_or}
 use Rattle.star_plan.specs.Answer.{answer_of}
 use Rattle.star_plan.specs.Joined.{Joined}
@@ -10,8 +10,13 @@ use Rattle.reply_text.specs.declared.reply.Reply.TheVariants.{Memory}
 use Rattle.aggregations.specs.Grouped.{grouped_of}
 use Rattle.pipeline_manager.specs.Conditions.{is_open}
 use Rattle.pipeline_manager.specs.Lives.{Lives, life_of}
+use Rattle.core_state.specs.Answers.{IsRight}
+use Rattle.core_state.specs.Sound.{IsSound}
 use Rattle.core_state.specs.State.{Seat}
 use Rattle.core_state.specs.Submitting as state
+use Rattle.core_state.specs.Submitting.{after_taking, next_ready, seat_at}
+use Rattle.event_core.specs.Parts.{Parts, beside_of}
+use Rattle.event_core.specs.Seen.{state_of}
 use Rattle.event_core.specs.declared.replies.Ready.{Ready}
 use Rattle.event_core.specs.declared.replies.Ready.TheVariants.{Whole, Grouped}
 
@@ -27,6 +32,18 @@ IsReplyOf (Whole ready) reply = reply ≡ ready
 IsReplyOf (Grouped snapshot groups) reply = (reply ≡ Memory) ⊎
     ((query : Query) (rows : List Joined) → groups ≡ grouped_of query rows
     → reply ≡ answer_reply snapshot (answer_of query rows))
+
+-- what a call leaves that takes the next reply of a seat, and what it gives. Where the seat has
+-- none that may be taken, nothing has changed
+pub record TakesReply (seat : ℕ) (old new : Parts) (result : Option Ready) : Type 0 where
+  pub ready : option_map ready_of result ≡ next_ready (state_of old) seat
+  pub taken : IsSome result → state_of new ≡ after_taking seat (state_of old)
+  pub none : result ≡ None → new ≡ old
+  pub beside : beside_of new ≡ beside_of old
+  pub right : IfSome result (λ ready.
+      IfSome (slice_get (seat_at (state_of old) seat).pending 0) (λ pending.
+      IsRight (state_of old) pending.statement pending.awaited (ready_of ready)))
+  pub sound : IsSound (state_of new)
 
 -- the number of the first query that a seat waits for and that may still be answered
 abbrev pub first_open : Lives → Seat → Option ℕ

@@ -1,20 +1,23 @@
 -- What a core has become where it took an event.
-use Rattle.std.specs.Prelude.{◌≡◌, ◌≢◌, ◌↔◌, ◌⊎◌, List, [], ◌∷◌, ℕ, All, IsErrOf, IsTrue, OnErr, OnOk, Option, None, Some, Result}
+use Rattle.std.specs.Prelude.{◌≡◌, ◌≢◌, ◌↔◌, ◌⊎◌, List, [], ◌∷◌, ℕ, All, IsErrOf, IsSomeAnd, IsTrue, OnErr, OnOk, Option, None, Some, Result}
 use Rattle.script_reader.specs.declared.statement.Statement.{Statement}
 use Rattle.star_store.specs.Text.{may_change_tables, meaning_of}
 use Rattle.core_state.specs.Cutting.{after_give}
 use Rattle.core_state.specs.Events.{AreFed, IsEnabled, after_event, after_want}
+use Rattle.core_state.specs.Found.{held_by}
 use Rattle.core_state.specs.Sound.{IsSound}
 use Rattle.core_state.specs.State.{State}
 use Rattle.core_state.specs.Steps.{Step, Done, Wanting, Replying, MayStepAll, after_steps}
 use Rattle.core_state.specs.declared.event.Event.{Event}
 use Rattle.core_state.specs.declared.event.Event.TheVariants.{Submit, Build, Cut, Carry, Give, Distribute, Clear}
-use Rattle.event_core.specs.Parts.{Parts, beside_of}
+use Rattle.event_core.specs.Lent.{IsBlankWorkOf}
+use Rattle.event_core.specs.Parts.{LeavesLoans, Parts, beside_of, loan_of}
 use Rattle.event_core.specs.Seen.{state_of}
 use Rattle.event_core.specs.declared.stepping.StepFault.{StepFault}
 use Rattle.event_core.specs.declared.stepping.StepFault.TheVariants.{NotEnabled, Memory}
 use Rattle.event_core.specs.declared.stepping.SubmitFault.{SubmitFault}
 use Rattle.event_core.specs.declared.stepping.SubmitFault.TheVariants as submit
+use Rattle.event_core.specs.declared.work.BlankWork.{BlankWork}
 use Rattle.event_core.specs.declared.work.Folding.{Folding}
 
 -- at an event queries found no memory: the query that is built, or some of those
@@ -47,17 +50,17 @@ pub record IsLed (IsOne : Event → Type 0) (old new : State) : Type 0 where
   pub took : TookAll events old new
 
 -- the event of a step, if it is one
-abbrev pub IsOf : Event → Step → Type 0
-IsOf event (Done other) = other ≡ event
-IsOf event (Wanting other spoiled) = other ≡ event
-IsOf event (Replying seat) = ⊥
+abbrev pub IsEventOf : Event → Step → Type 0
+IsEventOf event (Done other) = other ≡ event
+IsEventOf event (Wanting other spoiled) = other ≡ event
+IsEventOf event (Replying seat) = ⊥
 
 -- the steps are those of the events, in turn
 abbrev pub AreOf : List Event → List Step → Type 0
 AreOf [] [] = Unit {0}
 AreOf [] (step ∷ steps) = ⊥
 AreOf (event ∷ events) [] = ⊥
-AreOf (event ∷ events) (step ∷ steps) = IsOf event step × AreOf events steps
+AreOf (event ∷ events) (step ∷ steps) = IsEventOf event step × AreOf events steps
 
 -- steps of these events, each of which might come, lead from one state to the other
 abbrev pub StepsFor : List Event → (old new : State) → Type 0
@@ -75,6 +78,16 @@ MayWantMemory other = ⊥
 abbrev pub IsRefused : StepFault → State → Event → Type 0
 IsRefused NotEnabled state event = IsEnabled state event → ⊥
 IsRefused Memory state event = IsEnabled state event × MayWantMemory event
+
+-- what a call leaves that takes an event, if it may come, and what it tells
+pub record TakesEvent (event : Event) (old new : Parts)
+    (result : Result (Unit {0}) StepFault) : Type 0 where
+  pub disabled : IsErrOf result NotEnabled ↔ (IsEnabled (state_of old) event → ⊥)
+  pub taken : OnOk result (Took event (state_of old) (state_of new))
+  pub err : OnErr result (new ≡ old)
+  pub memory : IsErrOf result Memory → IsEnabled (state_of old) event × MayWantMemory event
+  pub beside : beside_of new ≡ beside_of old
+  pub sound : IsSound (state_of new)
 
 -- what a call leaves that takes the submission of a statement, as far as it does so, and
 -- what it tells. Where batches are lent it may tell a statement that may change the tables
@@ -96,6 +109,19 @@ pub record CutsAndCarries (worker : ℕ) (old new : State) : Type 0 where
   pub between : State
   pub cut : Took Cut old between
   pub carried : Took (Carry worker batch) between new
+
+-- a worker carries a batch as it was cut, and takes this with it
+pub record CarriesBlank (worker : ℕ) (old new : Parts) (blank : BlankWork) : Type 0 where
+  pub carries : CutsAndCarries worker (state_of old) (state_of new)
+  pub work : IsSomeAnd (held_by (state_of new).scan.flights worker) (λ flight.
+      IsSomeAnd flight.hand (IsBlankWorkOf blank (loan_of new worker) flight))
+
+-- a call that lends to one seat, or takes back from it, leaves the marks as they were, each other
+-- seat what it had, and the core sound
+pub record TouchesOneSeat (seat : ℕ) (old new : Parts) : Type 0 where
+  pub marks : new.marks ≡ old.marks
+  pub others : LeavesLoans seat old new
+  pub sound : IsSound (state_of new)
 
 -- a batch that came home was distributed where it was folded outside, and else nothing came of it
 abbrev pub Lands : Option Folding → (old new : State) → Type 0

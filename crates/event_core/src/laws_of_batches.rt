@@ -18,7 +18,8 @@ use continuous_scan::{
     a_cut_ends_at_its_nearest_bound, a_cut_takes_no_more_than_is_left, bits_are_those_of_slots,
 };
 use core_state::{
-    a_cut_keeps_a_core_sound, a_distributor_follows_the_core, a_scan_cuts_what_the_core_cuts,
+    a_cut_keeps_a_core_sound, a_scan_cuts_what_the_core_cuts, a_scan_may_cut_where_the_core_may,
+    other_events_leave_a_distributor,
 };
 
 /// Where the core may cut, the scan and the manager may, and a frame is free; the batch
@@ -32,12 +33,13 @@ pub(crate) fn cuts_follow_the_core()
         (next_number parts.numbers.batch (map (λ flight. flight.batch.number) parts.flights)) parts)
         (after_cutting (state_of parts)) }
 {
+    a_scan_may_cut_where_the_core_may();
     a_scan_cuts_what_the_core_cuts();
     a_cut_ends_at_its_nearest_bound();
     a_cut_takes_no_more_than_is_left();
     bits_are_those_of_slots();
     a_cut_keeps_a_core_sound();
-    a_distributor_follows_the_core();
+    other_events_leave_a_distributor();
 }
 
 /// A batch that is taken or carried gets a hand, and one that is given back has passed the versions

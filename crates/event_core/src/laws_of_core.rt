@@ -17,8 +17,9 @@ ghost use Rattle.event_core.specs.Parts.{Parts};
 ghost use Rattle.event_core.specs.Seen.{state_of};
 
 use core_state::{
-    a_distributor_follows_the_core, a_new_scan_is_that_of_an_empty_core, an_empty_core_is_sound,
-    every_step_keeps_a_core_sound, other_events_leave_a_scan,
+    a_new_distributor_is_that_of_an_empty_core, a_new_scan_is_that_of_an_empty_core,
+    an_empty_core_is_sound, every_step_keeps_a_core_sound, other_events_leave_a_distributor,
+    other_events_leave_a_scan,
 };
 
 /// Where an event touches neither the scan nor what is attached, and the state is the one after it,
@@ -30,7 +31,7 @@ pub(crate) fn quiet_events_leave_a_core()
         LeavesRest old new → IsCore new }
 {
     other_events_leave_a_scan();
-    a_distributor_follows_the_core();
+    other_events_leave_a_distributor();
     every_step_keeps_a_core_sound();
 }
 
@@ -44,5 +45,5 @@ pub(crate) fn a_new_core_is_empty()
 {
     an_empty_core_is_sound();
     a_new_scan_is_that_of_an_empty_core();
-    a_distributor_follows_the_core();
+    a_new_distributor_is_that_of_an_empty_core();
 }

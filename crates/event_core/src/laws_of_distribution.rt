@@ -19,9 +19,9 @@ use core_state::{
     a_scan_stops_what_the_core_stops, folded_rows_are_few, spoiled_slots_are_spoiled_queries,
 };
 
-/// A batch that is distributed has room in the groups and in the pool, and the slots that find no
-/// memory are held by queries that may be spoiled.
-pub(crate) fn distributions_follow_the_core()
+/// A batch in flight is of the versions of the fact table, and there is room for its rows in the
+/// groups, and for its frame in the pool.
+pub(crate) fn batches_in_flight_have_room()
     ensures within { (parts : Parts) (place : ℕ) (flight : Flight) → IsCore parts →
         slice_get parts.flights place ≡ Some flight →
         flight.batch.first + flight.batch.count ≤ length parts.tables.versions }
@@ -31,6 +31,13 @@ pub(crate) fn distributions_follow_the_core()
     ensures frame { (parts : Parts) (place : ℕ) (flight : Flight) → IsCore parts →
         slice_get parts.flights place ≡ Some flight →
         (length parts.pool.inside < parts.pool.made) × (flight.batch.room ≡ parts.pool.words) }
+{
+    folded_rows_are_few();
+}
+
+/// Slots that find no memory for the rows of a batch are held by queries that get rows of it and
+/// may be spoiled, and these are spoiled as it is distributed.
+pub(crate) fn distributions_follow_the_core()
     ensures holders { (parts : Parts) (slots : ℕ) → IsCore parts →
         AreAttached slots parts.attached →
         holders_in parts.lives slots ≡ fed_in (state_of parts) slots }
@@ -52,7 +59,6 @@ pub(crate) fn distributions_follow_the_core()
 {
     a_distributor_folds_what_the_core_folds();
     spoiled_slots_are_spoiled_queries();
-    folded_rows_are_few();
     a_scan_stops_what_the_core_stops();
     a_distributed_batch_keeps_a_core_sound();
 }

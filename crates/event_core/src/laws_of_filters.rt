@@ -4,7 +4,7 @@ ghost use Rattle.star_plan.specs.Test.{query_of};
 ghost use Rattle.query_meaning.specs.Store.{rows_in};
 ghost use Rattle.pipeline_manager.specs.Conditions.{CanBuild, CanClear};
 ghost use Rattle.pipeline_manager.specs.Lives.{slot_of};
-ghost use Rattle.dimension_filter.specs.Changes.{filter_with, filter_without};
+ghost use Rattle.dimension_filter.specs.Changes.{CanAdd, filter_with, filter_without};
 ghost use Rattle.core_state.specs.Admitting.{after_build, after_build_wants, after_clear, selection_in, versions_in_hands};
 ghost use Rattle.core_state.specs.Cutting.{after_reorder};
 ghost use Rattle.core_state.specs.Found.{version_at};
@@ -13,13 +13,13 @@ ghost use Rattle.core_state.specs.State.{FilterVersion};
 ghost use Rattle.core_state.specs.Tables.{tables_of};
 ghost use Rattle.core_parts.specs.Asked.{AskedQuery, asked_at};
 ghost use Rattle.event_core.specs.Changes.{built, cleared, reordered, unbuilt};
-ghost use Rattle.event_core.specs.Core.{Becomes, CanAdd, IsCore};
+ghost use Rattle.event_core.specs.Core.{Becomes, IsCore};
 ghost use Rattle.event_core.specs.Parts.{Parts};
 ghost use Rattle.event_core.specs.Seen.{state_of};
 
 use crate::laws_of_core::quiet_events_leave_a_core;
 use core_state::{
-    a_distributor_follows_the_core, every_step_keeps_a_core_sound, other_events_leave_a_scan,
+    every_step_keeps_a_core_sound, other_events_leave_a_distributor, other_events_leave_a_scan,
 };
 use query_meaning::accepted_histories_are_settled;
 use star_plan::rows_fit_by_their_kinds;
@@ -54,7 +54,7 @@ pub(crate) fn builds_follow_the_core()
         Becomes (unbuilt query parts) (after_build_wants query (state_of parts)) }
 {
     quiet_events_leave_a_core();
-    a_distributor_follows_the_core();
+    other_events_leave_a_distributor();
     other_events_leave_a_scan();
     every_step_keeps_a_core_sound();
     accepted_histories_are_settled();

@@ -28,9 +28,9 @@ ghost use Rattle.event_core.specs.Seen.{state_of};
 ghost use Rattle.event_core.specs.Taking.{kept_for, ready_with, snapshot_for};
 
 use core_state::{
-    a_distributor_follows_the_core, a_reply_that_may_be_taken_is_right,
-    changes_follow_from_the_tables, deletes_name_ascending_positions,
-    every_step_keeps_a_core_sound, other_events_leave_a_scan,
+    a_reply_that_may_be_taken_is_right, changes_follow_from_the_tables,
+    deletes_name_ascending_positions, every_step_keeps_a_core_sound,
+    other_events_leave_a_distributor, other_events_leave_a_scan,
 };
 use query_meaning::accepted_histories_are_settled;
 use star_store::outcomes_fit_the_tables;
@@ -81,7 +81,7 @@ pub(crate) fn submissions_follow_the_core()
     changes_follow_from_the_tables();
     deletes_name_ascending_positions();
     outcomes_fit_the_tables();
-    a_distributor_follows_the_core();
+    other_events_leave_a_distributor();
     other_events_leave_a_scan();
     every_step_keeps_a_core_sound();
 }
@@ -89,7 +89,7 @@ pub(crate) fn submissions_follow_the_core()
 /// The reply that a seat may take is that to its first statement that is waited for: the reply that
 /// waits, `memory` where the query found none, or the groups that are kept beside an answered
 /// query. It may be taken unless the statement is a query that may still be answered.
-pub(crate) fn taken_replies_follow_the_core()
+pub(crate) fn next_replies_follow_the_core()
     ensures nothing { (parts : Parts) (seat : ℕ) → IsCore parts →
         find (λ submitted. is_waited submitted.standing) (statements_at parts.seats seat) ≡ None →
         next_ready (state_of parts) seat ≡ None }
@@ -120,7 +120,14 @@ pub(crate) fn taken_replies_follow_the_core()
         (asked : AskedQuery) × (asked_at parts.asked first.number ≡ Some asked) × (groups : Grouped)
         × (asked.kept ≡ Some groups)
         × (next_ready (state_of parts) seat ≡ Some (Grouping asked.snapshot groups)) }
-    ensures done { (parts : Parts) (seat : ℕ) (first : Submitted) (statements : List Submitted) →
+{
+    a_reply_that_may_be_taken_is_right();
+}
+
+/// Where a seat takes the reply to its first statement that is waited for, nothing is kept any more
+/// beside the query of its number.
+pub(crate) fn taken_replies_follow_the_core()
+    ensures { (parts : Parts) (seat : ℕ) (first : Submitted) (statements : List Submitted) →
         IsCore parts →
         find (λ submitted. is_waited submitted.standing) (statements_at parts.seats seat)
         ≡ Some first → IsSome (next_ready (state_of parts) seat) →
@@ -129,8 +136,7 @@ pub(crate) fn taken_replies_follow_the_core()
         Becomes (forgotten_at seat first.number statements parts)
         (after_taking seat (state_of parts)) }
 {
-    a_reply_that_may_be_taken_is_right();
-    a_distributor_follows_the_core();
+    other_events_leave_a_distributor();
     other_events_leave_a_scan();
     every_step_keeps_a_core_sound();
 }

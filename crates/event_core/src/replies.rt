@@ -1,17 +1,14 @@
 //! How a reply is taken.
-ghost use Rattle.std.specs.Prelude.{◌≡◌, ◌<◌, ℕ, List, length, find, map, option_map, slice_get, slice_set, IsSome, IfSome, None};
-ghost use Rattle.core_state.specs.Answers.{IsRight};
-ghost use Rattle.core_state.specs.Sound.{IsSound};
-ghost use Rattle.core_state.specs.Submitting.{after_taking, next_ready, seat_at, with_taken};
+ghost use Rattle.std.specs.Prelude.{◌≡◌, ◌<◌, List, length, find, map, slice_set, IsSome, IfSome};
+ghost use Rattle.core_state.specs.Submitting.{with_taken};
 ghost use Rattle.event_core.specs.Changes.{statements_at};
 ghost use Rattle.core_parts.specs.Known.{Known};
-ghost use Rattle.event_core.specs.Parts.{beside_of};
-ghost use Rattle.event_core.specs.Replies.{IsReplyOf, ready_of};
+ghost use Rattle.event_core.specs.Replies.{IsReplyOf, TakesReply, ready_of};
 ghost use Rattle.core_parts.specs.Seats.{is_waited, seat_as};
 ghost use Rattle.event_core.specs.Seen.{state_of};
 ghost use Rattle.event_core.specs.Taking.{may_be_taken, next_number, ready_with};
 
-use crate::laws_of_statements::taken_replies_follow_the_core;
+use crate::laws_of_statements::{next_replies_follow_the_core, taken_replies_follow_the_core};
 use crate::machine::Core;
 use aggregations::Groups;
 use core_parts::{Seat, Standing, Submitted, may_be_answered};
@@ -35,15 +32,7 @@ impl Core {
     /// for nothing, as one that is not there, or the first statement that it waits for is a query
     /// that may still be answered. No memory is taken.
     pub fn take_reply(&mut self, seat: u32) -> Option<Ready>
-        ensures ready { option_map ready_of result ≡ next_ready (state_of self.old) seat }
-        ensures taken { IsSome result → state_of self.new ≡ after_taking seat (state_of self.old) }
-        ensures none { result ≡ None → self.new ≡ self.old }
-        ensures beside { beside_of self.new ≡ beside_of self.old }
-        ensures right { IfSome result (λ ready.
-            IfSome (slice_get (seat_at (state_of self.old) seat).pending 0)
-            (λ pending.
-            IsRight (state_of self.old) pending.statement pending.awaited (ready_of ready))) }
-        ensures sound { IsSound (state_of self.new) }
+        ensures { TakesReply seat self.old self.new result }
     {
         let _ = &self.settings;
         if self.has_seat(seat) {
@@ -56,16 +45,9 @@ impl Core {
     /// The same of a seat that is there.
     fn take_reply_of(&mut self, seat: u32) -> Option<Ready>
         requires { seat < length (state_of self.old).seats }
-        ensures ready { option_map ready_of result ≡ next_ready (state_of self.old) seat }
-        ensures taken { IsSome result → state_of self.new ≡ after_taking seat (state_of self.old) }
-        ensures none { result ≡ None → self.new ≡ self.old }
-        ensures beside { beside_of self.new ≡ beside_of self.old }
-        ensures right { IfSome result (λ ready.
-            IfSome (slice_get (seat_at (state_of self.old) seat).pending 0)
-            (λ pending.
-            IsRight (state_of self.old) pending.statement pending.awaited (ready_of ready))) }
-        ensures sound { IsSound (state_of self.new) }
+        ensures { TakesReply seat self.old self.new result }
     {
+        next_replies_follow_the_core();
         taken_replies_follow_the_core();
         a_reply_that_may_be_taken_is_right();
         let number = next_number(&self.seats.as_slice()[seat as usize], &self.manager)?;

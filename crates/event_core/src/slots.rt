@@ -10,7 +10,7 @@ ghost use Rattle.continuous_scan.specs.Range.{after_stop, first_of};
 ghost use Rattle.core_state.specs.Admitting.{after_finish, after_release, after_reserving, after_start};
 ghost use Rattle.core_state.specs.Events.{MayFinish, MayReserve};
 ghost use Rattle.core_state.specs.Submitting.{after_abandoning, without_pending};
-ghost use Rattle.core_parts.specs.Asked.{AreRising, IsNotAmong, with_kept_at};
+ghost use Rattle.core_parts.specs.Asked.{AreAskedRising, IsNotAmong, with_kept_at};
 ghost use Rattle.event_core.specs.Changes.{statements_at};
 ghost use Rattle.core_parts.specs.Known.{Known};
 ghost use Rattle.core_parts.specs.Seats.{seat_as};
@@ -140,7 +140,7 @@ fn start_scan(
 
 /// Keeps these groups beside a query with this life, if it is to be answered.
 fn keep_ending(asked: &mut Queries, query: u64, life: Option<Life>, groups: Option<Groups>)
-    requires rising { AreRising asked.old.items }
+    requires rising { AreAskedRising asked.old.items }
     requires stands { life ≡ Some Ending → IsNotAmong asked.old.gone query }
     ensures ending { life ≡ Some Ending →
         asked.new ≡ record asked.old { items = with_kept_at query groups asked.old.items } }

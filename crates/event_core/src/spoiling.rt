@@ -5,7 +5,7 @@ ghost use Rattle.std.specs.Int.{bit_at};
 ghost use Rattle.pipeline_manager.specs.Changes.{after_spoil};
 ghost use Rattle.pipeline_manager.specs.Conditions.{CanSpoil};
 ghost use Rattle.pipeline_manager.specs.Lives.{slot_at};
-ghost use Rattle.pipeline_manager.specs.Sound.{IsSound};
+ghost use Rattle.pipeline_manager.specs.Sound.{AreSoundLives};
 ghost use Rattle.core_state.specs.Found.{holder_of};
 ghost use Rattle.core_state.specs.Scanned.{stopped_for};
 ghost use Rattle.event_core.specs.Core.{AreHolders, holders_in};
@@ -19,7 +19,7 @@ use pipeline_manager::{Manager, SlotState};
 fn query_at(manager: &Manager, slot: u32) -> Option<u64>
     requires { slot < length manager.now.slots }
     ensures query { result ≡ holder_of (slot_at manager.now slot) }
-    ensures sound { IsSound manager.now }
+    ensures sound { AreSoundLives manager.now }
 {
     match manager.slot(slot) {
         SlotState::Held { query, .. } => Some(query),
@@ -45,7 +45,7 @@ fn query_in(manager: &Manager, slots: Bits<1>, slot: u32) -> Option<u64>
     requires few { slot < 64 }
     ensures query { result
         ≡ if bit_at slots slot == 1 then holder_of (slot_at manager.now slot) else None }
-    ensures sound { IsSound manager.now }
+    ensures sound { AreSoundLives manager.now }
 {
     let holder = query_at(manager, slot);
     if slots.has(slot) { holder } else { None }

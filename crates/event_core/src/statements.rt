@@ -13,13 +13,12 @@ ghost use Rattle.star_store.specs.Outcome.{outcome_of};
 ghost use Rattle.star_store.specs.Text.{may_change_tables, meaning_of};
 ghost use Rattle.star_store.specs.declared.applied.ChangeKind.TheVariants.{DeclaresFact};
 ghost use Rattle.pipeline_manager.specs.Changes.{after_submit};
-ghost use Rattle.pipeline_manager.specs.Conditions.{IsNew};
 ghost use Rattle.pipeline_manager.specs.declared.life.SlotState.TheVariants.{Free};
 ghost use Rattle.core_state.specs.Submitting.{after_submitting};
 ghost use Rattle.core_state.specs.Tables.{tables_of};
 ghost use Rattle.core_parts.specs.declared.submitted.Submitted.{Submitted};
 ghost use Rattle.event_core.specs.Changes.{statements_at, with_filters_for};
-ghost use Rattle.event_core.specs.Core.{IsCore};
+ghost use Rattle.event_core.specs.Core.{CanAccept, IsCore, LeavesPast};
 ghost use Rattle.filter_order.specs.Spares.{first_spares};
 ghost use Rattle.core_parts.specs.Filters.{first_filters};
 ghost use Rattle.event_core.specs.Parts.{Parts, beside_of};
@@ -145,8 +144,7 @@ fn make_room(seats: &mut ListOf<Seat>, seat: u32, asked: &mut Queries) -> Result
     requires { seat < length seats.old }
     ensures statements { map (λ seat. seat.items) seats.new ≡ map (λ seat. seat.items) seats.old }
     ensures queries { asked.new.items ≡ asked.old.items }
-    ensures gone { asked.new.gone ≡ asked.old.gone }
-    ensures handed { asked.new.handed ≡ asked.old.handed }
+    ensures past { LeavesPast asked.old asked.new }
     ensures for_statement { OnOk result
         ((d : Roomy Submitted) → 0 < (slice_index_or seats.new seat d).room) }
     ensures for_query { OnOk result (0 < asked.new.room) }
@@ -266,12 +264,9 @@ fn accept(
     query: AcceptedQuery,
     extent: u32,
 ) -> Result<(), NoMemory>
-    requires room { 0 < asked.old.room }
-    requires whole { query.whole ≡ true }
-    requires is_new { IsNew query.asked.number manager.old }
+    requires { CanAccept query asked.old manager.old }
     ensures queries { OnOk result (asked.new.items ≡ asked.old.items ++ query.asked ∷ []) }
-    ensures gone { asked.new.gone ≡ asked.old.gone }
-    ensures handed { asked.new.handed ≡ asked.old.handed }
+    ensures past { LeavesPast asked.old asked.new }
     ensures lives { OnOk result (manager.new ≡ after_submit query.asked.number extent manager.old) }
     ensures err_queries { OnErr result (asked.new ≡ asked.old) }
     ensures err_lives { OnErr result (manager.new ≡ manager.old) }

@@ -1,5 +1,5 @@
 //! One event after the other.
-ghost use Rattle.std.specs.Prelude.{◌≡◌, ◌<◌, ◌↔◌, ℕ, All, List, [], length, slice_get, take, IsTrue, IsErrOf, OnOk, OnErr, IfErr, IfSome};
+ghost use Rattle.std.specs.Prelude.{◌≡◌, ◌<◌, All, [], length, slice_get, take, OnOk, OnErr, IfErr, IfSome};
 ghost use Rattle.core_state.specs.Events.{IsEnabled};
 ghost use Rattle.core_state.specs.Sound.{IsSound};
 ghost use Rattle.core_state.specs.Submitting.{after_submitting};
@@ -7,7 +7,7 @@ ghost use Rattle.core_parts.specs.Lent.{lent_to};
 ghost use Rattle.event_core.specs.Lent.{IsAtHome};
 ghost use Rattle.event_core.specs.Parts.{beside_of};
 ghost use Rattle.event_core.specs.Seen.{state_of};
-ghost use Rattle.event_core.specs.Took.{IsRefused, MayWantMemory, Submits, Took, TookAll};
+ghost use Rattle.event_core.specs.Took.{IsRefused, MayWantMemory, Submits, TakesEvent, Took, TookAll};
 
 use crate::laws_of_steps::every_core_is_sound;
 use crate::machine::Core;
@@ -64,35 +64,15 @@ impl Core {
     /// a statement and a filter that is cleared may find none.
     pub fn step(&mut self, event: Event) -> Result<(), StepFault>
         requires home { IsAtHome event (lent_to self.old.flights) }
-        ensures disabled { IsErrOf result StepFault.NotEnabled
-            ↔ (IsEnabled (state_of self.old) event → ⊥) }
-        ensures taken { OnOk result (Took event (state_of self.old) (state_of self.new)) }
-        ensures err { OnErr result (self.new ≡ self.old) }
-        ensures memory { IsErrOf result StepFault.Memory →
-            IsEnabled (state_of self.old) event × MayWantMemory event }
-        ensures beside { beside_of self.new ≡ beside_of self.old }
-        ensures sound { IsSound (state_of self.new) }
+        ensures { TakesEvent event self.old self.new result }
     {
-        let taken = self.take_if_enabled(event);
-        let _ = &self.settings;
-        taken
-    }
-
-    /// Takes an event, if it may come.
-    fn take_if_enabled(&mut self, event: Event) -> Result<(), StepFault>
-        requires home { IsAtHome event (lent_to self.old.flights) }
-        ensures disabled { IsErrOf result StepFault.NotEnabled
-            ↔ (IsEnabled (state_of self.old) event → ⊥) }
-        ensures taken { OnOk result (Took event (state_of self.old) (state_of self.new)) }
-        ensures err { OnErr result (self.new ≡ self.old) }
-        ensures memory { IsErrOf result StepFault.Memory →
-            IsEnabled (state_of self.old) event × MayWantMemory event }
-        ensures beside { beside_of self.new ≡ beside_of self.old }
-    {
+        // It is called for what it ensures, here and behind the event.
+        every_core_is_sound(self);
         if !self.enabled(&event) {
             return Err(StepFault::NotEnabled);
         }
         self.take_enabled(event)?;
+        every_core_is_sound(self);
         Ok(())
     }
 

@@ -10,7 +10,7 @@ use Rattle.std.proofs.lemmas.List.{drop-append-le, get_or-set_other, get_or-set_
 use Rattle.std.proofs.lemmas.Option.{slice_get-get_or}
 use Rattle.fact_versions.specs.declared.version_blocks.TheConstants.{VERSIONS_IN_A_BLOCK}
 use Rattle.star_values.proofs.PlaceLemmas.{refill-all}
-use Rattle.fact_versions.specs.Blocks.{AreBlocks, AreCounted, AreSeen, block_of, is_end, versions_in, with_end_by, with_version}
+use Rattle.fact_versions.specs.Blocks.{AreBlocks, HaveBlocks, AreSeen, block_of, is_end, versions_in, with_end_by, with_version}
 use Rattle.fact_versions.specs.Ends.{with_end}
 use Rattle.fact_versions.proofs.EndsLemmas.{drop-with_end, drop-with_end_before, length-with_end, past-with_end, take-with_end}
 use Rattle.fact_versions.proofs.PartLemmas.{get_or-part, inside_part, length-part}
@@ -62,13 +62,13 @@ last_more versions version number within last =
 
 -- blocks of which the last has one version more
 one_more : (versions : List Version) (version : Version) (old new : List VersionBlock) → AreBlocks versions old
-    → AreCounted (length versions + 1) (length new)
+    → HaveBlocks (length versions + 1) (length new)
     → ((number : ℕ) (otherwise : VersionBlock) → number < length versions / VERSIONS_IN_A_BLOCK → get_or new number otherwise ≡ get_or old number otherwise)
     → ((otherwise : VersionBlock) → get_or new (length versions / VERSIONS_IN_A_BLOCK) otherwise
     ≡ with_version (block_of (versions_in (length versions / VERSIONS_IN_A_BLOCK) versions)) version)
     → AreBlocks (versions ++ version ∷ []) new
 one_more versions version old new kept counted same last = record {
-  counted = subst (λ n. AreCounted n (length new)) (sym (length-append versions (version ∷ []))) counted;
+  counted = subst (λ n. HaveBlocks n (length new)) (sym (length-append versions (version ∷ []))) counted;
   each = λ number otherwise low. by number otherwise (let most = counted.last in omega arith) (cases_eq number (length versions / VERSIONS_IN_A_BLOCK));
 }
   where
@@ -181,8 +181,8 @@ ended_blocks versions position commit old new block read inside live put is kept
     let within : position / VERSIONS_IN_A_BLOCK < length old = omega arith in
     subst (AreBlocks (with_end versions position commit)) (sym put) (record {
       counted =
-          subst (λ n. AreCounted n (length (set old (position / VERSIONS_IN_A_BLOCK) block))) (sym (length-with_end versions position commit))
-          (subst (AreCounted (length versions)) (sym (length-set old (position / VERSIONS_IN_A_BLOCK) block)) kept.counted);
+          subst (λ n. HaveBlocks n (length (set old (position / VERSIONS_IN_A_BLOCK) block))) (sym (length-with_end versions position commit))
+          (subst (HaveBlocks (length versions)) (sym (length-set old (position / VERSIONS_IN_A_BLOCK) block)) kept.counted);
       each = λ number otherwise low.
           by within number otherwise (let long = length-set old (position / VERSIONS_IN_A_BLOCK) block in omega arith)
           (cases_eq number (position / VERSIONS_IN_A_BLOCK));

@@ -5,7 +5,7 @@ use Rattle.star_values.specs.Roomy.{Roomy}
 use Rattle.star_values.specs.declared.value.Value.{Value}
 use Rattle.star_values.specs.First.{AreIntegerColumns}
 use Rattle.fact_versions.specs.Blocks.{AreBlocks}
-use Rattle.fact_versions.specs.Keys.{AreKeyColumns, HaveRoom}
+use Rattle.fact_versions.specs.Keys.{AreKeyColumns, HaveRoomForKeys}
 use Rattle.fact_versions.specs.declared.version_blocks.VersionBlock.{VersionBlock}
 use Rattle.fact_versions.specs.declared.version.Version.{Version}
 use Rattle.fact_versions.specs.declared.version.TheConstants.{MAX_VERSIONS}
@@ -27,6 +27,6 @@ pub record AreBeside (versions : List Version) (integers : List (List ℤ)) (key
 pub record HaveRoomFor (more : ℕ) (versions : Roomy Version) (keys : List (Roomy ℕ))
     (blocks : Roomy VersionBlock) : Type 0 where
   pub of_versions : more ≤ versions.room
-  pub of_keys : HaveRoom more keys
+  pub of_keys : HaveRoomForKeys more keys
   pub of_blocks : length versions.items + more
       ≤ (length blocks.items + blocks.room) * VERSIONS_IN_A_BLOCK

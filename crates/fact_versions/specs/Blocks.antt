@@ -29,13 +29,13 @@ versions_in number versions =
     take VERSIONS_IN_A_BLOCK (drop (number * VERSIONS_IN_A_BLOCK) versions)
 
 -- so many blocks have room for so many versions, and no block is left empty
-pub record AreCounted (versions blocks : ℕ) : Type 0 where
+pub record HaveBlocks (versions blocks : ℕ) : Type 0 where
   pub few : versions ≤ blocks * VERSIONS_IN_A_BLOCK
   pub last : blocks * VERSIONS_IN_A_BLOCK < versions + VERSIONS_IN_A_BLOCK
 
 -- blocks are those of versions, each of its own
 pub record AreBlocks (versions : List Version) (blocks : List VersionBlock) : Type 0 where
-  pub counted : AreCounted (length versions) (length blocks)
+  pub counted : HaveBlocks (length versions) (length blocks)
   pub each : (number : ℕ) (otherwise : VersionBlock) → number < length blocks
       → slice_index_or blocks number otherwise ≡ block_of (versions_in number versions)
 

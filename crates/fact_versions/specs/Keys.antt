@@ -21,8 +21,8 @@ abbrev pub column_of : List (Roomy ℕ) → (dimension : ℕ) → Roomy ℕ
 column_of columns dimension = slice_index_or columns dimension no_column
 
 -- every column has room for so many more keys
-abbrev pub HaveRoom : (room : ℕ) → List (Roomy ℕ) → Type 0
-HaveRoom room columns =
+abbrev pub HaveRoomForKeys : (room : ℕ) → List (Roomy ℕ) → Type 0
+HaveRoomForKeys room columns =
     (dimension : ℕ) → dimension < KEYS_IN_A_VERSION → room ≤ (column_of columns dimension).room
 
 -- a column has one key more than before, and used up room for one

@@ -1,6 +1,6 @@
 //! The key numbers of versions, column by column.
 ghost use Rattle.std.specs.Prelude.{◌≡◌, ◌≤◌, ◌<◌, ℕ, OnOk, length, slice_index};
-ghost use Rattle.fact_versions.specs.Keys.{HasOneMore, HaveRoom, column_of, no_column};
+ghost use Rattle.fact_versions.specs.Keys.{HasOneMore, HaveRoomForKeys, column_of, no_column};
 
 use crate::version::KEYS_IN_A_VERSION;
 use star_values::{ListWithRoom, NoMemory};
@@ -45,9 +45,9 @@ impl KeyColumns {
         ensures items { (dimension : ℕ) →
             (column_of self.new.columns dimension).items
             ≡ (column_of self.old.columns dimension).items }
-        ensures enough { OnOk result (HaveRoom more self.new.columns) }
+        ensures enough { OnOk result (HaveRoomForKeys more self.new.columns) }
         ensures grows { (room : ℕ) →
-            HaveRoom room self.old.columns → HaveRoom room self.new.columns }
+            HaveRoomForKeys room self.old.columns → HaveRoomForKeys room self.new.columns }
     {
         for dimension in 0..KEYS_IN_A_VERSION {
             self.columns[dimension].reserve(more)?;
@@ -57,7 +57,7 @@ impl KeyColumns {
 
     /// Puts the keys of a version behind the others, into room that was reserved.
     pub(crate) fn append(&mut self, keys: &[u32; KEYS_IN_A_VERSION])
-        requires { HaveRoom 1 self.old.columns }
+        requires { HaveRoomForKeys 1 self.old.columns }
         ensures more { (dimension : ℕ) → dimension < KEYS_IN_A_VERSION →
             HasOneMore (column_of self.old.columns dimension) (column_of self.new.columns dimension)
             (slice_index keys.now dimension) }

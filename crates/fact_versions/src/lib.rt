@@ -19,4 +19,5 @@ pub use laws::{
 };
 pub use stretch::Stretch;
 pub use version::{KEYS_IN_A_VERSION, MAX_VERSIONS, Version};
+pub use version_blocks::VERSIONS_IN_A_BLOCK;
 pub use visible::is_visible;

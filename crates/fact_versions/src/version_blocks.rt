@@ -1,7 +1,7 @@
 //! What is known of versions by blocks, so that one that all see is told without reading its
 //! versions.
 ghost use Rattle.std.specs.Prelude.{◌≡◌, ◌↔◌, ◌≤◌, ◌<◌, ◌+◌, ◌-◌, ◌*◌, ◌/◌, ℕ, List, [], ◌∷◌, ◌++◌, All, IfSome, IsTrue, OnOk, length, slice_get, slice_range};
-ghost use Rattle.fact_versions.specs.Blocks.{AreBlocks, AreCounted, AreSeen, with_end_by, with_version};
+ghost use Rattle.fact_versions.specs.Blocks.{AreBlocks, HaveBlocks, AreSeen, with_end_by, with_version};
 ghost use Rattle.fact_versions.specs.Ends.{with_end};
 ghost use Rattle.fact_versions.specs.declared.version.Version as version_of;
 
@@ -10,7 +10,7 @@ use star_values::{ListWithRoom, NoMemory};
 use std::alloc::Global;
 
 /// How many versions are told of together, by the commits that loaded and deleted them.
-pub(crate) const VERSIONS_IN_A_BLOCK: usize = 256;
+pub const VERSIONS_IN_A_BLOCK: usize = 256;
 
 /// What is known of the versions of a block together.
 #[derive(Clone, Copy, Debug)]
@@ -50,7 +50,7 @@ impl VersionBlocks {
 
     /// Notes a version that comes behind so many others, into room that was reserved.
     pub(crate) fn append(&mut self, before: usize, version: &Version)
-        requires counted { AreCounted before (length self.old.blocks.items) }
+        requires counted { HaveBlocks before (length self.old.blocks.items) }
         requires room { before
             < (length self.old.blocks.items + self.old.blocks.room) * VERSIONS_IN_A_BLOCK }
         ensures whole { (versions : List version_of.Version) → length versions ≡ before →

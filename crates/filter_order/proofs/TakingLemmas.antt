@@ -13,7 +13,7 @@ use Rattle.batch_flow.specs.Rows.{Rows}
 use Rattle.dimension_filter.specs.declared.drop_tally.DropTally.{DropTally}
 use Rattle.filter_order.specs.Filtered.{FilterVersion, version_at, with_tally}
 use Rattle.filter_order.specs.Filters.{left_of, plus, with_each_done}
-use Rattle.filter_order.specs.Spares.{AreApart, HasPlace, IsKept, Spares, is_present, with_all_returned, with_all_taken, with_returned, with_spare}
+use Rattle.filter_order.specs.Spares.{AreApart, HasPlace, IsSpareFor, Spares, is_present, with_all_returned, with_all_taken, with_returned, with_spare}
 use Rattle.filter_order.proofs.SpareLemmas.{place-of, places-stay, spare-apart}
 
 -- of what is left to pass from some place of the order on, the version of the filter there comes
@@ -44,12 +44,12 @@ pub record IsTakenOne (seat : ℕ) (before after : Spares) (made new : List Filt
   pub long : length new ≤ length made + 1
   pub versions : new ++ rest ≡ made ++ all
   pub apart : AreApart rest
-  pub kept : All (IsKept seat after) rest
+  pub kept : All (IsSpareFor seat after) rest
   pub left : with_all_taken seat rest after ≡ with_all_taken seat all before
 
 pub taken-one : (seat : ℕ) (before after : Spares) (versions new : List FilterVersion)
     (o : Option FilterVersion) (rest : List FilterVersion)
-    → AreApart (cons_option o rest) → All (IsKept seat before) (cons_option o rest)
+    → AreApart (cons_option o rest) → All (IsSpareFor seat before) (cons_option o rest)
     → new ≡ versions ++ option_to_list o → after ≡ with_all_taken seat (option_to_list o) before
     → IsTakenOne seat before after versions new (cons_option o rest) rest
 taken-one seat before after versions new None rest apart kept put taken = record {
@@ -57,7 +57,7 @@ taken-one seat before after versions new None rest apart kept put taken = record
       ap length (put ∙ append-nil versions) in omega arith;
   versions = ap (λ list. list ++ rest) (put ∙ append-nil versions);
   apart = apart;
-  kept = subst (λ spares. All (IsKept seat spares) rest) (sym taken) kept;
+  kept = subst (λ spares. All (IsSpareFor seat spares) rest) (sym taken) kept;
   left = ap (with_all_taken seat rest) taken;
 }
 taken-one seat before after versions new (Some version) rest apart kept put taken = record {
@@ -65,11 +65,11 @@ taken-one seat before after versions new (Some version) rest apart kept put take
       ap length put ∙ length-append versions (version ∷ []) in omega arith;
   versions = ap (λ list. list ++ rest) put ∙ append_assoc versions (version ∷ []) rest;
   apart = λ j k d low inside. apart (suc j) (suc k) d (omega arith) (omega arith);
-  kept = subst (λ spares. All (IsKept seat spares) rest) (sym taken) others;
+  kept = subst (λ spares. All (IsSpareFor seat spares) rest) (sym taken) others;
   left = ap (with_all_taken seat rest) taken;
 }
   where
-    others : All (IsKept seat (with_spare version.filter.dimension seat None before)) rest
+    others : All (IsSpareFor seat (with_spare version.filter.dimension seat None before)) rest
     others = λ k d low.
         let here = place-of version.filter.dimension seat version.filter before
         (kept 0 d (omega arith)) in

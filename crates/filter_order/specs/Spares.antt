@@ -49,8 +49,8 @@ AreApart versions =
     AllPairs (λ version other. version.filter.dimension ≢ other.filter.dimension) versions
 
 -- what is kept for a seat is the reference to the table of this version
-abbrev pub IsKept : (seat : ℕ) → Spares → FilterVersion → Type 0
-IsKept seat spares version = spare_at spares version.filter.dimension seat ≡ Some version.filter
+abbrev pub IsSpareFor : (seat : ℕ) → Spares → FilterVersion → Type 0
+IsSpareFor seat spares version = spare_at spares version.filter.dimension seat ≡ Some version.filter
 
 -- the references once a seat took those to the tables of these versions
 abbrev pub with_all_taken : (seat : ℕ) → List FilterVersion → Spares → Spares

@@ -6,7 +6,7 @@ ghost use Rattle.std.specs.Int.{bit_at};
 ghost use Rattle.batch_flow.specs.Rows.{Rows};
 ghost use Rattle.filter_order.specs.Filtered.{version_at};
 ghost use Rattle.filter_order.specs.Filters.{left_of, no_rows, rows_or_none, versions_left};
-ghost use Rattle.filter_order.specs.Spares.{AreApart, HasPlace, IsKept, first_spares, is_present, spare_at, with_all_returned, with_all_taken, with_returned, with_spare};
+ghost use Rattle.filter_order.specs.Spares.{AreApart, HasPlace, IsSpareFor, first_spares, is_present, spare_at, with_all_returned, with_all_taken, with_returned, with_spare};
 
 use crate::filter_version::{FilterVersion, Reference, References};
 use crate::filters::Filters;
@@ -72,7 +72,7 @@ impl Spares {
     /// pass, and gives these versions once more by them.
     pub fn take_all(&mut self, seat: u32, filters: &Filters, batch: &Batch) -> Versions
         requires apart { AreApart (versions_left filters.now batch.now) }
-        requires kept { All (IsKept seat self.old) (versions_left filters.now batch.now) }
+        requires kept { All (IsSpareFor seat self.old) (versions_left filters.now batch.now) }
         ensures versions { result ≡ versions_left filters.now batch.now }
         ensures left { self.new
             ≡ with_all_taken seat (versions_left filters.now batch.now) self.old }
@@ -90,7 +90,7 @@ impl Spares {
     /// present order, as they are left to a batch that passed none.
     pub fn take_present(&mut self, seat: u32, filters: &Filters) -> Versions
         requires apart { AreApart (versions_left filters.now no_rows) }
-        requires kept { All (IsKept seat self.old) (versions_left filters.now no_rows) }
+        requires kept { All (IsSpareFor seat self.old) (versions_left filters.now no_rows) }
         ensures versions { (rows : Rows) → rows.passed ≡ 0 →
             result ≡ versions_left filters.now rows }
         ensures left { self.new
@@ -173,7 +173,7 @@ fn take_left(
     requires apart { let rows = rows_or_none (option_map (λ batch. batch.now) batch) in
         AreApart (left_of filters.now.versions rows order.now) }
     requires kept { let rows = rows_or_none (option_map (λ batch. batch.now) batch) in
-        All (IsKept seat spares.old) (left_of filters.now.versions rows order.now) }
+        All (IsSpareFor seat spares.old) (left_of filters.now.versions rows order.now) }
     ensures versions { let rows = rows_or_none (option_map (λ batch. batch.now) batch.entry) in
         result ≡ left_of filters.now.versions rows order.now }
     ensures left { let rows = rows_or_none (option_map (λ batch. batch.now) batch.entry) in
@@ -213,7 +213,7 @@ fn take_next(
     left: Option<&FilterVersion>,
     versions: &mut Versions,
 )
-    requires kept { IfSome left (λ version. IsKept seat spares.old version.now) }
+    requires kept { IfSome left (λ version. IsSpareFor seat spares.old version.now) }
     requires room { length versions.old < 8 }
     ensures versions { versions.new
         ≡ versions.old ++ option_to_list (option_map (λ version. version.now) left.entry) }

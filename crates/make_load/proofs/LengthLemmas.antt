@@ -3,7 +3,7 @@ use Rattle.std.proofs.Common.{◌≡◌, ℕ, zero, suc, ◌+◌, ◌-◌, ◌*�
 use Rattle.std.proofs.lemmas.Fmt.{length-decimal-le}
 use native.Mathlib.Nat.{mod-lt}
 use Rattle.make_load.specs.declared.draft.Draft.{Draft}
-use Rattle.make_load.specs.Script.{ask, ask_brands, ask_channels, ask_months, ask_regions, ask_units, block, day, days, delete_behind, dimensions, draw, draw_part, for_each, in_turn, made_script, named_load, named_record, next, queries, sale, sales, say, script, share, tables, tell}
+use Rattle.make_load.specs.Script.{ask, ask_brands, ask_channels, ask_months, ask_regions, ask_units, block, day, days, delete_behind, dimensions, draw, draw_part, for_each, in_turn, made_script, named_record, named_rows, next, queries, sale, sales, say, script, share, tables, tell}
 
 -- a step writes at most so many bytes
 record Writes (n : ℕ) (step : Draft → Draft) : Type 0 where
@@ -74,13 +74,13 @@ named_record-short letter names least range key h some few more fits small =
     whole 16 (named_record letter names least range key) (turn (tell-short key small) (turn (say-short letter 2 h) (turn (draw-short 0 names some (omega (arith, few)))
     (turn comma (turn (draw-short least range more fits) (turn line_end none)))))) (lit≤ tt) (λ draft. refl)
 
-named_load-short : (line : List ℕ) (keys : ℕ) (letter : List ℕ) (names least range : ℕ) → length line ≤ 20 → keys ≤ 500 → length letter ≤ 2 → 0 < names → names ≤ 10000 → 0 < range
-    → least + range ≤ 10000 → Writes 8022 (named_load line keys letter names least range)
-unfolding named_load
-named_load-short line keys letter names least range short few h some fit more fits =
-    whole 8022 (named_load line keys letter names least range) (turn (say-short line 20 short)
+named_rows-short : (keys : ℕ) (letter : List ℕ) (names least range : ℕ) → keys ≤ 500 → length letter ≤ 2 → 0 < names → names ≤ 10000 → 0 < range
+    → least + range ≤ 10000 → Writes 8002 (named_rows keys letter names least range)
+unfolding named_rows
+named_rows-short keys letter names least range few h some fit more fits =
+    whole 8002 (named_rows keys letter names least range)
     (turn (each 16 keys (named_record letter names least range) (λ key below. named_record-short letter names least range key h some fit more fits (omega (arith, below, few))))
-    (turn dot_line none))) (omega (arith, few)) (λ draft. refl)
+    (turn dot_line none)) (omega (arith, few)) (λ draft. refl)
 
 day-short : (key : ℕ) → key < 500 → Writes 15 (day key)
 unfolding day
@@ -97,11 +97,11 @@ days-short =
 dimensions-short : Writes 40000 dimensions
 unfolding dimensions
 dimensions-short =
-    whole 40000 dimensions (turn (named_load-short (codes "load store\n") 40 (codes ",R") 8 0 1000 (lit≤ tt) (lit≤ tt) (lit≤ tt) (lit≤ tt) (lit≤ tt) (lit≤ tt) (lit≤ tt))
-    (turn (named_load-short (codes "load product\n") 200 (codes ",B") 25 0 500 (lit≤ tt) (lit≤ tt) (lit≤ tt) (lit≤ tt) (lit≤ tt) (lit≤ tt) (lit≤ tt))
-    (turn (named_load-short (codes "load customer\n") 500 (codes ",C") 50 18 70 (lit≤ tt) (lit≤ tt) (lit≤ tt) (lit≤ tt) (lit≤ tt) (lit≤ tt) (lit≤ tt))
+    whole 40000 dimensions (turn (say-short (codes "load store\n") 20 (lit≤ tt)) (turn (named_rows-short 40 (codes ",R") 8 0 1000 (lit≤ tt) (lit≤ tt) (lit≤ tt) (lit≤ tt) (lit≤ tt) (lit≤ tt))
+    (turn (say-short (codes "load product\n") 20 (lit≤ tt)) (turn (named_rows-short 200 (codes ",B") 25 0 500 (lit≤ tt) (lit≤ tt) (lit≤ tt) (lit≤ tt) (lit≤ tt) (lit≤ tt))
+    (turn (say-short (codes "load customer\n") 20 (lit≤ tt)) (turn (named_rows-short 500 (codes ",C") 50 18 70 (lit≤ tt) (lit≤ tt) (lit≤ tt) (lit≤ tt) (lit≤ tt) (lit≤ tt))
     (turn days-short
-    (turn (named_load-short (codes "load promo\n") 10 (codes ",P") 4 0 5 (lit≤ tt) (lit≤ tt) (lit≤ tt) (lit≤ tt) (lit≤ tt) (lit≤ tt) (lit≤ tt)) none))))) (lit≤ tt) (λ draft. refl)
+    (turn (say-short (codes "load promo\n") 20 (lit≤ tt)) (turn (named_rows-short 10 (codes ",P") 4 0 5 (lit≤ tt) (lit≤ tt) (lit≤ tt) (lit≤ tt) (lit≤ tt) (lit≤ tt)) none))))))))) (lit≤ tt) (λ draft. refl)
 
 -- the declarations
 tables-short : Writes 600 tables

@@ -22,7 +22,7 @@ use Rattle.script_run.specs.Front.{IsRun}
 use Rattle.script_run.specs.Run.{AnswersScript, CountsFaults, IsProperFront, ReadsBytes, script_text, some_refused}
 use Rattle.script_run.specs.Shared.{AnswersShared, TellsFront, TellsGiven, TellsRun}
 use Rattle.script_run.proofs.SharedEndLemmas.{front-alone}
-use Rattle.make_load.specs.Made.{AnswersMade, CountsMade, HandsOn, IsRan, IsSummed, IsTextOf, RunsText, TellsMade, TellsRan, WritesLine, WritesSome, WritesSummed, end_behind, line_of}
+use Rattle.make_load.specs.Made.{AnswersMade, CountsMade, HandsBack, HandsOn, IsRan, IsSummed, IsTextOf, RunsText, TellsMade, TellsRan, WritesLine, WritesSome, WritesSummed, end_behind, line_of}
 use Rattle.make_load.specs.declared.line.Summed.{Summed}
 use Rattle.make_load.specs.declared.made.MadeDone.{MadeDone}
 use Rattle.make_load.specs.declared.made.MadeEnd.{MadeEnd}
@@ -185,13 +185,13 @@ without_core Alone settings seed rows core end to to' no_core is same =
     (subst (λ t. AnswersMade Alone settings seed rows None made.NoMemory to t) (sym same) (without_memory Alone settings seed rows to)))
 
 -- there is no core then, no steps lead to one, and no write failed
-pub core-without : (core : Option Parts) (end : MadeEnd) → core ≡ None → end ≡ made.NoMemory → IsNone core ↔ (end ≡ made.NoMemory)
-core-without core end no_core is = (λ none. is, λ same. subst (λ (c : Option Parts). IsNone c) (sym no_core) refl)
-
-pub run-without : (settings : RunSettings) (core : Option Parts) → core ≡ None
-    → IfSome core (λ parts. IsRun (empty_core settings) (state_of parts))
-run-without settings core no_core =
-    subst (λ (c : Option Parts). IfSome c (λ parts. IsRun (empty_core settings) (state_of parts))) (sym no_core) tt
+pub back-without : (Alone : Type 0) (settings : RunSettings) (core : Option Parts) (end : MadeEnd)
+    → core ≡ None → end ≡ made.NoMemory → HandsBack Alone settings core (end ≡ made.NoMemory)
+back-without Alone settings core end no_core is = record {
+  core = (λ none. is, λ same. subst (λ (c : Option Parts). IsNone c) (sym no_core) refl);
+  run = λ alone.
+      subst (λ (c : Option Parts). IfSome c (λ parts. IsRun (empty_core settings) (state_of parts))) (sym no_core) tt;
+}
 
 pub faults-without : (end : MadeEnd) (to : WritingSide) → end ≡ made.NoMemory → CountsMade end to to
 faults-without end to is = subst (λ e. CountsMade e to to) (sym is) refl
@@ -261,11 +261,6 @@ core-summed run_end found core end script replies to to' (Ok summed) known summe
 core-summed run_end found core end script replies to to' (Err wanting) known summed_is writes hands =
     (λ none. writes.0, λ is. subst (λ (c : Option Parts). IsNone c) (sym (hands-none end found core is hands)) refl)
 
-pub core_of : (script : List ℕ) (ran : Ran) (done : MadeDone) (to to' : WritingSide) → (IsNone ran.core → ran.end ≡ script_end.NoMemory)
-    → TellsRan script ran done to to' → IsNone done.core ↔ (done.end ≡ made.NoMemory)
-core_of script ran done to to' known told =
-    core-summed ran.end ran.core done.core done.end script ran.replies.taken to to' told.summed known told.is told.writes told.hands
-
 -- steps of a run lead to the core that is handed back
 run-handed : (settings : RunSettings) (found core : Option Parts) (end : MadeEnd) → HandsOn end found core
     → IfSome found (λ parts. IsRun (empty_core settings) (state_of parts))
@@ -279,11 +274,15 @@ run-handed settings found core made.WriteFault hands run =
 run-handed settings found core made.NoMemory hands run =
     subst (λ (c : Option Parts). IfSome c (λ parts. IsRun (empty_core settings) (state_of parts))) (sym hands) tt
 
-pub run_of : (settings : RunSettings) (script : List ℕ) (ran : Ran) (done : MadeDone) (to to' : WritingSide)
-    → TellsRan script ran done to to'
-    → IfSome ran.core (λ parts. IsRun (empty_core settings) (state_of parts))
-    → IfSome done.core (λ parts. IsRun (empty_core settings) (state_of parts))
-run_of settings script ran done to to' told run = run-handed settings ran.core done.core done.end told.hands run
+-- the core of a run is handed back once more
+pub back_of : (Alone : Type 0) (settings : RunSettings) (script : List ℕ) (ran : Ran) (done : MadeDone) (to to' : WritingSide)
+    → TellsRan script ran done to to' → HandsBack Alone settings ran.core (ran.end ≡ script_end.NoMemory)
+    → HandsBack Alone settings done.core (done.end ≡ made.NoMemory)
+back_of Alone settings script ran done to to' told back = record {
+  core = core-summed ran.end ran.core done.core done.end script ran.replies.taken to to' told.summed back.core.0 told.is told.writes
+      told.hands;
+  run = λ alone. run-handed settings ran.core done.core done.end told.hands (back.run alone);
+}
 
 -- what is known where nobody else had the core is known of less, too
 pub made-alone : (Alone Alone' : Type 0) (settings : RunSettings) (seed rows : ℕ) (core : Option Parts) (end : MadeEnd)

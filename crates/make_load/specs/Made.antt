@@ -1,5 +1,5 @@
 -- What a run of the made workload writes, and what the core tells of it.
-use Rattle.std.specs.Prelude.{◌≡◌, ◌≢◌, ℕ, Bool, true, false, List, [], Option, None, IfSome, IfOk, Result, Ok, Err}
+use Rattle.std.specs.Prelude.{◌≡◌, ◌≢◌, ◌↔◌, ℕ, Bool, true, false, List, [], Option, None, IfSome, IsNone, IfOk, Result, Ok, Err}
 use Rattle.std.specs.Io.KnownBytes.{Appends}
 use Rattle.star_io.specs.Faults.{FailedOnce}
 use Rattle.star_io.specs.Link.{WritingSide}
@@ -9,11 +9,13 @@ use Rattle.star_io.specs.declared.run_end.RunEnd.TheVariants as run_end
 use Rattle.star_values.specs.declared.no_memory.NoMemory as values
 use Rattle.make_load.specs.Script.{made_script}
 use Rattle.make_load.specs.Summary.{summary_of, summary_text}
+use Rattle.core_state.specs.Sound.{empty_core}
 use Rattle.core_state.specs.State.{State}
 use Rattle.core_state.specs.declared.settings.RunSettings.{RunSettings}
 use Rattle.event_core.specs.Parts.{Parts}
 use Rattle.event_core.specs.Seen.{state_of}
 use Rattle.script_run.specs.End.{end_of_all}
+use Rattle.script_run.specs.Front.{IsRun}
 use Rattle.script_run.specs.Run.{IsProperFront, script_replies, script_text, some_refused}
 use Rattle.script_run.specs.Shared.{CutScript, TellsFront, TellsOf}
 use Rattle.make_load.specs.declared.line.Summed.{Summed}
@@ -122,6 +124,19 @@ pub record WritesSome (end : MadeEnd) (line : List ℕ) (refused : Bool)
 abbrev pub WritesSummed : Result Summed values.NoMemory → MadeEnd → (to to' : WritingSide) → Type 0
 WritesSummed (Ok summed) end to to' = WritesSome end summed.line summed.refused to to'
 WritesSummed (Err wanting) end to to' = (end ≡ NoMemory) × (to' ≡ to)
+
+-- how the run of a text in memory ends that is no longer than a script may be: no read of it fails,
+-- and the limit is not passed
+pub record EndsText (end : RunEnd) : Type 0 where
+  pub read : end ≢ run_end.ReadFault
+  pub limit : end ≢ run_end.ScriptLimit
+
+-- a core of these settings is handed back but where a run is in want of memory, and where nobody
+-- else had it, steps of a run lead to it from an empty one
+pub record HandsBack (Alone : Type 0) (settings : RunSettings) (handed : Option Parts)
+    (Wanting : Type 0) : Type 0 where
+  pub core : IsNone handed ↔ Wanting
+  pub run : Alone → IfSome handed (λ parts. IsRun (empty_core settings) (state_of parts))
 
 -- the core of a run is handed on, unless no memory was left
 abbrev pub HandsOn : MadeEnd → (found handed : Option Parts) → Type 0

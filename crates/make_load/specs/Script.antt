@@ -36,12 +36,10 @@ named_record letter names least range key draft =
     ∷ say (codes "\n") ∷ [])
     draft
 
--- a load of such records with the keys below so many
-unfoldable pub named_load : List ℕ → ℕ → List ℕ → ℕ → ℕ → ℕ → Draft → Draft
-named_load line keys letter names least range draft =
-    in_turn (say line ∷ for_each keys (named_record letter names least range)
-    ∷ say (codes ".\n") ∷ [])
-    draft
+-- the block of such records with the keys below so many
+unfoldable pub named_rows : ℕ → List ℕ → ℕ → ℕ → ℕ → Draft → Draft
+named_rows keys letter names least range draft =
+    in_turn (for_each keys (named_record letter names least range) ∷ say (codes ".\n") ∷ []) draft
 
 -- a day: its key, its month and its weekday
 unfoldable pub day : ℕ → Draft → Draft
@@ -68,11 +66,11 @@ tables draft =
 -- the loads of the dimensions
 unfoldable pub dimensions : Draft → Draft
 dimensions draft =
-    in_turn (named_load (codes "load store\n") 40 (codes ",R") 8 0 1000
-    ∷ named_load (codes "load product\n") 200 (codes ",B") 25 0 500
-    ∷ named_load (codes "load customer\n") 500 (codes ",C") 50 18 70
+    in_turn (say (codes "load store\n") ∷ named_rows 40 (codes ",R") 8 0 1000
+    ∷ say (codes "load product\n") ∷ named_rows 200 (codes ",B") 25 0 500
+    ∷ say (codes "load customer\n") ∷ named_rows 500 (codes ",C") 50 18 70
     ∷ days
-    ∷ named_load (codes "load promo\n") 10 (codes ",P") 4 0 5
+    ∷ say (codes "load promo\n") ∷ named_rows 10 (codes ",P") 4 0 5
     ∷ []) draft
 
 -- a number of a sale and the comma behind it

@@ -1,10 +1,9 @@
 //! The line of the replies to a script.
-ghost use Rattle.std.specs.Prelude.{◌≡◌, ◌≢◌, ◌≤◌, ℕ, Bool, true, List, length, IfOk};
-ghost use Rattle.star_io.specs.declared.run_end.RunEnd.TheVariants as end;
+ghost use Rattle.std.specs.Prelude.{◌≡◌, ◌≤◌, ℕ, Bool, true, List, length, IfOk};
 ghost use Rattle.script_reader.specs.declared.reader.TheConstants.{SCRIPT_LIMIT};
 ghost use Rattle.script_run.specs.End.{end_of_all};
 ghost use Rattle.script_run.specs.Run.{script_text};
-ghost use Rattle.make_load.specs.Made.{IsSummed, IsTextOf, line_of};
+ghost use Rattle.make_load.specs.Made.{EndsText, IsSummed, IsTextOf, line_of};
 
 use crate::printing::print_summary;
 use crate::reading::summary;
@@ -29,8 +28,7 @@ pub(crate) fn sum_up(
     script: &[u8],
 ) -> Result<Summed, NoMemory>
     requires short { length script.now ≤ SCRIPT_LIMIT }
-    requires read { run_end ≢ end.ReadFault }
-    requires limit { run_end ≢ end.ScriptLimit }
+    requires ends { EndsText run_end }
     requires text { (refused : Bool) → run_end ≡ end_of_all refused →
         IsTextOf replies.now script.now }
     ensures { IfOk result (IsSummed run_end script.now replies.now) }
@@ -43,8 +41,7 @@ pub(crate) fn sum_up(
 /// Whether some statement was refused, where a run in memory ended so. Want of memory is also what
 /// makes a write there fail.
 fn refused_of(run_end: RunEnd) -> Result<bool, NoMemory>
-    requires read { run_end ≢ end.ReadFault }
-    requires limit { run_end ≢ end.ScriptLimit }
+    requires { EndsText run_end }
     ensures { IfOk result (λ refused. run_end ≡ end_of_all refused) }
 {
     match run_end {

@@ -1,6 +1,6 @@
 //! The lines of the made workload, in the order of the script.
 ghost use Rattle.std.specs.Prelude.{◌≡◌, ◌<◌, ◌+◌, ◌^◌, OnOk};
-ghost use Rattle.make_load.specs.Script.{ask, ask_brands, ask_channels, ask_months, ask_regions, ask_units, block, day, days, delete_behind, dimensions, draw_part, named_load, named_record, queries, sale, sales, script, share, tables};
+ghost use Rattle.make_load.specs.Script.{ask, ask_brands, ask_channels, ask_months, ask_regions, ask_units, block, day, days, delete_behind, dimensions, draw_part, named_record, named_rows, queries, sale, sales, script, share, tables};
 
 use crate::draft::Draft;
 use star_values::NoMemory;
@@ -36,18 +36,22 @@ fn tables(draft: &mut Draft) -> Result<(), NoMemory>
 fn dimensions(draft: &mut Draft) -> Result<(), NoMemory>
     ensures { OnOk result (draft.new ≡ dimensions draft.old) }
 {
-    named_load(draft, b"load store\n", 40, b",R", 8, 0, 1000)?;
-    named_load(draft, b"load product\n", 200, b",B", 25, 0, 500)?;
-    named_load(draft, b"load customer\n", 500, b",C", 50, 18, 70)?;
+    draft.say(b"load store\n")?;
+    named_rows(draft, 40, b",R", 8, 0, 1000)?;
+    draft.say(b"load product\n")?;
+    named_rows(draft, 200, b",B", 25, 0, 500)?;
+    draft.say(b"load customer\n")?;
+    named_rows(draft, 500, b",C", 50, 18, 70)?;
     days(draft)?;
-    named_load(draft, b"load promo\n", 10, b",P", 4, 0, 5)
+    draft.say(b"load promo\n")?;
+    named_rows(draft, 10, b",P", 4, 0, 5)
 }
 
-/// A load of records, each a key, a letter with a number, and a number from the least on.
-#[tactic(auto, unfolding(crate::specs::Script::named_load))]
-fn named_load(
+/// The block of a load: so many records, each a key, a letter with a number, and a number from the
+/// least on.
+#[tactic(auto, unfolding(crate::specs::Script::named_rows))]
+fn named_rows(
     draft: &mut Draft,
-    line: &[u8],
     keys: u32,
     letter: &[u8],
     names: u32,
@@ -58,9 +62,8 @@ fn named_load(
     requires some { 0 < range }
     requires fits { least + range < 2 ^ 32 }
     ensures { OnOk result
-        (draft.new ≡ named_load line.now keys letter.now names least range draft.old) }
+        (draft.new ≡ named_rows keys letter.now names least range draft.old) }
 {
-    draft.say(line)?;
     for key in 0..keys {
         named_record(draft, letter, names, least, range, key)?;
     }

@@ -1,14 +1,10 @@
 //! The run of the made workload, whose one line is written to a sink.
-ghost use Rattle.std.specs.Prelude.{◌≡◌, ◌≢◌, ◌↔◌, ◌+◌, ◌≤◌, Bool, None, length, IfOk, IfSome, IsNone};
-ghost use Rattle.star_io.specs.declared.run_end.RunEnd.TheVariants as ran_end;
+ghost use Rattle.std.specs.Prelude.{◌≡◌, ◌+◌, ◌≤◌, Bool, None, length, IfOk};
 ghost use Rattle.script_reader.specs.declared.reader.TheConstants.{SCRIPT_LIMIT};
 ghost use Rattle.make_load.specs.Script.{made_script};
 ghost use Rattle.core_state.specs.Settings.{AreWithin};
-ghost use Rattle.core_state.specs.Sound.{empty_core};
-ghost use Rattle.event_core.specs.Seen.{state_of};
 ghost use Rattle.script_run.specs.End.{end_of_all};
-ghost use Rattle.script_run.specs.Front.{IsRun};
-ghost use Rattle.make_load.specs.Made.{AnswersMade, CountsMade, HandsOn, IsTextOf, TellsRan, WritesSummed, end_behind};
+ghost use Rattle.make_load.specs.Made.{AnswersMade, CountsMade, EndsText, HandsBack, HandsOn, IsTextOf, TellsRan, WritesSummed, end_behind};
 ghost use Rattle.make_load.specs.declared.made.MadeEnd.TheVariants as end;
 
 use crate::laws::made_scripts_are_within_the_limit;
@@ -17,10 +13,10 @@ use crate::ran::{Ran, run_text, run_text_on_one_thread};
 use crate::script::make_script;
 use core_state::RunSettings;
 use event_core::Core;
+use script_run::Host;
 use star_io::{Failed, Sink, write_all};
 use star_values::{ByteText, NoMemory};
 use std::alloc::Global;
-use std::hash::RandomState;
 use std::sync::Wait;
 use std::thread::Threads;
 use worker_gate::Gate;
@@ -51,9 +47,7 @@ pub struct MadeDone {
 /// The workers of the settings share the core with the one who reads, each behind the gate. Without
 /// workers it does what `run_made_on_one_thread` does.
 pub fn run_made<R: Threads + Wait + Sync, K: Sink, G: Gate + Sync>(
-    rt: &R,
-    alloc: Global,
-    hash_keys: RandomState,
+    host: Host<&R>,
     settings: RunSettings,
     seed: u32,
     rows: u32,
@@ -66,24 +60,21 @@ pub fn run_made<R: Threads + Wait + Sync, K: Sink, G: Gate + Sync>(
     ensures answers { AnswersMade (settings.workers ≡ 0) settings seed rows result.core result.end
         (K.writing sink.old) (K.writing sink.new) }
     ensures faults { CountsMade result.end (K.writing sink.old) (K.writing sink.new) }
-    ensures core { IsNone result.core ↔ (result.end ≡ end.NoMemory) }
-    ensures run { settings.workers ≡ 0 →
-        IfSome result.core (λ core. IsRun (empty_core settings) (state_of core)) }
+    ensures back { HandsBack (settings.workers ≡ 0) settings
+        result.core (result.end ≡ end.NoMemory) }
 {
-    let Ok(script) = made_text(alloc, seed, rows) else {
+    let Ok(script) = made_text(host.alloc, seed, rows) else {
         return without_memory();
     };
     let bytes = script.as_bytes();
-    let ran = run_text(rt, alloc, hash_keys, settings, bytes, gate);
-    tell(alloc, ran, bytes, sink)
+    let ran = run_text(host, settings, bytes, gate);
+    tell(host.alloc, ran, bytes, sink)
 }
 
 /// The same on one thread but for the threads of a turn, so that it comes to its end where they and
 /// the sink do.
 pub fn run_made_on_one_thread<R: Threads + Sync, K: Sink>(
-    rt: &R,
-    alloc: Global,
-    hash_keys: RandomState,
+    host: Host<&R>,
     settings: RunSettings,
     seed: u32,
     rows: u32,
@@ -94,15 +85,14 @@ pub fn run_made_on_one_thread<R: Threads + Sync, K: Sink>(
     ensures answers { AnswersMade (Unit {0}) settings seed rows result.core result.end
         (K.writing sink.old) (K.writing sink.new) }
     ensures faults { CountsMade result.end (K.writing sink.old) (K.writing sink.new) }
-    ensures core { IsNone result.core ↔ (result.end ≡ end.NoMemory) }
-    ensures run { IfSome result.core (λ core. IsRun (empty_core settings) (state_of core)) }
+    ensures back { HandsBack (Unit {0}) settings result.core (result.end ≡ end.NoMemory) }
 {
-    let Ok(script) = made_text(alloc, seed, rows) else {
+    let Ok(script) = made_text(host.alloc, seed, rows) else {
         return without_memory();
     };
     let bytes = script.as_bytes();
-    let ran = run_text_on_one_thread(rt, alloc, hash_keys, settings, bytes);
-    tell(alloc, ran, bytes, sink)
+    let ran = run_text_on_one_thread(host, settings, bytes);
+    tell(host.alloc, ran, bytes, sink)
 }
 
 /// The script that a seed makes with so many sales.
@@ -130,8 +120,7 @@ fn without_memory() -> MadeDone
 /// Sums up the replies of a run in memory, writes the line, and hands the core on.
 fn tell<K: Sink>(alloc: Global, ran: Ran, script: &[u8], sink: &mut K) -> MadeDone
     requires short { length script.now ≤ SCRIPT_LIMIT }
-    requires read { ran.end ≢ ran_end.ReadFault }
-    requires limit { ran.end ≢ ran_end.ScriptLimit }
+    requires ends { EndsText ran.end }
     requires text { (refused : Bool) → ran.end ≡ end_of_all refused →
         IsTextOf ran.replies.taken script.now }
     ensures tells { TellsRan script.now ran result (K.writing sink.old) (K.writing sink.new) }

@@ -1,20 +1,15 @@
 //! A script of bytes in memory, run into a list of bytes.
-ghost use Rattle.std.specs.Prelude.{◌≡◌, ◌≢◌, ◌↔◌, ◌+◌, ◌≤◌, length, IfSome, IsNone};
+ghost use Rattle.std.specs.Prelude.{◌≡◌, ◌+◌, ◌≤◌, length};
 ghost use Rattle.star_io.specs.declared.run_end.RunEnd.TheVariants as end;
 ghost use Rattle.script_reader.specs.declared.reader.TheConstants.{SCRIPT_LIMIT};
 ghost use Rattle.core_state.specs.Settings.{AreWithin};
-ghost use Rattle.core_state.specs.Sound.{empty_core};
-ghost use Rattle.event_core.specs.Seen.{state_of};
-ghost use Rattle.script_run.specs.Front.{IsRun};
-ghost use Rattle.make_load.specs.Made.{RunsText};
+ghost use Rattle.make_load.specs.Made.{EndsText, HandsBack, RunsText};
 
 use crate::text_source::TextSource;
 use core_state::RunSettings;
 use event_core::Core;
-use script_run::{run_on_one_thread, run_script};
+use script_run::{Host, run_on_one_thread, run_script};
 use star_io::{ListSink, RunEnd};
-use std::alloc::Global;
-use std::hash::RandomState;
 use std::sync::Wait;
 use std::thread::Threads;
 use worker_gate::Gate;
@@ -30,9 +25,7 @@ pub(crate) struct Ran {
 
 /// Runs a script that stands in memory, and keeps its replies there.
 pub(crate) fn run_text<R: Threads + Wait + Sync, G: Gate + Sync>(
-    rt: &R,
-    alloc: Global,
-    hash_keys: RandomState,
+    host: Host<&R>,
     settings: RunSettings,
     script: &[u8],
     gate: &G,
@@ -41,15 +34,13 @@ pub(crate) fn run_text<R: Threads + Wait + Sync, G: Gate + Sync>(
     requires seats { settings.seats ≡ settings.workers + 1 }
     requires short { length script.now ≤ SCRIPT_LIMIT }
     ensures ran { RunsText (settings.workers ≡ 0) settings script.now result }
-    ensures read { result.end ≢ end.ReadFault }
-    ensures limit { result.end ≢ end.ScriptLimit }
-    ensures core { IsNone result.core ↔ (result.end ≡ end.NoMemory) }
-    ensures run { settings.workers ≡ 0 →
-        IfSome result.core (λ core. IsRun (empty_core settings) (state_of core)) }
+    ensures ends { EndsText result.end }
+    ensures back { HandsBack (settings.workers ≡ 0) settings
+        result.core (result.end ≡ end.NoMemory) }
 {
     let mut source = TextSource::new(script);
-    let mut sink = ListSink::new(alloc, usize::MAX, Vec::new(alloc));
-    let done = run_script(rt, alloc, hash_keys, settings, &mut source, &mut sink, gate);
+    let mut sink = ListSink::new(host.alloc, usize::MAX, Vec::new(host.alloc));
+    let done = run_script(host, settings, &mut source, &mut sink, gate);
     Ran {
         end: done.end,
         core: done.core,
@@ -59,23 +50,19 @@ pub(crate) fn run_text<R: Threads + Wait + Sync, G: Gate + Sync>(
 
 /// The same on one thread but for the threads of a turn, so that it comes to its end where they do.
 pub(crate) fn run_text_on_one_thread<R: Threads + Sync>(
-    rt: &R,
-    alloc: Global,
-    hash_keys: RandomState,
+    host: Host<&R>,
     settings: RunSettings,
     script: &[u8],
 ) -> Ran
     requires settings { AreWithin settings }
     requires short { length script.now ≤ SCRIPT_LIMIT }
     ensures ran { RunsText (Unit {0}) settings script.now result }
-    ensures read { result.end ≢ end.ReadFault }
-    ensures limit { result.end ≢ end.ScriptLimit }
-    ensures core { IsNone result.core ↔ (result.end ≡ end.NoMemory) }
-    ensures run { IfSome result.core (λ core. IsRun (empty_core settings) (state_of core)) }
+    ensures ends { EndsText result.end }
+    ensures back { HandsBack (Unit {0}) settings result.core (result.end ≡ end.NoMemory) }
 {
     let mut source = TextSource::new(script);
-    let mut sink = ListSink::new(alloc, usize::MAX, Vec::new(alloc));
-    let done = run_on_one_thread(rt, alloc, hash_keys, settings, &mut source, &mut sink);
+    let mut sink = ListSink::new(host.alloc, usize::MAX, Vec::new(host.alloc));
+    let done = run_on_one_thread(host, settings, &mut source, &mut sink);
     Ran {
         end: done.end,
         core: done.core,

@@ -15,14 +15,14 @@ use Rattle.pipeline_manager.specs.declared.life.QueryLife.{QueryLife}
 use Rattle.pipeline_manager.specs.Lives.{Lives, query_in, life_in, extent_in, is_held_by, oldest_waiting}
 use Rattle.pipeline_manager.specs.Changes.{with_life, started, covered, cut_query, with_dimension, without_dimension, after_submit, after_run, after_cut, after_spoil, after_abandon}
 use Rattle.pipeline_manager.specs.Conditions.{IsNew}
-use Rattle.pipeline_manager.specs.Sound.{FitsSlots, IsOfFilters, IsSound, slots_held}
+use Rattle.pipeline_manager.specs.Sound.{FitsSlots, IsOfFilters, AreSoundLives, slots_held}
 use Rattle.pipeline_manager.proofs.LifeLemmas.{query_in-map, query_in-push_same, query_in-push_other, life_in-same, life_in-other, oldest-waits}
 use Rattle.star_values.proofs.RisingLemmas.{IsMissing}
 use Rattle.pipeline_manager.proofs.QueryLemmas.{query_in-missing}
 use Rattle.pipeline_manager.proofs.SoundLemmas.{IsLeftOf, rising-map, rising-with_life, fits-started, fits-cut_life, fits-one, left-started, left-cut_life, left-with_life, sound-with_life, slots_held-set}
 
 -- `submit`
-pub sound-after_submit : (query extent : ℕ) (lives : Lives) → IsNew query lives → IsSound lives → IsSound (after_submit query extent lives)
+pub sound-after_submit : (query extent : ℕ) (lives : Lives) → IsNew query lives → AreSoundLives lives → AreSoundLives (after_submit query extent lives)
 sound-after_submit query extent lives new sound = record {
   rising = all_pairs_push (λ entry later. entry.query < later.query) lives.queries added sound.rising new;
   some = sound.some;
@@ -57,8 +57,8 @@ sound-after_submit query extent lives new sound = record {
 
 -- `reserve`
 pub sound-reserved : (slot query : ℕ) (lives : Lives) → slot < length lives.slots → get_or lives.slots slot Free ≡ Free
-    → oldest_waiting lives ≡ Some query → IsSound lives
-    → IsSound (record lives {
+    → oldest_waiting lives ≡ Some query → AreSoundLives lives
+    → AreSoundLives (record lives {
       queries = with_life query Building lives.queries;
       slots = set lives.slots slot (Held query 0);
     })
@@ -140,8 +140,8 @@ filters-without_dimension taken_out filters dimension (Clearing left) kept = λ 
     kept other ((taken_out left dimension other).0 has).0
 
 -- `run`
-pub sound-after_run : (query start : ℕ) (lives : Lives) → life_in lives.queries query ≡ Some Building → IsSound lives
-    → IsSound (after_run query start lives)
+pub sound-after_run : (query start : ℕ) (lives : Lives) → life_in lives.queries query ≡ Some Building → AreSoundLives lives
+    → AreSoundLives (after_run query start lives)
 sound-after_run query start lives building sound =
     sound-with_life query (started start (extent_in lives.queries query)) lives
     (λ old held e fits.
@@ -154,7 +154,7 @@ sound-after_run query start lives building sound =
     sound
 
 -- `cut`
-pub sound-after_cut : (first last : ℕ) (lives : Lives) → IsSound lives → IsSound (after_cut first last lives)
+pub sound-after_cut : (first last : ℕ) (lives : Lives) → AreSoundLives lives → AreSoundLives (after_cut first last lives)
 sound-after_cut first last lives sound = record {
   rising = rising-map (cut_query first last) lives.queries (λ entry. refl) sound.rising;
   some = sound.some;
@@ -175,12 +175,12 @@ sound-after_cut first last lives sound = record {
     by_query (Some entry) held fits = fits-cut_life (covered first last entry.extent) entry.life held fits
 
 -- `spoil` and `abandon`
-pub sound-after_spoil : (query : ℕ) (lives : Lives) → IsSound lives → IsSound (after_spoil query lives)
+pub sound-after_spoil : (query : ℕ) (lives : Lives) → AreSoundLives lives → AreSoundLives (after_spoil query lives)
 sound-after_spoil query lives sound =
     sound-with_life query Spoiled lives
     (λ old held e fits. let one = fits-one (Some old) held fits in (omega arith, omega arith)) (λ entry found. tt) sound
 
-pub sound-after_abandon : (query : ℕ) (lives : Lives) → IsSound lives → IsSound (after_abandon query lives)
+pub sound-after_abandon : (query : ℕ) (lives : Lives) → AreSoundLives lives → AreSoundLives (after_abandon query lives)
 sound-after_abandon query lives sound =
     sound-with_life query Abandoned lives
     (λ old held e fits. let one = fits-one (Some old) held fits in (omega arith, omega arith)) (λ entry found. tt) sound

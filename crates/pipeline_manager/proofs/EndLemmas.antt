@@ -13,7 +13,7 @@ use Rattle.pipeline_manager.specs.declared.life.QueryLife.{QueryLife}
 use Rattle.pipeline_manager.specs.Lives.{Lives, life_in}
 use Rattle.pipeline_manager.specs.Changes.{with_life, with_answer, is_ending}
 use Rattle.pipeline_manager.specs.Conditions.{gives_up}
-use Rattle.pipeline_manager.specs.Sound.{FitsSlots, AreRising, IsOfFilters, IsSound, slots_held}
+use Rattle.pipeline_manager.specs.Sound.{FitsSlots, AreRising, IsOfFilters, AreSoundLives, slots_held}
 use Rattle.pipeline_manager.proofs.LifeLemmas.{life_in-same, life_in-other}
 use Rattle.pipeline_manager.proofs.SoundLemmas.{IsLeftOf, rising-with_life, fits-one, left-with_life, slots_held-set}
 
@@ -33,8 +33,8 @@ answered-fits (Some life) = (omega arith, omega arith)
 taken : (slot query built : ℕ) (queries : List QueryLife) (lives : Lives) → slot < length lives.slots
     → get_or lives.slots slot Free ≡ Held query built → AreRising queries → All IsLeftOf queries
     → FitsSlots (life_in queries query) 0
-    → ((other : ℕ) → (other ≡ query → ⊥) → life_in queries other ≡ life_in lives.queries other) → IsSound lives
-    → IsSound (record lives { queries = queries; slots = set lives.slots slot (Clearing built) })
+    → ((other : ℕ) → (other ≡ query → ⊥) → life_in queries other ≡ life_in lives.queries other) → AreSoundLives lives
+    → AreSoundLives (record lives { queries = queries; slots = set lives.slots slot (Clearing built) })
 taken slot query built queries lives within holds rising left over others sound =
     let many : length (set lives.slots slot (Clearing built)) ≡ length lives.slots = length-set lives.slots slot (Clearing built) in
     let some = sound.some in
@@ -75,13 +75,13 @@ taken slot query built queries lives within holds rising left over others sound 
 
 -- `end`
 pub sound-ended : (slot query built : ℕ) (lives : Lives) → slot < length lives.slots → get_or lives.slots slot Free ≡ Held query built
-    → IsTrue (option_map_or gives_up (life_in lives.queries query) false) → IsSound lives
-    → IsSound (record lives { queries = with_answer query lives.queries; slots = set lives.slots slot (Clearing built) })
+    → IsTrue (option_map_or gives_up (life_in lives.queries query) false) → AreSoundLives lives
+    → AreSoundLives (record lives { queries = with_answer query lives.queries; slots = set lives.slots slot (Clearing built) })
 sound-ended slot query built lives within holds over sound =
     by_test (option_map_or is_ending (life_in lives.queries query) false) refl
   where
     by_test : (ends : Bool) → ends ≡ option_map_or is_ending (life_in lives.queries query) false
-        → IsSound (record lives { queries = with_answer query lives.queries; slots = set lives.slots slot (Clearing built) })
+        → AreSoundLives (record lives { queries = with_answer query lives.queries; slots = set lives.slots slot (Clearing built) })
     by_test true e =
         rw (sym e)
         (taken slot query built (with_life query Answered lives.queries) lives within holds

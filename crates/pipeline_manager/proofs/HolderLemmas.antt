@@ -12,7 +12,7 @@ use Rattle.pipeline_manager.specs.declared.life.SlotState.{SlotState}
 use Rattle.pipeline_manager.specs.declared.life.SlotState.TheVariants.{Free, Held}
 use Rattle.pipeline_manager.specs.Lives.{Lives, life_in, slot_at, slot_of, built_in, built_of, is_held_by}
 use Rattle.pipeline_manager.specs.Conditions.{CanSpoil, is_begun}
-use Rattle.pipeline_manager.specs.Sound.{FitsSlots, IsSound}
+use Rattle.pipeline_manager.specs.Sound.{FitsSlots, AreSoundLives}
 use Rattle.pipeline_manager.proofs.SoundLemmas.{fits-one}
 
 -- what passes at a place, and passes once at most, passes nowhere before
@@ -54,13 +54,13 @@ first-within p (state ∷ slots) some = by_test (p state) refl (first-within p s
         let behind = rest (omega arith) in
         rw (sym e) (omega arith)
 
-pub slot_of-holder : (lives : Lives) (slot query built : ℕ) → IsSound lives → slot < length lives.slots
+pub slot_of-holder : (lives : Lives) (slot query built : ℕ) → AreSoundLives lives → slot < length lives.slots
     → slot_at lives slot ≡ Held query built → slot_of lives query ≡ Some slot
 slot_of-holder lives slot query built sound within holds =
     position-alone (is_held_by query) lives.slots slot within
     (ap (is_held_by query) holds ∙ eq-eqb query query refl) (fits-one (life_in lives.queries query) _ (sound.held query))
 
-pub built_of-holder : (lives : Lives) (slot query built : ℕ) → IsSound lives → slot < length lives.slots
+pub built_of-holder : (lives : Lives) (slot query built : ℕ) → AreSoundLives lives → slot < length lives.slots
     → slot_at lives slot ≡ Held query built → built_of lives query ≡ built
 built_of-holder lives slot query built sound within holds =
     ap (λ first. option_map_or (λ s. built_in (slot_at lives s)) first 0) (slot_of-holder lives slot query built sound within holds)
@@ -73,7 +73,7 @@ begun-holds (Some (Running start left)) held begun fits = omega arith
 begun-holds (Some Ending) held begun fits = omega arith
 begun-holds other held begun fits = cc
 
-pub slot_of-begun : (lives : Lives) (query : ℕ) → IsSound lives → CanSpoil query lives → IsSome (slot_of lives query)
+pub slot_of-begun : (lives : Lives) (query : ℕ) → AreSoundLives lives → CanSpoil query lives → IsSome (slot_of lives query)
 slot_of-begun lives query sound begun =
     let some = begun-holds (life_in lives.queries query) _ begun (sound.held query) in
     rw (lt-ltb (position_or_len (is_held_by query) lives.slots) (length lives.slots) (first-within (is_held_by query) lives.slots some)) refl

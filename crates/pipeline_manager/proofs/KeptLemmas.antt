@@ -11,7 +11,7 @@ use Rattle.pipeline_manager.specs.declared.life.SlotState.{SlotState}
 use Rattle.pipeline_manager.specs.declared.life.QueryLife.{QueryLife}
 use Rattle.pipeline_manager.specs.Lives.{life_in, is_waiting}
 use Rattle.pipeline_manager.specs.Changes.{with_life, with_answer, is_ending, renewed}
-use Rattle.pipeline_manager.specs.LetGo.{AreClosed, AreKept, IsClosed, IsOpenIn, LetGo, cut_held}
+use Rattle.pipeline_manager.specs.LetGo.{AreClosed, AreLetGo, IsClosed, IsOpenIn, LetGo, cut_held}
 use Rattle.pipeline_manager.specs.Sound.{AreRising}
 use Rattle.pipeline_manager.proofs.CutLemmas.{cut_held-number}
 use Rattle.pipeline_manager.proofs.GoneLemmas.{cut-closed, ending-open, open-rest, written-closed}
@@ -50,7 +50,7 @@ closed-written count query life queries may closed =
 
 -- a life that is written
 pub kept-written : (gone : LetGo) (rest : List QueryLife) (passed closed query : ℕ) (life : Life) → is_waiting life ≡ false
-    → IsOpenIn (gone.queries ++ rest) query → AreKept gone rest passed closed → AreKept gone (with_life query life rest) passed closed
+    → IsOpenIn (gone.queries ++ rest) query → AreLetGo gone rest passed closed → AreLetGo gone (with_life query life rest) passed closed
 kept-written gone rest passed closed query life waits may kept = record {
   over = kept.over;
   room = room-map gone.room (renewed query life) rest (renewed-number query life) kept.room;
@@ -59,12 +59,12 @@ kept-written gone rest passed closed query life waits may kept = record {
 }
 
 -- an answer
-pub kept-answered : (gone : LetGo) (rest : List QueryLife) (passed closed query : ℕ) → AreKept gone rest passed closed
-    → AreKept gone (with_answer query rest) passed closed
+pub kept-answered : (gone : LetGo) (rest : List QueryLife) (passed closed query : ℕ) → AreLetGo gone rest passed closed
+    → AreLetGo gone (with_answer query rest) passed closed
 kept-answered gone rest passed closed query kept = by_test (option_map_or is_ending (life_in rest query) false) refl
   where
     by_test : (ends : Bool) → option_map_or is_ending (life_in rest query) false ≡ ends
-        → AreKept gone (cond {A = List QueryLife} ends (with_life query Answered rest) rest) passed closed
+        → AreLetGo gone (cond {A = List QueryLife} ends (with_life query Answered rest) rest) passed closed
     by_test true is = record {
       over = kept.over;
       room = room-map gone.room (renewed query Answered) rest (renewed-number query Answered) kept.room;
@@ -74,8 +74,8 @@ kept-answered gone rest passed closed query kept = by_test (option_map_or is_end
     by_test false is = kept
 
 -- a cut
-pub kept-cut : (gone : LetGo) (rest : List QueryLife) (passed closed first last : ℕ) (slots : List SlotState) → AreKept gone rest passed closed
-    → AreKept gone (map (cut_held first last slots) rest) passed closed
+pub kept-cut : (gone : LetGo) (rest : List QueryLife) (passed closed first last : ℕ) (slots : List SlotState) → AreLetGo gone rest passed closed
+    → AreLetGo gone (map (cut_held first last slots) rest) passed closed
 kept-cut gone rest passed closed first last slots kept = record {
   over = kept.over;
   room = room-map gone.room (cut_held first last slots) rest (cut_held-number first last slots) kept.room;

@@ -9,7 +9,7 @@ use Rattle.pipeline_manager.specs.declared.life.SlotState.{SlotState}
 use Rattle.pipeline_manager.specs.declared.life.SlotState.TheVariants.{Free, Held, Clearing}
 use Rattle.pipeline_manager.specs.Conditions.{CanSpoil, is_begun}
 use Rattle.pipeline_manager.specs.Lives.{Lives, is_free, is_held_by, life_of, slot_at, slot_of}
-use Rattle.pipeline_manager.specs.Sound.{IsSound}
+use Rattle.pipeline_manager.specs.Sound.{AreSoundLives}
 use Rattle.pipeline_manager.proofs.HolderLemmas.{slot_of-begun}
 use Rattle.star_values.proofs.PlaceLemmas.{past-from_none}
 
@@ -55,7 +55,7 @@ within-used P lives used slot free never holds = elim (cases_lt slot used) [
 ]
 
 -- what holds of no query that holds a slot, and only of queries that hold one, holds of none
-pub none-at-all : (P : ℕ → Type 0) (lives : Lives) (used : ℕ) → IsSound lives → AreFreeFrom used lives
+pub none-at-all : (P : ℕ → Type 0) (lives : Lives) (used : ℕ) → AreSoundLives lives → AreFreeFrom used lives
     → ((query : ℕ) → P query → CanSpoil query lives)
     → ((query slot : ℕ) → slot < used → slot_of lives query ≡ Some slot → P query → ⊥) → (query : ℕ) → P query → ⊥
 none-at-all P lives used sound free begun none query holds = by_slot (slot_of lives query) refl (slot_of-begun lives query sound (begun query holds))

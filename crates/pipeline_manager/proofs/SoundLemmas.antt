@@ -12,7 +12,7 @@ use Rattle.pipeline_manager.specs.declared.life.SlotState.TheVariants.{Free}
 use Rattle.pipeline_manager.specs.declared.life.QueryLife.{QueryLife}
 use Rattle.pipeline_manager.specs.Lives.{Lives, query_in, life_in, is_held_by}
 use Rattle.pipeline_manager.specs.Changes.{with_life, with_slot, renewed, cut_life, started}
-use Rattle.pipeline_manager.specs.Sound.{FitsSlots, AreRising, IsLeft, IsOfFilters, IsSound, slots_held}
+use Rattle.pipeline_manager.specs.Sound.{FitsSlots, AreRising, IsLeft, IsOfFilters, AreSoundLives, slots_held}
 use Rattle.pipeline_manager.proofs.QueryLemmas.{query_in-found}
 use Rattle.pipeline_manager.proofs.LifeLemmas.{renewed-number, life_in-same, life_in-other}
 
@@ -106,8 +106,8 @@ left-with_life queries query life rising written left = λ k d within.
 -- a life that fits what the query holds may be written
 pub sound-with_life : (query : ℕ) (life : Life) (lives : Lives)
     → ((old : Life) (held : ℕ) → life_in lives.queries query ≡ Some old → FitsSlots (Some old) held → FitsSlots (Some life) held)
-    → ((entry : QueryLife) → query_in lives.queries query ≡ Some entry → IsLeft entry.extent life) → IsSound lives
-    → IsSound (record lives { queries = with_life query life lives.queries })
+    → ((entry : QueryLife) → query_in lives.queries query ≡ Some entry → IsLeft entry.extent life) → AreSoundLives lives
+    → AreSoundLives (record lives { queries = with_life query life lives.queries })
 sound-with_life query life lives fits written sound = record {
   rising = rising-with_life query life lives.queries sound.rising;
   some = sound.some;
@@ -127,7 +127,7 @@ slots_held-set query slots slot state within = sum_by-set (λ s. cond (is_held_b
 -- a state of the same holder may be written, if its bits are those of filters
 pub sound-with_slot : (slot : ℕ) (state : SlotState) (lives : Lives) → slot < length lives.slots
     → ((query : ℕ) → is_held_by query state ≡ is_held_by query (get_or lives.slots slot Free))
-    → IsOfFilters lives.filters state → IsSound lives → IsSound (with_slot slot state lives)
+    → IsOfFilters lives.filters state → AreSoundLives lives → AreSoundLives (with_slot slot state lives)
 sound-with_slot slot state lives within same bits sound =
     let many : length (set lives.slots slot state) ≡ length lives.slots = length-set lives.slots slot state in
     let some = sound.some in

@@ -42,7 +42,7 @@ HasLeft positions other = Unit {0}
 
 -- some query is Running, and of each Running query as much is left as the
 -- range covers of its extent
-pub record CanCut (first last : ℕ) (lives : Lives) : Type 0 where
+pub record CanCutRange (first last : ℕ) (lives : Lives) : Type 0 where
   pub running : Any (λ entry. IsRunning entry.life) lives.queries
   pub in_order : first ≤ last
   pub enough : All (λ entry. HasLeft (covered first last entry.extent) entry.life) lives.queries
@@ -55,14 +55,14 @@ gives_up Abandoned = true
 gives_up other = false
 
 -- a slot in this state is held by a query that is Ending, Spoiled or Abandoned
-abbrev pub IsOver : SlotState → Lives → Type 0
-IsOver Free lives = ⊥
-IsOver (Held query built) lives = IsTrue (option_map_or gives_up (life_of lives query) false)
-IsOver (Clearing left) lives = ⊥
+abbrev pub IsHolderOver : SlotState → Lives → Type 0
+IsHolderOver Free lives = ⊥
+IsHolderOver (Held query built) lives = IsTrue (option_map_or gives_up (life_of lives query) false)
+IsHolderOver (Clearing left) lives = ⊥
 
 -- the slot is held by a query that is Ending, Spoiled or Abandoned
 abbrev pub CanEnd : (slot : ℕ) → Lives → Type 0
-CanEnd slot lives = IsOver (slot_at lives slot) lives
+CanEnd slot lives = IsHolderOver (slot_at lives slot) lives
 
 -- a slot in this state is Clearing, and the dimension is still to be cleared
 abbrev pub IsToClear : (dimension : ℕ) → SlotState → Type 0

@@ -64,7 +64,7 @@ pub record AreClosed (count : ℕ) (queries : List QueryLife) : Type 0 where
 
 -- the lives of the queries that were let go are over. Of those behind them so many at the front do
 -- not wait, the lives of so many are over, and there is room for the lives of all
-pub record AreKept (gone : LetGo) (rest : List QueryLife) (passed closed : ℕ) : Type 0 where
+pub record AreLetGo (gone : LetGo) (rest : List QueryLife) (passed closed : ℕ) : Type 0 where
   pub over : All IsClosed gone.queries
   pub room : All (λ entry. entry.query < gone.room) rest
   pub not_waiting : ArePassed passed rest

@@ -52,7 +52,7 @@ IsOfFilters filters (Clearing left) = (dimension : ℕ) → Has left dimension �
 -- the numbers of queries rise, there are from 1 to 64 slots, each query holds as many slots as
 -- its life says and no other number holds one, something is left of each Running query, and the
 -- bits are those of filters
-pub record IsSound (lives : Lives) : Type 0 where
+pub record AreSoundLives (lives : Lives) : Type 0 where
   pub rising : AreRising lives.queries
   pub some : 1 ≤ length lives.slots
   pub few : length lives.slots ≤ 64

@@ -5,9 +5,9 @@ ghost use Rattle.pipeline_manager.specs.declared.life.SlotState.{SlotState};
 ghost use Rattle.pipeline_manager.specs.declared.life.SlotState.TheVariants.{Held};
 ghost use Rattle.pipeline_manager.specs.declared.life.QueryLife.{QueryLife};
 ghost use Rattle.pipeline_manager.specs.Lives.{Lives, query_in, life_in, life_of, slot_at, slot_of, built_of};
-ghost use Rattle.pipeline_manager.specs.Conditions.{IsNew, CanReserve, CanBuild, CanRun, CanCut, CanEnd, CanClear, CanFree, CanSpoil, CanAbandon};
+ghost use Rattle.pipeline_manager.specs.Conditions.{IsNew, CanReserve, CanBuild, CanRun, CanCutRange, CanEnd, CanClear, CanFree, CanSpoil, CanAbandon};
 ghost use Rattle.pipeline_manager.specs.Changes.{with_life, with_slot, covered, cut_life, after_submit, after_reserve, after_built, after_run, after_cut, after_end, after_cleared, after_free, after_spoil, after_abandon};
-ghost use Rattle.pipeline_manager.specs.Sound.{IsSound};
+ghost use Rattle.pipeline_manager.specs.Sound.{AreSoundLives};
 
 use bit_words::numbers_go_in_and_out;
 
@@ -15,16 +15,16 @@ use bit_words::numbers_go_in_and_out;
 pub fn calls_on_slots_keep_lives_sound()
     ensures reserve { (slot : ℕ) (lives : Lives) → slot < length lives.slots →
         CanReserve slot lives →
-        IsSound lives → IsSound (after_reserve slot lives) }
+        AreSoundLives lives → AreSoundLives (after_reserve slot lives) }
     ensures built { (query dimension : ℕ) (lives : Lives) → CanBuild query dimension lives →
-        IsSound lives → IsSound (after_built query dimension lives) }
+        AreSoundLives lives → AreSoundLives (after_built query dimension lives) }
     ensures ends { (slot : ℕ) (lives : Lives) → slot < length lives.slots → CanEnd slot lives →
-        IsSound lives → IsSound (after_end slot lives) }
+        AreSoundLives lives → AreSoundLives (after_end slot lives) }
     ensures cleared { (slot dimension : ℕ) (lives : Lives) → slot < length lives.slots →
-        CanClear slot dimension lives → IsSound lives →
-        IsSound (after_cleared slot dimension lives) }
+        CanClear slot dimension lives → AreSoundLives lives →
+        AreSoundLives (after_cleared slot dimension lives) }
     ensures free { (slot : ℕ) (lives : Lives) → slot < length lives.slots → CanFree slot lives →
-        IsSound lives → IsSound (after_free slot lives) }
+        AreSoundLives lives → AreSoundLives (after_free slot lives) }
 {
     numbers_go_in_and_out();
 }
@@ -32,15 +32,15 @@ pub fn calls_on_slots_keep_lives_sound()
 /// Each call that changes lives alone keeps what holds of all lives and slots.
 pub fn calls_on_queries_keep_lives_sound()
     ensures submit { (query extent : ℕ) (lives : Lives) → IsNew query lives →
-        IsSound lives → IsSound (after_submit query extent lives) }
+        AreSoundLives lives → AreSoundLives (after_submit query extent lives) }
     ensures run { (query start : ℕ) (lives : Lives) → CanRun query lives →
-        IsSound lives → IsSound (after_run query start lives) }
-    ensures cut { (first last : ℕ) (lives : Lives) → CanCut first last lives →
-        IsSound lives → IsSound (after_cut first last lives) }
+        AreSoundLives lives → AreSoundLives (after_run query start lives) }
+    ensures cut { (first last : ℕ) (lives : Lives) → CanCutRange first last lives →
+        AreSoundLives lives → AreSoundLives (after_cut first last lives) }
     ensures spoil { (query : ℕ) (lives : Lives) → CanSpoil query lives →
-        IsSound lives → IsSound (after_spoil query lives) }
+        AreSoundLives lives → AreSoundLives (after_spoil query lives) }
     ensures abandon { (query : ℕ) (lives : Lives) → CanAbandon query lives →
-        IsSound lives → IsSound (after_abandon query lives) }
+        AreSoundLives lives → AreSoundLives (after_abandon query lives) }
 {}
 
 /// A life that is written is that of its query, and every other query keeps its own.
@@ -67,12 +67,12 @@ pub fn slots_change_alone()
 /// A slot that a query holds is the first that it holds, and what is built there is built for it. A
 /// query that is Building, Running or Ending holds one.
 pub fn holders_are_found()
-    ensures slot { (lives : Lives) (slot query built : ℕ) → IsSound lives →
+    ensures slot { (lives : Lives) (slot query built : ℕ) → AreSoundLives lives →
         slot < length lives.slots →
         slot_at lives slot ≡ Held query built → slot_of lives query ≡ Some slot }
-    ensures built { (lives : Lives) (slot query built : ℕ) → IsSound lives →
+    ensures built { (lives : Lives) (slot query built : ℕ) → AreSoundLives lives →
         slot < length lives.slots →
         slot_at lives slot ≡ Held query built → built_of lives query ≡ built }
-    ensures begun { (lives : Lives) (query : ℕ) → IsSound lives → CanSpoil query lives →
+    ensures begun { (lives : Lives) (query : ℕ) → AreSoundLives lives → CanSpoil query lives →
         IsSome (slot_of lives query) }
 {}

@@ -8,8 +8,7 @@ mod enabling;
 mod laws;
 mod life;
 mod manager;
-mod next_queries;
-mod next_slots;
+mod next_events;
 mod number_set;
 mod old_lives;
 mod queries;
@@ -28,6 +27,8 @@ pub use laws::{
 };
 pub use life::{Life, QueryLife, SlotState};
 pub use manager::Manager;
-pub use next_queries::{Reservation, ToBuild, next_build, next_reservation, next_start};
-pub use next_slots::{ToClear, next_clear, next_release};
+pub use next_events::{
+    Reservation, ToBuild, ToClear, next_build, next_clear, next_release, next_reservation,
+    next_start,
+};
 pub use sets::has;

@@ -2,8 +2,8 @@
 ghost use Rattle.std.specs.Prelude.{◌≡◌, ℕ, ◌<◌, ◌≤◌, ◌↔◌, [], length, replicate, All, Any, IsTrue, IfOk, OnOk, OnErr, IfSome, option_map};
 ghost use Rattle.pipeline_manager.specs.declared.life.SlotState.TheVariants.{Free};
 ghost use Rattle.pipeline_manager.specs.Lives.{life_of, extent_in, oldest_waiting, free_slot, slot_at, slot_of};
-ghost use Rattle.pipeline_manager.specs.Conditions.{IsRunning, IsNew, CanReserve, CanBuild, CanRun, CanCut, CanEnd, CanClear, CanFree, CanSpoil, CanAbandon};
-ghost use Rattle.pipeline_manager.specs.Sound.{IsSound};
+ghost use Rattle.pipeline_manager.specs.Conditions.{IsRunning, IsNew, CanReserve, CanBuild, CanRun, CanCutRange, CanEnd, CanClear, CanFree, CanSpoil, CanAbandon};
+ghost use Rattle.pipeline_manager.specs.Sound.{AreSoundLives};
 ghost use Rattle.pipeline_manager.specs.Changes.{after_submit, after_reserve, after_built, after_run, after_cut, after_end, after_cleared, after_free, after_spoil, after_abandon};
 
 use crate::life::{Life, SlotState};
@@ -30,7 +30,7 @@ pub struct Manager {
 
 impl Model for Manager {
     ghost use Rattle.pipeline_manager.specs.Lives.{Lives};
-    ghost use Rattle.pipeline_manager.specs.Sound.{IsSound};
+    ghost use Rattle.pipeline_manager.specs.Sound.{AreSoundLives};
     ghost use Rattle.pipeline_manager.specs.Inside.{UsesFirst};
 
     ghost Value = { Lives };
@@ -42,7 +42,7 @@ impl Model for Manager {
     } };
 
     ghost invariant = { λ manager.
-        IsSound (record {
+        AreSoundLives (record {
           queries = manager.queries;
           slots = manager.slots;
           filters = manager.filters;
@@ -83,7 +83,7 @@ impl Manager {
     /// The number of the query that waits the longest, or `None` where none waits.
     pub fn oldest_waiting(&self) -> Option<u64>
         ensures oldest { result ≡ oldest_waiting self.now }
-        ensures sound { IsSound self.now }
+        ensures sound { AreSoundLives self.now }
     {
         self.queries.oldest_waiting()
     }
@@ -93,7 +93,7 @@ impl Manager {
         ensures least { result ≡ free_slot self.now }
         ensures within { IfSome result (λ slot. slot < length self.now.slots) }
         ensures is_free { IfSome result (λ slot. slot_at self.now slot ≡ Free) }
-        ensures sound { IsSound self.now }
+        ensures sound { AreSoundLives self.now }
     {
         Some(slots::first_free(self.slots.as_slice())? as u32)
     }
@@ -101,7 +101,7 @@ impl Manager {
     /// The life of a query, or `None` where none with this number was submitted.
     pub fn life(&self, query: u64) -> Option<Life>
         ensures life { result ≡ life_of self.now query }
-        ensures sound { IsSound self.now }
+        ensures sound { AreSoundLives self.now }
     {
         self.queries.life(query)
     }
@@ -118,7 +118,7 @@ impl Manager {
     pub fn slot_of(&self, query: u64) -> Option<u32>
         ensures slot { result ≡ slot_of self.now query }
         ensures within { IfSome result (λ slot. slot < length self.now.slots) }
-        ensures sound { IsSound self.now }
+        ensures sound { AreSoundLives self.now }
     {
         Some(slots::first_held(self.slots.as_slice(), self.used, query)? as u32)
     }
@@ -126,7 +126,7 @@ impl Manager {
     /// Whether some query is Running. It looks at the slots in use alone.
     pub fn some_run(&self) -> bool
         ensures run { IsTrue result ↔ Any (λ entry. IsRunning entry.life) self.now.queries }
-        ensures sound { IsSound self.now }
+        ensures sound { AreSoundLives self.now }
     {
         let in_use = slots::in_front(self.slots.as_slice(), self.used);
         self.queries.some_run(in_use)
@@ -135,7 +135,7 @@ impl Manager {
     pub fn slot(&self, slot: u32) -> SlotState
         requires { slot < length self.now.slots }
         ensures state { result ≡ slot_at self.now slot }
-        ensures sound { IsSound self.now }
+        ensures sound { AreSoundLives self.now }
     {
         self.slots.as_slice()[slot as usize]
     }
@@ -152,7 +152,7 @@ impl Manager {
     pub fn used(&self) -> u32
         ensures within { result ≤ length self.now.slots }
         ensures free { (slot : ℕ) → result ≤ slot → slot_at self.now slot ≡ Free }
-        ensures sound { IsSound self.now }
+        ensures sound { AreSoundLives self.now }
     {
         self.used as u32
     }
@@ -213,7 +213,7 @@ impl Manager {
     /// Notes that the scan has given all Running queries the positions from `first` to `last`, both
     /// included.
     pub fn cut(&mut self, first: u32, last: u32)
-        requires { CanCut first last self.old }
+        requires { CanCutRange first last self.old }
         ensures { self.new ≡ after_cut first last self.old }
     {
         let in_use = slots::in_front(self.slots.as_slice(), self.used);

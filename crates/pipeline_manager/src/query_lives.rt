@@ -6,7 +6,7 @@ ghost use Rattle.pipeline_manager.specs.Lives.{is_waiting, life_in, extent_in};
 ghost use Rattle.pipeline_manager.specs.Conditions.{IsRunning, is_open};
 ghost use Rattle.pipeline_manager.specs.Changes.{with_life, with_answer, cut_query};
 ghost use Rattle.pipeline_manager.specs.Sound.{AreRising, FitsSlots, slots_held};
-ghost use Rattle.pipeline_manager.specs.LetGo.{AreClosed, AreKept, IsClosed, IsOpenIn};
+ghost use Rattle.pipeline_manager.specs.LetGo.{AreClosed, AreLetGo, IsClosed, IsOpenIn};
 
 use crate::life::{Life, QueryLife, SlotState};
 use crate::old_lives::OldLives;
@@ -36,13 +36,13 @@ pub(crate) struct QueryLives {
 impl Model for QueryLives {
     ghost use Rattle.std.specs.Prelude.{List, ◌++◌};
     ghost use Rattle.pipeline_manager.specs.declared.life.QueryLife.{QueryLife};
-    ghost use Rattle.pipeline_manager.specs.LetGo.{AreKept};
+    ghost use Rattle.pipeline_manager.specs.LetGo.{AreLetGo};
 
     ghost Value = { List QueryLife };
 
     ghost view = { λ lives. lives.gone.queries ++ lives.rest };
 
-    ghost invariant = { λ lives. AreKept lives.gone lives.rest lives.passed lives.closed };
+    ghost invariant = { λ lives. AreLetGo lives.gone lives.rest lives.passed lives.closed };
 }
 
 impl QueryLives {
@@ -178,8 +178,8 @@ fn settle(
     closed: &mut usize,
 )
     requires rising { AreRising (gone.old.queries ++ rest.old) }
-    requires kept { AreKept gone.old rest.old passed.old closed.old }
-    ensures kept { AreKept gone.new rest.new passed.new closed.new }
+    requires kept { AreLetGo gone.old rest.old passed.old closed.old }
+    ensures kept { AreLetGo gone.new rest.new passed.new closed.new }
     ensures same { gone.new.queries ++ rest.new ≡ gone.old.queries ++ rest.old }
 {
     *passed = queries::first_waiting(rest.as_slice(), *passed);

@@ -10,7 +10,7 @@ pub mod ReadLemmas
 pub mod SettledLemmas
 -- Lemmas of how a query by itself is answered.
 mod ChosenLemmas
-mod ListLemmas
+pub mod ListLemmas
 mod PlainLemmas
 mod SumLemmas
 mod ScanLemmas

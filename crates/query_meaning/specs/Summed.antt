@@ -2,12 +2,12 @@
 use Rattle.std.specs.Prelude.{ℕ, ℤ, pos, neg_ℤ, ◌*◌, ◌^◌, ◌<◌, ◌≤ℤ◌}
 
 -- how many integers were added, and their sum
-pub record Summed : Type 0 where
+pub record SumSoFar : Type 0 where
   pub terms : ℕ
   pub total : ℤ
 
 -- no integer was added
-abbrev pub no_terms : Summed
+abbrev pub no_terms : SumSoFar
 no_terms = record { terms = 0; total = pos 0 }
 
 -- so many integers of 64 bits have this sum at most and at least

@@ -14,9 +14,9 @@ pub(crate) struct WideSum {
 }
 
 impl Model for WideSum {
-    ghost use Rattle.query_meaning.specs.Summed.{IsSumOf, Summed};
+    ghost use Rattle.query_meaning.specs.Summed.{IsSumOf, SumSoFar};
 
-    ghost Value = { Summed };
+    ghost Value = { SumSoFar };
 
     ghost view = { λ sum. record { terms = sum.terms; total = sum.total } };
 

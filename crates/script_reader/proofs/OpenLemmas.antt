@@ -8,8 +8,8 @@ use Rattle.script_reader.specs.declared.reader.NextStatement.TheVariants.{Got, N
 use Rattle.script_reader.specs.declared.statement.Statement.{Statement}
 use Rattle.script_reader.specs.declared.statement.Block.TheVariants.{Unclosed}
 use Rattle.star_values.specs.declared.no_memory.NoMemory.{NoMemory}
-use Rattle.script_reader.specs.Open.{FirstLine, IsLeft, LeavesSome, NoLine, TakesLast, TakesLine, bytes_of, load_of, none_open, reading_of, statements_behind}
-use Rattle.script_reader.specs.Reading.{Answers, May, TakesFirst, Wants}
+use Rattle.script_reader.specs.Open.{FirstLine, WaitBehindLoad, LeavesSome, NoLine, TakesLast, TakesLine, bytes_of, load_of, none_open, reading_of, statements_behind}
+use Rattle.script_reader.specs.Reading.{AnswersNext, May, TakesFirst, WantsMemory}
 use Rattle.script_reader.specs.Script.{has_block, is_dot_line, is_no_statement, line_text, statements_in, statements_of, whole_lines}
 
 some_step : (load : List ℕ × List ℕ) (line : List ℕ) (lines : List (List ℕ)) (dot : Bool) → is_dot_line line ≡ dot
@@ -35,19 +35,19 @@ leaves_load line begins block lines none = some_open lines (line_text line, []) 
 
 -- the reader goes on behind a line that ends no statement
 pub record GoesOn (old : OpenLoad) (rest : List ℕ) (new : OpenLoad) (rest' : List ℕ) (ended : Bool) : Type 0 where
-  pub left : IsLeft new rest' ended
+  pub left : WaitBehindLoad new rest' ended
   pub closed : length new.line ≡ 0 → new ≡ none_open
   pub same : (more : List ℕ) (last : Bool) → May ended more last
       → statements_of last ((bytes_of new ++ rest') ++ more) ≡ statements_of last ((bytes_of old ++ rest) ++ more)
 
 -- the statements that wait, once the first line is known
-behind_first : (load : OpenLoad) (rest : List ℕ) (n : ℕ) (ended : Bool) → IsLeft load rest ended → FirstLine ended rest n
+behind_first : (load : OpenLoad) (rest : List ℕ) (n : ℕ) (ended : Bool) → WaitBehindLoad load rest ended → FirstLine ended rest n
     → (more : List ℕ) (last : Bool) → May ended more last
     → statements_of last ((bytes_of load ++ rest) ++ more) ≡ statements_behind last load (take n rest ∷ whole_lines last (drop n rest ++ more))
 behind_first load rest n ended left first more last may =
     left more last may ∙ ap (statements_behind last load) (first more last may)
 
-passes : (rest : List ℕ) (n : ℕ) (ended : Bool) → IsLeft none_open rest ended → FirstLine ended rest n
+passes : (rest : List ℕ) (n : ℕ) (ended : Bool) → WaitBehindLoad none_open rest ended → FirstLine ended rest n
     → ((last : Bool) (lines : List (List ℕ)) → statements_behind last none_open (take n rest ∷ lines) ≡ statements_behind last none_open lines)
     → GoesOn none_open rest none_open (drop n rest) ended
 passes rest n ended left first taken = record {
@@ -56,7 +56,7 @@ passes rest n ended left first taken = record {
   same = λ more last may. sym (behind_first none_open rest n ended left first more last may ∙ taken last (whole_lines last (drop n rest ++ more)));
 }
 
-joins : (old new : OpenLoad) (rest : List ℕ) (n : ℕ) (ended : Bool) → IsLeft old rest ended → FirstLine ended rest n → 0 < length new.line
+joins : (old new : OpenLoad) (rest : List ℕ) (n : ℕ) (ended : Bool) → WaitBehindLoad old rest ended → FirstLine ended rest n → 0 < length new.line
     → bytes_of new ++ drop n rest ≡ bytes_of old ++ rest
     → ((last : Bool) (lines : List (List ℕ)) → statements_behind last old (take n rest ∷ lines) ≡ statements_behind last new lines)
     → GoesOn old rest new (drop n rest) ended
@@ -79,7 +79,7 @@ IsNotWhole Joined = Unit {0}
 IsNotWhole (Whole statement) = ⊥
 
 pub goes_on : (taken : TakenLine) (old new : OpenLoad) (rest : List ℕ) (n : ℕ) (ended : Bool) → IsNotWhole taken
-    → IsLeft old rest ended → FirstLine ended rest n → TakesLine old new (take n rest) taken → GoesOn old rest new (drop n rest) ended
+    → WaitBehindLoad old rest ended → FirstLine ended rest n → TakesLine old new (take n rest) taken → GoesOn old rest new (drop n rest) ended
 goes_on Passed old new rest n ended other left first taken =
     rw (taken.0, taken.1) (passes rest n ended (rw taken.0 at left) first (rw (taken.0, taken.1) at taken.2))
 goes_on Joined old new rest n ended other left first taken =
@@ -88,14 +88,14 @@ goes_on (Whole statement) old new rest n ended other left first taken = absurd o
 
 -- a line that ends a statement
 pub ends : (statement : Statement) (old new : OpenLoad) (rest : List ℕ) (n : ℕ) (ended : Bool)
-    → IsLeft old rest ended → FirstLine ended rest n → TakesLine old new (take n rest) (Whole statement)
+    → WaitBehindLoad old rest ended → FirstLine ended rest n → TakesLine old new (take n rest) (Whole statement)
     → (more : List ℕ) (last : Bool) → May ended more last
     → statements_of last ((bytes_of old ++ rest) ++ more) ≡ statement ∷ statements_of last ((bytes_of new ++ drop n rest) ++ more)
 ends statement old new rest n ended left first taken more last may =
     behind_first old rest n ended left first more last may ∙ taken.1 last (whole_lines last (drop n rest ++ more))
     ∙ rw taken.0 refl
 
-pub starts : (load : OpenLoad) (rest : List ℕ) (ended : Bool) → IsLeft load rest ended → (length load.line ≡ 0 → load ≡ none_open) → GoesOn load rest load rest ended
+pub starts : (load : OpenLoad) (rest : List ℕ) (ended : Bool) → WaitBehindLoad load rest ended → (length load.line ≡ 0 → load ≡ none_open) → GoesOn load rest load rest ended
 starts load rest ended left closed = record { left = left; closed = closed; same = λ more last may. refl }
 
 pub goes_further : (old mid new : OpenLoad) (rest rest' rest'' : List ℕ) (ended : Bool) → GoesOn old rest mid rest' ended → GoesOn mid rest' new rest'' ended
@@ -113,7 +113,7 @@ none_behind None = refl
 none_behind (Some load) = refl
 
 -- no statement that waits is whole
-none_whole : (load : OpenLoad) (rest : List ℕ) → IsLeft load rest false → whole_lines false rest ≡ [] → statements_of false (bytes_of load ++ rest) ≡ []
+none_whole : (load : OpenLoad) (rest : List ℕ) → WaitBehindLoad load rest false → whole_lines false rest ≡ [] → statements_of false (bytes_of load ++ rest) ≡ []
 none_whole load rest left none =
     let all = rw (append-nil (bytes_of load ++ rest), append-nil rest) at (left [] false (λ e. cc)) in
     all ∙ ap (statements_behind false load) none ∙ none_behind (load_of load)
@@ -124,13 +124,13 @@ same_now old load before rest ended way last may =
     rw (append-nil (bytes_of load ++ rest), append-nil (bytes_of old ++ before)) at (way.same [] last may)
 
 -- the statements that wait at the end of the input, where no line is left
-at_end : (load : OpenLoad) (rest : List ℕ) → IsLeft load rest true → rest ≡ [] → statements_of true (bytes_of load ++ rest) ≡ statements_in true (load_of load) []
+at_end : (load : OpenLoad) (rest : List ℕ) → WaitBehindLoad load rest true → rest ≡ [] → statements_of true (bytes_of load ++ rest) ≡ statements_in true (load_of load) []
 at_end load rest left none =
     let all = rw (append-nil (bytes_of load ++ rest), append-nil rest) at (left [] true (λ e. (refl, refl))) in
     all ∙ ap (λ bytes. statements_behind true load (whole_lines true bytes)) none
 
 not_yet : (old load : OpenLoad) (before rest : List ℕ) (fed : ℕ) → GoesOn old before load rest false → whole_lines false rest ≡ []
-    → Answers (reading_of old before fed false) (reading_of load rest fed false) NotYet
+    → AnswersNext (reading_of old before fed false) (reading_of load rest fed false) NotYet
 not_yet old load before rest fed way none =
     let now = none_whole load rest way.left none in
     (refl, sym (same_now old load before rest false way false (λ e. cc)) ∙ now, now, way.same)
@@ -145,7 +145,7 @@ unclosed old load before rest fed statement way none some is more last comes =
     rw (end.0, end.1, append-nil (bytes_of old ++ before), append-nil rest, none, is) now
 
 last_ended : (next : NextStatement) (old load new : OpenLoad) (before rest : List ℕ) (fed : ℕ) → GoesOn old before load rest true → rest ≡ []
-    → TakesLast load new next → Answers (reading_of old before fed true) (reading_of new rest fed true) next
+    → TakesLast load new next → AnswersNext (reading_of old before fed true) (reading_of new rest fed true) next
 last_ended (Got statement) old load new before rest fed way none taken =
     rw taken.0 (unclosed old load before rest fed statement way none taken.1 taken.2)
 last_ended NotYet old load new before rest fed way none taken = absurd taken
@@ -156,7 +156,7 @@ last_ended End old load new before rest fed way none taken =
 pub last_answers : (ended : Bool) (result : Result NextStatement NoMemory) (old load new : OpenLoad) (before rest : List ℕ) (fed : ℕ)
     → GoesOn old before load rest ended → NoLine ended rest
     → (ended ≡ false → (result ≡ Ok NotYet) × (new ≡ load)) → (ended ≡ true → IfOk result (TakesLast load new))
-    → IfOk result (Answers (reading_of old before fed ended) (reading_of new rest fed ended))
+    → IfOk result (AnswersNext (reading_of old before fed ended) (reading_of new rest fed ended))
 last_answers false result old load new before rest fed way none early late =
     let same = early refl in rw (same.0, same.1) (not_yet old load before rest fed way none.1)
 last_answers true (Ok next) old load new before rest fed way none early late =
@@ -167,7 +167,7 @@ last_answers true (Err e) old load new before rest fed way none early late = tt
 
 -- at the end of the input an open block leaves a statement
 pub last_wants : (old load : OpenLoad) (before rest : List ℕ) (fed : ℕ) (ended : Bool) → GoesOn old before load rest ended → ended ≡ true → 0 < length load.line
-    → Wants (reading_of old before fed ended) (reading_of load rest fed ended)
+    → WantsMemory (reading_of old before fed ended) (reading_of load rest fed ended)
 last_wants old load before rest fed ended way is some = (
   λ e none. wants_some e (same_now old load before rest ended way true (λ h. (refl, refl)) ∙ none),
   way.same,
@@ -181,7 +181,7 @@ last_wants old load before rest fed ended way is some = (
 
 -- a line for which memory was wanted leaves one
 pub line_wants : (old load : OpenLoad) (before rest : List ℕ) (n fed : ℕ) (ended : Bool) → GoesOn old before load rest ended → FirstLine ended rest n
-    → LeavesSome load (take n rest) → Wants (reading_of old before fed ended) (reading_of load rest fed ended)
+    → LeavesSome load (take n rest) → WantsMemory (reading_of old before fed ended) (reading_of load rest fed ended)
 line_wants old load before rest n fed ended way first some = (
   λ e none. some (whole_lines true (drop n rest ++ []))
       (sym (behind_first load rest n ended way.left first [] true (λ h. (refl, refl)))
@@ -197,7 +197,7 @@ whole_answers old load new before rest n fed ended statement way first taken mor
     sym (way.same more last comes) ∙ ends statement load new rest n ended way.left first taken more last comes
 
 -- behind a statement no block is open
-pub left_whole : (load new : OpenLoad) (line rest : List ℕ) (ended : Bool) (statement : Statement) → TakesLine load new line (Whole statement) → IsLeft new rest ended
+pub left_whole : (load new : OpenLoad) (line rest : List ℕ) (ended : Bool) (statement : Statement) → TakesLine load new line (Whole statement) → WaitBehindLoad new rest ended
 left_whole load new line rest ended statement taken = rw taken.0 (λ more last may. refl)
 
 pub not_whole : (taken : TakenLine) → ((statement : Statement) → taken ≡ Whole statement → ⊥) → IsNotWhole taken
@@ -207,6 +207,6 @@ not_whole (Whole statement) other = absurd (other statement refl)
 
 pub last_err : (result : Result NextStatement NoMemory) (old load new : OpenLoad) (before rest : List ℕ) (fed : ℕ) (ended : Bool) → GoesOn old before load rest ended
     → OnErr result ((ended ≡ true) × (new ≡ load) × (0 < length load.line))
-    → OnErr result (Wants (reading_of old before fed ended) (reading_of new rest fed ended))
+    → OnErr result (WantsMemory (reading_of old before fed ended) (reading_of new rest fed ended))
 last_err (Ok next) old load new before rest fed ended way h = tt
 last_err (Err e) old load new before rest fed ended way h = rw h.1 (last_wants old load before rest fed ended way h.0 h.2)

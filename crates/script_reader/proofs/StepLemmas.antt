@@ -5,7 +5,7 @@ use Rattle.std.proofs.lemmas.List.{take_all}
 use Rattle.script_reader.specs.declared.reader.TheConstants.{SCRIPT_LIMIT}
 use Rattle.script_reader.specs.Script.{statements_of}
 use Rattle.script_reader.specs.Reading.{Reading, no_reading, after_piece}
-use Rattle.script_reader.specs.Steps.{Step, Fed, Taken, Passed, Steps, pieces_joined, taken_in, StatementsComeInOrder}
+use Rattle.script_reader.specs.Steps.{ReaderStep, Fed, Taken, Passed, Steps, pieces_joined, taken_in, StatementsComeInOrder}
 
 -- no bytes have no first ones
 take_none : (n : ℕ) → take {A = ℕ} n [] ≡ []
@@ -35,7 +35,7 @@ fed_then limit fed waiting piece joined more =
     ) refl
 
 -- from any reader that has not ended
-from_reading : (steps : List Step) (old new : Reading) → old.ended ≡ false → Steps old steps new → (more : List ℕ) (last : Bool)
+from_reading : (steps : List ReaderStep) (old new : Reading) → old.ended ≡ false → Steps old steps new → (more : List ℕ) (last : Bool)
     → statements_of last (old.waiting ++ (take (SCRIPT_LIMIT - old.fed) (pieces_joined steps) ++ more))
     ≡ taken_in steps ++ statements_of last (new.waiting ++ more)
 from_reading [] old new going same more last =

@@ -59,8 +59,8 @@ NoLine ended bytes =
     (is_ended bytes ≡ false) × (whole_lines false bytes ≡ []) × (ended ≡ true → bytes ≡ [])
 
 -- the statements that wait are those of the lines behind the `load`
-abbrev pub IsLeft : OpenLoad → (rest : List ℕ) → (ended : Bool) → Type 0
-IsLeft load rest ended = (more : List ℕ) (last : Bool) → May ended more last
+abbrev pub WaitBehindLoad : OpenLoad → (rest : List ℕ) → (ended : Bool) → Type 0
+WaitBehindLoad load rest ended = (more : List ℕ) (last : Bool) → May ended more last
     → statements_of last ((bytes_of load ++ rest) ++ more)
     ≡ statements_behind last load (whole_lines last (rest ++ more))
 

@@ -1,5 +1,5 @@
 -- How far the first statement of a script reaches: over whole lines, up to and with its last one.
-use Rattle.std.specs.Prelude.{◌≡◌, ℕ, Bool, true, List, [], ◌∷◌, ◌++◌, length, take, drop, All}
+use Rattle.std.specs.Prelude.{◌≡◌, ℕ, ◌≤◌, Bool, true, List, [], ◌∷◌, ◌++◌, length, take, drop, All}
 use Rattle.std.specs.List.{concat}
 use Rattle.script_reader.specs.declared.closing.Closing.{Closing}
 use Rattle.script_reader.specs.declared.closing.Closing.TheVariants.{Dot, Input}
@@ -59,3 +59,10 @@ Closes ended rest Input = (block : List (List ℕ)) × AreLines ended rest (leng
 abbrev pub TakesBehind : Bool → List ℕ → Block → ℕ → Type 0
 TakesBehind ended rest block len =
     (lines : List (List ℕ)) × AreLines ended rest len lines × AreBehind block lines
+
+-- the `load` has the line with this text, and takes the lines of its block from the bytes behind
+pub record TakesLoad (ended : Bool) (text rest : List ℕ) (statement : Statement) (len : ℕ)
+    : Type 0 where
+  pub line : statement.line ≡ text
+  pub lines : TakesBehind ended rest statement.block len
+  pub within : len ≤ length rest

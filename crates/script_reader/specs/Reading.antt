@@ -48,16 +48,17 @@ abbrev pub StaysFed : Reading → Reading → Type 0
 StaysFed old new = (new.fed ≡ old.fed) × (new.ended ≡ old.ended)
 
 -- what is answered of the first statement that waits
-abbrev pub Answers : Reading → Reading → NextStatement → Type 0
-Answers old new (Got statement) = TakesFirst old new statement
-Answers old new NotYet =
+abbrev pub AnswersNext : Reading → Reading → NextStatement → Type 0
+AnswersNext old new (Got statement) = TakesFirst old new statement
+AnswersNext old new NotYet =
     (old.ended ≡ false) × (statements_of false old.waiting ≡ [])
     × (statements_of false new.waiting ≡ []) × MeansTheSame old new
-Answers old new End =
+AnswersNext old new End =
     (old.ended ≡ true) × (statements_of true old.waiting ≡ [])
     × (statements_of true new.waiting ≡ [])
 
 -- where memory was wanted what waits means the same, and at the end of the
 -- input a statement is left
-abbrev pub Wants : Reading → Reading → Type 0
-Wants old new = (old.ended ≡ true → statements_of true old.waiting ≢ []) × MeansTheSame old new
+abbrev pub WantsMemory : Reading → Reading → Type 0
+WantsMemory old new =
+    (old.ended ≡ true → statements_of true old.waiting ≢ []) × MeansTheSame old new

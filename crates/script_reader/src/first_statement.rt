@@ -3,7 +3,7 @@ ghost use Rattle.std.specs.Prelude.{◌≡◌, ◌≢◌, ◌∷◌, ◌<◌, �
 ghost use Rattle.script_reader.specs.Script.{statements_of};
 ghost use Rattle.script_reader.specs.Cut.{statements_from_load};
 ghost use Rattle.script_reader.specs.Coming.{StaysFirst, StaysLoad};
-ghost use Rattle.script_reader.specs.Reach.{TakesLines, TakesBehind};
+ghost use Rattle.script_reader.specs.Reach.{TakesLines, TakesLoad};
 
 use crate::closing::{Closing, first_closing};
 use crate::lines::has_block;
@@ -77,10 +77,8 @@ fn take_load(
         statements_from_load ended text.now rest.now
         ≡ t.statement ∷ statements_of ended (drop t.len rest.now))) }
     ensures wanted { OnErr result (statements_from_load ended text.now rest.now ≢ []) }
-    ensures line { IfOk result (λ r. IfSome r (λ t. t.statement.line ≡ text.now)) }
-    ensures lines { IfOk result (λ r. IfSome r (λ t.
-        TakesBehind ended rest.now t.statement.block t.len)) }
-    ensures within { IfOk result (λ r. IfSome r (λ t. t.len ≤ length rest.now)) }
+    ensures takes { IfOk result (λ r. IfSome r (λ t.
+        TakesLoad ended text.now rest.now t.statement t.len)) }
     ensures stays { IfOk result (λ r. IfSome r (λ t.
         StaysLoad ended text.now rest.now t.statement t.len)) }
 {

@@ -1,8 +1,8 @@
 //! A reader of statements from pieces. What a line is to them is in `open_load`, where
 //! lines end in `pending_bytes`.
 ghost use Rattle.std.specs.Prelude.{◌≡◌, ℕ, ◌<◌, ◌≤◌, false, length, take, true, IfOk, IsErrOf, Ok, OnErr, OnOk};
-ghost use Rattle.script_reader.specs.Open.{IsLeft, TakesLast, none_open, reading_of};
-ghost use Rattle.script_reader.specs.Reading.{Answers, StaysFed, Wants, after_piece, no_reading};
+ghost use Rattle.script_reader.specs.Open.{WaitBehindLoad, TakesLast, none_open, reading_of};
+ghost use Rattle.script_reader.specs.Reading.{AnswersNext, StaysFed, WantsMemory, after_piece, no_reading};
 ghost use Rattle.script_reader.specs.declared.reader.FeedFault.TheVariants.{Memory};
 ghost use Rattle.script_reader.specs.declared.reader.NextStatement.TheVariants.{NotYet};
 
@@ -62,7 +62,7 @@ pub struct ScriptReader {
 
 impl Model for ScriptReader {
     ghost use Rattle.std.specs.Prelude.{◌≡◌, ◌+◌, ◌++◌, ◌≤◌, length};
-    ghost use Rattle.script_reader.specs.Open.{IsLeft, bytes_of, none_open};
+    ghost use Rattle.script_reader.specs.Open.{WaitBehindLoad, bytes_of, none_open};
     ghost use Rattle.script_reader.specs.Reading.{Reading};
     ghost use Rattle.script_reader.specs.declared.reader.TheConstants.{SCRIPT_LIMIT};
 
@@ -76,7 +76,7 @@ impl Model for ScriptReader {
 
     ghost invariant = { λ reader. (reader.fed ≤ SCRIPT_LIMIT + 1)
         × (length reader.load.line ≡ 0 → reader.load ≡ none_open)
-        × IsLeft reader.load reader.pending reader.ended };
+        × WaitBehindLoad reader.load reader.pending reader.ended };
 }
 
 impl ScriptReader {
@@ -135,8 +135,8 @@ impl ScriptReader {
     /// `NotYet` says that the input has not ended and none is, and `End` that it has ended and none
     /// is left. Where memory is wanted no statement is lost.
     pub fn next_statement(&mut self) -> Result<NextStatement, NoMemory>
-        ensures answers { IfOk result (Answers self.old self.new) }
-        ensures wanted { OnErr result (Wants self.old self.new) }
+        ensures answers { IfOk result (AnswersNext self.old self.new) }
+        ensures wanted { OnErr result (WantsMemory self.old self.new) }
         ensures stays { StaysFed self.old self.new }
     {
         take_next(self.alloc, &mut self.load, &mut self.pending, self.ended)
@@ -162,13 +162,13 @@ fn take_next(
     ended: bool,
 ) -> Result<NextStatement, NoMemory>
     requires load { (length load.old.line ≡ 0) → load.old ≡ none_open }
-    requires left { IsLeft load.old pending.old ended }
-    ensures answers { (fed : ℕ) → IfOk result (Answers
+    requires left { WaitBehindLoad load.old pending.old ended }
+    ensures answers { (fed : ℕ) → IfOk result (AnswersNext
         (reading_of load.old pending.old fed ended) (reading_of load.new pending.new fed ended)) }
-    ensures wanted { (fed : ℕ) → OnErr result (Wants
+    ensures wanted { (fed : ℕ) → OnErr result (WantsMemory
         (reading_of load.old pending.old fed ended) (reading_of load.new pending.new fed ended)) }
     ensures load { (length load.new.line ≡ 0) → load.new ≡ none_open }
-    ensures left { IsLeft load.new pending.new ended }
+    ensures left { WaitBehindLoad load.new pending.new ended }
 {
     'lines: loop {
         let Some(len) = pending.line_len(ended) else {

@@ -1,7 +1,7 @@
 -- What the front counts: a statement more, and none once all queries came to their end; and what it knows of its core meanwhile.
-use Rattle.script_run.proofs.Words.{◌+◌, ◌<◌, ◌∙◌, ◌≡◌, ◌≢◌, ◌≤◌, ◌⊎◌, [], All, ap, AreIdle, arith, Beside, Bool, count_by, false, FrontParts, Gives, GoesRound, inl, inr, is_open, is_query, is_wait, IsCounted, IsOverOrWaits, IsTrue, KnowsCore, Lives, Pending, queries_awaited, refl, RunSettings, ScanState, seat_at, State, state_of, Statement, subst, sym, ℕ, ⊎_elim}
+use Rattle.script_run.proofs.Words.{◌+◌, ◌<◌, ◌∙◌, ◌≡◌, ◌≢◌, ◌≤◌, ◌⊎◌, [], All, ap, AreIdle, arith, OnlyTakesReplies, Bool, count_by, false, FrontParts, GivesStatement, GoesRound, inl, inr, is_open, is_query, is_wait, IsCounted, IsOverOrWaits, IsTrue, KnowsCore, Lives, Pending, queries_awaited, refl, RunSettings, ScanState, seat_at, State, state_of, Statement, subst, sym, ℕ, ⊎_elim}
 use Rattle.core_state.specs.Rows.{sight_of}
-use Rattle.script_run.specs.Counted.{IsCalm, open_in}
+use Rattle.script_run.specs.Counted.{IsCalm, MayShareLap}
 use Rattle.script_run.specs.Front.{Finishes}
 use Rattle.script_run.proofs.FrontRunLemmas.{idle-scan, submits-none}
 use Rattle.script_run.proofs.LapEventLemmas.{closed-count, closed-over, count-closed, keeps-versions}
@@ -21,7 +21,7 @@ knows-same known count old new knows settings scan numbers = record {
 
 -- a statement more was submitted
 pub knows-given : (statement : Statement) (known : RunSettings) (count number : ℕ) (old new : State) → KnowsCore known count old → number ≡ count + 1
-    → Gives statement old new → KnowsCore known number new
+    → GivesStatement statement old new → KnowsCore known number new
 knows-given statement known count number old new knows next gives = record {
   some = knows.some;
   settings = gives.counts.settings ∙ knows.settings;
@@ -45,18 +45,19 @@ slots-some known count core knows = subst (λ (s : RunSettings). 0 < s.slots) (s
 
 -- What is counted.
 
--- the queries that are open
-pub calm-open : (front : FrontParts) → IsCounted front → IsCalm (open_in (state_of front.core)) (state_of front.core)
-calm-open front counted = subst (λ n. IsCalm n (state_of front.core)) (sym counted.calm.unfinished) counted.calm
+-- one is more than none
+some-more : (n : ℕ) → n ≢ 0 → 0 < n
+some-more n some = omega (arith, some)
 
-pub some-open : (front : FrontParts) → IsCounted front → front.unfinished ≢ 0 → 0 < open_in (state_of front.core)
-some-open front counted some = subst (λ n. 0 < n) (sym counted.calm.unfinished) (by_count front.unfinished some)
-  where
-    by_count : (n : ℕ) → n ≢ 0 → 0 < n
-    by_count n some = omega (arith, some)
-
-pub few-open : (front : FrontParts) → IsCounted front → open_in (state_of front.core) ≤ (state_of front.core).settings.slots
-few-open front counted = subst (λ n. n ≤ (state_of front.core).settings.slots) (sym counted.calm.unfinished) counted.few
+-- the queries that are open, where some are
+pub share-open : (front : FrontParts) → IsCounted front → front.unfinished ≢ 0 → MayShareLap (state_of front.core)
+share-open front counted some =
+    let are = sym counted.calm.unfinished in
+    record {
+      calm = subst (λ n. IsCalm n (state_of front.core)) are counted.calm;
+      some = subst (λ n. 0 < n) are (some-more front.unfinished some);
+      few = subst (λ n. n ≤ (state_of front.core).settings.slots) are counted.few;
+    }
 
 -- none is open where none is counted
 pub closed-counted : (front : FrontParts) → IsCounted front → front.unfinished ≡ 0
@@ -74,7 +75,7 @@ finishes-none state = record {
 
 -- all queries came to their end, and all replies were written
 pub counted-out : (mid : State) (new : FrontParts) → All (λ entry. is_open entry.life ≡ false) mid.lives.queries → AreIdle mid
-    → Beside mid (state_of new.core) → (seat_at (state_of new.core) 0).pending ≡ [] → new.unfinished ≡ 0 → IsCounted new
+    → OnlyTakesReplies mid (state_of new.core) → (seat_at (state_of new.core) 0).pending ≡ [] → new.unfinished ≡ 0 → IsCounted new
 counted-out mid new closed idle beside none unfinished = record {
   calm = record {
     idle = idle-scan mid (state_of new.core) beside.scan idle;
@@ -91,7 +92,7 @@ slot-free old new unfinished some round none =
     subst (λ n. n < new.settings.slots) (sym none) (subst (λ (s : RunSettings). 0 < s.slots) (sym round.settings) some)
 
 -- the scan went no further where replies were taken
-pub round-beside : (old mid new : State) → GoesRound old mid → Beside mid new → GoesRound old new
+pub round-beside : (old mid new : State) → GoesRound old mid → OnlyTakesReplies mid new → GoesRound old new
 round-beside old mid new round beside = record {
   settings = beside.settings ∙ round.settings;
   versions = keeps-versions mid new beside.entries ∙ round.versions;

@@ -1,11 +1,11 @@
 -- A statement that was given is counted, and a query that waits for a slot is one more that is open.
-use Rattle.script_run.proofs.Words.{◌+◌, ◌<◌, ◌∙◌, ◌≡◌, ◌≤◌, ap, arith, AreIdle, awaited_by, Bool, false, FrontParts, Gives, is_query, IsCounted, life_of, Life, None, one_if, Option, queries_awaited, RunSettings, Some, state_of, Statement, subst, sym, told_of, true, Waiting, if◌then◌else◌, ℕ}
+use Rattle.script_run.proofs.Words.{◌+◌, ◌<◌, ◌∙◌, ◌≡◌, ◌≤◌, ap, arith, AreIdle, awaited_by, Bool, false, FrontParts, GivesStatement, is_query, IsCounted, life_of, Life, None, one_if, Option, queries_awaited, RunSettings, Some, state_of, Statement, subst, sym, told_of, true, Waiting, if◌then◌else◌, ℕ}
 use Rattle.script_run.specs.Counted.{open_in}
 use Rattle.script_run.proofs.LapSubmitLemmas.{awaited-submitted}
 
 -- a front gave a statement to its core, which has this number, and counted so many queries more
 pub record GaveOne (statement : Statement) (old new : FrontParts) (number one : ℕ) : Type 0 where
-  pub gives : Gives statement (state_of old.core) (state_of new.core)
+  pub gives : GivesStatement statement (state_of old.core) (state_of new.core)
   pub idle : AreIdle (state_of old.core)
   pub last : number ≡ (state_of old.core).numbers.statement + 1
   pub unfinished : new.unfinished ≡ old.unfinished + one

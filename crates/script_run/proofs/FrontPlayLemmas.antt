@@ -1,5 +1,5 @@
 -- A statement that the front gives to a core, or for which no memory was left, and the replies that are written then.
-use Rattle.script_run.proofs.Words.{◌++◌, ◌+◌, ◌<◌, ◌||◌, ◌∙◌, ◌∷◌, ◌≡◌, ◌≢◌, ◌≤◌, ◌⊎◌, [], after_submitting, Answered, ap, append_assoc, Appends, Appends-nil, AppendsFront, aside-outcome, Bool, CountsOne, Err, false, Finishes, Gives, GoesRound, Halt, IfOk, inl, inr, is_refusal, is_wait, IsSound, IsTrue, length, List, list_any, Memory, NoMemory, None, Ok, OnOk, Option, outcome_of, queries_awaited, refl, Result, seat_at, Some, State, Statement, Submit, subst, sym, tables_of, take, text_of, Took, true, ℕ, ⊎_elim}
+use Rattle.script_run.proofs.Words.{◌++◌, ◌+◌, ◌<◌, ◌||◌, ◌∙◌, ◌∷◌, ◌≡◌, ◌≢◌, ◌≤◌, ◌⊎◌, [], after_submitting, Answered, ap, append_assoc, Appends, Appends-nil, AppendsFront, aside-outcome, Bool, CountsOne, Err, false, Finishes, FrontParts, GivesStatement, GoesRound, Halt, IfOk, inl, inr, is_refusal, is_wait, IsSound, IsTrue, length, List, list_any, Memory, NoMemory, None, Ok, on_ok_weaker, OnOk, Option, outcome_of, queries_awaited, refl, Result, seat_at, Some, State, state_of, Statement, Submit, subst, sym, tables_of, take, text_of, Took, true, ℕ, ⊎_elim}
 use Rattle.std.specs.Prelude.{OnErr}
 use Rattle.std.proofs.lemmas.List.Folds.{list_any-append}
 use Rattle.core_state.specs.Events.{after_event}
@@ -9,6 +9,7 @@ use Rattle.core_state.specs.Sent.{Given, Lost, Sent, pendings_of, statements_in}
 use Rattle.core_state.proofs.FrontLemmas.{goes-lost, goes-passes, goes-submits}
 use Rattle.core_state.proofs.RowLemmas.{submits-row}
 use Rattle.script_run.specs.Answered.{StayAnswered}
+use Rattle.script_run.specs.Counted.{CameToEnd}
 use Rattle.script_run.specs.Front.{EndsSo, Plays, PlaysBy, PlaysCounted, PlaysIn, PlaysOn}
 use Rattle.script_run.proofs.FrontRunLemmas.{idle-submitted, submits-none, submits-one}
 use Rattle.script_run.proofs.LapLemmas.{laps-lost, laps-quiet, laps-round, laps-then, settles-plays, waits-fill}
@@ -150,7 +151,7 @@ plays-lost (Err halt) others statement old new before taken taken' some round pl
 -- A statement was submitted.
 
 -- so it is where the core took it
-pub took-given : (statement : Statement) (old new : State) → IsSound old → Took (Submit 0 statement) old new → Gives statement old new
+pub took-given : (statement : Statement) (old new : State) → IsSound old → Took (Submit 0 statement) old new → GivesStatement statement old new
 unfolding after_event
 took-given statement old new sound took =
     let is : new ≡ after_submitting 0 statement old = ⊎_elim (λ done. done) (λ spoilt. absurd spoilt) took.after in
@@ -180,7 +181,7 @@ on-ok-both (Err e) both first second = tt
 
 -- what was sent is waited for
 abbrev given-part : (statement : Statement) (old new : State) (due : List Sent) (taken : Option (List ℕ)) → IsDue 0 (sight_of old 0) due
-    → Gives statement old new → PlaysBy (Ok false) old due (statement ∷ []) ⊥ new taken taken
+    → GivesStatement statement old new → PlaysBy (Ok false) old due (statement ∷ []) ⊥ new taken taken
 given-part statement old new due taken waits gives = (
   record {
     on = record {
@@ -203,14 +204,14 @@ given-part statement old new due taken waits gives = (
 )
 
 -- before any reply
-pub plays-quiet : (statement : Statement) (old new : State) (taken : Option (List ℕ)) → Gives statement old new
+pub plays-quiet : (statement : Statement) (old new : State) (taken : Option (List ℕ)) → GivesStatement statement old new
     → PlaysCounted (Ok false) old (statement ∷ []) new taken taken
 plays-quiet statement old new taken gives due waits =
     (given-part statement old new due taken waits gives, laps-quiet statement old new gives.counts)
 
 -- and the queries came to their end, since it waits for some, none is open, or they are as many as there are slots
 pub plays-given : (result : Result Bool Halt) (statement : Statement) (old mid new : State) (taken taken' : Option (List ℕ)) → 0 < mid.settings.slots
-    → Gives statement old mid
+    → GivesStatement statement old mid
     → (IsTrue (is_wait statement) × (0 < queries_awaited old)) ⊎ ((queries_awaited mid ≡ 0) ⊎ (mid.settings.slots ≤ queries_awaited mid))
     → Plays result mid [] new taken taken' → OnOk result (GoesRound mid new) → OnOk result ((seat_at new 0).pending ≡ [])
     → PlaysCounted result old (statement ∷ []) new taken taken'
@@ -231,3 +232,13 @@ plays-given (Ok refused) statement old mid new taken taken' some gives worth pla
 plays-given (Err halt) statement old mid new taken taken' some gives worth plays round idle due waits =
     let first : PlaysBy (Ok false) old due (statement ∷ []) ⊥ mid taken taken = given-part statement old mid due taken waits gives in
     (by-err false halt old mid new due (statement ∷ []) [] ⊥ ⊥ ⊥ taken taken taken' (λ never. never) first (plays first.0.on.still first.0.on.goes.waits), tt)
+
+-- what came to its end went round once at most
+pub ended-round : (result : Result Bool Halt) (old new : FrontParts) → OnOk result (CameToEnd old new)
+    → OnOk result (GoesRound (state_of old.core) (state_of new.core))
+ended-round result old new = on_ok_weaker result (λ ends. ends.round)
+
+-- and waits for nothing
+pub ended-all : (result : Result Bool Halt) (old new : FrontParts) → OnOk result (CameToEnd old new)
+    → OnOk result ((seat_at (state_of new.core) 0).pending ≡ [])
+ended-all result old new = on_ok_weaker result (λ ends. ends.all)

@@ -1,5 +1,5 @@
 -- The replies that may be taken, written one after the other.
-use Rattle.script_run.proofs.Words.{◌||◌, ◌∙◌, ◌∷◌, ◌≡◌, [], after_taking, ap, Appends, AppendsFront, Beside, Bool, Err, false, first_open, Halt, IfSome, is_refusal, IsReplyOf, IsRight, IsRun, IsSome, IsSound, life_of, List, next_ready, None, Ok, Option, Ready, ready_of, refl, Reply, Result, seat_at, slice_get, Some, State, subst, sym, take, text_of, ℕ}
+use Rattle.script_run.proofs.Words.{◌||◌, ◌∙◌, ◌∷◌, ◌≡◌, [], after_taking, ap, Appends, AppendsFront, OnlyTakesReplies, Bool, Err, false, first_open, Halt, IfSome, is_refusal, IsReplyOf, IsRight, IsRun, IsSome, IsSound, life_of, List, next_ready, None, Ok, Option, Ready, ready_of, refl, Reply, Result, seat_at, slice_get, Some, State, subst, sym, take, text_of, ℕ}
 use Rattle.core_state.specs.Sent.{Sent}
 use Rattle.script_run.specs.Front.{EndsSo, Plays, PlaysBy, PlaysIn, halt_of}
 use Rattle.script_run.proofs.FrontOpenLemmas.{taken-closed}
@@ -12,7 +12,7 @@ use Rattle.script_run.proofs.WholeLemmas.{or_false}
 pub record IsWriting (old now : State) (refused : Bool) (before taken : Option (List ℕ)) : Type 0 where
   pub plays : Plays (Ok refused) old [] now before taken
   pub run : IsRun old now
-  pub beside : Beside old now
+  pub beside : OnlyTakesReplies old now
   pub closed : first_open old.lives (seat_at old 0) ≡ None → first_open now.lives (seat_at now 0) ≡ None
   pub sound : IsSound now
 
@@ -27,7 +27,7 @@ pub takes-reply : (old new : State) (ready : Ready) (reply : Reply) → IsSound 
 takes-reply old new ready reply sound may taken right is = record { sound = sound; may = may; taken = taken; right = right; is = is }
 
 -- a reply that is taken leaves all else
-pub beside-taken : (old now new : State) → new ≡ after_taking 0 now → Beside old now → Beside old new
+pub beside-taken : (old now new : State) → new ≡ after_taking 0 now → OnlyTakesReplies old now → OnlyTakesReplies old new
 beside-taken old now new taken beside = record {
   settings = ap (λ state. state.settings) taken ∙ beside.settings;
   entries = ap (λ state. state.entries) taken ∙ beside.entries;

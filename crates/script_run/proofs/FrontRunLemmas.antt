@@ -1,11 +1,13 @@
 -- The steps that a run makes: none, some and others behind them, a statement, a reply that is taken, and events of the driver.
-use Rattle.script_run.proofs.Words.{◌++◌, ◌<◌, ◌∙◌, ◌∷◌, ◌≡◌, [], Abandon, after_step, after_steps, after_submitting, after_taking, All, All-append, All-cons, All-head, All-nil, All-tail, ap, AreIdle, aside-outcome, Done, Event, fold-append, IsDriven, IsLed, IsOfRun, IsRun, IsSome, LeavesSeats, length, List, MayStep, MayStepAll, next_ready, None, outcome_of, refl, Replying, ScanState, State, Statement, Step, Submit, subst, sym, tables_of, TookAll, Wanting}
+use Rattle.script_run.proofs.Words.{◌++◌, ◌<◌, ◌∙◌, ◌∷◌, ◌≡◌, [], Abandon, after_step, after_steps, after_submitting, after_taking, All, All-append, All-cons, All-head, All-nil, All-tail, ap, AreIdle, aside-outcome, Bool, Done, Err, Event, fold-append, FrontParts, Halt, IsDriven, IsLed, IsOfRun, IsRun, IsSome, LeavesSeats, length, List, MayStep, MayStepAll, next_ready, NoMemory, None, outcome_of, refl, Replying, Result, ScanState, State, state_of, Statement, Step, Submit, subst, sym, tables_of, TookAll, Wanting}
 use Rattle.core_state.specs.Events.{after_event}
-use Rattle.event_core.specs.Took.{AreOf, IsOf, StepsFor}
+use Rattle.event_core.specs.Took.{AreOf, IsEventOf, StepsFor}
 use Rattle.core_driver.proofs.TakenLemmas.{driven-leaves}
 use Rattle.std.proofs.lemmas.List.Elements.{filter_map-append}
 use Rattle.std.specs.List.{cons_option}
-use Rattle.script_run.specs.Front.{Submits, submitted_at, submitted_in}
+use Rattle.star_io.specs.Link.{WritingSide}
+use Rattle.script_run.specs.Front.{RunsOn, SubmitsAll, submitted_at, submitted_in}
+use Rattle.script_run.proofs.RunLemmas.{counts-behind}
 
 -- events that a core took are steps
 abbrev pub TakenAreSteps : Type 0
@@ -56,7 +58,7 @@ event-run (Abandon query) leaves = leaves
 event-run other leaves = tt
 
 -- so is a step of an event of the driver
-step-run : (event : Event) (step : Step) → IsDriven event → IsOf event step → IsOfRun step
+step-run : (event : Event) (step : Step) → IsDriven event → IsEventOf event step → IsOfRun step
 step-run event (Done other) driven of = event-run other (driven-leaves other (subst IsDriven (sym of) driven))
 step-run event (Wanting other spoiled) driven of = tt
 step-run event (Replying seat) driven of = absurd of
@@ -90,12 +92,12 @@ idle-submitted statement old new same = idle-scan old new (ap (λ state. state.s
 -- Which statements are submitted.
 
 -- none
-pub submits-none : (state : State) → Submits [] state state
+pub submits-none : (state : State) → SubmitsAll [] state state
 submits-none state = record { run = run-itself state; are = refl }
 
 -- those of one part and of another behind it
-pub submits-then : (statements others : List Statement) (old between new : State) → Submits statements old between → Submits others between new
-    → Submits (statements ++ others) old new
+pub submits-then : (statements others : List Statement) (old between new : State) → SubmitsAll statements old between → SubmitsAll others between new
+    → SubmitsAll (statements ++ others) old new
 submits-then statements others old between new first second = record {
   run = run-then old between new first.run second.run;
   are = filter_map-append submitted_at first.run.steps second.run.steps ∙ ap (λ list. list ++ submitted_in second.run.steps) first.are
@@ -104,16 +106,16 @@ submits-then statements others old between new first second = record {
 
 -- one
 pub submits-one : (statement : Statement) (old new : State) → 0 < length old.seats → new ≡ after_submitting 0 statement old
-    → Submits (statement ∷ []) old new
+    → SubmitsAll (statement ∷ []) old new
 unfolding after_event
 submits-one statement old new there same = record { run = run-step (Done (Submit 0 statement)) old new there refl same; are = refl }
 
 -- none by a reply that is taken
-pub submits-taken : (old new : State) → IsSome (next_ready old 0) → new ≡ after_taking 0 old → Submits [] old new
+pub submits-taken : (old new : State) → IsSome (next_ready old 0) → new ≡ after_taking 0 old → SubmitsAll [] old new
 submits-taken old new ready same = record { run = run-step (Replying 0) old new ready refl same; are = refl }
 
 -- nor by an event of the driver
-none-submitted : (event : Event) (step : Step) → IsDriven event → IsOf event step → submitted_at step ≡ None
+none-submitted : (event : Event) (step : Step) → IsDriven event → IsEventOf event step → submitted_at step ≡ None
 none-submitted event (Done (Submit seat statement)) driven of =
     absurd (driven-leaves (Submit seat statement) (subst IsDriven (sym of) driven))
 none-submitted event (Done other) driven of = refl
@@ -128,10 +130,23 @@ steps-submit (event ∷ events) (step ∷ steps) driven of =
     ap (λ first. cons_option first (submitted_in steps)) (none-submitted event step (All-head IsDriven event events driven) of.0)
     ∙ steps-submit events steps (All-tail IsDriven event events driven) of.1
 
-pub submits-driven : TakenAreSteps → (old new : State) → IsLed IsDriven old new → Submits [] old new
+pub submits-driven : TakenAreSteps → (old new : State) → IsLed IsDriven old new → SubmitsAll [] old new
 submits-driven taken old new led =
     let made = taken led.events old new led.took in
     record {
       run = record { steps = made.0; may = made.1.0; each = steps-run led.events made.0 led.each made.1.1.0; is = made.1.1.1 };
       are = steps-submit led.events made.0 led.each made.1.1.0;
     }
+
+-- a front that wrote nothing halts for want of memory
+pub runs-wanting : (old new : FrontParts) (to : WritingSide) → IsRun (state_of old.core) (state_of new.core) → RunsOn (Err NoMemory) old new to to
+runs-wanting old new to run = record { run = run; room = tt; faults = refl }
+
+-- a front went on behind steps of a run, where no write failed before
+pub runs-behind : (result : Result Bool Halt) (old mid new : FrontParts) (to0 to to' : WritingSide) → IsRun (state_of old.core) (state_of mid.core)
+    → to.faults ≡ to0.faults → RunsOn result mid new to to' → RunsOn result old new to0 to'
+runs-behind result old mid new to0 to to' run same runs = record {
+  run = run-then (state_of old.core) (state_of mid.core) (state_of new.core) run runs.run;
+  room = runs.room;
+  faults = counts-behind result to0 to to' same runs.faults;
+}

@@ -7,7 +7,7 @@ use Rattle.core_driver.proofs.LapCountLemmas.{count-le}
 use Rattle.core_driver.proofs.LapQueryLemmas.{none-any}
 use Rattle.core_driver.proofs.RiseLemmas.{counts-led}
 use Rattle.core_driver.proofs.TakenLemmas.{frame-driven}
-use Rattle.script_run.specs.Counted.{IsCalm, open_in}
+use Rattle.script_run.specs.Counted.{MayShareLap, open_in}
 
 -- the same history has the same versions
 pub keeps-versions : (old new : State) → new.entries ≡ old.entries → versions_in new ≡ versions_in old
@@ -36,18 +36,18 @@ none-runs state waits = none-any (λ (entry : QueryLife). IsRunning entry.life) 
     (λ entry. waits-runs entry.life) state.lives.queries waits)
 
 -- a lap of queries that waited, which are no more than the slots
-pub goes-round : (old new : State) → IsSound old → IsCalm (open_in old) old → 1 ≤ open_in old → open_in old ≤ old.settings.slots
-    → IsLed IsDriven old new → SharesLap old new → GoesRound old new
-goes-round old new sound calm some few led lap =
+pub goes-round : (old new : State) → IsSound old → MayShareLap old → IsLed IsDriven old new → SharesLap old new → GoesRound old new
+goes-round old new sound may led lap =
     let frame = frame-driven old new led in
     let slots = sound.slots.count in
     let unfinished = few-unfinished old in record {
       settings = frame.settings;
       versions = keeps-versions old new frame.entries;
-      none = λ none. absurd (let awaited = calm.awaited in omega arith);
+      none = λ none. absurd (let awaited = may.calm.awaited in let some = may.some in omega arith);
       once =
           let cut = counts-led lap.cut old new lap.led in
-          let once = lap.once (omega (arith, slots, unfinished, few)) (none-runs old calm.waits) in
+          let few = may.few in
+          let once = lap.once (omega (arith, slots, unfinished, few)) (none-runs old may.calm.waits) in
           omega (arith, cut, once);
     }
 

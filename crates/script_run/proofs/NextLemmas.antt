@@ -1,11 +1,11 @@
 -- Replies to statements, one behind the other, and the places at which memory was wanted for them.
 use Rattle.script_run.proofs.Words.{◌++◌, ◌∙◌, ◌∷◌, ◌≡◌, ◌≤◌, [], after_change, All, All-nil, ap, append-nil, AreReplied, Change, effect_of, fold-append, history_after, IsReplied, List, Memory, None, Option, option_map_or, option_to_list, outcome_of, Reading, refl, replies_after, Reply, Some, Statement, statements_of, Store, store_after, store_of, subst, suc, sym, TakesFirst, true, ℕ, ⊎_elim}
 use Rattle.query_meaning.specs.Store.{empty_store}
-use Rattle.script_run.specs.Front.{LeavesSome}
+use Rattle.script_run.specs.Front.{LeavesToRead}
 use Rattle.script_run.proofs.WantedLemmas.{earlier, replies-effect, replies-wanted, with-place}
 
 -- the first statement is left at the end of the input, too
-pub leaves-first : (waits waits' : Reading) (statement : Statement) → TakesFirst waits waits' statement → LeavesSome waits
+pub leaves-first : (waits waits' : Reading) (statement : Statement) → TakesFirst waits waits' statement → LeavesToRead waits
 leaves-first waits waits' statement first ended none =
     let all = first [] true (λ e. (refl, refl)) in
     absurd (let both : statement ∷ statements_of true (waits'.waiting ++ []) ≡ [] =

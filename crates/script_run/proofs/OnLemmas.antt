@@ -10,7 +10,7 @@ use Rattle.core_state.specs.Sent.{AreRepliesTo, Given, IsGiven, IsReplyTo, Lost,
 use Rattle.core_state.proofs.FrontLemmas.{goes-passes, goes-then}
 use Rattle.script_run.specs.Answered.{AreAnswered, IsAnswered, StayAnswered}
 use Rattle.std.proofs.lemmas.List.Elements.{filter_map-append}
-use Rattle.script_run.specs.Front.{EndsSo, HaltsAt, PlaysBy, PlaysIn, PlaysOn, Submits, given_by, givens_in}
+use Rattle.script_run.specs.Front.{EndsSo, HaltsAt, PlaysBy, PlaysIn, PlaysOn, SubmitsAll, given_by, givens_in}
 use Rattle.script_run.proofs.FrontRunLemmas.{submits-none, submits-then}
 
 -- What was written.
@@ -151,10 +151,10 @@ on-then halted seat old between new due statements others Left Left' Left'' take
 }
 
 -- what was submitted
-pub submits-on : (old between new : State) (sent others : List Sent) → Submits (givens_in sent) old between → Submits (givens_in others) between new
-    → Submits (givens_in (sent ++ others)) old new
+pub submits-on : (old between new : State) (sent others : List Sent) → SubmitsAll (givens_in sent) old between → SubmitsAll (givens_in others) between new
+    → SubmitsAll (givens_in (sent ++ others)) old new
 submits-on old between new sent others first second =
-    subst (λ list. Submits list old new) (sym (filter_map-append given_by sent others))
+    subst (λ list. SubmitsAll list old new) (sym (filter_map-append given_by sent others))
     (submits-then (givens_in sent) (givens_in others) old between new first second)
 
 abbrev pub in-then : (halted : Option Halt) (old between new : State) (due : List Sent) (statements others : List Statement)
@@ -307,7 +307,7 @@ passes-itself sight =
     record { submitted = refl; made = refl; pending = refl; taken = refl; since = []; seen = sym (append-nil sight.seen) }
 
 abbrev pub by-passes : (old new : State) (due : List Sent) (taken : Option (List ℕ)) → IsDue 0 (sight_of old 0) due → Passes (sight_of old 0) (sight_of new 0)
-    → Submits [] old new → StayAnswered old.lives new.lives → PlaysBy (Ok false) old due [] ⊥ new taken taken
+    → SubmitsAll [] old new → StayAnswered old.lives new.lives → PlaysBy (Ok false) old due [] ⊥ new taken taken
 by-passes old new due taken waits passes run stay = (
   record {
     on = record {

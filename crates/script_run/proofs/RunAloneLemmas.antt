@@ -3,7 +3,7 @@ use Rattle.script_run.proofs.Words.{◌++◌, ◌+◌, ◌||◌, ◌∙◌, ◌�
 use Rattle.star_io.specs.Link.{ReadingSide, WritingSide}
 use Rattle.star_io.specs.declared.run_end.RunEnd.TheVariants as end
 use Rattle.query_meaning.specs.Store.{empty_store}
-use Rattle.script_run.specs.Front.{HaltsAt, LeavesSome, Reads}
+use Rattle.script_run.specs.Front.{HaltsAt, LeavesToRead, ReadsBetween}
 use Rattle.script_run.specs.Replied.{AnswersWhole}
 use Rattle.script_run.specs.Run.{AnswersScript, MetNoEnd}
 use Rattle.script_run.proofs.BetweenLemmas.{all-between, fault-between, front-between, limit-between, part-between, refused-all, refused-halted}
@@ -152,7 +152,7 @@ halted_script halt statements others replies tables written Left last script are
 
 -- before the reading met an end, for want of memory
 front_run : (from from' : ReadingSide) (to to' : WritingSide) (statements : List Statement) (replies : List Reply) (tables : Store)
-    (behind : Reading) (Left : Type 0) (given written : List ℕ) → Reads (came given) statements behind
+    (behind : Reading) (Left : Type 0) (given written : List ℕ) → ReadsBetween (came given) statements behind
     → AreReplied empty_store statements replies tables → HaltsAt NoMemory written replies Left → Consumes from.left from'.left given
     → Appends to.taken to'.taken written → MetNoEnd from from' given → AnswersScript end.NoMemory from from' to to'
 front_run from from' to to' statements replies tables behind Left given written reads are ends gave took met =
@@ -205,11 +205,11 @@ halted_run halt store waits refused from from' to taken to' run on same unfailed
     by_halt : (why : Halt) → HaltsBehind why empty_store (came run.given) to.taken to'.taken
         → AnswersScript (end_of_halt why) from from' to to'
     by_halt NoMemory all =
-        front_run from from' to to' all.statements all.replies all.tables all.behind (LeavesSome all.behind) run.given all.written all.reads
+        front_run from from' to to' all.statements all.replies all.tables all.behind (LeavesToRead all.behind) run.given all.written all.reads
         all.are all.ends run.gave all.took (same, unfailed, few)
     by_halt WriteFault all =
         let others = statements_of from'.ended all.behind.waiting in
-        let found = halted_script WriteFault all.statements others all.replies all.tables all.written (LeavesSome all.behind) from'.ended
+        let found = halted_script WriteFault all.statements others all.replies all.tables all.written (LeavesToRead all.behind) from'.ended
         run.given all.are all.ends (reads-all (came run.given) all.behind all.statements from'.ended all.reads (λ e. cc)) in
         part_run WriteFault from from' to to' run.given all.written found.wanted run.gave all.took few (found.part tt)
 
@@ -256,10 +256,10 @@ ended_halted halt store waits refused from from' left to taken to' piece run gav
     others : List Statement
     others = statements_of from'.ended all.behind.waiting
 
-    found : IsHalted halt all.written from'.ended run.given (LeavesSome all.behind → others ≢ [])
-    found = halted_script halt all.statements others all.replies all.tables all.written (LeavesSome all.behind) from'.ended run.given
+    found : IsHalted halt all.written from'.ended run.given (LeavesToRead all.behind → others ≢ [])
+    found = halted_script halt all.statements others all.replies all.tables all.written (LeavesToRead all.behind) from'.ended run.given
         all.are all.ends (reads-all (finished (came run.given)) all.behind all.statements from'.ended all.reads (λ e. (refl, has_ended.0)))
 
-    known : (why : Halt) → Sure why (LeavesSome all.behind → others ≢ [])
+    known : (why : Halt) → Sure why (LeavesToRead all.behind → others ≢ [])
     known WriteFault = tt
     known NoMemory = λ leaves. subst (λ ended. statements_of ended all.behind.waiting ≢ []) (sym has_ended.0) (leaves all.stays.1)

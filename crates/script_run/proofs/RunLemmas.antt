@@ -1,5 +1,5 @@
 -- A script as far as it came, the end of its input, the bytes within the limit, and the faults of a run.
-use Rattle.script_run.proofs.Words.{◌++◌, ◌∙◌, ◌≡◌, ◌≤◌, [], arith, Bool, end_of_all, end_of_halt, Err, false, Halt, inl, length, List, MayCome, NoMemory, Reading, refl, SCRIPT_LIMIT, subst, true, within_limit, WriteFault, ℕ}
+use Rattle.script_run.proofs.Words.{◌++◌, ◌∙◌, ◌≡◌, ◌≤◌, [], arith, Bool, end_of_all, end_of_halt, Err, false, Halt, inl, length, List, MayCome, NoMemory, Ok, Reading, refl, Result, SCRIPT_LIMIT, subst, true, within_limit, WriteFault, ℕ}
 use Rattle.std.proofs.lemmas.List.{take_all, take-append-le}
 use Rattle.star_io.specs.Faults.{FailedOnce}
 use Rattle.star_io.specs.Link.{ReadingSide, WritingSide}
@@ -31,6 +31,13 @@ pub at_end : (waits : Reading) → MayCome (finished waits) [] true
 at_end waits e = (refl, refl)
 
 -- The faults that came.
+
+-- no write failed before
+pub counts-behind : (result : Result Bool Halt) (to0 to to' : WritingSide) → to.faults ≡ to0.faults → CountsHalt result to to'
+    → CountsHalt result to0 to'
+counts-behind (Ok refused) to0 to to' same counts = counts ∙ same
+counts-behind (Err WriteFault) to0 to to' same counts = subst (λ (n : ℕ). FailedOnce n to'.faults to'.failed) same counts
+counts-behind (Err NoMemory) to0 to to' same counts = counts ∙ same
 
 pub counts_halted : (halt : Halt) (from from' : ReadingSide) (to between to' : WritingSide) → from'.faults ≡ from.faults
     → between.faults ≡ to.faults → CountsHalt {A = Bool} (Err halt) between to' → CountsFaults (end_of_halt halt) from from' to to'

@@ -12,7 +12,7 @@ use Rattle.event_core.specs.Parts.{Parts}
 use Rattle.worker_gate.specs.Turns.{sight_in}
 use Rattle.script_run.specs.Front.{EndsSo, PlaysOn}
 use Rattle.script_run.specs.SeatFront.{SeatPlays, SeatPlaysBy, TellsWaited}
-use Rattle.script_run.specs.SeatTurns.{Stays, SendsOne, TellsTried, TookNext}
+use Rattle.script_run.specs.SeatTurns.{SitsStill, SendsOne, TellsTried, TookNext}
 use Rattle.script_run.specs.declared.seat_front.Waited.{Waited}
 use Rattle.script_run.specs.declared.seat_front.Waited.TheVariants as waited
 use Rattle.script_run.proofs.OnLemmas.{Eases, eases-none, eases-some, halts-proper, on-then, still-none, text-one, within-reply}
@@ -31,19 +31,19 @@ by-number Is old new same is = subst Is (same-number old new same) is
 
 -- what is told behind a turn in which a seat sent nothing
 pub tried-behind : (taken : Bool) (statement : Statement) (old between new : BoardSeat Parts) → IsSameSeat old between
-    → Stays (view_of old).number (sight_in (view_of old)) (sight_in (view_of between)) → TellsTried taken statement between new
+    → SitsStill (view_of old).number (sight_in (view_of old)) (sight_in (view_of between)) → TellsTried taken statement between new
     → TellsTried taken statement old new
 tried-behind true statement old between new same stays tells =
     submitted-behind statement (view_of old).number (sight_in (view_of old)) (sight_in (view_of between)) (sight_in (view_of new)) stays
     (by-number (λ (number : ℕ). SendsOne number statement (sight_in (view_of between)) (sight_in (view_of new))) old between same tells)
 tried-behind false statement old between new same stays tells = (
   stays-then (view_of old).number (sight_in (view_of old)) (sight_in (view_of between)) (sight_in (view_of new)) stays
-      (by-number (λ (number : ℕ). Stays number (sight_in (view_of between)) (sight_in (view_of new))) old between same tells.0),
+      (by-number (λ (number : ℕ). SitsStill number (sight_in (view_of between)) (sight_in (view_of new))) old between same tells.0),
   tells.1,
 )
 
 -- what a seat is told that stayed before
-pub waited-behind : (how : Waited) (seat : ℕ) (old between new : Sight) → Stays seat old between → TellsWaited how seat between new
+pub waited-behind : (how : Waited) (seat : ℕ) (old between new : Sight) → SitsStill seat old between → TellsWaited how seat between new
     → TellsWaited how seat old new
 waited-behind (waited.Got ready) seat old between new stays tells = takes-behind ready seat old between new stays tells
 waited-behind waited.Nothing seat old between new stays tells = (stays-then seat old between new stays tells.0, tells.1)
@@ -143,7 +143,7 @@ seat-sends seat old new due still sent statements taken are goes = (
 )
 
 -- nothing was sent
-abbrev pub seat-stays : (seat : ℕ) (old new : Sight) (due : List Sent) (taken : Option (List ℕ)) → IsDue seat old due → Stays seat old new
+abbrev pub seat-stays : (seat : ℕ) (old new : Sight) (due : List Sent) (taken : Option (List ℕ)) → IsDue seat old due → SitsStill seat old new
     → SeatPlaysBy (Ok false) seat old due [] ⊥ new taken taken
 seat-stays seat old new due taken waits stays = seat-sends seat old new due due [] [] taken refl (stays due waits)
 

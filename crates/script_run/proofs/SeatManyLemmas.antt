@@ -1,16 +1,16 @@
 -- Many statements that a seat sends in one turn, one behind another, and what was read of a run.
-use Rattle.script_run.proofs.Words.{◌++◌, ◌<◌, ◌∙◌, ◌∷◌, ◌≡◌, ◌≢◌, [], All-append, All-cons, All-nil, ap, append-nil, append_assoc, arith, false, length, length-append, List, map-append, None, Ok, Option, Reading, refl, Some, Statement, statements_of, StaysFed, subst, sym, TakesFirst, true, Wants, ℕ}
+use Rattle.script_run.proofs.Words.{◌++◌, ◌<◌, ◌∙◌, ◌∷◌, ◌≡◌, ◌≢◌, [], All-append, All-cons, All-nil, ap, append-nil, append_assoc, arith, false, length, length-append, List, map-append, None, Ok, Option, Reading, refl, Some, Statement, statements_of, StaysFed, subst, sym, TakesFirst, true, WantsMemory, ℕ}
 use Rattle.core_state.specs.Fronts.{Goes}
 use Rattle.core_state.specs.Rows.{Sight}
 use Rattle.core_state.specs.Sent.{IsGiven, statement_in, statements_in}
 use Rattle.core_state.proofs.FrontLemmas.{goes-then}
-use Rattle.script_reader.specs.Reading.{Answers}
+use Rattle.script_reader.specs.Reading.{AnswersNext}
 use Rattle.script_reader.specs.declared.reader.NextStatement.{NextStatement}
 use Rattle.script_reader.specs.declared.reader.NextStatement.TheVariants.{Got}
-use Rattle.script_run.specs.Front.{Reads}
+use Rattle.script_run.specs.Front.{ReadsBetween}
 use Rattle.script_run.specs.SeatFront.{SeatPlays}
-use Rattle.script_run.specs.SeatRun.{ReadsNext, StopsAt, alone_at, alone_in, behind_at}
-use Rattle.script_run.specs.SeatTurns.{Stays, SendsOne, SendsAll}
+use Rattle.script_run.specs.SeatRun.{ReadsNext, StopsReading, alone_at, alone_in, behind_at}
+use Rattle.script_run.specs.SeatTurns.{SitsStill, SendsOne, SendsAll}
 use Rattle.script_run.specs.declared.seat_run.Behind.{Behind}
 use Rattle.script_run.specs.declared.seat_run.Behind.TheVariants.{More, NoMemory as NoneLeft, Nothing}
 use Rattle.script_run.specs.declared.seat_run.StatementRunEnd.{StatementRunEnd}
@@ -22,7 +22,7 @@ use Rattle.script_run.proofs.SharedWholeLemmas.{statements_left}
 -- What was sent.
 
 -- nothing yet
-pub many-none : (seat : ℕ) (old new : Sight) → Stays seat old new → SendsAll seat [] old new
+pub many-none : (seat : ℕ) (old new : Sight) → SitsStill seat old new → SendsAll seat [] old new
 many-none seat old new stays due waits =
     ([], refl, All-nil IsGiven, subst (λ still. Goes seat old due new still [] [] []) (sym (append-nil due)) (stays due waits))
 
@@ -55,13 +55,13 @@ many-more seat statements statement old between new first second =
     many-then seat statements (statement ∷ []) old between new first (many-one seat statement between new second)
 
 -- what others did before and behind
-pub many-behind : (seat : ℕ) (statements : List Statement) (old between new : Sight) → Stays seat old between
+pub many-behind : (seat : ℕ) (statements : List Statement) (old between new : Sight) → SitsStill seat old between
     → SendsAll seat statements between new → SendsAll seat statements old new
 many-behind seat statements old between new stays second =
     many-then seat [] statements old between new (many-none seat old between stays) second
 
 pub many-stays : (seat : ℕ) (statements : List Statement) (old between new : Sight) → SendsAll seat statements old between
-    → Stays seat between new → SendsAll seat statements old new
+    → SitsStill seat between new → SendsAll seat statements old new
 many-stays seat statements old between new first stays =
     subst (λ list. SendsAll seat list old new) (append-nil statements)
     (many-then seat statements [] old between new first (many-none seat between new stays))
@@ -83,12 +83,12 @@ reads-one ended statement waits waits' before after first are more = record {
   read = statement ∷ [];
   are = are;
   reads = reads-first waits waits' statement first;
-  stops = subst (λ behind. StopsAt behind (statement ∷ []) waits') (sym more) (λ none. cc);
+  stops = subst (λ behind. StopsReading behind (statement ∷ []) waits') (sym more) (λ none. cc);
 }
 
 -- none is whole
 pub reads-nothing : (next : NextStatement) (waits waits' : Reading) (before : List Statement) → ((statement : Statement) → next ≢ Got statement)
-    → Answers waits waits' next → StaysFed waits waits' → ReadsNext (Some ended.Last) waits before waits' before
+    → AnswersNext waits waits' next → StaysFed waits waits' → ReadsNext (Some ended.Last) waits before waits' before
 reads-nothing next waits waits' before never answers stays =
     let done = reads-done waits waits' next never answers stays in record {
       read = [];
@@ -98,10 +98,10 @@ reads-nothing next waits waits' before never answers stays =
     }
 
 -- for one there was no memory
-pub reads-wanting : (waits waits' : Reading) (before : List Statement) → Wants waits waits' → StaysFed waits waits'
+pub reads-wanting : (waits waits' : Reading) (before : List Statement) → WantsMemory waits waits' → StaysFed waits waits'
     → ReadsNext (Some ended.NoMemory) waits before waits' before
 reads-wanting waits waits' before wants stays =
-    let same : Reads waits [] waits' = λ more last comes. sym (wants.1 more last comes) in record {
+    let same : ReadsBetween waits [] waits' = λ more last comes. sym (wants.1 more last comes) in record {
       read = [];
       are = refl;
       reads = same;
@@ -109,31 +109,31 @@ reads-wanting waits waits' before wants stays =
     }
 
 -- what is known of where reading stopped is known of it behind what was read before
-stops-behind : (behind : Behind) (before read : List Statement) (waits : Reading) → StopsAt behind read waits
-    → StopsAt behind (before ++ read) waits
+stops-behind : (behind : Behind) (before read : List Statement) (waits : Reading) → StopsReading behind read waits
+    → StopsReading behind (before ++ read) waits
 stops-behind More [] read waits some = some
 stops-behind More (one ∷ before) read waits some = λ none. cc
 stops-behind Nothing before read waits none = none
 stops-behind NoneLeft before read waits left = left
 
 -- one statement behind others
-pub run-next : (ended : Option StatementRunEnd) (first waits waits' : Reading) (before after : List Statement) → Reads first before waits
+pub run-next : (ended : Option StatementRunEnd) (first waits waits' : Reading) (before after : List Statement) → ReadsBetween first before waits
     → StaysFed first waits → ReadsNext ended waits before waits' after
-    → Reads first (after ++ alone_at ended) waits' × StopsAt (behind_at ended) (after ++ alone_at ended) waits'
+    → ReadsBetween first (after ++ alone_at ended) waits' × StopsReading (behind_at ended) (after ++ alone_at ended) waits'
 run-next ended first waits waits' before after reads stays next = (
-  subst (λ list. Reads first list waits') (sym next.are) (reads-then first waits waits' before next.read reads stays next.reads),
-  subst (λ list. StopsAt (behind_at ended) list waits') (sym next.are)
+  subst (λ list. ReadsBetween first list waits') (sym next.are) (reads-then first waits waits' before next.read reads stays next.reads),
+  subst (λ list. StopsReading (behind_at ended) list waits') (sym next.are)
       (stops-behind (behind_at ended) before next.read waits' next.stops),
 )
 
 -- where the run goes on
-pub run-goes : (first waits waits' : Reading) (before after : List Statement) → Reads first before waits
-    → StaysFed first waits → ReadsNext None waits before waits' after → Reads first after waits'
+pub run-goes : (first waits waits' : Reading) (before after : List Statement) → ReadsBetween first before waits
+    → StaysFed first waits → ReadsNext None waits before waits' after → ReadsBetween first after waits'
 run-goes first waits waits' before after reads stays next =
-    subst (λ list. Reads first list waits') (append-nil after) (run-next None first waits waits' before after reads stays next).0
+    subst (λ list. ReadsBetween first list waits') (append-nil after) (run-next None first waits waits' before after reads stays next).0
 
 -- fewer statements are left where some were read
-pub reads-fewer : (waits waits' : Reading) (statements : List Statement) → Reads waits statements waits' → StaysFed waits waits'
+pub reads-fewer : (waits waits' : Reading) (statements : List Statement) → ReadsBetween waits statements waits' → StaysFed waits waits'
     → statements ≢ [] → statements_left waits' < statements_left waits
 reads-fewer waits waits' [] reads stays some = absurd (some refl)
 reads-fewer waits waits' (one ∷ statements) reads stays some =
@@ -146,8 +146,8 @@ pub run-fewer : (waits waits' : Reading) (before after : List Statement) → Rea
 run-fewer waits waits' before after next stays = reads-fewer waits waits' next.read next.reads stays next.stops
 
 -- nothing was read yet
-pub run-starts : (waits : Reading) (statements : List Statement) → statements ≡ [] → Reads waits statements waits
-run-starts waits statements none = subst (λ list. Reads waits list waits) (sym none) (reads-itself waits)
+pub run-starts : (waits : Reading) (statements : List Statement) → statements ≡ [] → ReadsBetween waits statements waits
+run-starts waits statements none = subst (λ list. ReadsBetween waits list waits) (sym none) (reads-itself waits)
 
 -- Of a run.
 

@@ -1,6 +1,5 @@
 -- What a seat did with statements by turns of it, one part behind another.
-use Rattle.script_run.proofs.Words.{◌++◌, ◌||◌, ◌∙◌, ◌∷◌, ◌≡◌, ◌≢◌, ◌⊎◌, [], ap, append-nil, append_assoc, Appends, AppendsFront, Bool, drop, Err, false, Halt, inl, inr, is_refusal, IsReplyOf, length, List, NoMemory, None, Ok, Ready, refl, Reply, Result, Statement, subst, sym, take, take-append-drop, text_of, WriteFault, ℕ, ⊎_elim}
-use Rattle.star_io.specs.Faults.{FailedOnce}
+use Rattle.script_run.proofs.Words.{◌++◌, ◌||◌, ◌∙◌, ◌∷◌, ◌≡◌, ◌≢◌, ◌⊎◌, [], ap, append-nil, append_assoc, Appends, AppendsFront, Bool, drop, Err, false, Halt, inl, inr, is_refusal, IsReplyOf, length, List, NoMemory, None, Ok, Ready, refl, Reply, Result, Statement, subst, sym, take, take-append-drop, text_of, ℕ, ⊎_elim}
 use Rattle.star_io.specs.Link.{WritingSide}
 use Rattle.star_store.proofs.AppendLemmas.{none_left}
 use Rattle.board_lock.specs.Seats.{view_of}
@@ -12,21 +11,15 @@ use Rattle.worker_gate.specs.Hands.{HasDoneIf}
 use Rattle.worker_gate.specs.Turns.{IsReady, sight_in}
 use Rattle.script_run.specs.Answer.{CountsHalt}
 use Rattle.script_run.specs.SeatFront.{PlaysAt, PlaysFirst, SeatPlays}
-use Rattle.script_run.specs.SeatTurns.{Stays, StaysReady, SendsAll, TakesNext}
+use Rattle.script_run.specs.SeatTurns.{SitsStill, StaysReady, SendsAll, TakesNext}
 use Rattle.script_run.proofs.OnLemmas.{halts-weaker}
+use Rattle.script_run.proofs.RunLemmas.{counts-behind}
 use Rattle.script_run.proofs.SeatFrontLemmas.{by-number, seat-behind, seat-err, seat-ok, seat-stays, seat-took-err, seat-took-ok, seat-wants}
 use Rattle.script_run.proofs.SeatManyLemmas.{seat-sent-all}
 use Rattle.script_run.proofs.SeatTurnLemmas.{out-none, out-then, stays-none}
 use Rattle.script_run.proofs.WholeLemmas.{or_false}
 
 -- One part behind another.
-
--- no write failed before
-pub counts-behind : (result : Result Bool Halt) (to0 to to' : WritingSide) → to.faults ≡ to0.faults → CountsHalt result to to'
-    → CountsHalt result to0 to'
-counts-behind (Ok refused) to0 to to' same counts = counts ∙ same
-counts-behind (Err WriteFault) to0 to to' same counts = subst (λ (n : ℕ). FailedOnce n to'.faults to'.failed) same counts
-counts-behind (Err NoMemory) to0 to to' same counts = counts ∙ same
 
 -- replies were written in both
 pub played-ok : (board : BoardLock Parts) (refused some : Bool) (old between new : BoardSeat Parts) (statements others : List Statement)
@@ -113,7 +106,7 @@ played-behind board result old between new statements others to to' seat first s
 
 -- nothing was sent, taken or written in a turn, or nothing happens
 played-stays : (board : BoardLock Parts) (old new : BoardSeat Parts) (to : WritingSide) → StaysReady board old new
-    → Stays (view_of old).number (sight_in (view_of old)) (sight_in (view_of new)) → PlaysAt board (Ok false) old new [] to to
+    → SitsStill (view_of old).number (sight_in (view_of old)) (sight_in (view_of new)) → PlaysAt board (Ok false) old new [] to to
 played-stays board old new to seat stays = record {
   seat = seat;
   plays = λ due waits.
@@ -157,7 +150,7 @@ took-err board halt ready reply old new to to' seat takes is wrote counts = reco
 -- no more was taken
 pub replies-stay : (board : BoardLock Parts) (refused : Bool) (old between new : BoardSeat Parts) (to0 to : WritingSide)
     → PlaysAt board (Ok refused) old between [] to0 to → StaysReady board between new
-    → Stays (view_of between).number (sight_in (view_of between)) (sight_in (view_of new)) → PlaysAt board (Ok refused) old new [] to0 to
+    → SitsStill (view_of between).number (sight_in (view_of between)) (sight_in (view_of new)) → PlaysAt board (Ok refused) old new [] to0 to
 replies-stay board refused old between new to0 to first seat stays =
     subst (λ some. PlaysAt board (Ok some) old new [] to0 to) (or_false refused)
     (played-ok board refused false old between new [] [] to0 to to first (played-stays board between new to seat stays))
@@ -165,7 +158,7 @@ replies-stay board refused old between new to0 to first seat stays =
 -- nor was there memory for one that is waited for
 pub replies-want : (board : BoardLock Parts) (refused : Bool) (old between new : BoardSeat Parts) (to0 to : WritingSide)
     → PlaysAt board (Ok refused) old between [] to0 to → StaysReady board between new
-    → Stays (view_of between).number (sight_in (view_of between)) (sight_in (view_of new)) × ((sight_in (view_of new)).row.pending ≢ [])
+    → SitsStill (view_of between).number (sight_in (view_of between)) (sight_in (view_of new)) × ((sight_in (view_of new)).row.pending ≢ [])
     → PlaysAt board (Err NoMemory) old new [] to0 to
 replies-want board refused old between new to0 to first seat tells =
     let all = replies-stay board refused old between new to0 to first seat tells.0 in record {

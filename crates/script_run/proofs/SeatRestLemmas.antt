@@ -1,9 +1,17 @@
 -- The replies of a seat behind the last statement that is whole: all of them, or those before they halt.
-use Rattle.script_run.proofs.Words.{◌++◌, ◌∙◌, ◌≡◌, [], Bool, Err, Halt, HasNoStatement, List, None, Ok, Option, Reading, Some, subst, sym, ℕ}
+use Rattle.script_run.proofs.Words.{◌++◌, ◌∙◌, ◌≡◌, [], Bool, Err, Halt, HasNoStatement, List, None, Ok, NoMemory, Option, Reading, Some, subst, sym, WriteFault, ℕ}
+use Rattle.star_io.specs.Faults.{FailedOnce}
+use Rattle.star_io.specs.Link.{WritingSide}
 use Rattle.core_state.specs.Fronts.{IsDue}
 use Rattle.core_state.specs.Rows.{Sight}
-use Rattle.script_run.specs.Front.{LeavesSome, PlaysOn, UnlessHalted}
-use Rattle.script_run.specs.Home.{RepliesWhole}
+use Rattle.board_lock.specs.Seats.{IsSameSeat, view_of}
+use Rattle.board_lock.specs.declared.seat.BoardLock.{BoardLock}
+use Rattle.board_lock.specs.declared.seat.BoardSeat.{BoardSeat}
+use Rattle.event_core.specs.Parts.{Parts}
+use Rattle.worker_gate.specs.Turns.{IsReady, sight_in}
+use Rattle.script_run.specs.Answer.{CountsHalt}
+use Rattle.script_run.specs.Front.{LeavesToRead, PlaysOn, UnlessHalted}
+use Rattle.script_run.specs.Home.{RepliesAt, RepliesWhole}
 use Rattle.script_run.specs.SeatFront.{SeatPlays, SeatPlaysWhole, SeatReads}
 use Rattle.script_run.proofs.OnLemmas.{Eases, eases-none, eases-some, on-then, still-none}
 use Rattle.script_run.proofs.SharedReadLemmas.{reads-itself, reads-then}
@@ -27,8 +35,8 @@ reads-out halted seat old mid new waits waits' taken0 taken taken' first second 
   behind = first.behind;
   reads = reads-then waits first.behind first.behind first.statements [] first.reads first.stays (reads-itself first.behind);
   stays = first.stays;
-  on = on-then halted seat old mid new [] first.statements [] (LeavesSome first.behind) ⊥ (LeavesSome first.behind) taken0 taken taken'
-      (eases-never halted (LeavesSome first.behind)) first.on second;
+  on = on-then halted seat old mid new [] first.statements [] (LeavesToRead first.behind) ⊥ (LeavesToRead first.behind) taken0 taken taken'
+      (eases-never halted (LeavesToRead first.behind)) first.on second;
   all = unless-halted {Holds = (first.behind ≡ waits') × HasNoStatement waits'} halted first.all;
 }
 
@@ -65,3 +73,23 @@ replies-whole some others seat same old mid new waits waits' taken0 taken taken'
 pub replied-due : (seat : ℕ) (old new : Sight) (waits waits' : Reading) (taken taken' : Option (List ℕ))
     → RepliesWhole {A = Unit {0}} (Ok tt) seat old waits new waits' taken taken' → IsDue seat new []
 replied-due seat old new waits waits' taken taken' replies = subst (IsDue seat new) replies.1 replies.0.on.goes.waits
+
+-- no write failed before
+counts-stopped : (halt : Halt) (to0 to to' : WritingSide) → to.faults ≡ to0.faults → CountsHalt {A = Bool} (Err halt) to to'
+    → CountsHalt {A = Unit {0}} (Err halt) to0 to'
+counts-stopped WriteFault to0 to to' same counts = subst (λ (n : ℕ). FailedOnce n to'.faults to'.failed) same counts
+counts-stopped NoMemory to0 to to' same counts = counts ∙ same
+
+-- a seat that was at rest may take another turn where its replies halted
+pub stopped-at : (board : BoardLock Parts) (halt : Halt) (old new : BoardSeat Parts) (waits waits' : Reading) (to0 to to' : WritingSide)
+    → IsReady board None new → IsSameSeat old new
+    → RepliesWhole {A = Unit {0}} (Err halt) (view_of old).number (sight_in (view_of old)) waits (sight_in (view_of new)) waits' to0.taken to'.taken
+    → to.faults ≡ to0.faults → CountsHalt {A = Bool} (Err halt) to to'
+    → RepliesAt {A = Unit {0}} board (Err halt) old new waits waits' to0 to'
+stopped-at board halt old new waits waits' to0 to to' ready same replies unfailed counts = record {
+  ready = ready;
+  same = same;
+  replies = replies;
+  rest = tt;
+  faults = counts-stopped halt to0 to to' unfailed counts;
+}

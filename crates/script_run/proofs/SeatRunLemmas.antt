@@ -4,7 +4,7 @@ use Rattle.core_state.specs.Fronts.{IsDue}
 use Rattle.core_state.specs.Rows.{Sight}
 use Rattle.core_state.specs.Sent.{IsGiven, Sent}
 use Rattle.script_reader.specs.Reading.{no_reading}
-use Rattle.script_run.specs.Front.{LeavesSome}
+use Rattle.script_run.specs.Front.{LeavesToRead}
 use Rattle.script_run.specs.SeatFront.{SeatPlays, SeatPlaysWhole, SeatReads}
 use Rattle.script_run.specs.Shared.{nothing}
 use Rattle.script_run.proofs.RunLemmas.{came, finished}
@@ -44,7 +44,7 @@ whole-by-way now new first waits waits' refused some taken0 taken taken' way pla
     let whole = plays way.plays.0.still way.plays.0.goes.waits in
     subst (λ reader. SeatPlaying 0 nothing [] new first reader (refused || some) taken0 taken') whole.0.all.0
     (seat-then 0 nothing now new [] first waits whole.0.behind refused some taken0 taken taken' whole.0.statements
-    (LeavesSome whole.0.behind) way
+    (LeavesToRead whole.0.behind) way
     whole.0.reads whole.0.stays (whole.0.on, whole.1))
 
 -- and no statement is left that is whole
@@ -64,8 +64,8 @@ halted-by-way halt now new first waits waits' refused taken0 taken taken' way pl
       behind = whole.0.behind;
       reads = reads-then first waits whole.0.behind way.statements whole.0.statements way.reads way.stays whole.0.reads;
       stays = fed_on first waits whole.0.behind way.stays whole.0.stays;
-      on = (seat-err refused halt 0 nothing now new [] way.statements whole.0.statements ⊥ (LeavesSome whole.0.behind)
-          (LeavesSome whole.0.behind)
+      on = (seat-err refused halt 0 nothing now new [] way.statements whole.0.statements ⊥ (LeavesToRead whole.0.behind)
+          (LeavesToRead whole.0.behind)
           taken0 taken taken' (λ left. left) way.plays (whole.0.on, tt)).0;
       all = tt;
     }

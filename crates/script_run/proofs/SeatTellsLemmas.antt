@@ -5,7 +5,7 @@ use Rattle.core_state.specs.Rows.{Sight, made_by}
 use Rattle.core_state.specs.Sent.{AreEntriesOf, AreOfOthers, AreRepliesTo, Given, IsReplyBehind, Lost, Sent, entry_made, numbers_in, pending_behind, statement_in, statements_in, takens_of}
 use Rattle.script_run.specs.Front.{PlaysOn}
 use Rattle.script_run.specs.Home.{LetsGo}
-use Rattle.script_run.specs.Seat.{IsWhole, TellsSeat}
+use Rattle.script_run.specs.Seat.{IsAllReplied, TellsSeat}
 use Rattle.script_run.proofs.BoardCloseLemmas.{others-came}
 
 -- the statements are those that were replied to, those that were sent behind them, and the others
@@ -39,7 +39,7 @@ tells-plays halted seat old new statements all left Left taken taken' on is = re
 -- where nothing halted, nothing is still waited for, and no others are left, all of them were replied to
 pub tells-whole : (seat : ℕ) (old new : Sight) (statements all left : List Statement) (Left : Type 0) (taken taken' : Option (List ℕ))
     → (on : PlaysOn None seat old [] statements Left new taken taken') → (is : all ≡ statements ++ left) → on.still ≡ [] → left ≡ []
-    → IsWhole (tells-plays None seat old new statements all left Left taken taken' on is)
+    → IsAllReplied (tells-plays None seat old new statements all left Left taken taken' on is)
 tells-whole seat old new statements all left Left taken taken' on is none nothing =
     record { others = none; rest = ap (λ list. list ++ left) on.ends.0 ∙ nothing; later = refl }
 

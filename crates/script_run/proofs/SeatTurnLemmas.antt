@@ -20,7 +20,7 @@ use Rattle.worker_gate.specs.Left.{LeavesAllLoans, MovesHand}
 use Rattle.worker_gate.specs.Turns.{IsOutWith, IsReady, IsSeated, own_row, sight_in}
 use Rattle.worker_gate.proofs.TurnLemmas.{FindsCore, hand-found, same-seat, same-then, seated-found, view-left}
 use Rattle.script_run.specs.Home.{Leaves, LetsGo}
-use Rattle.script_run.specs.SeatTurns.{KeepsHand, Stays, StaysOut, StaysReady, SendsOne, TakesNext, TellsAsked, TellsGiven}
+use Rattle.script_run.specs.SeatTurns.{KeepsHand, SitsStill, StaysOut, StaysReady, SendsOne, TakesNext, TellsAsked, TellsGiven}
 use Rattle.script_run.specs.declared.seat_turn.ReplyTurn.{ReplyTurn}
 use Rattle.script_run.specs.declared.seat_turn.ReplyTurn.TheVariants.{Got, Nothing, NotYet, Looked}
 use Rattle.script_run.specs.declared.seat_turn.Given.{Given as HowGiven}
@@ -46,24 +46,24 @@ out-then board IsOther IsHeld old between new first second = record {
 -- What stays.
 
 -- a seat whose row is as it was sent and took nothing
-pub stays-passes : (seat : ℕ) (old new : Sight) → new.row.made ≡ made_by seat new.seen → Passes old new → Stays seat old new
+pub stays-passes : (seat : ℕ) (old new : Sight) → new.row.made ≡ made_by seat new.seen → Passes old new → SitsStill seat old new
 stays-passes seat old new made passes due waits = goes-passes seat old new due waits made passes
 
-pub stays-none : (seat : ℕ) (sight : Sight) → Stays seat sight sight
+pub stays-none : (seat : ℕ) (sight : Sight) → SitsStill seat sight sight
 stays-none seat sight due waits = goes-passes seat sight sight due waits waits.made (passes-itself sight)
 
-pub stays-then : (seat : ℕ) (old between new : Sight) → Stays seat old between → Stays seat between new → Stays seat old new
+pub stays-then : (seat : ℕ) (old between new : Sight) → SitsStill seat old between → SitsStill seat between new → SitsStill seat old new
 stays-then seat old between new first second due waits =
     let before = first due waits in
     goes-then seat old between new due due due [] [] [] [] [] [] before (second due before.waits)
 
 -- where nothing has changed
-pub stays-same : (seat : ℕ) (old new : State) → new ≡ old → Stays seat (sight_of old seat) (sight_of new seat)
+pub stays-same : (seat : ℕ) (old new : State) → new ≡ old → SitsStill seat (sight_of old seat) (sight_of new seat)
 stays-same seat old new same =
-    subst (λ state. Stays seat (sight_of old seat) (sight_of state seat)) (sym same) (stays-none seat (sight_of old seat))
+    subst (λ state. SitsStill seat (sight_of old seat) (sight_of state seat)) (sym same) (stays-none seat (sight_of old seat))
 
 -- where its hand alone has changed
-pub stays-moved : (seat : ℕ) (old new : State) → MovesHand seat old new → Stays seat (sight_of old seat) (sight_of new seat)
+pub stays-moved : (seat : ℕ) (old new : State) → MovesHand seat old new → SitsStill seat (sight_of old seat) (sight_of new seat)
 stays-moved seat old new moves = stays-passes seat (sight_of old seat) (sight_of new seat) refl (record {
   submitted = ap (λ (row : SeatRow). row.submitted) moves.own;
   made = ap (λ (row : SeatRow). row.made) moves.own;
@@ -79,7 +79,7 @@ waits-moved seat old new moves waits none = waits (sym (ap (λ (row : SeatRow). 
 
 -- and from what it knew to the core that it finds
 pub stays-found : (view : View Parts) (found : Parts) → FindsCore view found
-    → Stays view.number (sight_in view) (sight_of (state_of found) view.number)
+    → SitsStill view.number (sight_in view) (sight_of (state_of found) view.number)
 stays-found view found finds = stays-passes view.number (sight_in view) (sight_of (state_of found) view.number) refl (record {
   submitted = ap (λ (row : CoreRow). row.row.submitted) finds.own;
   made = ap (λ (row : CoreRow). row.row.made) finds.own;
@@ -91,7 +91,7 @@ stays-found view found finds = stays-passes view.number (sight_in view) (sight_o
 
 -- What is told behind what stays.
 
-pub submitted-behind : (statement : Statement) (seat : ℕ) (old between new : Sight) → Stays seat old between
+pub submitted-behind : (statement : Statement) (seat : ℕ) (old between new : Sight) → SitsStill seat old between
     → SendsOne seat statement between new → SendsOne seat statement old new
 submitted-behind statement seat old between new stays submitted due waits =
     let before = stays due waits in
@@ -102,7 +102,7 @@ submitted-behind statement seat old between new stays submitted due waits =
       goes-then seat old between new due due (due ++ sent.0 ∷ []) [] (sent.0 ∷ []) [] [] [] [] before sent.3,
     )
 
-pub takes-behind : (ready : Ready) (seat : ℕ) (old between new : Sight) → Stays seat old between → TakesNext ready seat between new
+pub takes-behind : (ready : Ready) (seat : ℕ) (old between new : Sight) → SitsStill seat old between → TakesNext ready seat between new
     → TakesNext ready seat old new
 takes-behind ready seat old between new stays takes due reply waits is =
     let before = stays due waits in
@@ -112,14 +112,14 @@ takes-behind ready seat old between new stays takes due reply waits is =
       goes = goes-then seat old between new due due took.rest [] [] [] (took.first ∷ []) [] (reply ∷ []) before took.goes;
     }
 
-pub asked-behind : (asked : ReplyTurn) (seat : ℕ) (old between new : Sight) → Stays seat old between → TellsAsked asked seat between new
+pub asked-behind : (asked : ReplyTurn) (seat : ℕ) (old between new : Sight) → SitsStill seat old between → TellsAsked asked seat between new
     → TellsAsked asked seat old new
 asked-behind (Got ready) seat old between new stays tells = takes-behind ready seat old between new stays tells
 asked-behind Nothing seat old between new stays tells = (stays-then seat old between new stays tells.0, tells.1)
 asked-behind NotYet seat old between new stays tells = stays-then seat old between new stays tells
 asked-behind (Looked look) seat old between new stays tells = (stays-then seat old between new stays tells.0, tells.1)
 
-pub given-behind : (how : HowGiven) (statement : Statement) (seat : ℕ) (old between new : Sight) → Stays seat old between
+pub given-behind : (how : HowGiven) (statement : Statement) (seat : ℕ) (old between new : Sight) → SitsStill seat old between
     → TellsGiven how seat statement between new → TellsGiven how seat statement old new
 given-behind given.Taken statement seat old between new stays tells = submitted-behind statement seat old between new stays tells
 given-behind given.Lost statement seat old between new stays tells = stays-then seat old between new stays tells
@@ -174,7 +174,7 @@ sight-left old new core view = ap sight_in view
 
 -- what it did to the core that it found it did to what it knew
 pub turn-tells : (Tells : (seat : ℕ) → (old new : Sight) → Type 0)
-    → ((seat : ℕ) (old between new : Sight) → Stays seat old between → Tells seat between new → Tells seat old new)
+    → ((seat : ℕ) (old between new : Sight) → SitsStill seat old between → Tells seat between new → Tells seat old new)
     → (old new : BoardSeat Parts) (found core : Parts) (seat : ℕ) → view_of new ≡ left (view_of old) core → FindsCore (view_of old) found
     → seat ≡ (view_of old).number → Tells seat (sight_of (state_of found) seat) (sight_of (state_of core) seat)
     → Tells (view_of old).number (sight_in (view_of old)) (sight_in (view_of new))

@@ -4,7 +4,7 @@ use Rattle.star_io.specs.declared.run_end.RunEnd.TheVariants as end
 use Rattle.star_io.specs.Link.{ReadingSide, WritingSide}
 use Rattle.core_state.specs.Rows.{SeatRow, Sight, empty_row, row_of, sight_of}
 use Rattle.core_state.specs.Sent.{Sent}
-use Rattle.script_run.specs.Front.{LeavesSome, Plays, PlaysIn, PlaysOn, PlaysWhole, Reads, ReadsOn, Submits, givens_in}
+use Rattle.script_run.specs.Front.{LeavesToRead, Plays, PlaysIn, PlaysOn, PlaysWhole, ReadsBetween, ReadsOn, SubmitsAll, givens_in}
 use Rattle.script_run.specs.Shared.{AnswersShared, CutScript, TellsFront, TellsGiven, TellsOf, TellsRun, TellsSent, UnlessWanting, cut_of}
 use Rattle.event_core.specs.Parts.{Parts}
 use Rattle.star_io.specs.declared.run_end.RunEnd.{RunEnd}
@@ -54,7 +54,7 @@ pub record HasAnswered (Also : List Sent → Type 0) (Told : (wanted : List ℕ)
 
 -- of a run that has a core by itself: what it sent was submitted to a core that was empty, and nothing else
 abbrev pub AreSubmitted : RunSettings → State → List Sent → Type 0
-AreSubmitted settings core sent = Submits (givens_in sent) (empty_core settings) core
+AreSubmitted settings core sent = SubmitsAll (givens_in sent) (empty_core settings) core
 
 -- and the core tells of the script
 abbrev pub IsTold : RunSettings → State → (wanted : List ℕ) → CutScript → Type 0
@@ -119,7 +119,7 @@ module _ (Also : List Sent → Type 0) (row : SeatRow) (empty : row ≡ empty_ro
   -- a front of the replies was written, and the reading met no end
   pub front-cut : (statements : List Statement) (behind : Reading) (Left : Type 0) (given : List ℕ)
       → (on : PlaysOn (Some NoMemory) 0 (record { row = row; seen = [] }) [] statements Left sight to.taken to'.taken) → Also on.sent
-      → Reads (came given) statements behind → Consumes from.left from'.left given → length given ≤ SCRIPT_LIMIT → from'.ended ≡ from.ended
+      → ReadsBetween (came given) statements behind → Consumes from.left from'.left given → length given ≤ SCRIPT_LIMIT → from'.ended ≡ from.ended
       → from'.faults ≡ from.faults → IsCut Also NoMemory sight from from' to to'
   front-cut statements behind Left given on also reads gave few same unfailed =
       let all = reads-all (came given) behind statements from'.ended reads (λ e. cc) in
@@ -162,24 +162,24 @@ module _ (Also : List Sent → Type 0) (row : SeatRow) (empty : row ≡ empty_ro
 
   -- before the input has ended
   pub halted-cut : (halt : Halt) (statements : List Statement) (behind : Reading) (given : List ℕ)
-      → (on : PlaysOn (Some halt) 0 (record { row = row; seen = [] }) [] statements (LeavesSome behind) sight to.taken to'.taken)
-      → Also on.sent → Reads (came given) statements behind → Consumes from.left from'.left given → length given ≤ SCRIPT_LIMIT
+      → (on : PlaysOn (Some halt) 0 (record { row = row; seen = [] }) [] statements (LeavesToRead behind) sight to.taken to'.taken)
+      → Also on.sent → ReadsBetween (came given) statements behind → Consumes from.left from'.left given → length given ≤ SCRIPT_LIMIT
       → from'.ended ≡ from.ended → from'.faults ≡ from.faults → IsCut Also halt sight from from' to to'
   halted-cut NoMemory statements behind given on also reads gave few same unfailed =
-      front-cut statements behind (LeavesSome behind) given on also reads gave few same unfailed
+      front-cut statements behind (LeavesToRead behind) given on also reads gave few same unfailed
   halted-cut WriteFault statements behind given on also reads gave few same unfailed =
       let others = statements_of from'.ended behind.waiting in
       let all = reads-all (came given) behind statements from'.ended reads (λ e. cc) in
-      let found = halted-script WriteFault row sight statements others (LeavesSome behind) to.taken to'.taken from'.ended given on own
+      let found = halted-script WriteFault row sight statements others (LeavesToRead behind) to.taken to'.taken from'.ended given on own
       all in
-      part-cut WriteFault statements others (LeavesSome behind) given given found.wanted on also gave (omega (arith, few))
+      part-cut WriteFault statements others (LeavesToRead behind) given given found.wanted on also gave (omega (arith, few))
       (within_all given few)
       (found.part tt) all
 
   -- where the replies that were waited for are written, behind a reading
   pub out-cut : (halt : Halt) (statements : List Statement) (first waits : Reading) (given : List ℕ)
       → (on : PlaysOn (Some halt) 0 (record { row = row; seen = [] }) [] (statements ++ []) ⊥ sight to.taken to'.taken) → Also on.sent
-      → Reads first statements waits → Consumes from.left from'.left given → length given ≤ SCRIPT_LIMIT + 1 → MayCome first [] from'.ended
+      → ReadsBetween first statements waits → Consumes from.left from'.left given → length given ≤ SCRIPT_LIMIT + 1 → MayCome first [] from'.ended
       → within_limit given ≡ first.waiting → IsCut Also halt sight from from' to to'
   out-cut halt statements first waits given on also reads gave few comes within =
       let others = statements_of from'.ended waits.waiting in
@@ -190,15 +190,15 @@ module _ (Also : List Sent → Type 0) (row : SeatRow) (empty : row ≡ empty_ro
 
   -- at the last statements, behind the end of the input
   pub ended-cut : (halt : Halt) (statements : List Statement) (behind : Reading) (given : List ℕ)
-      → (on : PlaysOn (Some halt) 0 (record { row = row; seen = [] }) [] statements (LeavesSome behind) sight to.taken to'.taken)
-      → Also on.sent → Reads (finished (came given)) statements behind → StaysFed (finished (came given)) behind
+      → (on : PlaysOn (Some halt) 0 (record { row = row; seen = [] }) [] statements (LeavesToRead behind) sight to.taken to'.taken)
+      → Also on.sent → ReadsBetween (finished (came given)) statements behind → StaysFed (finished (came given)) behind
       → Consumes from.left from'.left given → length given ≤ SCRIPT_LIMIT → HasEnded from' → IsCut Also halt sight from from' to to'
   ended-cut halt statements behind given on also reads stays gave few has_ended =
       let others = statements_of from'.ended behind.waiting in
       let all = reads-all (finished (came given)) behind statements from'.ended reads (λ e. (refl, has_ended.0)) in
-      let found = halted-script halt row sight statements others (LeavesSome behind) to.taken to'.taken from'.ended given on own all in
-      part-cut halt statements others (LeavesSome behind) given given found.wanted on also gave (omega (arith, few)) (within_all given few)
-      (found.part (sure-left halt (LeavesSome behind → others ≢ [])
+      let found = halted-script halt row sight statements others (LeavesToRead behind) to.taken to'.taken from'.ended given on own all in
+      part-cut halt statements others (LeavesToRead behind) given given found.wanted on also gave (omega (arith, few)) (within_all given few)
+      (found.part (sure-left halt (LeavesToRead behind → others ≢ [])
       (λ leaves. subst (λ ended. statements_of ended behind.waiting ≢ []) (sym has_ended.0) (leaves stays.1)))) all
 
 -- The replies halt of a run that has a core by itself.
@@ -214,8 +214,8 @@ halted-way halt old now new first waits waits' refused taken0 taken taken' way p
       behind = whole.0.behind;
       reads = reads-then first waits whole.0.behind way.statements whole.0.statements way.reads way.stays whole.0.reads;
       stays = fed_on first waits whole.0.behind way.stays whole.0.stays;
-      plays = (by-err refused halt old now new [] way.statements whole.0.statements ⊥ (LeavesSome whole.0.behind)
-          (LeavesSome whole.0.behind)
+      plays = (by-err refused halt old now new [] way.statements whole.0.statements ⊥ (LeavesToRead whole.0.behind)
+          (LeavesToRead whole.0.behind)
           taken0 taken taken' (λ left. left) way.plays (whole.0.plays, tt)).0;
       all = tt;
     }

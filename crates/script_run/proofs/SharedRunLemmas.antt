@@ -2,7 +2,7 @@
 use Rattle.script_run.proofs.Words.{◌++◌, ◌+◌, ◌||◌, ◌∙◌, ◌≡◌, ◌≤◌, [], ap, append_assoc, arith, Bool, Consumes, Consumes-nil, Consumes-trans, empty_core, false, fed_with, HasNoStatement, length, length-append, List, Ok, Option, Reading, refl, RunSettings, Seat, SCRIPT_LIMIT, State, Statement, statements_of, StaysFed, subst, sym, ℕ}
 use Rattle.core_state.specs.Fronts.{IsDue}
 use Rattle.core_state.specs.Rows.{sight_of}
-use Rattle.script_run.specs.Front.{LeavesSome, PlaysWhole, Reads}
+use Rattle.script_run.specs.Front.{LeavesToRead, PlaysWhole, ReadsBetween}
 use Rattle.script_run.proofs.FrontNewLemmas.{new-seat}
 use Rattle.script_run.proofs.OnLemmas.{due-none}
 use Rattle.script_run.proofs.RunLemmas.{came, finished}
@@ -35,7 +35,7 @@ pub whole-way : (old now new : State) (first waits waits' : Reading) (refused so
 whole-way old now new first waits waits' refused some taken0 taken taken' way plays =
     let whole = plays way.plays.0.on.still way.plays.0.on.goes.waits in
     subst (λ reader. IsPlaying old [] new first reader (refused || some) taken0 taken') whole.0.all.0
-    (playing-then old now new [] first waits whole.0.behind refused some taken0 taken taken' whole.0.statements (LeavesSome whole.0.behind) way
+    (playing-then old now new [] first waits whole.0.behind refused some taken0 taken taken' whole.0.statements (LeavesToRead whole.0.behind) way
     whole.0.reads whole.0.stays (whole.0.plays, whole.1.0) whole.1.1)
 
 -- and no statement is left that is whole
@@ -55,8 +55,8 @@ whole-shared settings now new waits waits' refused some left0 left taken0 taken 
 }
 
 -- what was read of some bytes was read of them and those behind them
-pub fed-reads : (given piece : List ℕ) (waits : Reading) (statements : List Statement) → Reads (came given) statements waits
-    → Reads (came (given ++ piece)) statements (fed_with waits piece)
+pub fed-reads : (given piece : List ℕ) (waits : Reading) (statements : List Statement) → ReadsBetween (came given) statements waits
+    → ReadsBetween (came (given ++ piece)) statements (fed_with waits piece)
 fed-reads given piece waits statements reads more last comes =
     ap (statements_of last) (append_assoc given piece more) ∙ reads (piece ++ more) last (λ e. cc)
     ∙ ap (λ bytes. statements ++ statements_of last bytes) (sym (append_assoc waits.waiting piece more))

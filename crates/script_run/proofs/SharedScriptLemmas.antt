@@ -1,5 +1,5 @@
 -- What is told of the statements that a run sent to a core that was empty: of all of a script, or of a front of its replies.
-use Rattle.script_run.proofs.Words.{◌++◌, ◌<◌, ◌∙◌, ◌∷◌, ◌≡◌, ◌≢◌, ◌⊎◌, [], accepted_by, All, ap, append-nil, append_assoc, arith, Bool, Change, changes_of, cond, effect_of, empty_core, Entry, false, Halt, history_after, if◌then◌else◌, is_refusal, is_wanted_at, IsFront, IsProperFront, length, length-append, List, list_any, map, map-append, Memory, NoMemory, None, Option, queries_among, refl, replies_after, replies_of, Reply, RunSettings, script_replies, script_text, Seat, seat_at, Some, some_refused, State, Statement, statements_of, store_of, subst, suc, sym, taken_by, Tells, text_of, text_of_all, true, WriteFault, ℕ, ⊎_elim}
+use Rattle.script_run.proofs.Words.{◌++◌, ◌<◌, ◌∙◌, ◌∷◌, ◌≡◌, ◌≢◌, ◌⊎◌, [], accepted_by, All, ap, append-nil, append_assoc, arith, Bool, Change, changes_of, cond, effect_of, empty_core, Entry, false, Halt, history_after, if◌then◌else◌, is_refusal, is_wanted_at, IsFront, IsProperFront, length, length-append, List, list_any, map, map-append, Memory, NoMemory, None, Option, queries_among, refl, replies_after, replies_of, Reply, RunSettings, script_replies, script_text, Seat, seat_at, Some, some_refused, State, Statement, statements_of, store_of, subst, suc, sym, taken_by, TellsScript, text_of, text_of_all, true, WriteFault, ℕ, ⊎_elim}
 use Rattle.core_state.specs.Fronts.{IsDue, IsPointWithin}
 use Rattle.core_state.specs.Points.{ComeInParts}
 use Rattle.core_state.specs.Queries.{given_in}
@@ -7,7 +7,7 @@ use Rattle.core_state.specs.Rows.{SeatRow, Sight, empty_row, row_of, sight_of}
 use Rattle.core_state.specs.Sent.{AreEntriesOf, AreRepliesTo, Sent, statement_in, statements_in, takens_of}
 use Rattle.core_state.proofs.PointLemmas.{entries-split, points-within, replies-less}
 use Rattle.script_run.specs.Front.{HaltsAt, PlaysIn, PlaysOn}
-use Rattle.script_run.specs.Seat.{IsWhole, TellsSeat}
+use Rattle.script_run.specs.Seat.{IsAllReplied, TellsSeat}
 use Rattle.script_run.specs.Shared.{nothing}
 use Rattle.script_run.specs.Told.{AreQueriesOf, history_of}
 use Rattle.script_run.proofs.FrontNewLemmas.{new-seat}
@@ -48,7 +48,7 @@ script-by ended script statements replies after wanted all replied made =
 -- the replies are those of the statements and the core tells of them, where memory was wanted at the same places
 whole-told : (settings : RunSettings) (new : State) (statements : List Statement) (Left : Type 0) (taken taken' : Option (List ℕ))
     → (plays : PlaysIn None (empty_core settings) [] statements Left new taken taken') → IsAlone new → (seat_at new 0).pending ≡ []
-    → (wanted : List ℕ) × (plays.on.replies ≡ replies_of wanted statements) × Tells wanted statements new
+    → (wanted : List ℕ) × (plays.on.replies ≡ replies_of wanted statements) × TellsScript wanted statements new
 whole-told settings new statements Left taken taken' plays is_alone idle = (
   told.wanted,
   told.replied ∙ ap (replies_of told.wanted) (sym are),
@@ -81,11 +81,11 @@ whole-told settings new statements Left taken taken' plays is_alone idle = (
 pub whole-script : (settings : RunSettings) (new : State) (statements : List Statement) (Left : Type 0) (taken taken' : Option (List ℕ))
     (last : Bool) (script : List ℕ) → (plays : PlaysIn None (empty_core settings) [] statements Left new taken taken') → IsAlone new
     → (seat_at new 0).pending ≡ [] → statements_of last script ≡ statements
-    → (is : IsScript last script plays.on.replies (changes_of new.entries)) × Tells is.wanted (statements_of last script) new
+    → (is : IsScript last script plays.on.replies (changes_of new.entries)) × TellsScript is.wanted (statements_of last script) new
 whole-script settings new statements Left taken taken' last script plays is_alone idle all =
     let found = whole-told settings new statements Left taken taken' plays is_alone idle in (
       script-by last script statements plays.on.replies (changes_of new.entries) found.0 all found.1 found.2.history,
-      subst (λ list. Tells found.0 list new) (sym all) found.2,
+      subst (λ list. TellsScript found.0 list new) (sym all) found.2,
     )
 
 -- By what a seat sees.
@@ -326,7 +326,7 @@ pub record TellsSome (Also : List Sent → Type 0) (sight : Sight) (all : List S
 -- all of them were replied to
 pub record TellsAll (Also : List Sent → Type 0) (sight : Sight) (all : List Statement) (replies : List Reply) : Type 0 where
   pub some : TellsSome Also sight all replies
-  pub whole : IsWhole some.tells
+  pub whole : IsAllReplied some.tells
 
 -- by what a run did
 pub tells-given : (Also : List Sent → Type 0) (row : SeatRow) (sight : Sight) (halted : Option Halt)
@@ -347,9 +347,9 @@ pub tells-whole-given : (Also : List Sent → Type 0) (row : SeatRow) (sight : S
     → (on : PlaysOn None 0 (record { row = row; seen = [] }) [] statements Left sight taken taken') → Also on.sent → sight.row.pending ≡ []
     → all ≡ statements → TellsAll Also sight all on.replies
 tells-whole-given Also row sight statements all Left taken taken' empty on also idle is =
-    let both : (tells : TellsSeat 0 nothing sight all on.replies) × Also (tells.said ++ tells.others) × IsWhole tells =
+    let both : (tells : TellsSeat 0 nothing sight all on.replies) × Also (tells.said ++ tells.others) × IsAllReplied tells =
     subst (λ (first : SeatRow). (tells : TellsSeat 0 (record { row = first; seen = [] }) sight all on.replies)
-    × Also (tells.said ++ tells.others) × IsWhole tells) empty (
+    × Also (tells.said ++ tells.others) × IsAllReplied tells) empty (
       tells-plays None 0 (record { row = row; seen = [] }) sight statements all [] Left taken taken' on whole,
       subst Also on.goes.queue also,
       tells-whole 0 (record { row = row; seen = [] }) sight statements all [] Left taken taken' on whole

@@ -1,7 +1,7 @@
 -- All statements that are whole: what was replied to and written, and how that goes on and halts.
 use Rattle.script_run.proofs.Words.{◌++◌, ◌<◌, ◌||◌, ◌∙◌, ◌∷◌, ◌≡◌, [], ap, Appends, Appends-nil, Appends-trans, AppendsFront, arith, Bool, false, Halt, HaltsBehind, is_refusal, length, List, list_any, NoMemory, Option, Reading, refl, Replies, RepliesFirst, Reply, Some, StaysFed, Store, subst, sym, Table, take, text_of, text_of_all, true, WriteFault, ℕ}
 use Rattle.std.proofs.lemmas.List.Folds.{list_any-append}
-use Rattle.script_run.specs.Front.{LeavesSome, Reads}
+use Rattle.script_run.specs.Front.{LeavesToRead, ReadsBetween}
 use Rattle.script_run.specs.declared.answer.Answered.{Answered}
 use Rattle.script_run.proofs.NextLemmas.{replied-one, replied-then}
 use Rattle.script_run.proofs.OnLemmas.{ends-behind, halts-left, text-append, text-one, within-reply}
@@ -67,7 +67,7 @@ goes_on a b c w w' w'' refused taken0 taken taken' answered way first stays took
 
 -- no whole statement is left
 pub ends_whole : (a b c : Store) (w w' w'' : Reading) (refused : Bool) (taken0 taken : Option (List ℕ))
-    → Replies a w b w' refused taken0 taken → StaysFed w' w'' → c ≡ b → Reads w' [] w'' → Replies a w c w'' refused taken0 taken
+    → Replies a w b w' refused taken0 taken → StaysFed w' w'' → c ≡ b → ReadsBetween w' [] w'' → Replies a w c w'' refused taken0 taken
 ends_whole a b c w w' w'' refused taken0 taken way stays is same =
     subst (λ test. Replies a w c w'' test taken0 taken) (or_false refused)
     (follows a b c w w' w'' refused false taken0 taken taken way (record {
@@ -95,12 +95,12 @@ halts_behind halt a b w w' refused taken0 taken taken' way on = record {
   are = replied-then a b on.tables way.statements on.statements way.replies on.replies way.are on.are;
   written = text_of_all way.replies ++ on.written;
   took = Appends-trans taken0 taken taken' (text_of_all way.replies) on.written way.took on.took;
-  ends = ends-behind (Some halt) way.replies on.replies [] on.written (LeavesSome on.behind) on.ends;
+  ends = ends-behind (Some halt) way.replies on.replies [] on.written (LeavesToRead on.behind) on.ends;
 }
 
 -- no memory was left, and at the end of the input a statement is
 pub halts_wanting : (a b : Store) (w w' : Reading) (refused : Bool) (taken0 taken : Option (List ℕ))
-    → Replies a w b w' refused taken0 taken → LeavesSome w' → HaltsBehind NoMemory a w taken0 taken
+    → Replies a w b w' refused taken0 taken → LeavesToRead w' → HaltsBehind NoMemory a w taken0 taken
 halts_wanting a b w w' refused taken0 taken way some = halts_behind NoMemory a b w w' refused taken0 taken taken way (record {
   statements = [];
   behind = w';
@@ -111,7 +111,7 @@ halts_wanting a b w w' refused taken0 taken way some = halts_behind NoMemory a b
   are = refl;
   written = [];
   took = Appends-nil taken;
-  ends = halts-left (LeavesSome w') some;
+  ends = halts-left (LeavesToRead w') some;
 })
 
 -- a write failed

@@ -12,7 +12,7 @@ pub use Rattle.std.specs.Option.{option_and_then, option_map_or}
 pub use Rattle.std.specs.Prelude.{◌⊎◌, All, Contains, count_by, find, IfOk, IfSome, if◌then◌else◌, IsSome, IsSomeAnd, IsTrue, OnOk, option_to_list}
 pub use Rattle.star_values.specs.declared.refusal.Refusal.{Refusal}
 pub use Rattle.star_io.specs.Transfer.{AppendsFront}
-pub use Rattle.script_reader.specs.Reading.{MayCome, Reading, StaysFed, TakesFirst, Wants}
+pub use Rattle.script_reader.specs.Reading.{MayCome, Reading, StaysFed, TakesFirst, WantsMemory}
 pub use Rattle.script_reader.specs.Script.{statements_of}
 pub use Rattle.script_reader.specs.declared.reader.TheConstants.{SCRIPT_LIMIT}
 pub use Rattle.script_reader.specs.declared.statement.Statement.{Statement}
@@ -59,15 +59,15 @@ pub use Rattle.event_core.specs.declared.replies.Ready.{Ready}
 pub use Rattle.core_driver.proofs.LapCountLemmas.{count-cons}
 pub use Rattle.core_driver.specs.Driven.{IsDriven}
 pub use Rattle.script_run.specs.Answer.{HasNoStatement}
-pub use Rattle.script_run.specs.Counted.{Beside, CountsOne, FrontParts, GoesRound, is_query, IsCounted, IsOverOrWaits, KnowsCore, LapsOn, one_if, queries_awaited, told_of}
+pub use Rattle.script_run.specs.Counted.{OnlyTakesReplies, CountsOne, FrontParts, GoesRound, is_query, IsCounted, IsOverOrWaits, KnowsCore, LapsOn, one_if, queries_awaited, told_of}
 pub use Rattle.script_run.specs.End.{end_of_all, end_of_halt}
-pub use Rattle.script_run.specs.Front.{Finishes, Gives, IsOfRun, IsRun}
+pub use Rattle.script_run.specs.Front.{Finishes, GivesStatement, IsOfRun, IsRun}
 pub use Rattle.script_run.specs.Laps.{laps_of, placed, rows_needed}
 pub use Rattle.script_run.specs.Pieces.{fed_with}
 pub use Rattle.script_run.specs.Replied.{AreReplied, HaltsBehind, IsReplied, Replies, RepliesFirst}
 pub use Rattle.script_run.specs.Run.{HasEnded, is_refusal, IsFront, IsProperFront, script_replies, script_text, some_refused, within_limit}
 pub use Rattle.script_run.specs.Shared.{AnswersBy}
-pub use Rattle.script_run.specs.Told.{BeginAnswered, MayBegin, Tells}
+pub use Rattle.script_run.specs.Told.{BeginAnswered, MayBegin, TellsScript}
 pub use Rattle.script_run.specs.Waiting.{is_wait, means_wait}
 pub use Rattle.script_run.specs.declared.halt.Halt.{Halt}
 pub use Rattle.script_run.specs.declared.halt.Halt.TheVariants.{NoMemory, WriteFault}

@@ -1,6 +1,6 @@
 -- What a run by several threads over a board writes, and what is known of the seats
 -- of the board on the way.
-use Rattle.std.specs.Prelude.{◌≡◌, ℕ, ◌+◌, ◌<◌, List, [], ◌∷◌, All, length, slice_index_or, Option, Some, None, IfSome}
+use Rattle.std.specs.Prelude.{◌≡◌, ℕ, ◌+◌, ◌<◌, List, [], ◌∷◌, All, length, slice_index_or, Option, Some, None, IfSome, IsSomeAnd}
 use mathlib.Core.List.{IsPrefix}
 use Rattle.star_io.specs.Link.{ReadingSide, WritingSide}
 use Rattle.star_io.specs.declared.run_end.RunEnd.{RunEnd}
@@ -60,6 +60,11 @@ pub record IsLeader (board : BoardLock Parts) (others : ℕ) (seat : BoardSeat P
 -- it is still that
 abbrev pub StaysLeader : BoardLock Parts → (old new : BoardSeat Parts) → Type 0
 StaysLeader board old new = (others : ℕ) → IsLeader board others old → IsLeader board others new
+
+-- there is room for so many other seats: on the board, and by the settings that the first one knows
+pub record HasRoomFor (board : BoardLock Parts) (others : ℕ) (first : View Parts) : Type 0 where
+  pub room : others < board.seats
+  pub seated : IsSomeAnd (fixed_in core_settings first.last) (λ settings. others < settings.seats)
 
 -- a seat knows a core of these settings to which nothing was given, and of
 -- which nothing is lent to it

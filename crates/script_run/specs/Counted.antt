@@ -1,5 +1,6 @@
 -- What the front of a run counts: the queries that are open, and how far the scan goes for them.
 use Rattle.std.specs.Prelude.{◌≡◌, ℕ, ◌+◌, ◌*◌, ◌/◌, ◌<◌, ◌≤◌, Bool, true, false, List, [], ◌∷◌, ◌++◌, All, Some, None, count_by, if◌then◌else◌}
+use Rattle.core_state.specs.Sound.{empty_core}
 use Rattle.core_state.specs.State.{Asked, Awaited, Replied, State}
 use Rattle.core_state.specs.Submitting.{awaited_by, seat_at}
 use Rattle.core_state.specs.Tables.{tables_of, versions_in}
@@ -78,6 +79,31 @@ pub record IsCounted (front : FrontParts) : Type 0 where
   pub calm : IsCalm front.unfinished (state_of front.core)
   pub few : front.unfinished ≤ (state_of front.core).settings.slots
 
+-- a front to which a statement may be given: fewer queries are open than there are slots
+pub record HasFreeSlot (front : FrontParts) : Type 0 where
+  pub counted : IsCounted front
+  pub free : front.unfinished < (state_of front.core).settings.slots
+
+-- a front whose core has these settings, and to which nothing was given
+pub record IsNewFront (settings : RunSettings) (front : FrontParts) : Type 0 where
+  pub empty : state_of front.core ≡ empty_core settings
+  pub counted : IsCounted front
+  pub none : front.unfinished ≡ 0
+
+-- the open queries of a core may share one lap: there are some, each waits, and there is a slot for
+-- each
+pub record MayShareLap (core : State) : Type 0 where
+  pub calm : IsCalm (open_in core) core
+  pub some : 0 < open_in core
+  pub few : open_in core ≤ core.settings.slots
+
+-- all queries of a front came to their end: it waits for nothing, none is open, and the scan went
+-- round once at most
+pub record CameToEnd (old new : FrontParts) : Type 0 where
+  pub all : (seat_at (state_of new.core) 0).pending ≡ []
+  pub none : new.unfinished ≡ 0
+  pub round : GoesRound (state_of old.core) (state_of new.core)
+
 -- what the front is told of a statement that it gives to a core
 abbrev pub told_of : State → Statement → Told
 told_of state statement = (outcome_of (tables_of state) statement).told
@@ -105,7 +131,7 @@ pub record CountsOne (statement : Statement) (old new : State) : Type 0 where
       ≡ (if is_query (awaited_by (told_of old statement)) then Some Waiting else None)
 
 -- replies were taken from a core: nothing has changed but the seats and what is kept for them
-pub record Beside (old new : State) : Type 0 where
+pub record OnlyTakesReplies (old new : State) : Type 0 where
   pub settings : new.settings ≡ old.settings
   pub entries : new.entries ≡ old.entries
   pub lives : new.lives ≡ old.lives

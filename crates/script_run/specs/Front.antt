@@ -2,6 +2,7 @@
 use Rattle.std.specs.Prelude.{◌≡◌, ◌≢◌, ◌⊎◌, ℕ, ◌+◌, Bool, true, List, [], ◌∷◌, ◌++◌, All, filter_map, Option, Some, None, Result, Ok, Err, IfOk, OnOk}
 use Rattle.std.specs.List.{list_any}
 use Rattle.std.specs.Io.KnownBytes.{Appends}
+use Rattle.star_io.specs.Link.{WritingSide}
 use Rattle.script_reader.specs.Reading.{MayCome, Reading, StaysFed}
 use Rattle.script_reader.specs.Script.{statements_of}
 use Rattle.script_reader.specs.declared.statement.Statement.{Statement}
@@ -12,11 +13,14 @@ use Rattle.core_state.specs.Rows.{Sight, sight_of}
 use Rattle.core_state.specs.Sent.{Given, Lost, Sent, statements_in}
 use Rattle.core_state.specs.State.{State}
 use Rattle.core_state.specs.Steps.{Done, MayStepAll, Replying, Step, Wanting, after_steps}
+use Rattle.core_state.specs.Submitting.{next_ready, seat_at}
 use Rattle.core_state.specs.declared.event.Event.TheVariants.{Abandon, Submit}
 use Rattle.event_core.specs.Chosen.{AreIdle}
-use Rattle.script_run.specs.Answer.{HasNoStatement}
+use Rattle.event_core.specs.Replies.{first_open}
+use Rattle.event_core.specs.Seen.{state_of}
+use Rattle.script_run.specs.Answer.{CountsHalt, HasNoStatement}
 use Rattle.script_run.specs.Answered.{AreAnswered, StayAnswered}
-use Rattle.script_run.specs.Counted.{CountsOne, GoesRound, LapsOn}
+use Rattle.script_run.specs.Counted.{CountsOne, FrontParts, GoesRound, HasFreeSlot, LapsOn}
 use Rattle.script_run.specs.Run.{IsFront, IsProperFront, is_refusal}
 use Rattle.script_run.specs.declared.halt.Halt.{Halt}
 use Rattle.script_run.specs.declared.halt.Halt.TheVariants.{WriteFault, NoMemory}
@@ -47,7 +51,7 @@ abbrev pub submitted_in : List Step → List Statement
 submitted_in steps = filter_map submitted_at steps
 
 -- steps of a run by which these statements are submitted, in this order, and no others
-pub record Submits (statements : List Statement) (old new : State) : Type 0 where
+pub record SubmitsAll (statements : List Statement) (old new : State) : Type 0 where
   pub run : IsRun old new
   pub are : submitted_in run.steps ≡ statements
 
@@ -57,13 +61,27 @@ pub record Finishes (old new : State) : Type 0 where
   pub passes : Passes (sight_of old 0) (sight_of new 0)
   pub stay : StayAnswered old.lives new.lives
   pub round : GoesRound old new
-  pub run : Submits [] old new
+  pub run : SubmitsAll [] old new
+
+-- the replies that may be taken were taken: none is ready, and where none that the front waited for
+-- was open it waits for nothing
+pub record TookAllReady (old new : State) : Type 0 where
+  pub none : next_ready new 0 ≡ None
+  pub all : first_open old.lives (seat_at old 0) ≡ None → (seat_at new 0).pending ≡ []
+
+-- a front that has its core by itself went on by steps of a run: a statement may be given to it,
+-- unless it halted, and one write failed where that is why it did, and else none
+pub record RunsOn (result : Result Bool Halt) (old new : FrontParts)
+    (to to' : WritingSide) : Type 0 where
+  pub run : IsRun (state_of old.core) (state_of new.core)
+  pub room : OnOk result (HasFreeSlot new)
+  pub faults : CountsHalt result to to'
 
 -- a statement was given to a core as that of seat 0
-pub record Gives (statement : Statement) (old new : State) : Type 0 where
+pub record GivesStatement (statement : Statement) (old new : State) : Type 0 where
   pub submits : SubmitsRow 0 (old.numbers.statement + 1) statement (sight_of old 0) (sight_of new 0)
   pub stay : StayAnswered old.lives new.lives
-  pub run : Submits (statement ∷ []) old new
+  pub run : SubmitsAll (statement ∷ []) old new
   pub idle : AreIdle old → AreIdle new
   pub counts : CountsOne statement old new
 
@@ -118,7 +136,7 @@ pub record PlaysIn (halted : Option Halt) (old : State) (due : List Sent)
     (statements : List Statement) (Left : Type 0)
     (new : State) (taken taken' : Option (List ℕ)) : Type 0 where
   pub on : PlaysOn halted 0 (sight_of old 0) due statements Left (sight_of new 0) taken taken'
-  pub run : Submits (givens_in on.sent) old new
+  pub run : SubmitsAll (givens_in on.sent) old new
   pub stay : StayAnswered old.lives new.lives
   pub answered : AreAnswered new.lives new.entries on.said on.replies
 
@@ -145,14 +163,14 @@ PlaysCounted result old statements new taken taken' =
     × OnOk result (LapsOn old new plays.0.on.replies)
 
 -- the statements between two readers, whatever bytes come
-abbrev pub Reads : Reading → List Statement → Reading → Type 0
-Reads waits statements waits' = (more : List ℕ) (last : Bool) → MayCome waits more last
+abbrev pub ReadsBetween : Reading → List Statement → Reading → Type 0
+ReadsBetween waits statements waits' = (more : List ℕ) (last : Bool) → MayCome waits more last
     → statements_of last (waits.waiting ++ more)
     ≡ statements ++ statements_of last (waits'.waiting ++ more)
 
 -- a statement is left to be read, if the input has ended
-abbrev pub LeavesSome : Reading → Type 0
-LeavesSome waits = waits.ended ≡ true → statements_of true waits.waiting ≢ []
+abbrev pub LeavesToRead : Reading → Type 0
+LeavesToRead waits = waits.ended ≡ true → statements_of true waits.waiting ≢ []
 
 -- what holds where nothing halted
 abbrev pub UnlessHalted : Option Halt → Type 0 → Type 0
@@ -166,9 +184,9 @@ pub record ReadsOn (halted : Option Halt) (old : State) (due : List Sent) (waits
     (taken taken' : Option (List ℕ)) : Type 0 where
   pub statements : List Statement
   pub behind : Reading
-  pub reads : Reads waits statements behind
+  pub reads : ReadsBetween waits statements behind
   pub stays : StaysFed waits behind
-  pub plays : PlaysIn halted old due statements (LeavesSome behind) new taken taken'
+  pub plays : PlaysIn halted old due statements (LeavesToRead behind) new taken taken'
   pub all : UnlessHalted halted ((behind ≡ waits') × HasNoStatement waits')
 
 -- so it is whatever seat 0 waits for; whether some reply is a refusal, and how far the scan went

@@ -1,5 +1,5 @@
 -- What one read does to a run: which bytes it gave, and what became of them.
-use Rattle.std.specs.Prelude.{◌≡◌, ℕ, ◌+◌, ◌<◌, ◌≤◌, List, [], ◌++◌, length}
+use Rattle.std.specs.Prelude.{◌≡◌, ℕ, ◌+◌, ◌<◌, ◌≤◌, false, List, [], ◌++◌, length}
 use Rattle.std.specs.Io.KnownBytes.{Consumes}
 use Rattle.star_io.specs.Faults.{FailedOnce}
 use Rattle.star_io.specs.Link.{ReadingSide}
@@ -8,6 +8,11 @@ use Rattle.script_reader.specs.declared.reader.TheConstants.{SCRIPT_LIMIT}
 use Rattle.script_run.specs.Run.{HasEnded}
 use Rattle.script_run.specs.declared.piece.Piece.{Piece}
 use Rattle.script_run.specs.declared.piece.Piece.TheVariants.{Fed, Ended, Fault, Limit, NoMemory}
+
+-- a reader that may be fed: it was fed no more than the limit, and its input has not ended
+pub record MayBeFed (waits : Reading) : Type 0 where
+  pub within : waits.fed ≤ SCRIPT_LIMIT
+  pub not_ended : waits.ended ≡ false
 
 -- the reader after these bytes more
 abbrev pub fed_with : Reading → List ℕ → Reading
@@ -35,9 +40,9 @@ FindsEnd Ended from from' = HasEnded from'
 FindsEnd other from from' = from'.ended ≡ from.ended
 
 -- one read failed, the last one, at a fault alone
-abbrev pub CountsFault : Piece → (from from' : ReadingSide) → Type 0
-CountsFault Fault from from' = FailedOnce from.faults from'.faults from'.failed
-CountsFault other from from' = from'.faults ≡ from.faults
+abbrev pub CountsPieceFault : Piece → (from from' : ReadingSide) → Type 0
+CountsPieceFault Fault from from' = FailedOnce from.faults from'.faults from'.failed
+CountsPieceFault other from from' = from'.faults ≡ from.faults
 
 -- the byte past the limit was read, or nothing
 abbrev pub ReadsPast : Piece → (from from' : ReadingSide) → Type 0

@@ -12,7 +12,7 @@ use Rattle.reply_text.specs.declared.reply.Reply.{Reply}
 use Rattle.reply_text.specs.declared.reply.Reply.TheVariants.{Memory}
 use Rattle.star_store.specs.Effect.{effect_of, store_after}
 use Rattle.script_run.specs.Answer.{HasNoStatement}
-use Rattle.script_run.specs.Front.{HaltsAt, LeavesSome, Reads}
+use Rattle.script_run.specs.Front.{HaltsAt, LeavesToRead, ReadsBetween}
 use Rattle.script_run.specs.Run.{is_refusal}
 use Rattle.script_run.specs.declared.answer.Answered.{Answered}
 use Rattle.script_run.specs.declared.halt.Halt.{Halt}
@@ -38,7 +38,7 @@ AreReplied old (statement ∷ statements) (reply ∷ replies) new =
 pub record Replies (old : Store) (waits : Reading) (new : Store) (waits' : Reading) (refused : Bool)
     (taken taken' : Option (List ℕ)) : Type 0 where
   pub statements : List Statement
-  pub reads : Reads waits statements waits'
+  pub reads : ReadsBetween waits statements waits'
   pub stays : StaysFed waits waits'
   pub replies : List Reply
   pub are : AreReplied old statements replies new
@@ -50,14 +50,14 @@ pub record HaltsBehind (halt : Halt) (old : Store) (waits : Reading)
     (taken taken' : Option (List ℕ)) : Type 0 where
   pub statements : List Statement
   pub behind : Reading
-  pub reads : Reads waits statements behind
+  pub reads : ReadsBetween waits statements behind
   pub stays : StaysFed waits behind
   pub replies : List Reply
   pub tables : Store
   pub are : AreReplied old statements replies tables
   pub written : List ℕ
   pub took : Appends taken taken' written
-  pub ends : HaltsAt halt written replies (LeavesSome behind)
+  pub ends : HaltsAt halt written replies (LeavesToRead behind)
 
 -- every statement that is whole was replied to, or the replies halted
 abbrev pub AnswersWhole : Result Bool Halt → (old : Store) → Reading → (new : Store) → Reading
@@ -83,5 +83,5 @@ abbrev pub GivesNext : Result (Option Answered) values.NoMemory → (old : Store
     → (new : Store) → Reading → Type 0
 GivesNext (Ok (Some answered)) old waits new waits' = RepliesFirst old waits new waits' answered
 GivesNext (Ok None) old waits new waits' =
-    (new ≡ old) × HasNoStatement waits' × Reads waits [] waits'
-GivesNext (Err none) old waits new waits' = LeavesSome waits
+    (new ≡ old) × HasNoStatement waits' × ReadsBetween waits [] waits'
+GivesNext (Err none) old waits new waits' = LeavesToRead waits

@@ -26,14 +26,15 @@ pub record TellsSeat (seat : ℕ) (old new : Sight) (statements : List Statement
   pub answered : AreRepliesTo new.seen said replies
 
 -- all of them were replied to
-pub record IsWhole {seat : ℕ} {old new : Sight} {statements : List Statement} {replies : List Reply}
+pub record IsAllReplied {seat : ℕ} {old new : Sight} {statements : List Statement}
+    {replies : List Reply}
     (tells : TellsSeat seat old new statements replies) : Type 0 where
   pub others : tells.others ≡ []
   pub rest : tells.rest ≡ []
   pub later : tells.later ≡ []
 
 -- something was given that was not replied to
-abbrev pub HasLeft : {seat : ℕ} {old new : Sight} {statements : List Statement}
+abbrev pub LeavesUnreplied : {seat : ℕ} {old new : Sight} {statements : List Statement}
     {replies : List Reply}
     → TellsSeat seat old new statements replies → Type 0
-HasLeft tells = (tells.others ≢ []) ⊎ (tells.rest ≢ [])
+LeavesUnreplied tells = (tells.others ≢ []) ⊎ (tells.rest ≢ [])

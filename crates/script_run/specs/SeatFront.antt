@@ -16,9 +16,9 @@ use Rattle.event_core.specs.Parts.{Parts}
 use Rattle.worker_gate.specs.Hands.{HasDoneIf, HasNothing}
 use Rattle.worker_gate.specs.Turns.{sight_in}
 use Rattle.script_run.specs.Answer.{CountsHalt, HasNoStatement}
-use Rattle.script_run.specs.Front.{LeavesSome, PlaysOn, Reads, UnlessHalted, halt_of}
+use Rattle.script_run.specs.Front.{LeavesToRead, PlaysOn, ReadsBetween, UnlessHalted, halt_of}
 use Rattle.script_run.specs.Run.{is_refusal}
-use Rattle.script_run.specs.SeatTurns.{Stays, StaysReady, TakesNext}
+use Rattle.script_run.specs.SeatTurns.{SitsStill, StaysReady, TakesNext}
 use Rattle.script_run.specs.declared.halt.Halt.{Halt}
 use Rattle.script_run.specs.declared.seat_front.AfterAsking.{AfterAsking}
 use Rattle.script_run.specs.declared.seat_front.AfterAsking.TheVariants as turned
@@ -29,13 +29,13 @@ use Rattle.script_run.specs.declared.seat_front.Waited.TheVariants as waited
 -- for none, or waits still
 abbrev pub TellsWaited : Waited → (seat : ℕ) → (old new : Sight) → Type 0
 TellsWaited (waited.Got ready) seat old new = TakesNext ready seat old new
-TellsWaited waited.Nothing seat old new = Stays seat old new × (new.row.pending ≡ [])
-TellsWaited waited.NotYet seat old new = Stays seat old new
-TellsWaited waited.NoMemory seat old new = Stays seat old new × (new.row.pending ≢ [])
+TellsWaited waited.Nothing seat old new = SitsStill seat old new × (new.row.pending ≡ [])
+TellsWaited waited.NotYet seat old new = SitsStill seat old new
+TellsWaited waited.NoMemory seat old new = SitsStill seat old new × (new.row.pending ≢ [])
 
 -- what is told behind one of these turns, and the work that was taken in it
 abbrev pub TellsTurned : AfterAsking → (seat : ℕ) → (old new : Sight) → Type 0
-TellsTurned (turned.Goes next) seat old new = Stays seat old new
+TellsTurned (turned.Goes next) seat old new = SitsStill seat old new
 TellsTurned (turned.Ends how) seat old new = TellsWaited how seat old new
 
 -- what is in the hand of the seat then: what the work is done for that is given back in
@@ -84,9 +84,9 @@ pub record SeatReads (halted : Option Halt) (seat : ℕ) (old : Sight) (due : Li
     (taken taken' : Option (List ℕ)) : Type 0 where
   pub statements : List Statement
   pub behind : Reading
-  pub reads : Reads waits statements behind
+  pub reads : ReadsBetween waits statements behind
   pub stays : StaysFed waits behind
-  pub on : PlaysOn halted seat old due statements (LeavesSome behind) new taken taken'
+  pub on : PlaysOn halted seat old due statements (LeavesToRead behind) new taken taken'
   pub all : UnlessHalted halted ((behind ≡ waits') × HasNoStatement waits')
 
 -- so it is whatever the seat waits for, and whether some reply that was written is a refusal

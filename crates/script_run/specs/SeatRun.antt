@@ -4,7 +4,7 @@ use Rattle.std.specs.Prelude.{◌≡◌, ◌≢◌, List, [], ◌∷◌, ◌++�
 use Rattle.script_reader.specs.Reading.{Reading}
 use Rattle.script_reader.specs.declared.statement.Statement.{Statement}
 use Rattle.script_run.specs.Answer.{HasNoStatement}
-use Rattle.script_run.specs.Front.{LeavesSome, Reads}
+use Rattle.script_run.specs.Front.{LeavesToRead, ReadsBetween}
 use Rattle.script_run.specs.declared.seat_run.Behind.{Behind}
 use Rattle.script_run.specs.declared.seat_run.Behind.TheVariants as behind
 use Rattle.script_run.specs.declared.seat_run.StatementRun.{StatementRun}
@@ -39,10 +39,10 @@ behind_at (Some end) = behind_end end
 
 -- these statements were read: some of them where there may be more behind, or no other is whole, or
 -- one is left for which there was no memory
-abbrev pub StopsAt : Behind → (read : List Statement) → Reading → Type 0
-StopsAt behind.More read waits = read ≢ []
-StopsAt behind.Nothing read waits = HasNoStatement waits
-StopsAt behind.NoMemory read waits = LeavesSome waits
+abbrev pub StopsReading : Behind → (read : List Statement) → Reading → Type 0
+StopsReading behind.More read waits = read ≢ []
+StopsReading behind.Nothing read waits = HasNoStatement waits
+StopsReading behind.NoMemory read waits = LeavesToRead waits
 
 -- the next statement was read, if there is one, and stands behind those of the run or is the one by
 -- itself
@@ -50,10 +50,10 @@ pub record ReadsNext (ended : Option StatementRunEnd) (waits : Reading) (before 
     (waits' : Reading) (after : List Statement) : Type 0 where
   pub read : List Statement
   pub are : after ++ alone_at ended ≡ before ++ read
-  pub reads : Reads waits read waits'
-  pub stops : StopsAt (behind_at ended) read waits'
+  pub reads : ReadsBetween waits read waits'
+  pub stops : StopsReading (behind_at ended) read waits'
 
 -- the statements of a run were read, and no others
 pub record ReadsRun (run : StatementRun) (waits waits' : Reading) : Type 0 where
-  pub reads : Reads waits (statements_in_run run) waits'
-  pub stops : StopsAt (behind_end run.end) (statements_in_run run) waits'
+  pub reads : ReadsBetween waits (statements_in_run run) waits'
+  pub stops : StopsReading (behind_end run.end) (statements_in_run run) waits'

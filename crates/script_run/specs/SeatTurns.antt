@@ -45,8 +45,8 @@ pub record KeepsHand (seat : ℕ) (old new : Parts) : Type 0 where
   pub loans : LeavesAllLoans old new
 
 -- a seat sent nothing and took nothing, whatever others did
-abbrev pub Stays : (seat : ℕ) → (old new : Sight) → Type 0
-Stays seat old new = (due : List Sent) → IsDue seat old due → Goes seat old due new due [] [] []
+abbrev pub SitsStill : (seat : ℕ) → (old new : Sight) → Type 0
+SitsStill seat old new = (due : List Sent) → IsDue seat old due → Goes seat old due new due [] [] []
 
 -- a seat sent this statement
 abbrev pub SendsOne : (seat : ℕ) → Statement → (old new : Sight) → Type 0
@@ -63,8 +63,8 @@ SendsAll seat statements old new = (due : List Sent) → IsDue seat old due
 -- what a turn tells in which a seat gave a statement to the core: it sent it, or nothing
 abbrev pub TellsGiven : Given → (seat : ℕ) → Statement → (old new : Sight) → Type 0
 TellsGiven given.Taken seat statement old new = SendsOne seat statement old new
-TellsGiven given.Lost seat statement old new = Stays seat old new
-TellsGiven given.Waits seat statement old new = Stays seat old new
+TellsGiven given.Lost seat statement old new = SitsStill seat old new
+TellsGiven given.Waits seat statement old new = SitsStill seat old new
 
 -- the core that a seat left last tells of no statement that waits for the tables
 abbrev pub LeftUnmarked : View Parts → Type 0
@@ -76,7 +76,7 @@ abbrev pub TellsTried : (taken : Bool) → Statement → (old new : BoardSeat Pa
 TellsTried true statement old new =
     SendsOne (view_of old).number statement (sight_in (view_of old)) (sight_in (view_of new))
 TellsTried false statement old new =
-    Stays (view_of old).number (sight_in (view_of old)) (sight_in (view_of new))
+    SitsStill (view_of old).number (sight_in (view_of old)) (sight_in (view_of new))
     × LeftUnmarked (view_of new)
 
 -- a seat took the reply to the first statement that it waited for
@@ -95,9 +95,9 @@ TakesNext ready seat old new =
 -- what a turn tells in which a seat asked for its next reply
 abbrev pub TellsAsked : ReplyTurn → (seat : ℕ) → (old new : Sight) → Type 0
 TellsAsked (Got ready) seat old new = TakesNext ready seat old new
-TellsAsked Nothing seat old new = Stays seat old new × (new.row.pending ≡ [])
-TellsAsked NotYet seat old new = Stays seat old new
-TellsAsked (Looked look) seat old new = Stays seat old new × (new.row.pending ≢ [])
+TellsAsked Nothing seat old new = SitsStill seat old new × (new.row.pending ≡ [])
+TellsAsked NotYet seat old new = SitsStill seat old new
+TellsAsked (Looked look) seat old new = SitsStill seat old new × (new.row.pending ≢ [])
 
 -- what is in the hand of a seat behind such a turn: what it found to do, or nothing
 abbrev pub HasAsked : ReplyTurn → CoreRow → Type 0

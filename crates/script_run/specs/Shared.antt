@@ -1,5 +1,5 @@
 -- What a run in which queries share the scan of a core writes, and what the core tells of it.
-use Rattle.std.specs.Prelude.{◌≡◌, ℕ, ◌*◌, ◌≤◌, Bool, true, false, List, [], ◌++◌, All, Option, Some, None, IfSome}
+use Rattle.std.specs.Prelude.{◌≡◌, ℕ, ◌+◌, ◌*◌, ◌≤◌, Bool, true, false, List, [], ◌++◌, All, Option, Some, None, IfSome}
 use Rattle.star_io.specs.Link.{ReadingSide, WritingSide}
 use Rattle.star_io.specs.declared.run_end.RunEnd.{RunEnd}
 use Rattle.star_io.specs.declared.run_end.RunEnd.TheVariants.{ReadFault, WriteFault, NoMemory, ScriptLimit}
@@ -8,17 +8,23 @@ use Rattle.script_reader.specs.declared.statement.Statement.{Statement}
 use Rattle.reply_text.specs.declared.reply.Reply.{Reply}
 use Rattle.star_store.specs.Script.{history_of, replies_of}
 use Rattle.core_state.specs.Rows.{Sight, empty_row, sight_of}
+use Rattle.core_state.specs.Settings.{AreWithin}
 use Rattle.core_state.specs.State.{State}
 use Rattle.core_state.specs.Tables.{changes_of, versions_in}
 use Rattle.event_core.specs.Parts.{Parts}
 use Rattle.event_core.specs.Seen.{state_of}
 use Rattle.core_state.specs.Sound.{empty_core}
 use Rattle.core_state.specs.declared.settings.RunSettings.{RunSettings}
-use Rattle.script_run.specs.Front.{Submits, givens_in}
+use Rattle.script_run.specs.Front.{SubmitsAll, givens_in}
 use Rattle.script_run.specs.Laps.{laps_of}
-use Rattle.script_run.specs.Told.{Tells}
+use Rattle.script_run.specs.Told.{TellsScript}
 use Rattle.script_run.specs.Run.{AnswersScript, script_replies, within_limit}
-use Rattle.script_run.specs.Seat.{IsWhole, TellsSeat}
+use Rattle.script_run.specs.Seat.{IsAllReplied, TellsSeat}
+
+-- the settings of a run: they are within their bounds, and the front and each worker have a seat
+pub record AreSettingsOfRun (settings : RunSettings) : Type 0 where
+  pub within : AreWithin settings
+  pub seats : settings.seats ≡ settings.workers + 1
 
 -- a script as far as it came, and whether its input has ended
 pub record CutScript : Type 0 where
@@ -46,7 +52,7 @@ SharesLaps wanted cut slots core =
 -- went no further than that
 abbrev pub TellsOf : (wanted : List ℕ) → CutScript → (slots : ℕ) → State → Type 0
 TellsOf wanted cut slots core =
-    Tells wanted (statements_of cut.ended cut.script) core × SharesLaps wanted cut slots core
+    TellsScript wanted (statements_of cut.ended cut.script) core × SharesLaps wanted cut slots core
 
 -- what a core of so many slots tells by the end of the run
 abbrev pub TellsRun : RunEnd → (wanted given : List ℕ) → (slots : ℕ) → State → Type 0
@@ -82,7 +88,7 @@ pub record TellsSent (end : RunEnd) (ended : Bool) (wanted given : List ℕ)
   pub replies : List Reply
   pub tells : TellsSeat 0 nothing sight (statements_by end ended given) replies
   pub own : All (λ entry. entry.seat ≡ 0) sight.seen
-  pub whole : EndsWhole end → IsWhole tells
+  pub whole : EndsWhole end → IsAllReplied tells
   pub same : EndsWhole end → replies ≡ replies_of wanted (statements_by end ended given)
   pub history : EndsWhole end
       → changes_of sight.seen ≡ history_of wanted (statements_by end ended given)
@@ -94,7 +100,7 @@ pub record TellsFront (Alone : Type 0) (settings : RunSettings) (end : RunEnd) (
     (core : State) : Type 0 where
   pub sent : TellsSent end ended wanted given (sight_of core 0)
   pub submits : Alone
-      → Submits (givens_in (sent.tells.said ++ sent.tells.others)) (empty_core settings) core
+      → SubmitsAll (givens_in (sent.tells.said ++ sent.tells.others)) (empty_core settings) core
 
 -- unless no memory was left for the run
 abbrev pub UnlessWanting : RunEnd → Type 0 → Type 0

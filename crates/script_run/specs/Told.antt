@@ -57,6 +57,6 @@ AreQueriesOf lives wanted place history (statement ∷ statements) accepted =
 
 -- a core tells of the statements of a script, where memory was wanted at these places: its history
 -- is theirs, and so are its queries
-pub record Tells (wanted : List ℕ) (statements : List Statement) (core : State) : Type 0 where
+pub record TellsScript (wanted : List ℕ) (statements : List Statement) (core : State) : Type 0 where
   pub history : changes_of core.entries ≡ history_of wanted statements
   pub queries : AreQueriesOf core.lives wanted 0 [] statements core.accepted

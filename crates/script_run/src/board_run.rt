@@ -1,15 +1,17 @@
 //! A run of a script by several threads over one board: the front reads the script and writes the
 //! replies, and workers take batches and make events beside it. How the seats of workers are made,
 //! used and joined is in `board_seats`.
-ghost use Rattle.std.specs.Prelude.{◌≡◌, ◌+◌, ◌<◌, ◌↔◌, IfOk, IfSome, IsNone, length};
+ghost use Rattle.std.specs.Prelude.{◌≡◌, ◌<◌, ◌↔◌, IfOk, IfSome, IsNone, length};
 ghost use Rattle.board_lock.specs.Seats.{view_of};
 ghost use Rattle.core_state.specs.Settings.{AreWithin};
 ghost use Rattle.script_run.specs.BoardRun.{AnswersBoard, AreWorkers, HasRun, IsAtStart};
 ghost use Rattle.script_run.specs.BoardRun.{IsLeader, IsLeftBy, IsNewBoard, IsNewCrew};
 ghost use Rattle.script_run.specs.Run.{CountsFaults};
+ghost use Rattle.script_run.specs.Shared.{AreSettingsOfRun};
 ghost use Rattle.star_io.specs.declared.run_end.RunEnd.TheVariants as end;
 
 use crate::board_seats::{join_all, make_seats, work_beside};
+use crate::host::Host;
 use crate::seat_front::SeatFront;
 use crate::shared::RunDone;
 use board_lock::{BoardLock, BoardSeat};
@@ -36,16 +38,13 @@ pub struct Crew {
 /// reply, or where the front stops before, the core is marked closing, and each worker ends once it
 /// finds nothing left to do.
 pub(crate) fn run_with_workers<R: Threads + Wait + Sync, S: Source, K: Sink, G: Gate + Sync>(
-    rt: &R,
-    alloc: Global,
-    hash_keys: RandomState,
+    host: Host<&R>,
     settings: RunSettings,
     source: &mut S,
     sink: &mut K,
     gate: &G,
 ) -> RunDone
-    requires settings { AreWithin settings }
-    requires seats { settings.seats ≡ settings.workers + 1 }
+    requires settings { AreSettingsOfRun settings }
     ensures answers { AnswersBoard result.core result.end
         (S.reading source.old) (S.reading source.new)
         (K.writing sink.old) (K.writing sink.new) }
@@ -55,6 +54,11 @@ pub(crate) fn run_with_workers<R: Threads + Wait + Sync, S: Source, K: Sink, G: 
     ensures apart { K.reading_side sink.new ≡ K.reading_side sink.old }
     ensures core { IsNone result.core ↔ (result.end ≡ end.NoMemory) }
 {
+    let Host {
+        rt,
+        alloc,
+        hash_keys,
+    } = host;
     let Ok(crew) = open_crew(alloc, hash_keys, settings) else {
         return RunDone {
             end: RunEnd::NoMemory,

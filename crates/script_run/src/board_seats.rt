@@ -1,11 +1,9 @@
 //! The seats of a run's workers over a board: how they are made, how the workers work by them, and
 //! how they are joined.
-ghost use Rattle.std.specs.Prelude.{◌≡◌, ◌<◌, IfOk, IsSomeAnd, OnOk, length};
+ghost use Rattle.std.specs.Prelude.{◌≡◌, IfOk, OnOk, length};
 ghost use Rattle.board_lock.specs.Seats.{view_of};
-ghost use Rattle.board_lock.specs.Views.{fixed_in};
-ghost use Rattle.event_core.specs.Board.{core_settings};
-ghost use Rattle.script_run.specs.BoardRun.{AreWorkers, HasJoined, IsLeader, KnowsSame};
-ghost use Rattle.script_run.specs.BoardRun.{StaysWorker};
+ghost use Rattle.script_run.specs.BoardRun.{AreWorkers, HasJoined, HasRoomFor, IsLeader};
+ghost use Rattle.script_run.specs.BoardRun.{KnowsSame, StaysWorker};
 ghost use Rattle.std.specs.Fork.{AcceptsEach, ChangesEach};
 ghost use Rattle.worker_gate.specs.Turns.{IsReady};
 
@@ -25,9 +23,7 @@ pub(crate) fn make_seats(
     count: u32,
 ) -> Result<Vec<BoardSeat<Core>>, NoMemory>
     requires leader { IsLeader board.now 0 first.old }
-    requires room { count < board.now.seats }
-    requires seated { IsSomeAnd (fixed_in core_settings (view_of first.old).last)
-        (λ settings. count < settings.seats) }
+    requires room { HasRoomFor board.now count (view_of first.old) }
     ensures leader { OnOk result (IsLeader board.now count first.new) }
     ensures knows { KnowsSame (view_of first.old) (view_of first.new) }
     ensures workers { IfOk result (λ seats. AreWorkers board.now seats.items) }

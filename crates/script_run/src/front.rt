@@ -6,16 +6,15 @@ ghost use Rattle.star_io.specs.Transfer.{AppendsFront};
 ghost use Rattle.reply_text.specs.Text.{text_of};
 ghost use Rattle.script_reader.specs.declared.statement.Statement.{Statement};
 ghost use Rattle.core_state.specs.Settings.{AreWithin};
-ghost use Rattle.core_state.specs.Sound.{IsSound, empty_core};
-ghost use Rattle.core_state.specs.Submitting.{next_ready, seat_at};
+ghost use Rattle.core_state.specs.Sound.{IsSound};
+ghost use Rattle.core_state.specs.Submitting.{seat_at};
 ghost use Rattle.event_core.specs.Chosen.{AreIdle};
-ghost use Rattle.event_core.specs.Replies.{first_open};
 ghost use Rattle.event_core.specs.Seen.{state_of};
 ghost use Rattle.script_run.specs.Answer.{CountsHalt};
 ghost use Rattle.pipeline_manager.specs.Conditions.{is_open};
 ghost use Rattle.pipeline_manager.specs.declared.life.Life.TheVariants.{Waiting};
-ghost use Rattle.script_run.specs.Front.{Finishes, Gives, IsRun, Plays, PlaysCounted};
-ghost use Rattle.script_run.specs.Counted.{Beside, GoesRound, IsCalm, IsCounted, open_in};
+ghost use Rattle.script_run.specs.Front.{Finishes, GivesStatement, IsRun, Plays, PlaysCounted, RunsOn, TookAllReady};
+ghost use Rattle.script_run.specs.Counted.{OnlyTakesReplies, CameToEnd, HasFreeSlot, IsCounted, IsNewFront, MayShareLap};
 ghost use Rattle.script_run.specs.Run.{is_refusal};
 ghost use Rattle.script_run.specs.Waiting.{is_wait as means_to_wait};
 
@@ -79,9 +78,7 @@ impl Front {
         settings: RunSettings,
     ) -> Result<Front, NoMemory>
         requires { AreWithin settings }
-        ensures core { IfOk result (λ front. state_of front.core ≡ empty_core settings) }
-        ensures counted { IfOk result IsCounted }
-        ensures none { IfOk result (λ front. front.unfinished ≡ 0) }
+        ensures { IfOk result (IsNewFront settings) }
     {
         let core = Core::new(alloc, hash_keys, settings)?;
         Ok(Front {
@@ -103,15 +100,11 @@ impl Front {
         statement: Statement,
         sink: &mut K,
     ) -> Result<bool, Halt>
-        requires counted { IsCounted self.old }
-        requires free { self.old.unfinished < (state_of self.old.core).settings.slots }
+        requires { HasFreeSlot self.old }
         ensures plays { PlaysCounted result (state_of self.old.core)
             (statement ∷ []) (state_of self.new.core)
             (K.writing sink.old).taken (K.writing sink.new).taken }
-        ensures run { IsRun (state_of self.old.core) (state_of self.new.core) }
-        ensures counted { OnOk result (IsCounted self.new) }
-        ensures free { OnOk result (self.new.unfinished < (state_of self.new.core).settings.slots) }
-        ensures faults { CountsHalt result (K.writing sink.old) (K.writing sink.new) }
+        ensures runs { RunsOn result self.old self.new (K.writing sink.old) (K.writing sink.new) }
         ensures apart { K.reading_side sink.new ≡ K.reading_side sink.old }
     {
         let waits = self.waits_at(&statement);
@@ -148,10 +141,9 @@ impl Front {
     /// Gives a statement to the core, and counts it. Answers whether there was memory for it;
     /// else nothing has changed.
     fn give(&mut self, statement: Statement) -> bool
-        requires counted { IsCounted self.old }
-        requires free { self.old.unfinished < (state_of self.old.core).settings.slots }
+        requires { HasFreeSlot self.old }
         ensures gives { IsTrue result →
-            Gives statement (state_of self.old.core) (state_of self.new.core) }
+            GivesStatement statement (state_of self.old.core) (state_of self.new.core) }
         ensures counted { IsTrue result → IsCounted self.new }
         ensures lost { (result ≡ false) → self.new ≡ self.old }
     {
@@ -169,14 +161,11 @@ impl Front {
     /// A statement for which no memory was left: the replies before its own are written,
     /// and its own is `memory`.
     fn lose<R: Threads + Sync, K: Sink>(&mut self, rt: &R, sink: &mut K) -> Result<bool, Halt>
-        requires counted { IsCounted self.old }
+        requires { IsCounted self.old }
         ensures plays { (statement : Statement) →
             PlaysCounted result (state_of self.old.core) (statement ∷ []) (state_of self.new.core)
             (K.writing sink.old).taken (K.writing sink.new).taken }
-        ensures run { IsRun (state_of self.old.core) (state_of self.new.core) }
-        ensures counted { OnOk result (IsCounted self.new) }
-        ensures free { OnOk result (self.new.unfinished < (state_of self.new.core).settings.slots) }
-        ensures faults { CountsHalt result (K.writing sink.old) (K.writing sink.new) }
+        ensures runs { RunsOn result self.old self.new (K.writing sink.old) (K.writing sink.new) }
         ensures apart { K.reading_side sink.new ≡ K.reading_side sink.old }
     {
         self.play_out(rt, sink)?;
@@ -189,16 +178,12 @@ impl Front {
         rt: &R,
         sink: &mut K,
     ) -> Result<bool, Halt>
-        requires counted { IsCounted self.old }
+        requires { IsCounted self.old }
         ensures plays { Plays result (state_of self.old.core) [] (state_of self.new.core)
             (K.writing sink.old).taken (K.writing sink.new).taken }
-        ensures all { OnOk result ((seat_at (state_of self.new.core) 0).pending ≡ []) }
-        ensures round { OnOk result (GoesRound (state_of self.old.core) (state_of self.new.core)) }
-        ensures run { IsRun (state_of self.old.core) (state_of self.new.core) }
-        ensures counted { OnOk result (IsCounted self.new) }
-        ensures free { OnOk result (self.new.unfinished ≡ 0) }
+        ensures ends { OnOk result (CameToEnd self.old self.new) }
+        ensures runs { RunsOn result self.old self.new (K.writing sink.old) (K.writing sink.new) }
         ensures some { 0 < (state_of self.old.core).settings.slots }
-        ensures faults { CountsHalt result (K.writing sink.old) (K.writing sink.new) }
         ensures apart { K.reading_side sink.new ≡ K.reading_side sink.old }
     {
         self.finish_open(rt)?;
@@ -207,7 +192,7 @@ impl Front {
 
     /// Lets every query come to its end, if some is open.
     fn finish_open<R: Threads + Sync>(&mut self, rt: &R) -> Result<(), NoMemory>
-        requires counted { IsCounted self.old }
+        requires { IsCounted self.old }
         ensures finishes { Finishes (state_of self.old.core) (state_of self.new.core) }
         ensures closed { OnOk result
             (All (λ entry. is_open entry.life ≡ false) (state_of self.new.core).lives.queries) }
@@ -263,7 +248,7 @@ fn one_if_waiting(life: Option<Life>) -> u32
 /// was left for it, nothing has changed.
 fn submit(core: &mut Core, statement: Statement) -> Result<(), StepFault>
     requires { AreIdle (state_of core.old) }
-    ensures gives { OnOk result (Gives statement (state_of core.old) (state_of core.new)) }
+    ensures gives { OnOk result (GivesStatement statement (state_of core.old) (state_of core.new)) }
     ensures err { OnErr result (core.new ≡ core.old) }
 {
     // Both are called for what they ensure.
@@ -274,9 +259,7 @@ fn submit(core: &mut Core, statement: Statement) -> Result<(), StepFault>
 
 /// Lets every query come to its end, where each waits and they are no more than there are slots.
 fn finish<R: Threads + Sync>(rt: &R, core: &mut Core) -> Result<(), NoMemory>
-    requires calm { IsCalm (open_in (state_of core.old)) (state_of core.old) }
-    requires some { 0 < open_in (state_of core.old) }
-    requires few { open_in (state_of core.old) ≤ (state_of core.old).settings.slots }
+    requires { MayShareLap (state_of core.old) }
     ensures finishes { Finishes (state_of core.old) (state_of core.new) }
     ensures number { (state_of core.new).numbers.statement ≡ (state_of core.old).numbers.statement }
     ensures closed { OnOk result
@@ -294,12 +277,9 @@ fn finish<R: Threads + Sync>(rt: &R, core: &mut Core) -> Result<(), NoMemory>
 fn write_ready<K: Sink>(alloc: Global, core: &mut Core, sink: &mut K) -> Result<bool, Halt>
     ensures plays { Plays result (state_of core.old) [] (state_of core.new)
         (K.writing sink.old).taken (K.writing sink.new).taken }
-    ensures none { OnOk result (next_ready (state_of core.new) 0 ≡ None) }
-    ensures all { OnOk result
-        (first_open (state_of core.old).lives (seat_at (state_of core.old) 0) ≡ None →
-        (seat_at (state_of core.new) 0).pending ≡ []) }
+    ensures all { OnOk result (TookAllReady (state_of core.old) (state_of core.new)) }
     ensures run { IsRun (state_of core.old) (state_of core.new) }
-    ensures beside { Beside (state_of core.old) (state_of core.new) }
+    ensures beside { OnlyTakesReplies (state_of core.old) (state_of core.new) }
     ensures faults { CountsHalt result (K.writing sink.old) (K.writing sink.new) }
     ensures apart { K.reading_side sink.new ≡ K.reading_side sink.old }
 {

@@ -1,7 +1,6 @@
 //! One read of a script.
-ghost use Rattle.std.specs.Prelude.{◌≡◌, ◌<◌, ◌≤◌, false, length};
-ghost use Rattle.script_reader.specs.declared.reader.TheConstants.{SCRIPT_LIMIT};
-ghost use Rattle.script_run.specs.Pieces.{CountsFault, FindsEnd, ReadsPast, TakesPiece};
+ghost use Rattle.std.specs.Prelude.{◌≡◌, ◌<◌, length};
+ghost use Rattle.script_run.specs.Pieces.{CountsPieceFault, FindsEnd, MayBeFed, ReadsPast, TakesPiece};
 
 use script_reader::{FeedFault, SCRIPT_LIMIT, ScriptReader};
 use star_io::{Failed, Source};
@@ -25,12 +24,11 @@ pub enum Piece {
 /// limit were fed, one byte more is asked for, which the reader is not fed with.
 pub fn read_piece<S: Source>(source: &mut S, piece: &mut [u8], reader: &mut ScriptReader) -> Piece
     requires piece { 0 < length piece.old }
-    requires within { reader.old.fed ≤ SCRIPT_LIMIT }
-    requires not_ended { reader.old.ended ≡ false }
+    requires reader { MayBeFed reader.old }
     ensures takes { TakesPiece result reader.old reader.new
         (S.reading source.old) (S.reading source.new) }
     ensures end { FindsEnd result (S.reading source.old) (S.reading source.new) }
-    ensures faults { CountsFault result (S.reading source.old) (S.reading source.new) }
+    ensures faults { CountsPieceFault result (S.reading source.old) (S.reading source.new) }
     ensures apart { S.writing_side source.new ≡ S.writing_side source.old }
 {
     let room = (SCRIPT_LIMIT - reader.fed()).min(piece.len());
@@ -53,7 +51,7 @@ pub fn read_piece<S: Source>(source: &mut S, piece: &mut [u8], reader: &mut Scri
 fn read_past_the_limit<S: Source>(source: &mut S) -> Piece
     ensures reads { ReadsPast result (S.reading source.old) (S.reading source.new) }
     ensures end { FindsEnd result (S.reading source.old) (S.reading source.new) }
-    ensures faults { CountsFault result (S.reading source.old) (S.reading source.new) }
+    ensures faults { CountsPieceFault result (S.reading source.old) (S.reading source.new) }
     ensures apart { S.writing_side source.new ≡ S.writing_side source.old }
 {
     let mut one = [0u8];

@@ -2,7 +2,7 @@
 ghost use Rattle.std.specs.Prelude.{◌≡◌, None};
 ghost use Rattle.board_lock.specs.Seats.{view_of};
 ghost use Rattle.worker_gate.specs.Turns.{IsReady, sight_in};
-ghost use Rattle.script_run.specs.SeatTurns.{Stays, StaysReady};
+ghost use Rattle.script_run.specs.SeatTurns.{SitsStill, StaysReady};
 
 use board_lock::{BoardLock, BoardSeat};
 use event_core::{Core, own_steps_keep_a_board};
@@ -26,7 +26,7 @@ pub(crate) fn read_ahead<'a, R: Wait>(
 ) -> ReadStatement<'a>
     requires { IsReady board.now None seat.old }
     ensures seat { StaysReady board.now seat.old seat.new }
-    ensures stays { Stays (view_of seat.old).number
+    ensures stays { SitsStill (view_of seat.old).number
         (sight_in (view_of seat.old)) (sight_in (view_of seat.new)) }
     ensures statement { result ≡ statement.now }
 {
@@ -56,7 +56,7 @@ fn form_turn<R: Wait>(
 ) -> Option<BlockForm>
     requires { IsReady board.now None seat.old }
     ensures seat { StaysReady board.now seat.old seat.new }
-    ensures stays { Stays (view_of seat.old).number
+    ensures stays { SitsStill (view_of seat.old).number
         (sight_in (view_of seat.old)) (sight_in (view_of seat.new)) }
 {
     // It is called for what it ensures.

@@ -1,11 +1,10 @@
 //! A seat that serves sessions: between two reads it is at rest, since what is whole is replied to
 //! before more is read, and at the end it lets go what is open.
-ghost use Rattle.std.specs.Prelude.{◌≡◌, None, OnOk};
+ghost use Rattle.std.specs.Prelude.{◌≡◌, None};
 ghost use Rattle.board_lock.specs.Seats.{IsSameSeat, view_of};
 ghost use Rattle.script_reader.specs.Reading.{StaysFed};
 ghost use Rattle.worker_gate.specs.Turns.{IsReady, sight_in};
-ghost use Rattle.script_run.specs.Answer.{CountsHalt};
-ghost use Rattle.script_run.specs.Home.{IsAtRest, LeftClosing, LetsGo, RepliesWhole};
+ghost use Rattle.script_run.specs.Home.{IsAtRest, LeftClosing, LetsGo, RepliesAt};
 
 use crate::halt::Halt;
 use crate::seat_front::SeatFront;
@@ -30,15 +29,9 @@ impl SeatFront {
         sink: &mut K,
     ) -> Result<(), Halt>
         requires { IsAtRest board.now self.old.seat }
-        ensures ready { IsReady board.now None self.new.seat }
-        ensures same { IsSameSeat self.old.seat self.new.seat }
-        ensures replies { RepliesWhole result (view_of self.old.seat).number
-            (sight_in (view_of self.old.seat)) reader.old
-            (sight_in (view_of self.new.seat)) reader.new
-            (K.writing sink.old).taken (K.writing sink.new).taken }
+        ensures replies { RepliesAt board.now result self.old.seat self.new.seat
+            reader.old reader.new (K.writing sink.old) (K.writing sink.new) }
         ensures stays { StaysFed reader.old reader.new }
-        ensures rest { OnOk result (IsAtRest board.now self.new.seat) }
-        ensures faults { CountsHalt result (K.writing sink.old) (K.writing sink.new) }
         ensures apart { K.reading_side sink.new ≡ K.reading_side sink.old }
     {
         self.play_whole(rt, board, gate, reader, sink)?;

@@ -9,7 +9,7 @@ ghost use Rattle.worker_gate.specs.Turns.{IsReady, sight_in};
 ghost use Rattle.script_run.specs.SeatFront.{PlaysAt, PlaysFirst};
 ghost use Rattle.script_run.specs.SeatRun.{ReadsNext, ReadsRun, alone_at, behind_at, behind_end};
 ghost use Rattle.script_run.specs.SeatRun.{statements_in_run};
-ghost use Rattle.script_run.specs.SeatTurns.{KeepsHand, Stays, StaysReady, SendsOne};
+ghost use Rattle.script_run.specs.SeatTurns.{KeepsHand, SitsStill, StaysReady, SendsOne};
 ghost use Rattle.script_run.specs.SeatTurns.{SendsAll};
 
 use crate::halt::Halt;
@@ -294,7 +294,7 @@ fn submit_unread(core: &mut Core, seat: u32, statement: &Statement) -> bool
     ensures keeps { KeepsHand seat core.old core.new }
     ensures submits { IsTrue result → SendsOne seat statement.now
         (sight_of (state_of core.old) seat) (sight_of (state_of core.new) seat) }
-    ensures stays { (result ≡ false) → Stays seat
+    ensures stays { (result ≡ false) → SitsStill seat
         (sight_of (state_of core.old) seat) (sight_of (state_of core.new) seat) }
 {
     let mut unread = ReadStatement::unread(statement);

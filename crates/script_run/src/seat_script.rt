@@ -1,15 +1,15 @@
 //! A run of a script by a seat of a board, whatever other seats do meanwhile. How the seat gives
 //! statements to the core and writes the replies is in `seat_front`.
-ghost use Rattle.std.specs.Prelude.{◌≡◌, List, None};
+ghost use Rattle.std.specs.Prelude.{◌≡◌, List};
 ghost use Rattle.board_lock.specs.Seats.{view_of};
 ghost use Rattle.core_state.specs.Fronts.{IsDue};
 ghost use Rattle.core_state.specs.Rows.{made_by};
 ghost use Rattle.core_state.specs.Sent.{Sent};
-ghost use Rattle.script_reader.specs.Reading.{no_reading};
-ghost use Rattle.worker_gate.specs.Turns.{IsReady, sight_in};
+ghost use Rattle.worker_gate.specs.Turns.{sight_in};
+ghost use Rattle.script_run.specs.BoardRun.{IsAtStart};
 ghost use Rattle.script_run.specs.Run.{CountsFaults};
 ghost use Rattle.script_run.specs.SeatTurns.{StaysReady};
-ghost use Rattle.script_run.specs.Shared.{AnswersSent, nothing};
+ghost use Rattle.script_run.specs.Shared.{AnswersSent};
 
 use crate::piece::{Piece, read_piece};
 use crate::run::{PIECE_BYTES, end_of_halt};
@@ -34,9 +34,7 @@ impl SeatFront {
         source: &mut S,
         sink: &mut K,
     ) -> RunEnd
-        requires ready { IsReady board.now None self.old.seat }
-        requires first { (view_of self.old.seat).number ≡ 0 }
-        requires nothing { sight_in (view_of self.old.seat) ≡ nothing }
+        requires { IsAtStart board.now self.old.seat }
         ensures seat { StaysReady board.now self.old.seat self.new.seat }
         ensures answers { AnswersSent result (sight_in (view_of self.new.seat))
             (S.reading source.old) (S.reading source.new)
@@ -48,27 +46,21 @@ impl SeatFront {
             (K.writing sink.old) (K.writing sink.new) }
         ensures apart { K.reading_side sink.new ≡ K.reading_side sink.old }
     {
-        let mut reader = ScriptReader::new(self.alloc);
-        let end = self.play_script(rt, board, gate, &mut reader, source, sink);
+        let end = self.play_script(rt, board, gate, source, sink);
         end_turn(rt, board, &mut self.seat);
         end
     }
 
-    /// Reads a script to its end by a reader that was fed with nothing, gives its statements to the
-    /// core, and writes their replies.
+    /// Reads a script to its end, gives its statements to the core, and writes their replies.
     fn play_script<R: Wait, S: Source, K: Sink, G: Gate>(
         &mut self,
         rt: &R,
         board: &BoardLock<Core>,
         gate: &G,
-        reader: &mut ScriptReader,
         source: &mut S,
         sink: &mut K,
     ) -> RunEnd
-        requires ready { IsReady board.now None self.old.seat }
-        requires first { (view_of self.old.seat).number ≡ 0 }
-        requires nothing { sight_in (view_of self.old.seat) ≡ nothing }
-        requires reader { reader.old ≡ no_reading }
+        requires { IsAtStart board.now self.old.seat }
         ensures seat { StaysReady board.now self.old.seat self.new.seat }
         ensures answers { AnswersSent result (sight_in (view_of self.new.seat))
             (S.reading source.old) (S.reading source.new)
@@ -79,14 +71,15 @@ impl SeatFront {
             (K.writing sink.old) (K.writing sink.new) }
         ensures apart { K.reading_side sink.new ≡ K.reading_side sink.old }
     {
+        let mut reader = ScriptReader::new(self.alloc);
         let mut piece = [0u8; PIECE_BYTES];
         let mut refused = false;
         'pieces: loop {
-            match self.play_whole(rt, board, gate, reader, sink) {
+            match self.play_whole(rt, board, gate, &mut reader, sink) {
                 Ok(some) => refused |= some,
                 Err(halt) => return end_of_halt(halt),
             }
-            match read_piece(source, &mut piece, reader) {
+            match read_piece(source, &mut piece, &mut reader) {
                 Piece::Fed => {}
                 Piece::Ended => break 'pieces,
                 Piece::Fault => {
@@ -101,7 +94,7 @@ impl SeatFront {
             }
         }
         reader.finish();
-        match self.play_whole(rt, board, gate, reader, sink) {
+        match self.play_whole(rt, board, gate, &mut reader, sink) {
             Ok(some) => {
                 let written = self.write_replies(rt, board, gate, true, sink);
                 end_of_rest(refused | some, written)

@@ -1,20 +1,20 @@
 //! A run of a script whose queries share the scan of one core.
-ghost use Rattle.std.specs.Prelude.{◌≡◌, ◌↔◌, ◌+◌, ◌<◌, IfSome, IsNone, OnOk};
+ghost use Rattle.std.specs.Prelude.{◌≡◌, ◌↔◌, IfSome, IsNone};
 ghost use Rattle.core_state.specs.Settings.{AreWithin};
 ghost use Rattle.core_state.specs.Sound.{empty_core};
 ghost use Rattle.event_core.specs.Seen.{state_of};
 ghost use Rattle.script_reader.specs.Reading.{StaysFed, no_reading};
 ghost use Rattle.star_io.specs.declared.run_end.RunEnd.TheVariants as end;
-ghost use Rattle.script_run.specs.Answer.{CountsHalt};
 ghost use Rattle.script_run.specs.End.{end_behind, end_of_rest};
-ghost use Rattle.script_run.specs.Front.{IsRun, PlaysWhole};
-ghost use Rattle.script_run.specs.Counted.{IsCounted};
+ghost use Rattle.script_run.specs.Front.{IsRun, PlaysWhole, RunsOn};
+ghost use Rattle.script_run.specs.Counted.{HasFreeSlot, IsNewFront};
 ghost use Rattle.script_run.specs.Run.{CountsFaults};
-ghost use Rattle.script_run.specs.Shared.{AnswersBy, AnswersShared};
+ghost use Rattle.script_run.specs.Shared.{AnswersBy, AnswersShared, AreSettingsOfRun};
 
 use crate::board_run::run_with_workers;
 use crate::front::{Front, every_front_is_sound};
 use crate::halt::Halt;
+use crate::host::Host;
 use crate::piece::{Piece, read_piece};
 use crate::run::{PIECE_BYTES, end_of_all, end_of_halt};
 use core_state::{
@@ -25,8 +25,6 @@ use event_core::Core;
 use script_reader::{NextStatement, ScriptReader};
 use star_io::{RunEnd, Sink, Source};
 use star_values::NoMemory;
-use std::alloc::Global;
-use std::hash::RandomState;
 use std::sync::Wait;
 use std::thread::Threads;
 use worker_gate::Gate;
@@ -50,18 +48,15 @@ pub struct RunDone {
 ///
 /// At a read that fails, and at the byte past the limit, the statements that are whole before it
 /// are answered. After a write that fails nothing more is written or read. Rows and groups are
-/// found by hashes with these keys, on which no reply depends.
+/// found by hashes with the keys of the host, on which no reply depends.
 pub fn run_script<R: Threads + Wait + Sync, S: Source, K: Sink, G: Gate + Sync>(
-    rt: &R,
-    alloc: Global,
-    hash_keys: RandomState,
+    host: Host<&R>,
     settings: RunSettings,
     source: &mut S,
     sink: &mut K,
     gate: &G,
 ) -> RunDone
-    requires settings { AreWithin settings }
-    requires seats { settings.seats ≡ settings.workers + 1 }
+    requires settings { AreSettingsOfRun settings }
     ensures answers { AnswersShared (settings.workers ≡ 0) settings result.core result.end
         (S.reading source.old) (S.reading source.new)
         (K.writing sink.old) (K.writing sink.new) }
@@ -73,9 +68,9 @@ pub fn run_script<R: Threads + Wait + Sync, S: Source, K: Sink, G: Gate + Sync>(
         IfSome result.core (λ core. IsRun (empty_core settings) (state_of core)) }
 {
     if settings.workers == 0 {
-        run_on_one_thread(rt, alloc, hash_keys, settings, source, sink)
+        run_on_one_thread(host, settings, source, sink)
     } else {
-        run_with_workers(rt, alloc, hash_keys, settings, source, sink, gate)
+        run_with_workers(host, settings, source, sink, gate)
     }
 }
 
@@ -84,9 +79,7 @@ pub fn run_script<R: Threads + Wait + Sync, S: Source, K: Sink, G: Gate + Sync>(
 /// reply to a statement for which the core found no memory, and as soon as as many are
 /// unfinished as there are slots.
 pub fn run_on_one_thread<R: Threads + Sync, S: Source, K: Sink>(
-    rt: &R,
-    alloc: Global,
-    hash_keys: RandomState,
+    host: Host<&R>,
     settings: RunSettings,
     source: &mut S,
     sink: &mut K,
@@ -101,14 +94,14 @@ pub fn run_on_one_thread<R: Threads + Sync, S: Source, K: Sink>(
     ensures core { IsNone result.core ↔ (result.end ≡ end.NoMemory) }
     ensures run { IfSome result.core (λ core. IsRun (empty_core settings) (state_of core)) }
 {
-    let Ok(mut front) = Front::new(alloc, hash_keys, settings) else {
+    let Ok(mut front) = Front::new(host.alloc, host.hash_keys, settings) else {
         return RunDone {
             end: RunEnd::NoMemory,
             core: None,
         };
     };
-    let mut reader = ScriptReader::new(alloc);
-    let end = play_script(rt, &mut front, &mut reader, source, sink);
+    let mut reader = ScriptReader::new(host.alloc);
+    let end = play_script(host.rt, &mut front, &mut reader, source, sink);
     RunDone {
         end,
         core: core_of(end, front),
@@ -139,9 +132,7 @@ fn play_script<R: Threads + Sync, S: Source, K: Sink>(
     source: &mut S,
     sink: &mut K,
 ) -> RunEnd
-    requires empty { state_of front.old.core ≡ empty_core (state_of front.old.core).settings }
-    requires counted { IsCounted front.old }
-    requires none { front.old.unfinished ≡ 0 }
+    requires front { IsNewFront (state_of front.old.core).settings front.old }
     requires reader { reader.old ≡ no_reading }
     ensures answers { AnswersBy (state_of front.old.core).settings (state_of front.new.core) result
         (S.reading source.old) (S.reading source.new)
@@ -186,16 +177,12 @@ pub(crate) fn play_whole<R: Threads + Sync, K: Sink>(
     reader: &mut ScriptReader,
     sink: &mut K,
 ) -> Result<bool, Halt>
-    requires counted { IsCounted front.old }
-    requires free { front.old.unfinished < (state_of front.old.core).settings.slots }
+    requires { HasFreeSlot front.old }
     ensures plays { PlaysWhole result (state_of front.old.core) reader.old
         (state_of front.new.core) reader.new
         (K.writing sink.old).taken (K.writing sink.new).taken }
     ensures stays { StaysFed reader.old reader.new }
-    ensures run { IsRun (state_of front.old.core) (state_of front.new.core) }
-    ensures counted { OnOk result (IsCounted front.new) }
-    ensures free { OnOk result (front.new.unfinished < (state_of front.new.core).settings.slots) }
-    ensures faults { CountsHalt result (K.writing sink.old) (K.writing sink.new) }
+    ensures runs { RunsOn result front.old front.new (K.writing sink.old) (K.writing sink.new) }
     ensures apart { K.reading_side sink.new ≡ K.reading_side sink.old }
 {
     let mut refused = false;

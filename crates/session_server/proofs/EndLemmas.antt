@@ -12,7 +12,7 @@ use Rattle.reply_text.specs.Text.{text_of_all}
 use Rattle.core_state.specs.Rows.{Sight, made_by}
 use Rattle.core_state.specs.Sent.{Sent}
 use Rattle.script_run.specs.Answer.{HasNoStatement}
-use Rattle.script_run.specs.Front.{LeavesSome, PlaysOn, Reads}
+use Rattle.script_run.specs.Front.{LeavesToRead, PlaysOn, ReadsBetween}
 use Rattle.script_run.specs.Home.{LetsGo}
 use Rattle.script_run.specs.Run.{HasEnded, MetNoEnd, ReadsBytes, Writes, is_refusal, within_limit}
 use Rattle.script_run.specs.SeatFront.{SeatReads}
@@ -22,7 +22,7 @@ use Rattle.script_run.proofs.RunLemmas.{at_end, came, finished, within_all, with
 use Rattle.script_run.proofs.SeatFrontLemmas.{seat-left}
 use Rattle.script_run.proofs.SeatTellsLemmas.{tells-lets, tells-plays, tells-whole}
 use Rattle.script_run.proofs.SharedReadLemmas.{reads-all, reads-then}
-use Rattle.session_server.specs.Session.{AnswersSession, CountsFaults, EndsWhole, IsComplete, end_of_halt, run_end_of, statements_by}
+use Rattle.session_server.specs.Session.{AnswersSession, CountsSessionFaults, EndsSessionWhole, IsSessionComplete, end_of_halt, run_end_of, statements_by}
 use Rattle.session_server.specs.declared.session_end.SessionEnd.{SessionEnd}
 use Rattle.session_server.specs.declared.session_end.SessionEnd.TheVariants as end
 use Rattle.session_server.proofs.SessionLemmas.{IsServing, few-given, none-left, serving-err, serving-ok}
@@ -45,8 +45,8 @@ gave-nothing left0 left left' given piece first second nothing =
 -- What was read of the bytes that came.
 
 -- the same where the input has ended
-reads-ended : (given : List ℕ) (waits behind : Reading) (statements more : List Statement) → Reads (came given) statements waits
-    → waits.fed ≡ length given → Reads (finished waits) more behind
+reads-ended : (given : List ℕ) (waits behind : Reading) (statements more : List Statement) → ReadsBetween (came given) statements waits
+    → waits.fed ≡ length given → ReadsBetween (finished waits) more behind
     → statements_of true given ≡ (statements ++ more) ++ statements_of true behind.waiting
 reads-ended given waits behind statements more first fed second =
     reads-all (finished (came given)) behind (statements ++ more) true
@@ -194,7 +194,7 @@ pub halted-ends : (halt : Halt) (seat : ℕ) (old now new : Sight) (waits waits'
 halted-ends halt seat old now new waits waits' from from' to taken to' run reads same unfailed =
     let few = few-given seat old now waits from.left from'.left to.taken taken run in
     answers-halted halt seat old new from from' to to' run.given (run.statements ++ reads.statements)
-    (statements_of from'.ended reads.behind.waiting) (LeavesSome reads.behind) run.gave few
+    (statements_of from'.ended reads.behind.waiting) (LeavesToRead reads.behind) run.gave few
     (serving-err halt seat old now new waits waits waits' from.left from'.left to.taken taken to'.taken run reads)
     (reads-all (came run.given) reads.behind (run.statements ++ reads.statements) from'.ended
     (reads-then (came run.given) waits reads.behind run.statements reads.statements run.reads run.stays reads.reads) (λ e. cc))
@@ -208,7 +208,7 @@ pub ended-ends : (halt : Halt) (seat : ℕ) (old now new : Sight) (waits waits' 
     → AnswersSession (end_of_halt halt) seat old new from from' to to'
 ended-ends halt seat old now new waits waits' from from' left to taken to' piece run gave nothing has_ended reads =
     answers-halted halt seat old new from from' to to' run.given (run.statements ++ reads.statements)
-    (statements_of true reads.behind.waiting) (LeavesSome reads.behind)
+    (statements_of true reads.behind.waiting) (LeavesToRead reads.behind)
     (gave-nothing from.left left from'.left run.given piece run.gave gave nothing)
     (few-given seat old now waits from.left left to.taken taken run)
     (serving-err halt seat old now new waits (finished waits) waits' from.left left to.taken taken to'.taken run reads)
@@ -217,7 +217,7 @@ ended-ends halt seat old now new waits waits' from from' left to taken to' piece
     (λ some. inl (some reads.stays.1))
 
 -- what was open was let go where the session was cut short
-pub lets-end : (ends : SessionEnd) (seat : ℕ) (old mid new : Sight) (from from' : ReadingSide) (to to' : WritingSide) → (EndsWhole ends → ⊥)
+pub lets-end : (ends : SessionEnd) (seat : ℕ) (old mid new : Sight) (from from' : ReadingSide) (to to' : WritingSide) → (EndsSessionWhole ends → ⊥)
     → mid.row.made ≡ made_by seat mid.seen → AnswersSession ends seat old mid from from' to to' → LetsGo seat mid new
     → AnswersSession ends seat old new from from' to to'
 lets-end ends seat old mid new from from' to to' cut made answers goes = record {
@@ -234,8 +234,8 @@ lets-end ends seat old mid new from from' to to' cut made answers goes = record 
 }
 
 -- where no call failed it is none of the ends that tell of one
-pub unfailed-ends : (ends : SessionEnd) (from from' : ReadingSide) (to to' : WritingSide) → CountsFaults ends from from' to to'
-    → IsComplete ends from from' to to'
+pub unfailed-ends : (ends : SessionEnd) (from from' : ReadingSide) (to to' : WritingSide) → CountsSessionFaults ends from from' to to'
+    → IsSessionComplete ends from from' to to'
 unfailed-ends end.Done from from' to to' counts read wrote = tt
 unfailed-ends end.ReadFault from from' to to' counts read wrote = absurd (read counts.0)
 unfailed-ends end.WriteFault from from' to to' counts read wrote = absurd (wrote counts.1)

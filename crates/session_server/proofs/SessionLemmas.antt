@@ -13,7 +13,7 @@ use Rattle.core_state.specs.Rows.{Sight}
 use Rattle.core_state.specs.Sent.{Sent}
 use Rattle.event_core.specs.Parts.{Parts}
 use Rattle.script_run.specs.Answer.{HasNoStatement}
-use Rattle.script_run.specs.Front.{LeavesSome, PlaysOn, Reads}
+use Rattle.script_run.specs.Front.{LeavesToRead, PlaysOn, ReadsBetween}
 use Rattle.script_run.specs.Pieces.{fed_with}
 use Rattle.script_run.specs.SeatFront.{SeatReads}
 use Rattle.script_run.specs.declared.halt.Halt.{Halt}
@@ -28,7 +28,7 @@ pub record IsServing (seat : ℕ) (old now : Sight) (waits : Reading) (left0 lef
   pub given : List ℕ
   pub gave : Consumes left0 left given
   pub statements : List Statement
-  pub reads : Reads (came given) statements waits
+  pub reads : ReadsBetween (came given) statements waits
   pub stays : StaysFed (came given) waits
   pub within : waits.fed ≤ SCRIPT_LIMIT
   pub on : PlaysOn None seat old [] statements ⊥ now taken0 taken
@@ -63,7 +63,7 @@ fed-serving seat old now waits waits' left0 left left' taken0 taken piece run ga
   given = run.given ++ piece;
   gave = Consumes-trans left0 left left' run.given piece run.gave gave;
   statements = run.statements;
-  reads = subst (Reads (came (run.given ++ piece)) run.statements) (sym is) (fed-reads run.given piece waits run.statements run.reads);
+  reads = subst (ReadsBetween (came (run.given ++ piece)) run.statements) (sym is) (fed-reads run.given piece waits run.statements run.reads);
   stays = (
     ap (λ (w : Reading). w.fed) is ∙ ap (λ n. n + length piece) run.stays.0 ∙ sym (length-append run.given piece),
     ap (λ (w : Reading). w.ended) is ∙ run.stays.1,
@@ -96,20 +96,20 @@ pub serving-ok : (seat : ℕ) (old now new : Sight) (waits other waits' : Readin
     → (on : PlaysOn None seat old [] (run.statements ++ reads.statements) ⊥ new taken0 taken') × (on.still ≡ [])
 serving-ok seat old now new waits other waits' left0 left taken0 taken taken' run reads idle =
     let on : PlaysOn None seat old [] (run.statements ++ reads.statements) ⊥ new taken0 taken' =
-    on-then None seat old now new [] run.statements reads.statements ⊥ (LeavesSome reads.behind) ⊥ taken0 taken taken'
-    (eases-none (LeavesSome reads.behind) ⊥) run.on
-    (at-still None seat now new run.on.still reads.statements (LeavesSome reads.behind) taken taken' run.still reads.on) in
+    on-then None seat old now new [] run.statements reads.statements ⊥ (LeavesToRead reads.behind) ⊥ taken0 taken taken'
+    (eases-none (LeavesToRead reads.behind) ⊥) run.on
+    (at-still None seat now new run.on.still reads.statements (LeavesToRead reads.behind) taken taken' run.still reads.on) in
     (on, still-none new.seen on.still on.goes.waits.given (sym on.goes.waits.pending ∙ idle))
 
 -- the replies halted
 pub serving-err : (halt : Halt) (seat : ℕ) (old now new : Sight) (waits other waits' : Reading)
     (left0 left taken0 taken taken' : Option (List ℕ)) → (run : IsServing seat old now waits left0 left taken0 taken)
     → (reads : SeatReads (Some halt) seat now [] other new waits' taken taken')
-    → PlaysOn (Some halt) seat old [] (run.statements ++ reads.statements) (LeavesSome reads.behind) new taken0 taken'
+    → PlaysOn (Some halt) seat old [] (run.statements ++ reads.statements) (LeavesToRead reads.behind) new taken0 taken'
 serving-err halt seat old now new waits other waits' left0 left taken0 taken taken' run reads =
-    on-then (Some halt) seat old now new [] run.statements reads.statements ⊥ (LeavesSome reads.behind) (LeavesSome reads.behind)
-    taken0 taken taken' (eases-some halt (LeavesSome reads.behind) (LeavesSome reads.behind) (λ some. some)) run.on
-    (at-still (Some halt) seat now new run.on.still reads.statements (LeavesSome reads.behind) taken taken' run.still reads.on)
+    on-then (Some halt) seat old now new [] run.statements reads.statements ⊥ (LeavesToRead reads.behind) (LeavesToRead reads.behind)
+    taken0 taken taken' (eases-some halt (LeavesToRead reads.behind) (LeavesToRead reads.behind) (λ some. some)) run.on
+    (at-still (Some halt) seat now new run.on.still reads.statements (LeavesToRead reads.behind) taken taken' run.still reads.on)
 
 -- every whole statement was replied to
 pub replied-serving : (seat : ℕ) (old now new : Sight) (waits waits' : Reading) (left0 left taken0 taken taken' : Option (List ℕ))

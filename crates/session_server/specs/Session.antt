@@ -1,19 +1,28 @@
 -- What a session reads and writes, why it ends, and what its seat knows of the core then.
-use Rattle.std.specs.Prelude.{◌≡◌, ℕ, ◌⊎◌, Bool, true, false, List, length}
+use Rattle.std.specs.Prelude.{◌≡◌, ℕ, ◌⊎◌, Bool, true, false, List, None, length}
 use Rattle.std.specs.Io.KnownBytes.{Appends, Consumes}
 use Rattle.star_io.specs.Faults.{FailedOnce}
 use Rattle.star_io.specs.Link.{ReadingSide, WritingSide}
 use Rattle.star_io.specs.declared.run_end.RunEnd.{RunEnd}
 use Rattle.star_io.specs.declared.run_end.RunEnd.TheVariants as run_end
+use Rattle.script_reader.specs.Reading.{Reading}
 use Rattle.script_reader.specs.Script.{statements_of}
 use Rattle.script_reader.specs.declared.statement.Statement.{Statement}
 use Rattle.reply_text.specs.Text.{text_of_all}
 use Rattle.reply_text.specs.declared.reply.Reply.{Reply}
 use Rattle.core_state.specs.Rows.{Sight}
+use Rattle.board_lock.specs.Seats.{IsSameSeat}
+use Rattle.board_lock.specs.declared.seat.BoardLock.{BoardLock}
+use Rattle.board_lock.specs.declared.seat.BoardSeat.{BoardSeat}
+use Rattle.event_core.specs.Parts.{Parts}
+use Rattle.worker_gate.specs.Turns.{IsReady}
+use Rattle.script_run.specs.Home.{IsAtRest}
+use Rattle.script_run.specs.Pieces.{CountsPieceFault, FindsEnd, TakesPiece}
 use Rattle.script_run.specs.Run.{IsProperFront, MetNoEnd, ReadsBytes, Writes, within_limit}
-use Rattle.script_run.specs.Seat.{HasLeft, IsWhole, TellsSeat}
+use Rattle.script_run.specs.Seat.{LeavesUnreplied, IsAllReplied, TellsSeat}
 use Rattle.script_run.specs.declared.halt.Halt.{Halt}
 use Rattle.script_run.specs.declared.halt.Halt.TheVariants as halt
+use Rattle.script_run.specs.declared.piece.Piece.{Piece}
 use Rattle.session_server.specs.declared.session_end.SessionEnd.{SessionEnd}
 use Rattle.session_server.specs.declared.session_end.SessionEnd.TheVariants.{Done, ReadFault, WriteFault, Limit, Memory}
 
@@ -33,12 +42,22 @@ run_end_of Memory = run_end.NoMemory
 
 -- which faults came. Nothing was read after a read that failed, and nothing was written
 -- after a write that failed
-abbrev pub CountsFaults : SessionEnd → (from from' : ReadingSide) → (to to' : WritingSide) → Type 0
-CountsFaults ReadFault from from' to to' =
+abbrev pub CountsSessionFaults : SessionEnd → (from from' : ReadingSide) → (to to' : WritingSide)
+    → Type 0
+CountsSessionFaults ReadFault from from' to to' =
     FailedOnce from.faults from'.faults from'.failed × (to'.faults ≡ to.faults)
-CountsFaults WriteFault from from' to to' =
+CountsSessionFaults WriteFault from from' to to' =
     (from'.faults ≡ from.faults) × FailedOnce to.faults to'.faults to'.failed
-CountsFaults other from from' to to' = (from'.faults ≡ from.faults) × (to'.faults ≡ to.faults)
+CountsSessionFaults other from from' to to' =
+    (from'.faults ≡ from.faults) × (to'.faults ≡ to.faults)
+
+-- one read of a link gave the reader this piece: which bytes came, whether it found their end, and
+-- whether a fault came
+pub record ReadsLink (piece : Piece) (waits waits' : Reading) (from from' : ReadingSide)
+    : Type 0 where
+  pub takes : TakesPiece piece waits waits' from from'
+  pub end : FindsEnd piece from from'
+  pub faults : CountsPieceFault piece from from'
 
 -- the session was answered to an end at which nothing has failed: all replies were written, or no
 -- memory was left, or the byte past the limit came
@@ -50,8 +69,9 @@ EndsUnfailed Limit = Unit {0}
 EndsUnfailed Memory = Unit {0}
 
 -- where no read and no write of the link failed, a session within its limit ends `Done` or `Memory`
-abbrev pub IsComplete : SessionEnd → (from from' : ReadingSide) → (to to' : WritingSide) → Type 0
-IsComplete end from from' to to' =
+abbrev pub IsSessionComplete : SessionEnd → (from from' : ReadingSide) → (to to' : WritingSide)
+    → Type 0
+IsSessionComplete end from from' to to' =
     ¬ FailedOnce from.faults from'.faults from'.failed
     → ¬ FailedOnce to.faults to'.faults to'.failed
     → EndsUnfailed end
@@ -66,12 +86,20 @@ statements_by Limit ended given = statements_of false (within_limit given)
 statements_by Memory ended given = statements_of ended (within_limit given)
 
 -- every whole statement was replied to
-abbrev pub EndsWhole : SessionEnd → Type 0
-EndsWhole Done = Unit {0}
-EndsWhole ReadFault = Unit {0}
-EndsWhole WriteFault = ⊥
-EndsWhole Limit = Unit {0}
-EndsWhole Memory = ⊥
+abbrev pub EndsSessionWhole : SessionEnd → Type 0
+EndsSessionWhole Done = Unit {0}
+EndsSessionWhole ReadFault = Unit {0}
+EndsSessionWhole WriteFault = ⊥
+EndsSessionWhole Limit = Unit {0}
+EndsSessionWhole Memory = ⊥
+
+-- a session has its seat still, which may take a turn, and is at rest where every whole statement
+-- was replied to
+pub record LeavesSeat (board : BoardLock Parts) (Whole : Type 0) (old new : BoardSeat Parts)
+    : Type 0 where
+  pub ready : IsReady board None new
+  pub same : IsSameSeat old new
+  pub rest : Whole → IsAtRest board new
 
 -- A session between two sights of its seat: its link gave these bytes and took those, and what was
 -- written is the text of the replies to the statements of these bytes, or a front of it, as the end
@@ -86,7 +114,8 @@ pub record AnswersSession (end : SessionEnd) (seat : ℕ) (old new : Sight) (fro
   pub took : Appends to.taken to'.taken written
   pub reads : ReadsBytes (run_end_of end) (length given)
   pub tells : TellsSeat seat old new (statements_by end from'.ended given) replies
-  pub whole : EndsWhole end → IsWhole tells
+  pub whole : EndsSessionWhole end → IsAllReplied tells
   pub writes : Writes (λ ended bytes. text_of_all replies) (run_end_of end) from' given written
   pub memory : end ≡ Memory
-      → IsProperFront written (text_of_all replies) ⊎ (HasLeft tells ⊎ MetNoEnd from from' given)
+      → IsProperFront written (text_of_all replies)
+      ⊎ (LeavesUnreplied tells ⊎ MetNoEnd from from' given)

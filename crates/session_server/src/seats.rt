@@ -5,7 +5,7 @@ ghost use Rattle.board_lock.specs.Seats.{view_of};
 ghost use Rattle.core_state.specs.Settings.{AreWithin};
 ghost use Rattle.script_run.specs.BoardRun.{IsLeader, KnowsNew};
 ghost use Rattle.script_run.specs.Home.{IsAtRest};
-ghost use Rattle.session_server.specs.Server.{AreAtRest, IsNewServer};
+ghost use Rattle.session_server.specs.Server.{AreAtRest, HasSeatsLeft, IsNewServer};
 
 use crate::session::serve_session;
 use board_lock::{BoardLock, BoardSeat};
@@ -86,8 +86,7 @@ fn make_fronts(
 ) -> Result<Vec<SeatFront>, NoMemory>
     requires leader { IsLeader board.now settings.workers first.old }
     requires knows { KnowsNew settings (view_of first.old) }
-    requires most { board.now.seats ≡ settings.seats }
-    requires count { settings.workers + (count + 1) ≡ settings.seats }
+    requires left { HasSeatsLeft settings board.now count }
     ensures own { OnOk result (IsAtRest board.now first.new) }
     ensures fronts { IfOk result (λ fronts. AreAtRest board.now fronts.items) }
     ensures count { IfOk result (λ fronts. length fronts.items ≡ count) }

@@ -1,12 +1,10 @@
 //! Connections: each is taken at a door and handed to one of the sessions, many of which go on at
 //! once. By which seats they are served is in `seats`, and what one of them does in `session`.
-ghost use Rattle.std.specs.Prelude.{◌≡◌, ◌≢◌, ◌<◌, ◌⊎◌, true, None, Some, IsNone};
-ghost use Rattle.star_io.specs.Faults.{next_count};
+ghost use Rattle.std.specs.Prelude.{◌≡◌, ◌≢◌, ◌<◌, ◌⊎◌, true, Some};
 ghost use Rattle.core_state.specs.Settings.{AreWithin};
-ghost use Rattle.script_run.specs.BoardRun.{AreWorkers};
 ghost use Rattle.script_run.specs.Home.{IsAtRest};
-ghost use Rattle.session_server.specs.Server.{AreAtRest, CountsDoor, CountsNext, HasGiven};
-ghost use Rattle.session_server.specs.Server.{HasServed};
+ghost use Rattle.session_server.specs.Server.{AreAtRest, CanServe, CountsDoor, HasGiven};
+ghost use Rattle.session_server.specs.Server.{HasServed, TakesLinks, TellsNext};
 
 use crate::seats::{Server, open_server, serve_beside};
 use crate::session::serve_session;
@@ -14,10 +12,9 @@ use board_lock::BoardLock;
 use core_state::RunSettings;
 use crossbeam_channel::{Receiver, Sender, unbounded};
 use event_core::Core;
-use script_run::{SeatFront, work_beside};
+use script_run::{Host, SeatFront, work_beside};
 use star_io::{Door, Failed, Link, ServeEnd};
 use std::alloc::Global;
-use std::hash::RandomState;
 use std::sync::Wait;
 use std::thread::Threads;
 use worker_gate::Gate;
@@ -68,11 +65,9 @@ struct Sessions<L> {
 /// workers end, and the board goes.
 ///
 /// The core is made before the door is asked: where it finds no memory, the door is untouched. It
-/// hashes by these keys, on which no reply depends.
+/// hashes by the keys of the host, on which no reply depends.
 pub fn serve<R: Threads + Wait + Sync, D: Door, G: Gate + Sync>(
-    rt: &R,
-    alloc: Global,
-    hash_keys: RandomState,
+    host: Host<&R>,
     settings: RunSettings,
     port: u16,
     accept: u32,
@@ -88,10 +83,11 @@ pub fn serve<R: Threads + Wait + Sync, D: Door, G: Gate + Sync>(
         (D.door_faults door.old) (D.door_faults door.new) (D.door_failed door.new) }
     ensures untouched { result ≡ ServeEnd.NoMemory → door.new ≡ door.old }
 {
-    let Ok(server) = open_server(alloc, hash_keys, settings) else {
+    let Ok(server) = open_server(host.alloc, host.hash_keys, settings) else {
         return ServeEnd::NoMemory;
     };
-    open_links(rt, alloc, server, DoorRequest { port, accept }, door, gate)
+    let asked = DoorRequest { port, accept };
+    open_links(host.rt, host.alloc, server, asked, door, gate)
 }
 
 /// Makes the way to the sessions, and listens. Where no memory is left for it, the door is
@@ -104,9 +100,7 @@ fn open_links<R: Threads + Wait + Sync, D: Door, G: Gate + Sync>(
     door: &mut D,
     gate: &G,
 ) -> ServeEnd
-    requires own { IsAtRest server.board server.own.seat }
-    requires workers { AreWorkers server.board server.workers.items }
-    requires sessions { AreAtRest server.board server.sessions.items }
+    requires server { CanServe server }
     ensures asked { result ≢ ServeEnd.NoMemory → D.asked door.new ≡ Some asked.port }
     ensures ended { result ≡ ServeEnd.Ended → (D.ended door.new ≡ true)
         ⊎ ((asked.accept ≢ 0) × HasGiven asked.accept (D.given door.old) (D.given door.new)) }
@@ -130,9 +124,7 @@ fn listen<R: Threads + Wait + Sync, D: Door, G: Gate + Sync>(
     door: &mut D,
     gate: &G,
 ) -> ServeEnd
-    requires own { IsAtRest server.board server.own.seat }
-    requires workers { AreWorkers server.board server.workers.items }
-    requires sessions { AreAtRest server.board server.sessions.items }
+    requires server { CanServe server }
     ensures asked { D.asked door.new ≡ Some asked.port }
     ensures ended { result ≡ ServeEnd.Ended → (D.ended door.new ≡ true)
         ⊎ ((asked.accept ≢ 0) × HasGiven asked.accept (D.given door.old) (D.given door.new)) }
@@ -158,9 +150,7 @@ fn serve_door<R: Threads + Wait + Sync, D: Door, G: Gate + Sync>(
     door: &mut D,
     gate: &G,
 ) -> ServeEnd
-    requires own { IsAtRest server.board server.own.seat }
-    requires workers { AreWorkers server.board server.workers.items }
-    requires sessions { AreAtRest server.board server.sessions.items }
+    requires server { CanServe server }
     requires listening { D.listening door.old ≡ true }
     ensures { HasServed accept result (D.asked door.old) (D.asked door.new) (D.ended door.new)
         (D.given door.old) (D.given door.new)
@@ -274,11 +264,9 @@ fn take_counted<R: Wait, D: Door, G: Gate>(
     requires own { IsAtRest board.now reception.old.own.seat }
     requires listening { D.listening door.old ≡ true }
     ensures own { IsAtRest board.now reception.new.own.seat }
-    ensures asked { D.asked door.new ≡ D.asked door.old }
-    ensures ended { result ≡ ServeEnd.Ended → (D.ended door.new ≡ true)
-        ⊎ ((accept ≢ 0) × HasGiven accept (D.given door.old) (D.given door.new)) }
-    ensures served { result ≢ ServeEnd.NoMemory }
-    ensures faults { CountsDoor result
+    ensures served { HasServed accept result
+        (D.asked door.old) (D.asked door.new) (D.ended door.new)
+        (D.given door.old) (D.given door.new)
         (D.door_faults door.old) (D.door_faults door.new) (D.door_failed door.new) }
 {
     if accept == 0 {
@@ -298,10 +286,8 @@ fn take_all<R: Wait, D: Door, G: Gate>(
     requires own { IsAtRest board.now reception.old.own.seat }
     requires listening { D.listening door.old ≡ true }
     ensures own { IsAtRest board.now reception.new.own.seat }
-    ensures asked { D.asked door.new ≡ D.asked door.old }
     ensures ended { result ≡ ServeEnd.Ended → D.ended door.new ≡ true }
-    ensures served { result ≢ ServeEnd.NoMemory }
-    ensures faults { CountsDoor result
+    ensures takes { TakesLinks (Some result) (D.asked door.old) (D.asked door.new)
         (D.door_faults door.old) (D.door_faults door.new) (D.door_failed door.new) }
 {
     'links: for _ in rt.forever() {
@@ -324,11 +310,9 @@ fn take_some<R: Wait, D: Door, G: Gate>(
     requires own { IsAtRest board.now reception.old.own.seat }
     requires listening { D.listening door.old ≡ true }
     ensures own { IsAtRest board.now reception.new.own.seat }
-    ensures asked { D.asked door.new ≡ D.asked door.old }
     ensures ended { result ≡ ServeEnd.Ended → (D.ended door.new ≡ true)
         ⊎ HasGiven accept (D.given door.old) (D.given door.new) }
-    ensures served { result ≢ ServeEnd.NoMemory }
-    ensures faults { CountsDoor result
+    ensures takes { TakesLinks (Some result) (D.asked door.old) (D.asked door.new)
         (D.door_faults door.old) (D.door_faults door.new) (D.door_failed door.new) }
 {
     'links: for _taken in 0..accept {
@@ -351,12 +335,9 @@ fn take_next<R: Wait, D: Door, G: Gate>(
     requires listening { D.listening door.old ≡ true }
     ensures own { IsAtRest board.now reception.new.own.seat }
     ensures listening { D.listening door.new ≡ true }
-    ensures asked { D.asked door.new ≡ D.asked door.old }
-    ensures ended { result ≡ Some ServeEnd.Ended → D.ended door.new ≡ true }
-    ensures served { result ≢ Some ServeEnd.NoMemory }
-    ensures given { IsNone result → D.given door.new ≡ next_count (D.given door.old) }
-    ensures faults { CountsNext result
+    ensures takes { TakesLinks result (D.asked door.old) (D.asked door.new)
         (D.door_faults door.old) (D.door_faults door.new) (D.door_failed door.new) }
+    ensures tells { TellsNext result (D.given door.old) (D.given door.new) (D.ended door.new) }
 {
     match door.accept() {
         Err(Failed) => Some(ServeEnd::DoorFault),

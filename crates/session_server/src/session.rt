@@ -1,5 +1,5 @@
 //! One session: the statements of a connection go to a core, and their replies come back.
-ghost use Rattle.std.specs.Prelude.{◌≡◌, ◌<◌, ◌≤◌, None, false, length, OnOk};
+ghost use Rattle.std.specs.Prelude.{◌≡◌, ◌<◌, ◌≤◌, None, false, length, IsOk};
 ghost use Rattle.board_lock.specs.Seats.{IsSameSeat, view_of};
 ghost use Rattle.core_state.specs.Rows.{made_by};
 ghost use Rattle.script_reader.specs.Reading.{StaysFed, no_reading};
@@ -7,8 +7,8 @@ ghost use Rattle.script_reader.specs.declared.reader.TheConstants.{SCRIPT_LIMIT}
 ghost use Rattle.worker_gate.specs.Turns.{IsReady, sight_in};
 ghost use Rattle.script_run.specs.Answer.{CountsHalt};
 ghost use Rattle.script_run.specs.Home.{IsAtRest, LetsGo, RepliesWhole};
-ghost use Rattle.script_run.specs.Pieces.{CountsFault, FindsEnd, TakesPiece};
-ghost use Rattle.session_server.specs.Session.{AnswersSession, CountsFaults, EndsWhole, IsComplete};
+ghost use Rattle.session_server.specs.Session.{AnswersSession, CountsSessionFaults, EndsSessionWhole, IsSessionComplete};
+ghost use Rattle.session_server.specs.Session.{LeavesSeat, ReadsLink};
 
 use crate::session_end::{SessionEnd, end_of_halt};
 use board_lock::BoardLock;
@@ -39,9 +39,9 @@ pub fn serve_session<R: Wait, K: Link, G: Gate>(
     ensures answers { AnswersSession result (view_of front.old.seat).number
         (sight_in (view_of front.old.seat)) (sight_in (view_of front.new.seat))
         (K.reading link.old) (K.reading link.new) (K.writing link.old) (K.writing link.new) }
-    ensures faults { CountsFaults result
+    ensures faults { CountsSessionFaults result
         (K.reading link.old) (K.reading link.new) (K.writing link.old) (K.writing link.new) }
-    ensures complete { IsComplete result
+    ensures complete { IsSessionComplete result
         (K.reading link.old) (K.reading link.new) (K.writing link.old) (K.writing link.new) }
 {
     let mut reader = ScriptReader::new(front.alloc());
@@ -81,15 +81,13 @@ fn play_session<R: Wait, K: Link, G: Gate>(
 ) -> SessionEnd
     requires rest { IsAtRest board.now front.old.seat }
     requires unfed { reader.old ≡ no_reading }
-    ensures ready { IsReady board.now None front.new.seat }
-    ensures same { IsSameSeat front.old.seat front.new.seat }
+    ensures seat { LeavesSeat board.now (EndsSessionWhole result) front.old.seat front.new.seat }
     ensures answers { AnswersSession result (view_of front.old.seat).number
         (sight_in (view_of front.old.seat)) (sight_in (view_of front.new.seat))
         (K.reading link.old) (K.reading link.new) (K.writing link.old) (K.writing link.new) }
-    ensures rest { EndsWhole result → IsAtRest board.now front.new.seat }
     ensures made { (sight_in (view_of front.new.seat)).row.made
         ≡ made_by (view_of front.old.seat).number (sight_in (view_of front.new.seat)).seen }
-    ensures faults { CountsFaults result
+    ensures faults { CountsSessionFaults result
         (K.reading link.old) (K.reading link.new) (K.writing link.old) (K.writing link.new) }
 {
     let mut piece = [0u8; PIECE_BYTES];
@@ -117,10 +115,8 @@ fn read_link<K: Link>(link: &mut K, piece: &mut [u8], reader: &mut ScriptReader)
     requires piece { 0 < length piece.old }
     requires within { reader.old.fed ≤ SCRIPT_LIMIT }
     requires not_ended { reader.old.ended ≡ false }
-    ensures takes { TakesPiece result reader.old reader.new
+    ensures reads { ReadsLink result reader.old reader.new
         (K.reading link.old) (K.reading link.new) }
-    ensures end { FindsEnd result (K.reading link.old) (K.reading link.new) }
-    ensures faults { CountsFault result (K.reading link.old) (K.reading link.new) }
     ensures written { K.writing link.new ≡ K.writing link.old }
 {
     read_piece(link, piece, reader)
@@ -137,14 +133,12 @@ fn reply_link<R: Wait, K: Link, G: Gate>(
     gate: &G,
 ) -> Result<(), Halt>
     requires { IsAtRest board.now front.old.seat }
-    ensures ready { IsReady board.now None front.new.seat }
-    ensures same { IsSameSeat front.old.seat front.new.seat }
+    ensures seat { LeavesSeat board.now (IsOk result) front.old.seat front.new.seat }
     ensures replies { RepliesWhole result (view_of front.old.seat).number
         (sight_in (view_of front.old.seat)) reader.old
         (sight_in (view_of front.new.seat)) reader.new
         (K.writing link.old).taken (K.writing link.new).taken }
     ensures stays { StaysFed reader.old reader.new }
-    ensures rest { OnOk result (IsAtRest board.now front.new.seat) }
     ensures faults { CountsHalt result (K.writing link.old) (K.writing link.new) }
     ensures read { K.reading link.new ≡ K.reading link.old }
 {

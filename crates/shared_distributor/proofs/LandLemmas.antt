@@ -16,7 +16,7 @@ use Rattle.shared_distributor.specs.declared.seats.SeatGroups.{SeatGroups}
 use Rattle.shared_distributor.specs.declared.seats.SeatGroups.TheVariants.{Away}
 use Rattle.shared_distributor.specs.Apart.{HasLanded, MayFoldApart, MayLand, count_in}
 use Rattle.distributor.specs.Folded.{after_batch}
-use Rattle.shared_distributor.specs.Seats.{AreShared, IsOut, IsSeat, lending_in, own_in, seen_of}
+use Rattle.shared_distributor.specs.Seats.{AreShared, IsOut, IsSeat, MayComeHome, lending_in, own_in, seen_of}
 use Rattle.shared_distributor.specs.Shared.{AreBitsWithin, AreFolded, Lending}
 use Rattle.distributor.specs.Slots.{HaveRoom}
 use Rattle.shared_distributor.proofs.FoldedLemmas.{long-own, may-land, row-of, seen-landed, spoiled-seen}
@@ -81,25 +81,29 @@ module _ (batch : Rows) (lost : ℕ) (own : List (Option Grouped)) (seats : List
     out : IsOut home lent-of.0
     out = subst (IsSeat home) lent-of.1 (shared.seats k d low)
 
-    pub long-come : length own ≡ length home
+    long-come : length own ≡ length home
     long-come =
         let may = lent-of.2 in
         long-own may.1.0 batch may.1.1 lost own lent-of.0 may.1.2 may.0 home out
 
-    pub out-come : IsSome (lending_in (get_or seats k d))
+    out-come : IsSome (lending_in (get_or seats k d))
     out-come = subst (λ (seat : SeatGroups). IsSome (lending_in seat)) (sym lent-of.1) refl
 
     module _ (laws : MayFoldApart) (room : All (HaveRoom batch.count) (seen_of seats home)) where
-      pub may-come : (slot : ℕ) → slot < length home
+      may-come-at : (slot : ℕ) → slot < length home
           → MayLand (bit_at lost slot == 1) (count_in (get_or (own_in (get_or seats k d)) slot None)) (get_or home slot None)
           (get_or (own_in (get_or seats k d)) slot None)
           (get_or own slot None)
-      may-come slot inside =
+      may-come-at slot inside =
           let may = lent-of.2 in
           subst (λ (seat : SeatGroups). MayLand (bit_at lost slot == 1) (count_in (get_or (own_in seat) slot None)) (get_or home slot None)
           (get_or (own_in seat) slot None)
           (get_or own slot None)) (sym lent-of.1)
           (may-land laws may.1.0 batch may.1.1 lost own lent-of.0 may.1.2 may.0 home seats k d low shared lent-of.1 room slot inside)
+
+      -- so all of it may come home
+      pub may-come : MayComeHome lost own home (get_or seats k d)
+      may-come = record { out = out-come; fits = shared.seats k d low; long = long-come; each = may-come-at }
 
       module _ (later : List (Option Grouped)) (seat : SeatGroups) (spoiled : ℕ) (long : length later ≡ length home) (fits : IsSeat later seat)
           (landed : (slot : ℕ) → slot < length home → HasLanded (bit_at lost slot == 1) (bit_at spoiled slot == 1) (get_or home slot None)

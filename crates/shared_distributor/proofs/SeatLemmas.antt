@@ -16,7 +16,7 @@ use Rattle.shared_distributor.specs.declared.seats.SeatGroups.{SeatGroups}
 use Rattle.shared_distributor.specs.declared.seats.SeatGroups.TheVariants.{NotYet, AtHome, Away}
 use Rattle.shared_distributor.specs.Apart.{HasMoved, IsLater, IsPair, IsPart, IsSlot, LeavesOthers, MayFoldApart, count_in, seen_with, with_own, with_owns}
 use Rattle.shared_distributor.specs.Seats.{AreShared, HaveMoved, IsOut, IsSeat, IsWithout, lending_in, own_in, owns_at, seen_at, seen_of}
-use Rattle.shared_distributor.specs.Shared.{IsInside, Lending}
+use Rattle.shared_distributor.specs.Shared.{IsAllIn, Lending}
 use Rattle.distributor.specs.Slots.{HaveRoom}
 use Rattle.shared_distributor.proofs.ComingLemmas.{moved-same}
 use Rattle.shared_distributor.proofs.OwnLemmas.{rows-absorbed, rows-owns, rows-seat, seen-moved, slot-moved, slot-none}
@@ -237,14 +237,14 @@ seen-put seats home slot x low =
     ])
 
 -- a seat that is out has other slots
-inside_at : (slot : ℕ) (seats : List SeatGroups) → IsInside slot (map lending_in seats)
+inside_at : (slot : ℕ) (seats : List SeatGroups) → IsAllIn slot (map lending_in seats)
     → All (λ seat. IfSome (lending_in seat) (λ (one : Lending). ¬ (Has one.slots slot))) seats
 inside_at slot seats inside k d low =
     let long = length-map seats lending_in in
     subst (λ (o : Option Lending). IfSome o (λ (one : Lending). ¬ (Has one.slots slot))) (get_or-map lending_in seats k d None low)
     (inside k None (omega arith))
 
-pub inside-seat : (slot : ℕ) (seats : List SeatGroups) (k : ℕ) (d : SeatGroups) → k < length seats → IsInside slot (map lending_in seats)
+pub inside-seat : (slot : ℕ) (seats : List SeatGroups) (k : ℕ) (d : SeatGroups) → k < length seats → IsAllIn slot (map lending_in seats)
     → IfSome (lending_in (get_or seats k d)) (λ (one : Lending). ¬ (Has one.slots slot))
 inside-seat slot seats k d low inside = inside_at slot seats inside k d low
 
@@ -270,7 +270,7 @@ seat_put home slot x (Away lent) low inside is =
 
 pub shared-put : (home : List (Option Grouped)) (seats : List SeatGroups) (slot : ℕ) (x : Option Grouped) → AreShared home seats
     → slot < length home
-    → IsSlot x (owns_at slot seats) → (IsSome x → IsInside slot (map lending_in seats)) → AreShared (set home slot x) seats
+    → IsSlot x (owns_at slot seats) → (IsSome x → IsAllIn slot (map lending_in seats)) → AreShared (set home slot x) seats
 shared-put home seats slot x shared low now inside =
     let long = length-set home slot x in
     let one = shared.some in
@@ -318,7 +318,7 @@ free-home seats home slot free =
 -- where no seat has groups
 pub put-alone : (home later : List (Option Grouped)) (seats : List SeatGroups) (slot : ℕ) (x : Option Grouped) → AreShared home seats
     → slot < length home
-    → All (λ own. own ≡ None) (owns_at slot seats) → IfSome x AreOfItems → HaveRoom 0 x → (IsSome x → IsInside slot (map lending_in seats))
+    → All (λ own. own ≡ None) (owns_at slot seats) → IfSome x AreOfItems → HaveRoom 0 x → (IsSome x → IsAllIn slot (map lending_in seats))
     → later ≡ set home slot x
     → (seen_of seats later ≡ set (seen_of seats home) slot x) × AreShared later seats
 put-alone home later seats slot x shared low none shaped room inside is = (

@@ -98,8 +98,15 @@ pub record LeavesOthers (slot : ℕ) (old new : List (Option Grouped)) : Type 0 
   pub long : length new ≡ length old
   pub others : (other : ℕ) → other ≢ slot → at_slot other new ≡ at_slot other old
 
+-- home has taken in what a seat had at a slot, so that nothing is left there, and at all other
+-- slots has what it had
+pub record ComesFrom (own : Option Grouped) (slot : ℕ) (home later : List (Option Grouped))
+    : Type 0 where
+  pub moved : HasMoved [] (at_slot slot home) own (at_slot slot later) None
+  pub others : LeavesOthers slot home later
+
 -- a seat has groups at a slot exactly where these are wanted, and there are some at home
-pub record IsReady (wanted : Bool) (home own : Option Grouped) : Type 0 where
+pub record IsLentAsWanted (wanted : Bool) (home own : Option Grouped) : Type 0 where
   pub there : IsTrue wanted → IsSome home → IsSome own
   pub inside : IsSome own → IsTrue wanted × IsSome home
 

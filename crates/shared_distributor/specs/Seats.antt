@@ -1,12 +1,13 @@
 -- What seats have of a shared distributor, and what is seen of it.
-use Rattle.std.specs.Prelude.{◌≡◌, ◌≢◌, ℕ, ◌<◌, ◌≤◌, List, [], All, IsSome, Option, None, Some, length, map, slice_index, ⊤}
+use Rattle.std.specs.Prelude.{◌≡◌, ◌≢◌, ℕ, ◌<◌, ◌≤◌, ◌==◌, List, [], All, IfSome, IsSome, Option, None, Some, length, map, slice_index, ⊤}
+use Rattle.std.specs.Int.{bit_at}
 use Rattle.std.specs.List.{range_with_len}
 use Rattle.bit_words.specs.Sets.{Has}
 use Rattle.aggregations.specs.Grouped.{Grouped}
 use Rattle.shared_distributor.specs.declared.seats.LentGroups.{LentGroups}
 use Rattle.shared_distributor.specs.declared.seats.SeatGroups.{SeatGroups}
 use Rattle.shared_distributor.specs.declared.seats.SeatGroups.TheVariants.{NotYet, AtHome, Away}
-use Rattle.shared_distributor.specs.Apart.{HasMoved, IsSlot, at_slot, count_in, seen_with}
+use Rattle.shared_distributor.specs.Apart.{HasLanded, HasMoved, IsPair, IsSlot, MayLand, at_slot, count_in, seen_with}
 use Rattle.shared_distributor.specs.Shared.{Lending}
 
 -- the groups that a seat has of its own, at home or as they went out
@@ -67,3 +68,47 @@ pub record IsWithout (slot : ℕ) (old new : SeatGroups) : Type 0 where
 abbrev pub HaveMoved : (home own later kept : List (Option Grouped)) → Type 0
 HaveMoved home own later kept = (slot : ℕ) → HasMoved [] (at_slot slot home) (at_slot slot own)
     (at_slot slot later) (at_slot slot kept)
+
+-- at home there are as many slots as there were, and a seat has what fits them
+pub record FitsHome (home later : List (Option Grouped)) (seat : SeatGroups) : Type 0 where
+  pub long : length later ≡ length home
+  pub fits : IsSeat later seat
+
+-- a seat has nothing with it, and what it has at each slot may go out
+pub record MayGoOut (home : List (Option Grouped)) (seat : SeatGroups) : Type 0 where
+  pub none : lending_in seat ≡ None
+  pub fits : IsSeat home seat
+  pub pairs : (slot : ℕ) → IsPair (at_slot slot home) (at_slot slot (own_in seat))
+
+-- groups for some slots go out with a seat, where there are some at home too; where there are none
+-- to go out, the seat has nothing with it
+pub record GoesOutWith (slots : ℕ) (own : Option (List (Option Grouped)))
+    (home : List (Option Grouped)) (seat : SeatGroups) : Type 0 where
+  pub out : IfSome own (λ its. lending_in seat ≡ Some (record { slots = slots; groups = its }))
+  pub none : own ≡ None → lending_in seat ≡ None
+  pub inside : IfSome own (λ its. (slot : ℕ) → IsSome (at_slot slot its)
+      → IsSome (at_slot slot home))
+
+-- what a seat had with it may come home, where some slots of it were lost
+pub record MayComeHome (lost : ℕ) (own home : List (Option Grouped)) (seat : SeatGroups)
+    : Type 0 where
+  pub out : IsSome (lending_in seat)
+  pub fits : IsSeat home seat
+  pub long : length own ≡ length home
+  pub each : (slot : ℕ) → slot < length home →
+      MayLand (bit_at lost slot == 1) (count_in (at_slot slot (own_in seat)))
+      (at_slot slot home) (at_slot slot (own_in seat)) (at_slot slot own)
+
+-- at each slot it came home, or the slot is spoiled
+pub record HaveLanded (lost spoiled : ℕ) (home out own later kept : List (Option Grouped))
+    : Type 0 where
+  pub each : (slot : ℕ) → slot < length home →
+      HasLanded (bit_at lost slot == 1) (bit_at spoiled slot == 1) (at_slot slot home)
+      (at_slot slot out) (at_slot slot own) (at_slot slot later) (at_slot slot kept)
+  pub low : (slot : ℕ) → Has spoiled slot → slot < length home
+
+-- what holds of a shared distributor, and what is out with its seats
+pub record AreSharedWith (away : List (Option Lending)) (home : List (Option Grouped))
+    (all : List SeatGroups) : Type 0 where
+  pub out : map lending_in all ≡ away
+  pub shared : AreShared home all

@@ -20,8 +20,8 @@ pub record SharedGroups : Type 0 where
   pub out : List (Option Lending)
 
 -- no seat that is out has a slot
-abbrev pub IsInside : (slot : ℕ) → List (Option Lending) → Type 0
-IsInside slot out = All (λ lending. IfSome lending (λ one. ¬ (Has one.slots slot))) out
+abbrev pub IsAllIn : (slot : ℕ) → List (Option Lending) → Type 0
+IsAllIn slot out = All (λ lending. IfSome lending (λ one. ¬ (Has one.slots slot))) out
 
 -- no row of a batch has the bit of another slot than these
 abbrev pub AreBitsWithin : Rows → (slots : ℕ) → Type 0

@@ -2,8 +2,8 @@
 ghost use Rattle.std.specs.Prelude.{◌≡◌, ℕ, ◌<◌, ◌≤◌, List, [], Option, IfSome, IsSome, None, Some, OnOk, length, slice_index};
 ghost use Rattle.bit_words.specs.Sets.{Has};
 ghost use Rattle.aggregations.specs.Grouped.{Grouped};
-ghost use Rattle.shared_distributor.specs.Apart.{HasMoved, IsPair, IsReady, LeavesOthers, at_slot, count_in};
-ghost use Rattle.shared_distributor.specs.Seats.{HaveMoved, IsSeat, lending_in, own_in};
+ghost use Rattle.shared_distributor.specs.Apart.{HasMoved, IsPair, IsLentAsWanted, LeavesOthers, at_slot, count_in};
+ghost use Rattle.shared_distributor.specs.Seats.{FitsHome, GoesOutWith, HaveMoved, IsSeat, MayGoOut, lending_in, own_in};
 
 use crate::seats::{LentGroups, SeatGroups, put_seat, take_back};
 use bit_words::Bits;
@@ -29,7 +29,8 @@ fn prepare_slot(
     requires pair { IsPair (at_slot slot home.old) (at_slot slot own.old) }
     ensures moved { HasMoved [] (at_slot slot home.old) (at_slot slot own.old)
         (at_slot slot home.new) (at_slot slot own.new) }
-    ensures ready { OnOk result (IsReady wanted (at_slot slot home.new) (at_slot slot own.new)) }
+    ensures ready { OnOk result
+        (IsLentAsWanted wanted (at_slot slot home.new) (at_slot slot own.new)) }
     ensures others { LeavesOthers slot home.old home.new × LeavesOthers slot own.old own.new }
 {
     if !wanted || !home.has(slot) {
@@ -108,17 +109,10 @@ pub(crate) fn lend_to_seat(
     slots: Bits<1>,
 ) -> Option<Distributor>
     requires some { 1 ≤ length home.old }
-    requires seat { IsSeat home.old seat.old }
-    requires home { lending_in seat.old ≡ None }
-    requires pairs { (slot : ℕ) → IsPair (at_slot slot home.old) (at_slot slot (own_in seat.old)) }
+    requires may { MayGoOut home.old seat.old }
     ensures moved { HaveMoved home.old (own_in seat.old) home.new (own_in seat.new) }
-    ensures long { length home.new ≡ length home.old }
-    ensures seat { IsSeat home.new seat.new }
-    ensures out { IfSome result
-        (λ own. lending_in seat.new ≡ Some (record { slots = slots; groups = own })) }
-    ensures none { result ≡ None → lending_in seat.new ≡ None }
-    ensures inside { IfSome result (λ own. (slot : ℕ) → IsSome (at_slot slot own)
-        → IsSome (at_slot slot home.new)) }
+    ensures seat { FitsHome home.old home.new seat.new }
+    ensures out { GoesOutWith slots result home.new seat.new }
 {
     let mut own = own_of(alloc, home.slots(), mem::replace(seat, SeatGroups::NotYet))?;
     if prepare(alloc, hash_keys, home, &mut own, &slots).is_err() {

@@ -1,13 +1,12 @@
 //! How groups of a seat's own come home, with the rows of a batch more.
-ghost use Rattle.std.specs.Prelude.{◌≡◌, ◌+◌, ◌^◌, ℕ, ◌<◌, ◌≤◌, ◌==◌, List, IfSome, IsSome, None, length, slice_index, is_err};
+ghost use Rattle.std.specs.Prelude.{◌≡◌, ◌+◌, ◌^◌, ℕ, ◌<◌, ◌≤◌, ◌==◌, List, IfSome, None, length, slice_index, is_err};
 ghost use Rattle.std.specs.Int.{bit_at};
-ghost use Rattle.bit_words.specs.Sets.{Has};
 ghost use Rattle.star_values.specs.declared.value.Value as cell;
 ghost use Rattle.star_plan.specs.declared.place.Place.{Place};
 ghost use Rattle.aggregations.specs.Absorbing.{with_all, without_rows};
 ghost use Rattle.shared_distributor.specs.declared.seats.LentGroups.{LentGroups};
-ghost use Rattle.shared_distributor.specs.Apart.{HasLanded, HasSettled, LeavesOthers, MayLand, at_slot, count_in};
-ghost use Rattle.shared_distributor.specs.Seats.{IsSeat, lending_in, own_in};
+ghost use Rattle.shared_distributor.specs.Apart.{HasLanded, HasSettled, LeavesOthers, MayLand, at_slot};
+ghost use Rattle.shared_distributor.specs.Seats.{FitsHome, HaveLanded, MayComeHome, lending_in, own_in};
 
 use crate::laws::rows_fold_apart;
 use crate::seats::{LentGroups, SeatGroups, put_seat};
@@ -86,12 +85,9 @@ fn take_home(
     requires may { (slot : ℕ) → slot < length home.old →
         MayLand (bit_at lost.now slot == 1) (slice_index lent.now.counts slot)
         (at_slot slot home.old) (at_slot slot lent.now.groups.value) (at_slot slot own.old) }
-    ensures landed { (slot : ℕ) → slot < length home.old →
-        HasLanded (bit_at lost.now slot == 1) (bit_at result slot == 1)
-        (at_slot slot home.old) (at_slot slot lent.now.groups.value)
-        (at_slot slot own.old) (at_slot slot home.new) (at_slot slot own.new) }
+    ensures landed { HaveLanded lost.now result
+        home.old lent.now.groups.value own.old home.new own.new }
     ensures long { (length home.new ≡ length home.old) × (length own.new ≡ length own.old) }
-    ensures low { (slot : ℕ) → Has result slot → slot < length home.old }
 {
     let mut spoiled = Bits::empty();
     for slot in 0..home.slots() {
@@ -109,22 +105,12 @@ pub(crate) fn land_at_seat(
     own: Distributor,
     lost: &Bits<1>,
 ) -> Bits<1>
-    requires long { length own ≡ length home.old }
     requires few { length home.old ≤ 64 }
-    requires out { IsSome (lending_in seat.old) }
-    requires seat { IsSeat home.old seat.old }
-    requires may { (slot : ℕ) → slot < length home.old →
-        MayLand (bit_at lost.now slot == 1)
-        (count_in (at_slot slot (own_in seat.old))) (at_slot slot home.old)
-        (at_slot slot (own_in seat.old)) (at_slot slot own) }
-    ensures landed { (slot : ℕ) → slot < length home.old →
-        HasLanded (bit_at lost.now slot == 1) (bit_at result slot == 1)
-        (at_slot slot home.old) (at_slot slot (own_in seat.old)) (at_slot slot own)
-        (at_slot slot home.new) (at_slot slot (own_in seat.new)) }
-    ensures long { length home.new ≡ length home.old }
-    ensures seat { IsSeat home.new seat.new }
+    requires may { MayComeHome lost.now own home.old seat.old }
+    ensures landed { HaveLanded lost.now result
+        home.old (own_in seat.old) own home.new (own_in seat.new) }
+    ensures seat { FitsHome home.old home.new seat.new }
     ensures home { lending_in seat.new ≡ None }
-    ensures low { (slot : ℕ) → Has result slot → slot < length home.old }
 {
     let SeatGroups::Away(lent) = mem::replace(seat, SeatGroups::NotYet) else {
         return Bits::empty();

@@ -7,7 +7,6 @@ mod landing;
 mod laws;
 mod seats;
 mod shared;
-mod shared_home;
 mod shared_seats;
 
 pub use crossing::shared_distributors_may_be_sent;

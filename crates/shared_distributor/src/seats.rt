@@ -1,10 +1,10 @@
 //! What seats have of a shared distributor: groups of their own, at home or out with them. How
 //! these go out is in `going`, and how they come home in `landing`.
-ghost use Rattle.std.specs.Prelude.{◌≡◌, ◌<◌, [], All, IfSome, None, length, slice_set, map};
+ghost use Rattle.std.specs.Prelude.{◌≡◌, ◌<◌, All, IfSome, None, length, slice_set, map};
 ghost use Rattle.bit_words.specs.Sets.{Has};
-ghost use Rattle.shared_distributor.specs.Apart.{HasMoved, IsPair, LeavesOthers, at_slot};
-ghost use Rattle.shared_distributor.specs.Seats.{AreShared, IsSeat, IsWithout, lending_in, own_in, owns_at, seen_of};
-ghost use Rattle.shared_distributor.specs.Shared.{IsInside};
+ghost use Rattle.shared_distributor.specs.Apart.{ComesFrom, IsPair, at_slot};
+ghost use Rattle.shared_distributor.specs.Seats.{AreShared, AreSharedWith, IsSeat, IsWithout, lending_in, own_in, owns_at, seen_of};
+ghost use Rattle.shared_distributor.specs.Shared.{IsAllIn};
 
 use crate::laws::rows_fold_apart;
 use bit_words::Bits;
@@ -44,9 +44,7 @@ pub(crate) fn take_back(home: &mut Distributor, own: &mut Distributor, slot: u32
     requires home { slot < length home.old }
     requires own { slot < length own.old }
     requires pair { IsPair (at_slot slot home.old) (at_slot slot own.old) }
-    ensures moved { HasMoved [] (at_slot slot home.old) (at_slot slot own.old)
-        (at_slot slot home.new) None }
-    ensures home { LeavesOthers slot home.old home.new }
+    ensures taken { ComesFrom (at_slot slot own.old) slot home.old home.new }
     ensures own { own.new ≡ slice_set own.old slot None }
 {
     rows_fold_apart();
@@ -63,9 +61,7 @@ fn take_from_seat(home: &mut Distributor, seat: &mut SeatGroups, slot: u32)
     requires seat { IsSeat home.old seat.old }
     requires pair { IsPair (at_slot slot home.old) (at_slot slot (own_in seat.old)) }
     requires inside { IfSome (lending_in seat.old) (λ one. ¬ (Has one.slots slot)) }
-    ensures moved { HasMoved [] (at_slot slot home.old) (at_slot slot (own_in seat.old))
-        (at_slot slot home.new) None }
-    ensures home { LeavesOthers slot home.old home.new }
+    ensures taken { ComesFrom (at_slot slot (own_in seat.old)) slot home.old home.new }
     ensures seat { IsWithout slot seat.old seat.new }
 {
     match seat {
@@ -78,10 +74,9 @@ fn take_from_seat(home: &mut Distributor, seat: &mut SeatGroups, slot: u32)
 pub(crate) fn take_from_seats(home: &mut Distributor, seats: &mut [SeatGroups], slot: u32)
     requires slot { slot < length home.old }
     requires shared { AreShared home.old seats.old }
-    requires inside { IsInside slot (map lending_in seats.old) }
+    requires inside { IsAllIn slot (map lending_in seats.old) }
     ensures seen { seen_of seats.new home.new ≡ seen_of seats.old home.old }
-    ensures out { map lending_in seats.new ≡ map lending_in seats.old }
-    ensures shared { AreShared home.new seats.new }
+    ensures stays { AreSharedWith (map lending_in seats.old) home.new seats.new }
     ensures none { All (λ own. own ≡ None) (owns_at slot seats.new) }
 {
     rows_fold_apart();

@@ -6,7 +6,7 @@ ghost use Rattle.fact_versions.specs.declared.version.Version.{Version};
 ghost use Rattle.dimension_rows.specs.declared.dimension_row.DimensionRow.{DimensionRow};
 ghost use Rattle.shared_distributor.specs.declared.seats.SeatGroups.TheVariants.{NotYet};
 ghost use Rattle.distributor.specs.Folded.{after_batch};
-ghost use Rattle.shared_distributor.specs.Seats.{AreShared, lending_in, seen_of};
+ghost use Rattle.shared_distributor.specs.Seats.{AreShared, AreSharedWith, lending_in, seen_of};
 ghost use Rattle.shared_distributor.specs.Shared.{AreBitsWithin, AreFolded, Lending};
 
 use crate::going::lend_to_seat;
@@ -103,8 +103,8 @@ pub(crate) fn land_at(
         → (IsSome (slice_index_or (seen_of seats.old home.old) slot None)
         × (slot < length (seen_of seats.old home.old)))
         × ((row : ℕ) × Has (slice_index batch.now.bits row) slot) }
-    ensures out { map lending_in seats.new ≡ slice_set (map lending_in seats.old) seat None }
-    ensures shared { AreShared home.new seats.new }
+    ensures stays { AreSharedWith (slice_set (map lending_in seats.old) seat None)
+        home.new seats.new }
 {
     rows_fold_apart();
     Spoils {

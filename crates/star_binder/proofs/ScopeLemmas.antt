@@ -5,7 +5,7 @@ use Rattle.std.proofs.lemmas.List.Elements.{All-head, All-tail}
 use Rattle.star_plan.specs.declared.schema.Schema.{Schema}
 use Rattle.star_plan.specs.declared.table_def.TableDef.{TableDef}
 use Rattle.star_plan.specs.Limits.{HasFewColumns, IsWithinLimits}
-use Rattle.star_plan.specs.declared.TheConstants.{MAX_COLUMNS}
+use Rattle.star_values.specs.declared.column_lists.TheConstants.{MAX_COLUMNS}
 use Rattle.star_plan.specs.Columns.{columns_of}
 use Rattle.star_plan.specs.declared.table.Table.{Table}
 use Rattle.star_plan.specs.declared.table.Table.TheVariants.{Fact, Dimension}

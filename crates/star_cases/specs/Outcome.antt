@@ -9,8 +9,8 @@ use Rattle.core_state.specs.Settings.{AreWithin}
 
 -- the bytes are the replies, by what statements mean, to all statements of a script, with a refusal
 -- where those have one; where memory was wanted for the statements at some places they tell it
-abbrev pub Answers : (script replies : List ℕ) → Type 0
-Answers script replies = (wanted : List ℕ) × (replies ≡ script_text wanted true script)
+abbrev pub AnswersItsScript : (script replies : List ℕ) → Type 0
+AnswersItsScript script replies = (wanted : List ℕ) × (replies ≡ script_text wanted true script)
     × (has_refusal replies ≡ some_refused wanted true script)
 
 -- nothing is wrong with the case
@@ -19,7 +19,7 @@ is_right outcome = is_none outcome.wrong
 
 -- the settings of a way are within the limits of a core, and where workers share it there is a
 -- seat for each and one more
-abbrev pub CanRun : RunWay → Type 0
-CanRun Alone = Unit {0}
-CanRun (Shared settings) = AreWithin settings
-CanRun (Worked settings) = AreWithin settings × (settings.seats ≡ settings.workers + 1)
+abbrev pub IsWayWithin : RunWay → Type 0
+IsWayWithin Alone = Unit {0}
+IsWayWithin (Shared settings) = AreWithin settings
+IsWayWithin (Worked settings) = AreWithin settings × (settings.seats ≡ settings.workers + 1)

@@ -21,6 +21,7 @@ mod words;
 use crate::case::case_names;
 use crate::outcome::{are_all_right, check_case, count_right};
 use crate::stage::play;
+use script_run::Host;
 use std::hash::RandomState;
 use std::io;
 use std::process::ExitCode;
@@ -54,10 +55,14 @@ fn play_and_check<
 fn check_folder<
     R: Files + Print + AllocGlobal + RandomSource + Threads + Wait + Sync + Clone + Drop,
 >(rt: &R, folder: &str) -> io::Result<bool> {
-    let hash_keys = RandomState::new(rt)?;
-    let mut outcomes = Vec::new(rt.alloc());
+    let host = Host {
+        rt,
+        alloc: rt.alloc(),
+        hash_keys: RandomState::new(rt)?,
+    };
+    let mut outcomes = Vec::new(host.alloc);
     for name in case_names(rt, folder)? {
-        let outcome = check_case(rt, hash_keys, folder, name)?;
+        let outcome = check_case(host, folder, name)?;
         println!(rt; "{outcome}")?;
         outcomes.push(outcome)?;
     }

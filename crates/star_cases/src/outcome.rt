@@ -1,18 +1,16 @@
 //! What came of the runs of a case.
-ghost use Rattle.std.specs.Prelude.{◌≡◌, ◌&&◌, ◌==◌, ◌<◌, ◌≤◌, not, length, IfOk, IsNone, count_by};
+ghost use Rattle.std.specs.Prelude.{◌≡◌, ◌&&◌, ◌==◌, ◌<◌, not, length, IfOk, IsNone, count_by};
 ghost use Rattle.std.specs.List.{list_all};
-ghost use Rattle.core_state.specs.Settings.{AreWithin};
 ghost use Rattle.script_run.specs.Run.{AnswersScript};
-ghost use Rattle.star_cases.specs.Outcome.{Answers, CanRun, is_right};
+ghost use Rattle.star_cases.specs.Outcome.{AnswersItsScript, IsWayWithin, is_right};
 
 use crate::case::{Case, read_case};
 use crate::judge::{RunFault, fault_of};
 use core_state::RunSettings;
-use script_run::{RunDone, run_alone, run_on_one_thread, run_script};
+use script_run::{Host, RunDone, run_alone, run_on_one_thread, run_script};
 use star_io::{ListSink, PieceSource, RunEnd, Sink, Source};
 use std::alloc::{AllocError, Global};
 use std::fmt;
-use std::hash::RandomState;
 use std::rt::Files;
 use std::sync::Wait;
 use std::thread::Threads;
@@ -39,7 +37,7 @@ const CORE_WAYS: u32 = 5;
 /// pass alone, a slot with rows that pass alone, some whose batches pass on several threads, and
 /// the same with two workers.
 fn core_way(number: u32) -> RunWay
-    ensures { CanRun result }
+    ensures { IsWayWithin result }
 {
     match number {
         0 => RunWay::Shared(settings(0, 64, 256, 1)),
@@ -50,14 +48,10 @@ fn core_way(number: u32) -> RunWay
     }
 }
 
+/// Settings by their numbers, in this order.
 fn settings(workers: u32, slots: u32, batch: u32, seats: u32) -> RunSettings
-    requires workers { workers ≤ 16 }
-    requires slots { (1 ≤ slots) × (slots ≤ 64) }
-    requires batch { (1 ≤ batch) × (batch ≤ 1024) }
-    requires seats { (1 ≤ seats) × (seats ≤ 128) }
-    ensures within { AreWithin result }
-    ensures workers { result.workers ≡ workers }
-    ensures seats { result.seats ≡ seats }
+    ensures { result
+        ≡ record { workers = workers; slots = slots; batch = batch; seats = seats } }
 {
     RunSettings {
         workers,
@@ -112,34 +106,32 @@ pub(crate) fn are_all_right(outcomes: &[CaseOutcome]) -> bool
 
 /// Runs a case of a folder. Files that cannot be read are wrong.
 pub(crate) fn check_case<R: Files + AllocGlobal + Threads + Wait + Sync>(
-    rt: &R,
-    hash_keys: RandomState,
+    host: Host<&R>,
     folder: &str,
     name: String,
 ) -> Result<CaseOutcome, AllocError> {
-    let wrong = match read_case(rt, folder, name.as_str()) {
-        Ok(case) => wrong_in(rt, hash_keys, &case)?,
-        Err(error) => Some(format!(in rt.alloc(); "not read: {error}")?),
+    let wrong = match read_case(host.rt, folder, name.as_str()) {
+        Ok(case) => wrong_in(host, &case)?,
+        Err(error) => Some(format!(in host.alloc; "not read: {error}")?),
     };
     Ok(CaseOutcome { name, wrong })
 }
 
 /// What is wrong with the first run of a case that is wrong: first each query
 /// by itself, then in a core.
-fn wrong_in<R: AllocGlobal + Threads + Wait + Sync>(
-    rt: &R,
-    hash_keys: RandomState,
+fn wrong_in<R: Threads + Wait + Sync>(
+    host: Host<&R>,
     case: &Case,
 ) -> Result<Option<String>, AllocError>
     ensures { IfOk result
-        (λ wrong. IsNone wrong → Answers case.now.script.items case.now.replies.items) }
+        (λ wrong. IsNone wrong → AnswersItsScript case.now.script.items case.now.replies.items) }
 {
-    if let Some(wrong) = wrong_in_way(rt, hash_keys, case, RunWay::Alone)? {
+    if let Some(wrong) = wrong_in_way(host, case, RunWay::Alone)? {
         return Ok(Some(wrong));
     }
     for number in 0..CORE_WAYS {
         let way = core_way(number);
-        if let Some(wrong) = wrong_in_way(rt, hash_keys, case, way)? {
+        if let Some(wrong) = wrong_in_way(host, case, way)? {
             return Ok(Some(wrong));
         }
     }
@@ -147,41 +139,39 @@ fn wrong_in<R: AllocGlobal + Threads + Wait + Sync>(
 }
 
 /// What is wrong with the first run in a way that is wrong.
-fn wrong_in_way<R: AllocGlobal + Threads + Wait + Sync>(
-    rt: &R,
-    hash_keys: RandomState,
+fn wrong_in_way<R: Threads + Wait + Sync>(
+    host: Host<&R>,
     case: &Case,
     way: RunWay,
 ) -> Result<Option<String>, AllocError>
-    requires { CanRun way }
+    requires { IsWayWithin way }
     ensures { IfOk result
-        (λ wrong. IsNone wrong → Answers case.now.script.items case.now.replies.items) }
+        (λ wrong. IsNone wrong → AnswersItsScript case.now.script.items case.now.replies.items) }
 {
     for piece in FEW_BYTES {
-        if let Some(wrong) = wrong_in_pieces(rt, hash_keys, case, way, piece)? {
+        if let Some(wrong) = wrong_in_pieces(host, case, way, piece)? {
             return Ok(Some(wrong));
         }
     }
-    wrong_in_pieces(rt, hash_keys, case, way, ALL_BYTES)
+    wrong_in_pieces(host, case, way, ALL_BYTES)
 }
 
 /// What is wrong with a run whose bytes come and go in pieces of this size.
-fn wrong_in_pieces<R: AllocGlobal + Threads + Wait + Sync>(
-    rt: &R,
-    hash_keys: RandomState,
+fn wrong_in_pieces<R: Threads + Wait + Sync>(
+    host: Host<&R>,
     case: &Case,
     way: RunWay,
     piece: usize,
 ) -> Result<Option<String>, AllocError>
     requires piece { 0 < piece }
-    requires within { CanRun way }
+    requires within { IsWayWithin way }
     ensures { IfOk result
-        (λ wrong. IsNone wrong → Answers case.now.script.items case.now.replies.items) }
+        (λ wrong. IsNone wrong → AnswersItsScript case.now.script.items case.now.replies.items) }
 {
-    let alloc = rt.alloc();
+    let alloc = host.alloc;
     let mut source = PieceSource::new(case.script.clone()?, piece, Vec::new(alloc));
     let mut sink = ListSink::new(alloc, piece, Vec::new(alloc));
-    let end = run(rt, alloc, hash_keys, way, &mut source, &mut sink);
+    let end = run(host, way, &mut source, &mut sink);
     match fault_of(sink.bytes(), end, &case.replies) {
         None => Ok(None),
         Some(fault) => Ok(Some(told(alloc, fault, way, piece, sink.bytes(), &case.replies)?)),
@@ -190,25 +180,21 @@ fn wrong_in_pieces<R: AllocGlobal + Threads + Wait + Sync>(
 
 /// Runs a script in a way.
 fn run<R: Threads + Wait + Sync, S: Source, K: Sink>(
-    rt: &R,
-    alloc: Global,
-    hash_keys: RandomState,
+    host: Host<&R>,
     way: RunWay,
     source: &mut S,
     sink: &mut K,
 ) -> RunEnd
-    requires { CanRun way }
+    requires { IsWayWithin way }
     ensures { AnswersScript result
         (S.reading source.old) (S.reading source.new) (K.writing sink.old) (K.writing sink.new) }
 {
     match way {
-        RunWay::Alone => run_alone(alloc, hash_keys, source, sink),
-        RunWay::Shared(settings) => {
-            end_of(run_on_one_thread(rt, alloc, hash_keys, settings, source, sink))
-        }
+        RunWay::Alone => run_alone(host.alloc, host.hash_keys, source, sink),
+        RunWay::Shared(settings) => end_of(run_on_one_thread(host, settings, source, sink)),
         RunWay::Worked(settings) => {
             let gate = NoGate;
-            end_of(run_script(rt, alloc, hash_keys, settings, source, sink, &gate))
+            end_of(run_script(host, settings, source, sink, &gate))
         }
     }
 }

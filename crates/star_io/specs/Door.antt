@@ -17,3 +17,10 @@ abbrev pub ended_after : {L E : Type 0} → Bool → Result (Option L) E → Boo
 ended_after ended (Ok (Some _)) = ended
 ended_after ended (Ok None) = true
 ended_after ended (Err _) = ended
+
+-- what an `accept` does to the count of links that were handed out, and to the end
+pub record CountsLink {L E : Type 0} (old new : ℕ) (ended ended' : Bool)
+    (result : Result (Option L) E)
+    : Type 0 where
+  pub given : new ≡ given_after old result
+  pub end : ended' ≡ ended_after ended result

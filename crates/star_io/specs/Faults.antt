@@ -21,6 +21,12 @@ CountsFault old new result = MatchResult result (λ _. new ≡ old) (λ _. new �
 abbrev pub NotesFault : {A E : Type 0} → Bool → Result A E → Type 0
 NotesFault failed result = MatchResult result (λ _. failed ≡ false) (λ _. failed ≡ true)
 
+-- what a call with this result leaves of the count of faults, and of whether the last call failed
+pub record TellsFault {A E : Type 0} (old new : ℕ) (failed : Bool) (result : Result A E)
+    : Type 0 where
+  pub faults : CountsFault old new result
+  pub last : NotesFault failed result
+
 -- over some calls one fault came, and the last call was it: no call was made after it
 abbrev pub FailedOnce : ℕ → ℕ → Bool → Type 0
 FailedOnce old new failed = (new ≡ next_count old) × (failed ≡ true)

@@ -3,11 +3,11 @@ pub mod Faults
 pub mod Transfer
 pub mod Link
 pub mod Source
+pub mod Sink
 pub mod Door
 pub mod PieceSource
 pub mod ListSink
-pub mod StdSource
-pub mod StdSink
+pub mod StdStreams
 pub mod PairLink
 pub mod ListDoor
 pub mod TcpLink

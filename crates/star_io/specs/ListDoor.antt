@@ -1,5 +1,5 @@
 -- A door in memory, as contracts see it.
-use Rattle.std.specs.Prelude.{ℕ, List, [], ◌∷◌, Bool, true, false, drop, Option, Some, None, Result, Ok, Err}
+use Rattle.std.specs.Prelude.{◌≡◌, ◌↔◌, ℕ, List, [], ◌∷◌, Bool, true, false, drop, Contains, IfOk, IsErr, Option, Some, None, Result, Ok, Err}
 use Rattle.star_io.specs.Faults.{next_count}
 use Rattle.star_io.specs.PairLink.{PairState}
 use Rattle.star_io.specs.declared.failed.Failed.{Failed}
@@ -40,3 +40,11 @@ after_accept s (Ok (Some _)) =
 after_accept s (Ok None) = record s { calls = next_count s.calls; failed = false; ended = true }
 after_accept s (Err _) =
     record s { calls = next_count s.calls; faults = next_count s.faults; failed = true }
+
+-- what an `accept` does: it fails where it is listed, and else hands out the next link or tells the
+-- end
+pub record HandsOutNext (old new : DoorState) (result : Result (Option PairState) Failed)
+    : Type 0 where
+  pub fails : IsErr result ↔ Contains old.fails old.calls
+  pub next : IfOk result (λ link. link ≡ next_link old.links)
+  pub state : new ≡ after_accept old result

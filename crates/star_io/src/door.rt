@@ -1,7 +1,7 @@
 //! Where connections come from. Doors in memory are in `list_door`, real ones in `tcp_door`.
 ghost use Rattle.std.specs.Prelude.{◌≡◌, ℕ, Bool, true, Option, Some};
-ghost use Rattle.star_io.specs.Faults.{CountsFault, NotesFault};
-ghost use Rattle.star_io.specs.Door.{Listens, given_after, ended_after};
+ghost use Rattle.star_io.specs.Faults.{TellsFault};
+ghost use Rattle.star_io.specs.Door.{CountsLink, Listens};
 
 use crate::failed::Failed;
 use crate::link::Link;
@@ -31,8 +31,8 @@ pub trait Door {
 
     /// Asks for the connections that come to `port`.
     fn listen(&mut self, port: u16) -> Result<(), Failed>
-        ensures faults { CountsFault (door_faults self.old) (door_faults self.new) result }
-        ensures last { NotesFault (door_failed self.new) result }
+        ensures fault { TellsFault (door_faults self.old) (door_faults self.new)
+            (door_failed self.new) result }
         ensures asked { asked self.new ≡ Some port }
         ensures listening { Listens (listening self.new) result }
         ensures given { given self.new ≡ given self.old }
@@ -41,10 +41,10 @@ pub trait Door {
     /// Waits for the next connection. `None` is the end: no connection comes any more.
     fn accept(&mut self) -> Result<Option<Self::Link>, Failed>
         requires { listening self.old ≡ true }
-        ensures faults { CountsFault (door_faults self.old) (door_faults self.new) result }
-        ensures last { NotesFault (door_failed self.new) result }
+        ensures fault { TellsFault (door_faults self.old) (door_faults self.new)
+            (door_failed self.new) result }
         ensures asked { asked self.new ≡ asked self.old }
         ensures listening { listening self.new ≡ listening self.old }
-        ensures given { given self.new ≡ given_after (given self.old) result }
-        ensures ended { ended self.new ≡ ended_after (ended self.old) result };
+        ensures link { CountsLink (given self.old) (given self.new)
+            (ended self.old) (ended self.new) result };
 }

@@ -1,7 +1,7 @@
 //! A door in memory that hands out links that it was given, and fails where it is told to.
-ghost use Rattle.std.specs.Prelude.{◌≡◌, ◌↔◌, true, false, None, Contains, IfOk, IsOk, IsErr};
-ghost use Rattle.star_io.specs.Faults.{CountsFault, NotesFault};
-ghost use Rattle.star_io.specs.Door.{given_after, ended_after};
+ghost use Rattle.std.specs.Prelude.{◌≡◌, true, false, None, IsOk};
+ghost use Rattle.star_io.specs.Faults.{TellsFault};
+ghost use Rattle.star_io.specs.Door.{CountsLink};
 
 use crate::door::Door;
 use crate::failed::Failed;
@@ -75,7 +75,7 @@ impl ListDoor {
 }
 
 impl Door for ListDoor {
-    ghost use Rattle.star_io.specs.ListDoor.{after_listen, after_accept, next_link};
+    ghost use Rattle.star_io.specs.ListDoor.{HandsOutNext, after_listen};
 
     type Link = PairLink;
 
@@ -106,17 +106,14 @@ impl Door for ListDoor {
         requires { self.old.listening ≡ true }
 
         // As every door.
-        ensures faults { CountsFault self.old.faults self.new.faults result }
-        ensures last { NotesFault self.new.failed result }
+        ensures fault { TellsFault self.old.faults self.new.faults self.new.failed result }
         ensures asked { self.new.asked ≡ self.old.asked }
         ensures listening { self.new.listening ≡ self.old.listening }
-        ensures given { self.new.given ≡ given_after self.old.given result }
-        ensures ended { self.new.ended ≡ ended_after self.old.ended result }
+        ensures link { CountsLink self.old.given self.new.given
+            self.old.ended self.new.ended result }
 
         // The listed calls fail, another hands out the next link, or tells the end.
-        ensures fails { IsErr result ↔ Contains self.old.fails self.old.calls }
-        ensures next { IfOk result (λ link. link ≡ next_link self.old.links) }
-        ensures state { self.new ≡ after_accept self.old result }
+        ensures next { HandsOutNext self.old self.new result }
     {
         let number = self.calls;
         self.calls = number.saturating_add(1);

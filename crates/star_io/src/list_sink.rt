@@ -1,7 +1,6 @@
 //! A sink in memory that takes bytes in pieces, and fails where it is told to.
-ghost use Rattle.std.specs.Prelude.{◌≡◌, ◌⊎◌, ◌<◌, ◌≤◌, Some, [], false, length, min, Contains, IfOk, IsErr, OnErr};
-ghost use Rattle.std.specs.Io.KnownBytes.{WriteAppends};
-ghost use Rattle.star_io.specs.Faults.{CountsFault, NotesFault};
+ghost use Rattle.std.specs.Prelude.{◌≡◌, ◌<◌, ◌≤◌, [], false, length, IfOk};
+ghost use Rattle.star_io.specs.Sink.{TakesBytes};
 
 use crate::failed::Failed;
 use crate::sink::Sink;
@@ -74,26 +73,19 @@ impl ListSink {
 }
 
 impl Sink for ListSink {
-    ghost use Rattle.star_io.specs.ListSink.{after_write};
+    ghost use Rattle.star_io.specs.ListSink.{TakesOnePiece, sink_side};
 
-    ghost writing = { λ s. record { taken = Some s.taken; faults = s.faults; failed = s.failed } };
+    ghost writing = { sink_side };
 
     fn write(&mut self, bytes: &[u8]) -> Result<usize, Failed>
         requires { 0 < length bytes.now }
 
         // As every sink.
-        ensures some { IfOk result (λ n. 0 < n) }
-        ensures bound { IfOk result (λ n. n ≤ length bytes.now) }
-        ensures bytes { WriteAppends (Some self.old.taken) (Some self.new.taken) result bytes.now }
-        ensures faults { CountsFault self.old.faults self.new.faults result }
-        ensures last { NotesFault self.new.failed result }
+        ensures some { IfOk result (λ n. (0 < n) × (n ≤ length bytes.now)) }
+        ensures takes { TakesBytes (sink_side self.old) (sink_side self.new) bytes.now result }
 
-        // A write that is listed fails; another takes this many bytes, or finds no memory.
-        ensures listed { Contains self.old.fails self.old.calls → IsErr result }
-        ensures cause { OnErr result (Contains self.old.fails self.old.calls
-            ⊎ (self.old.room < min self.old.piece (length bytes.now))) }
-        ensures count { IfOk result (λ n. n ≡ min self.old.piece (length bytes.now)) }
-        ensures state { self.new ≡ after_write self.old result bytes.now self.new.room }
+        // A write that is listed fails; another takes a whole piece, or finds no memory.
+        ensures piece { TakesOnePiece self.old self.new bytes.now result }
     {
         let number = self.calls;
         self.calls = number.saturating_add(1);

@@ -1,8 +1,8 @@
 //! A link in memory, of a source and a sink.
-ghost use Rattle.std.specs.Prelude.{◌≡◌, ◌↔◌, ◌⊎◌, ◌<◌, ◌≤◌, Some, length, min, Contains, IfOk, IsErr, OnErr};
-ghost use Rattle.std.specs.Io.KnownBytes.{ReadConsumes, WriteAppends};
-ghost use Rattle.star_io.specs.Faults.{CountsFault, NotesFault};
-ghost use Rattle.star_io.specs.Source.{NotesEnd};
+ghost use Rattle.std.specs.Prelude.{◌≡◌, ◌<◌, ◌≤◌, Some, length, IfOk};
+ghost use Rattle.star_io.specs.PairLink.{reading_of, writing_of};
+ghost use Rattle.star_io.specs.Sink.{TakesBytes};
+ghost use Rattle.star_io.specs.Source.{GivesBytes};
 
 use crate::failed::Failed;
 use crate::link::Link;
@@ -44,8 +44,7 @@ impl PairLink {
 }
 
 impl Source for PairLink {
-    ghost use Rattle.star_io.specs.PieceSource.{after_read};
-    ghost use Rattle.star_io.specs.PairLink.{reading_of, writing_of};
+    ghost use Rattle.star_io.specs.PieceSource.{GivesOnePiece};
 
     ghost reading = { reading_of };
 
@@ -56,25 +55,18 @@ impl Source for PairLink {
 
         // As every source.
         ensures bound { IfOk result (λ n. n ≤ length into.new) }
-        ensures bytes { ReadConsumes (Some self.old.source.left) (Some self.new.source.left)
-            result into.new }
-        ensures end { NotesEnd self.old.source.ended self.new.source.ended result }
-        ensures faults { CountsFault self.old.source.faults self.new.source.faults result }
-        ensures last { NotesFault self.new.source.failed result }
+        ensures gives { GivesBytes (reading_of self.old) (reading_of self.new) into.new result }
 
         // As its own source does, and the sink stays.
-        ensures fails { IsErr result ↔ Contains self.old.source.fails self.old.source.calls }
-        ensures count { IfOk result (λ n.
-            n ≡ min (min self.old.source.piece (length into.old)) (length self.old.source.left)) }
-        ensures state { self.new ≡ record self.old { source = after_read self.old.source result } }
+        ensures piece { GivesOnePiece self.old.source self.new.source (length into.old) result }
+        ensures sink { self.new.sink ≡ self.old.sink }
     {
         self.source.read(into)
     }
 }
 
 impl Sink for PairLink {
-    ghost use Rattle.star_io.specs.ListSink.{after_write};
-    ghost use Rattle.star_io.specs.PairLink.{reading_of, writing_of};
+    ghost use Rattle.star_io.specs.ListSink.{TakesOnePiece};
 
     ghost writing = { writing_of };
 
@@ -84,21 +76,12 @@ impl Sink for PairLink {
         requires { 0 < length bytes.now }
 
         // As every sink.
-        ensures some { IfOk result (λ n. 0 < n) }
-        ensures bound { IfOk result (λ n. n ≤ length bytes.now) }
-        ensures bytes { WriteAppends (Some self.old.sink.taken) (Some self.new.sink.taken)
-            result bytes.now }
-        ensures faults { CountsFault self.old.sink.faults self.new.sink.faults result }
-        ensures last { NotesFault self.new.sink.failed result }
+        ensures some { IfOk result (λ n. (0 < n) × (n ≤ length bytes.now)) }
+        ensures takes { TakesBytes (writing_of self.old) (writing_of self.new) bytes.now result }
 
         // As its own sink does, and the source stays.
-        ensures listed { Contains self.old.sink.fails self.old.sink.calls → IsErr result }
-        ensures cause { OnErr result (Contains self.old.sink.fails self.old.sink.calls
-            ⊎ (self.old.sink.room < min self.old.sink.piece (length bytes.now))) }
-        ensures count { IfOk result (λ n. n ≡ min self.old.sink.piece (length bytes.now)) }
-        ensures state { self.new ≡ record self.old {
-          sink = after_write self.old.sink result bytes.now self.new.sink.room;
-        } }
+        ensures piece { TakesOnePiece self.old.sink self.new.sink bytes.now result }
+        ensures source { self.new.source ≡ self.old.source }
     {
         self.sink.write(bytes)
     }

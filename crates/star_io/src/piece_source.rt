@@ -1,8 +1,6 @@
 //! A source in memory that gives its bytes in pieces, and fails where it is told to.
-ghost use Rattle.std.specs.Prelude.{◌≡◌, ◌↔◌, ◌<◌, ◌≤◌, Some, false, length, min, take, Contains, IfOk, IsErr};
-ghost use Rattle.std.specs.Io.KnownBytes.{ReadConsumes};
-ghost use Rattle.star_io.specs.Faults.{CountsFault, NotesFault};
-ghost use Rattle.star_io.specs.Source.{NotesEnd};
+ghost use Rattle.std.specs.Prelude.{◌≡◌, ◌<◌, ◌≤◌, false, length, min, take, IfOk};
+ghost use Rattle.star_io.specs.Source.{GivesBytes};
 
 use crate::failed::Failed;
 use crate::source::Source;
@@ -71,26 +69,19 @@ impl PieceSource {
 }
 
 impl Source for PieceSource {
-    ghost use Rattle.star_io.specs.PieceSource.{after_read};
+    ghost use Rattle.star_io.specs.PieceSource.{GivesOnePiece, source_side};
 
-    ghost reading = { λ s.
-        record { left = Some s.left; faults = s.faults; failed = s.failed; ended = s.ended } };
+    ghost reading = { source_side };
 
     fn read(&mut self, into: &mut [u8]) -> Result<usize, Failed>
         requires { 0 < length into.old }
 
         // As every source.
         ensures bound { IfOk result (λ n. n ≤ length into.new) }
-        ensures bytes { ReadConsumes (Some self.old.left) (Some self.new.left) result into.new }
-        ensures end { NotesEnd self.old.ended self.new.ended result }
-        ensures faults { CountsFault self.old.faults self.new.faults result }
-        ensures last { NotesFault self.new.failed result }
+        ensures gives { GivesBytes (source_side self.old) (source_side self.new) into.new result }
 
         // Which reads fail, how many bytes the others give, and all that changes.
-        ensures fails { IsErr result ↔ Contains self.old.fails self.old.calls }
-        ensures count { IfOk result
-            (λ n. n ≡ min (min self.old.piece (length into.old)) (length self.old.left)) }
-        ensures state { self.new ≡ after_read self.old result }
+        ensures piece { GivesOnePiece self.old self.new (length into.old) result }
     {
         let number = self.calls;
         self.calls = number.saturating_add(1);

@@ -1,9 +1,7 @@
-//! Where bytes come from. Sources in memory are in `piece_source`, real ones in `std_source`.
+//! Where bytes come from. Sources in memory are in `piece_source`, real ones in `std_streams`.
 ghost use Rattle.std.specs.Prelude.{◌≡◌, ◌<◌, ◌≤◌, Option, None, length, IfOk};
-ghost use Rattle.std.specs.Io.KnownBytes.{ReadConsumes};
-ghost use Rattle.star_io.specs.Faults.{CountsFault, NotesFault};
 ghost use Rattle.star_io.specs.Link.{ReadingSide, WritingSide};
-ghost use Rattle.star_io.specs.Source.{NotesEnd};
+ghost use Rattle.star_io.specs.Source.{GivesBytes};
 
 use crate::failed::Failed;
 
@@ -22,10 +20,6 @@ pub trait Source {
     fn read(&mut self, into: &mut [u8]) -> Result<usize, Failed>
         requires { 0 < length into.old }
         ensures bound { IfOk result (λ n. n ≤ length into.new) }
-        ensures bytes { ReadConsumes (reading self.old).left
-            (reading self.new).left result into.new }
-        ensures end { NotesEnd (reading self.old).ended (reading self.new).ended result }
-        ensures faults { CountsFault (reading self.old).faults (reading self.new).faults result }
-        ensures last { NotesFault (reading self.new).failed result }
+        ensures gives { GivesBytes (reading self.old) (reading self.new) into.new result }
         ensures apart { writing_side self.new ≡ writing_side self.old };
 }

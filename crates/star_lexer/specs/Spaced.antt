@@ -2,8 +2,8 @@
 -- the recursion that cuts it.
 use Rattle.std.specs.Prelude.{◌≡◌, ℕ, ◌+◌, ◌-◌, ◌<◌, ◌≤◌, true, List, [], ◌∷◌, length, take, drop, Option, Some, None}
 use Rattle.std.specs.List.{list_all}
-use Rattle.star_lexer.specs.declared.line.NextToken.{NextToken}
-use Rattle.star_lexer.specs.declared.line.NextToken.TheVariants as next
+use Rattle.star_lexer.specs.declared.lexeme.NextToken.{NextToken}
+use Rattle.star_lexer.specs.declared.lexeme.NextToken.TheVariants as next
 use Rattle.star_lexer.specs.declared.token.Token.{Token}
 use Rattle.star_lexer.specs.Token.{token_at}
 use Rattle.star_lexer.specs.Line.{is_blank}

@@ -7,7 +7,6 @@ mod fault;
 mod keyword;
 mod lexeme;
 mod limits;
-mod line;
 mod reading;
 mod sign;
 mod symbol;
@@ -17,8 +16,8 @@ mod writing;
 
 pub use fault::LineFault;
 pub use keyword::Keyword;
+pub use lexeme::lex;
 pub use limits::{MAX_DEPTH, MAX_LIST, MAX_NOTS, limits_are_tested, lines_have_their_limits};
-pub use line::lex;
 pub use reading::{MAX_LINE_BYTES, MAX_NAME_BYTES, read_symbols};
 pub use sign::Sign;
 pub use symbol::Symbol;

@@ -11,8 +11,8 @@ ghost use Rattle.star_lexer.specs.declared.symbol.Symbol.TheVariants as symbol;
 
 use crate::fault::LineFault;
 use crate::keyword::keyword_of;
+use crate::lexeme::lex;
 use crate::limits::are_over_together;
-use crate::line::lex;
 use crate::sign::sign_of;
 use crate::symbol::Symbol;
 use crate::symbols::Symbols;

@@ -8,7 +8,7 @@ use Rattle.clap.specs.Kinds.{or_else}
 use Rattle.clap.specs.Walk.{Row, finished, has_row, idle, option, settled_rows, used}
 use Rattle.star_main.specs.Rows.{passes}
 use Rattle.star_main.specs.Table.{is_among}
-use Rattle.star_main.specs.Words.{Entry, Text}
+use Rattle.star_main.specs.Words.{NamedOption, Text}
 use Rattle.star_main.proofs.StrictReader.{Word, strict_at, strict_from, word_of}
 use Rattle.star_main.proofs.StrictReader as words
 use Rattle.star_main.proofs.RuleLemmas.{defaults_add_none, has_row-among, names_in, row_for, rule, rules_for, used_new}
@@ -21,20 +21,20 @@ use Rattle.star_main.proofs.ReaderLemmas.{entry, found_with, joins, read_from, r
 
 -- with nothing that waits, and with an option that waits for its value
 abbrev pub Idle : List Text → List Text → Type 0
-Idle names rest = (taken : List Entry) (rows : List Row) (pending : Option (Text × List Text))
+Idle names rest = (taken : List NamedOption) (rows : List Row) (pending : Option (Text × List Text))
     → settle_fault (rules_for names) false (holding rows pending) ≡ []
     → settled_rows (rules_for names) pending rows ≡ map row_for taken
     → answer_from names (at (holding rows pending) idle) rest ≡ read_from names taken None rest
 
 abbrev pub Waits : List Text → List Text → Type 0
-Waits names rest = (taken : List Entry) (name : Text) → is_among names name ≡ true
+Waits names rest = (taken : List NamedOption) (name : Text) → is_among names name ≡ true
     → answer_from names (at (holding (map row_for taken) (Some (name, []))) (option name)) rest ≡ read_from names taken (Some name) rest
 
-row_among : (taken : List Entry) (name : Text) (b : Bool) → is_among (names_in taken) name ≡ b → has_row name (map row_for taken) ≡ b
+row_among : (taken : List NamedOption) (name : Text) (b : Bool) → is_among (names_in taken) name ≡ b → has_row name (map row_for taken) ≡ b
 row_among taken name b e = has_row-among taken name ∙ e
 
 -- the rows with those of a new entry
-rows_joined : (taken : List Entry) (name value : Text) → is_among (names_in taken) name ≡ false
+rows_joined : (taken : List NamedOption) (name value : Text) → is_among (names_in taken) name ≡ false
     → used (rule name) (value ∷ []) (map row_for taken) ≡ map row_for (taken ++ entry name value ∷ [])
 rows_joined taken name value new =
     used_new name value (map row_for taken) (row_among taken name false new) ∙ sym (map-append row_for taken (entry name value ∷ []))

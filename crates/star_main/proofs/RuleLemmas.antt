@@ -14,7 +14,7 @@ use Rattle.clap.specs.declared.builder.value_parser.Reading.TheVariants.{AsWritt
 use Rattle.clap.specs.declared.parser.matches.ValueSource.TheVariants.{CommandLine}
 use Rattle.star_main.specs.Rows.{rule_named}
 use Rattle.star_main.specs.Table.{is_among, value_of}
-use Rattle.star_main.specs.Words.{Entry, Text}
+use Rattle.star_main.specs.Words.{NamedOption, Text}
 
 -- the rule of a name, once the command is built
 abbrev pub rule : Text → Rule
@@ -82,7 +82,7 @@ none_required (n ∷ names) rows = none_required names rows
 -- ---- rows
 
 -- the row of an entry
-abbrev pub row_for : Entry → Row
+abbrev pub row_for : NamedOption → Row
 row_for entry = record {
   id = entry.name;
   values = entry.value ∷ [];
@@ -91,10 +91,10 @@ row_for entry = record {
   reading = AsWritten;
 }
 
-abbrev pub names_in : List Entry → List Text
+abbrev pub names_in : List NamedOption → List Text
 names_in = map (λ entry. entry.name)
 
-pub has_row-among : (entries : List Entry) (name : Text) → has_row name (map row_for entries) ≡ is_among (names_in entries) name
+pub has_row-among : (entries : List NamedOption) (name : Text) → has_row name (map row_for entries) ≡ is_among (names_in entries) name
 has_row-among [] name = refl
 has_row-among (e ∷ entries) name = ap (λ b. bytes_eq e.name name || b) (has_row-among entries name)
 
@@ -116,12 +116,12 @@ used_new name value rows new =
     ap (λ rs. with_values name AsWritten CommandLine (value ∷ []) rs) same ∙ at_new name (more_values CommandLine (value ∷ [])) _ rows new
 
 -- what is found for a name is what the entries have for it
-pub first_of-entries : (entries : List Entry) (name : Text) → first_of name (map row_for entries) ≡ value_of entries name
+pub first_of-entries : (entries : List NamedOption) (name : Text) → first_of name (map row_for entries) ≡ value_of entries name
 first_of-entries [] name = refl
 first_of-entries (e ∷ entries) name = go (bytes_eq e.name name) (first_of-entries entries name)
   where
     go : (b : Bool) → first_of name (map row_for entries) ≡ value_of entries name
         → option_and_then (λ (r : Row). slice_get r.values 0) (cond b (Some (row_for e)) (find (λ r. bytes_eq r.id name) (map row_for entries)))
-        ≡ option_map (λ (entry : Entry). entry.value) (cond b (Some e) (find (λ entry. bytes_eq entry.name name) entries))
+        ≡ option_map (λ (entry : NamedOption). entry.value) (cond b (Some e) (find (λ entry. bytes_eq entry.name name) entries))
     go true rest = refl
     go false rest = rest

@@ -13,7 +13,7 @@ use Rattle.clap.proofs.FaultLemmas.{leaf_fault}
 use Rattle.clap.proofs.WalkLemmas.{first_value-rows, list_any-map}
 use Rattle.star_main.specs.Rows.{answer_of, app_with, passes}
 use Rattle.star_main.specs.Table.{are_new, is_among, option_names, settings_by, settings_in, settings_of, value_of}
-use Rattle.star_main.specs.Words.{Entry, Text, with_entry}
+use Rattle.star_main.specs.Words.{NamedOption, Text, with_entry}
 use Rattle.star_main.proofs.StrictLemmas.{strict_settings}
 use Rattle.star_main.proofs.StrictReader.{Word, option, plain, stray, strict_at, strict_from, word_of}
 use Rattle.star_main.specs.declared.settings.Settings.{Settings}
@@ -33,7 +33,7 @@ answer_is words =
 abbrev settings_of_rows : List Row → Option Settings
 settings_of_rows rows = settings_by (λ name. first_of name rows)
 
-settings_by_rows : (o : Option (List Entry)) → option_and_then settings_in o ≡ option_and_then settings_of_rows (option_and_then (found_with option_names []) o)
+settings_by_rows : (o : Option (List NamedOption)) → option_and_then settings_in o ≡ option_and_then settings_of_rows (option_and_then (found_with option_names []) o)
 settings_by_rows None = refl
 settings_by_rows (Some entries) = go (are_new option_names [] entries)
   where
@@ -57,11 +57,11 @@ module _ (app : App) (is : app ≡ app_with option_names) (words : List Text) (o
 
 -- ---- the word `--`
 
-stray_ends : (waiting : Option Text) (word : Text) (more : Option Text → Option (List Entry)) → strict_at waiting word stray more ≡ None
+stray_ends : (waiting : Option Text) (word : Text) (more : Option Text → Option (List NamedOption)) → strict_at waiting word stray more ≡ None
 stray_ends None word more = refl
 stray_ends (Some name) word more = refl
 
-end_stays : (waiting : Option Text) (word : Text) (w : Word) (more : Option Text → Option (List Entry)) → ((v : Option Text) → more v ≡ None)
+end_stays : (waiting : Option Text) (word : Text) (w : Word) (more : Option Text → Option (List NamedOption)) → ((v : Option Text) → more v ≡ None)
     → strict_at waiting word w more ≡ None
 end_stays None word (option name (Some value)) more none = ap (with_entry name value) (none None)
 end_stays None word (option name None) more none = none (Some name)

@@ -3,7 +3,7 @@ use Rattle.std.proofs.Common.{◌≡◌, ◌∙◌, ℕ, Bool, true, false, ◌=
 use Rattle.std.specs.Prelude.{option_and_then}
 use Rattle.std.proofs.lemmas.Bool.Decides.{nat_tests}
 use Rattle.star_main.specs.Table.{settings_in}
-use Rattle.star_main.specs.Words.{Entry, Text, entries_at, entries_from, entries_of, name_and_value, option_of, with_entry}
+use Rattle.star_main.specs.Words.{NamedOption, Text, entries_at, entries_from, entries_of, name_and_value, option_of, with_entry}
 use Rattle.star_main.proofs.StrictReader.{Word, option, plain, stray, strict_at, strict_from, word_of}
 use Rattle.star_main.specs.declared.settings.Settings.{Settings}
 use Rattle.star_main.proofs.TableLemmas.{hyphen_spoils, settings_behind, unknown_spoils}
@@ -38,38 +38,38 @@ spelt (byte ∷ rest) = spelt_of byte rest (byte == 45) refl (swapped byte (byte
 -- ---- the readers
 
 -- the settings of what was read behind other entries
-abbrev settled : List Entry → Option (List Entry) → Option Settings
+abbrev settled : List NamedOption → Option (List NamedOption) → Option Settings
 settled front = option_and_then (settings_behind front)
 
-abbrev entry : Text → Text → Entry
+abbrev entry : Text → Text → NamedOption
 entry name value = record { name = name; value = value }
 
 -- an entry in front of what was read joins those before
-joined : (front : List Entry) (name value : Text) (o : Option (List Entry)) → settled front (with_entry name value o) ≡ settled (front ++ entry name value ∷ []) o
+joined : (front : List NamedOption) (name value : Text) (o : Option (List NamedOption)) → settled front (with_entry name value o) ≡ settled (front ++ entry name value ∷ []) o
 joined front name value None = refl
 joined front name value (Some entries) = ap settings_in (sym (append_assoc front (entry name value ∷ []) entries))
 
-hyphened : (front : List Entry) (name word text : Text) (o : Option (List Entry)) → word ≡ 45 ∷ text → settled front (with_entry name word o) ≡ None
+hyphened : (front : List NamedOption) (name word text : Text) (o : Option (List NamedOption)) → word ≡ 45 ∷ text → settled front (with_entry name word o) ≡ None
 hyphened front name word text None is = refl
 hyphened front name word text (Some entries) is = ap (λ w. settings_behind front (entry name w ∷ entries)) is ∙ hyphen_spoils front name text entries
 
-unnamed : (front : List Entry) (words : List Text) → settled front (entries_from words (Some [])) ≡ None
+unnamed : (front : List NamedOption) (words : List Text) → settled front (entries_from words (Some [])) ≡ None
 unfolding entries_from
 unnamed front [] = refl
 unnamed front (word ∷ words) = go (entries_from words None)
   where
-    go : (o : Option (List Entry)) → settled front (with_entry [] word o) ≡ None
+    go : (o : Option (List NamedOption)) → settled front (with_entry [] word o) ≡ None
     go None = refl
     go (Some entries) = unknown_spoils front (entry [] word) entries refl
 
 -- both readers, from a word on, where they agree behind it
-agree_at : (named : Option Text) (word : Text) (strict loose : Option Text → Option (List Entry)) (front : List Entry)
-    → ((front : List Entry) (n : Option Text) → settled front (strict n) ≡ settled front (loose n))
-    → ((front : List Entry) → settled front (loose (Some [])) ≡ None)
+agree_at : (named : Option Text) (word : Text) (strict loose : Option Text → Option (List NamedOption)) (front : List NamedOption)
+    → ((front : List NamedOption) (n : Option Text) → settled front (strict n) ≡ settled front (loose n))
+    → ((front : List NamedOption) → settled front (loose (Some [])) ≡ None)
     → settled front (strict_at named word (word_of word) strict) ≡ settled front (entries_at named word (option_of word) loose)
 agree_at named word strict loose front on none = go named (spelt word)
   where
-    given : (name : Text) (o p : Option (List Entry)) (value : Text) → settled (front ++ entry name value ∷ []) o ≡ settled (front ++ entry name value ∷ []) p
+    given : (name : Text) (o p : Option (List NamedOption)) (value : Text) → settled (front ++ entry name value ∷ []) o ≡ settled (front ++ entry name value ∷ []) p
         → settled front (with_entry name value o) ≡ settled front (with_entry name value p)
     given name o p value e = joined front name value o ∙ e ∙ sym (joined front name value p)
 
@@ -91,7 +91,7 @@ agree_at named word strict loose front on none = go named (spelt word)
     go (Some name) (as_stray rest is e f) = both (Some name) _ _ e f (sym (hyphened front name word rest (loose None) is))
     go (Some name) (as_plain e f) = both (Some name) _ _ e f (given name (strict None) (loose None) word (on (front ++ entry name word ∷ []) None))
 
-agree : (words : List Text) (front : List Entry) (named : Option Text) → settled front (strict_from words named) ≡ settled front (entries_from words named)
+agree : (words : List Text) (front : List NamedOption) (named : Option Text) → settled front (strict_from words named) ≡ settled front (entries_from words named)
 unfolding strict_from entries_from
 agree [] front named = refl
 agree (word ∷ words) front named =

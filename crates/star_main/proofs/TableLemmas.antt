@@ -9,7 +9,7 @@ use Rattle.std.proofs.lemmas.Bool.{and_parts}
 use Rattle.std.proofs.lemmas.Slice.Eq.{bytes_eq-Decides}
 use Rattle.star_main.specs.Table.{are_new, is_among, option_names, settings_by, settings_in, value_of, ◌>>=◌}
 use Rattle.star_main.specs.Values.{mode_or, number_in, number_or, within}
-use Rattle.star_main.specs.Words.{Entry, Text}
+use Rattle.star_main.specs.Words.{NamedOption, Text}
 use Rattle.star_main.specs.declared.limits.OptionNumbers.{OptionNumbers}
 use Rattle.star_main.specs.declared.limits.TheConstants.{ACCEPT, BATCH, MAX_DIGITS, PORT, ROWS, SEED, SLOTS, WORKERS}
 use Rattle.star_main.specs.declared.settings.Mode.{Mode}
@@ -101,14 +101,14 @@ is_not true e = sym e
 is_not false e = refl
 
 -- an entry among new ones is known, and none before it has its name
-new_entry : (known named : List Text) (front : List Entry) (entry : Entry) (rest : List Entry) → are_new known named (front ++ entry ∷ rest) ≡ true
+new_entry : (known named : List Text) (front : List NamedOption) (entry : NamedOption) (rest : List NamedOption) → are_new known named (front ++ entry ∷ rest) ≡ true
     → (is_among known entry.name ≡ true) × (is_among named entry.name ≡ false) × (value_of (front ++ entry ∷ rest) entry.name ≡ Some entry.value)
 new_entry known named [] entry rest e =
     let parts = and_parts (is_among known entry.name) _ e in
     let more = and_parts (not (is_among named entry.name)) _ parts.1 in (
       parts.0,
       is_not (is_among named entry.name) more.0,
-      ap (λ b. option_map (λ (x : Entry). x.value) (cond b (Some entry) (find (λ x. bytes_eq x.name entry.name) rest))) ((bytes_eq-Decides entry.name entry.name).1 refl),
+      ap (λ b. option_map (λ (x : NamedOption). x.value) (cond b (Some entry) (find (λ x. bytes_eq x.name entry.name) rest))) ((bytes_eq-Decides entry.name entry.name).1 refl),
     )
 new_entry known named (first ∷ front) entry rest e =
     let parts = and_parts (is_among known first.name) _ e in
@@ -117,14 +117,14 @@ new_entry known named (first ∷ front) entry rest e =
     let apart = among_append named first.name entry.name on.1 in (
       on.0,
       apart.0,
-      ap (λ b. option_map (λ (x : Entry). x.value) (cond b (Some first) (find (λ x. bytes_eq x.name entry.name) (front ++ entry ∷ rest)))) apart.1 ∙ on.2,
+      ap (λ b. option_map (λ (x : NamedOption). x.value) (cond b (Some first) (find (λ x. bytes_eq x.name entry.name) (front ++ entry ∷ rest)))) apart.1 ∙ on.2,
     )
 
 -- the settings of entries behind others
-abbrev pub settings_behind : List Entry → List Entry → Option Settings
+abbrev pub settings_behind : List NamedOption → List NamedOption → Option Settings
 settings_behind front entries = settings_in (front ++ entries)
 
-spoils_by : (front : List Entry) (entry : Entry) (rest : List Entry) → (are_new option_names [] (front ++ entry ∷ rest) ≡ true → settings_by (value_of (front ++ entry ∷ rest)) ≡ None)
+spoils_by : (front : List NamedOption) (entry : NamedOption) (rest : List NamedOption) → (are_new option_names [] (front ++ entry ∷ rest) ≡ true → settings_by (value_of (front ++ entry ∷ rest)) ≡ None)
     → settings_behind front (entry ∷ rest) ≡ None
 spoils_by front entry rest none = go (are_new option_names [] (front ++ entry ∷ rest)) none
   where
@@ -133,13 +133,13 @@ spoils_by front entry rest none = go (are_new option_names [] (front ++ entry �
     go false none = refl
 
 -- a value that begins with a hyphen
-pub hyphen_spoils : (front : List Entry) (name text : Text) (rest : List Entry) → settings_behind front (record { name = name; value = 45 ∷ text } ∷ rest) ≡ None
+pub hyphen_spoils : (front : List NamedOption) (name text : Text) (rest : List NamedOption) → settings_behind front (record { name = name; value = 45 ∷ text } ∷ rest) ≡ None
 hyphen_spoils front name text rest =
     spoils_by front (record { name = name; value = 45 ∷ text }) rest
     (λ new. let is = new_entry option_names [] front (record { name = name; value = 45 ∷ text }) rest new in
     bad_value (value_of (front ++ record { name = name; value = 45 ∷ text } ∷ rest)) text name is.0 is.2)
 
 -- a name that is unknown
-pub unknown_spoils : (front : List Entry) (entry : Entry) (rest : List Entry) → is_among option_names entry.name ≡ false → settings_behind front (entry ∷ rest) ≡ None
+pub unknown_spoils : (front : List NamedOption) (entry : NamedOption) (rest : List NamedOption) → is_among option_names entry.name ≡ false → settings_behind front (entry ∷ rest) ≡ None
 unknown_spoils front entry rest unknown =
     spoils_by front entry rest (λ new. absurd (true≢false (sym (new_entry option_names [] front entry rest new).0 ∙ unknown)))

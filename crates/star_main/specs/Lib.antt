@@ -12,5 +12,6 @@ pub mod Complete
 pub mod Made
 pub mod Serving
 pub mod Modes
+pub mod ByMode
 pub mod Fault
 pub mod WordsOutcome

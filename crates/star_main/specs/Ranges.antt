@@ -5,15 +5,15 @@ use Rattle.star_main.specs.declared.limits.TheConstants.{WORKERS, SLOTS, BATCH, 
 use Rattle.star_main.specs.declared.settings.Settings.{Settings}
 
 -- an option takes the number
-abbrev pub Takes : OptionNumbers → ℕ → Type 0
-Takes numbers number = (numbers.least ≤ number) × (number ≤ numbers.greatest)
+abbrev pub TakesNumber : OptionNumbers → ℕ → Type 0
+TakesNumber numbers number = (numbers.least ≤ number) × (number ≤ numbers.greatest)
 
 -- each number is one that its option takes
 pub record AreInRange (settings : Settings) : Type 0 where
-  pub workers : Takes WORKERS settings.workers
-  pub slots : Takes SLOTS settings.slots
-  pub batch : Takes BATCH settings.batch
-  pub seed : Takes SEED settings.seed
-  pub rows : Takes ROWS settings.rows
-  pub port : Takes PORT settings.port
-  pub accept : Takes ACCEPT settings.accept
+  pub workers : TakesNumber WORKERS settings.workers
+  pub slots : TakesNumber SLOTS settings.slots
+  pub batch : TakesNumber BATCH settings.batch
+  pub seed : TakesNumber SEED settings.seed
+  pub rows : TakesNumber ROWS settings.rows
+  pub port : TakesNumber PORT settings.port
+  pub accept : TakesNumber ACCEPT settings.accept

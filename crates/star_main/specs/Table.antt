@@ -3,7 +3,7 @@
 use Rattle.std.specs.Prelude.{Bool, true, not, ◌&&◌, List, [], ◌∷◌, ◌++◌, Option, Some, None, option_map, option_and_then, find, if◌then◌else◌, codes}
 use Rattle.std.specs.List.{list_any}
 use Rattle.std.specs.Str.{bytes_eq}
-use Rattle.star_main.specs.Words.{Text, Entry, entries_of}
+use Rattle.star_main.specs.Words.{Text, NamedOption, entries_of}
 use Rattle.star_main.specs.Values.{mode_or, number_or}
 use Rattle.star_main.specs.declared.limits.TheConstants.{WORKERS, SLOTS, BATCH, SEED, ROWS, PORT, ACCEPT}
 use Rattle.star_main.specs.declared.settings.Settings.{Settings}
@@ -21,14 +21,14 @@ is_among names name = list_any (λ other. bytes_eq other name) names
 
 -- each entry names an option that is known, and that no entry before it names;
 -- `named` are the names before
-abbrev pub are_new : List Text → List Text → List Entry → Bool
+abbrev pub are_new : List Text → List Text → List NamedOption → Bool
 are_new known named [] = true
 are_new known named (entry ∷ rest) =
     is_among known entry.name
     && (not (is_among named entry.name) && are_new known (named ++ entry.name ∷ []) rest)
 
 -- the value that is written for an option
-abbrev pub value_of : List Entry → Text → Option Text
+abbrev pub value_of : List NamedOption → Text → Option Text
 value_of entries name =
     option_map (λ entry. entry.value) (find (λ entry. bytes_eq entry.name name) entries)
 
@@ -61,7 +61,7 @@ settings_by written = do
   })
 
 -- the settings of a list of entries
-abbrev pub settings_in : List Entry → Option Settings
+abbrev pub settings_in : List NamedOption → Option Settings
 settings_in entries =
     if are_new option_names [] entries then settings_by (value_of entries) else None
 

@@ -24,20 +24,20 @@ option_of word =
     if starts_with nat_eq word (codes "--") then Some (name_and_value (drop 2 word)) else None
 
 -- an option that was named, and the value that was written for it
-pub record Entry : Type 0 where
+pub record NamedOption : Type 0 where
   pub name : Text
   pub value : Text
 
 -- one more entry, in front of those that were read, if any were
-abbrev pub with_entry : Text → Text → Option (List Entry) → Option (List Entry)
+abbrev pub with_entry : Text → Text → Option (List NamedOption) → Option (List NamedOption)
 with_entry name value = option_map (λ entries. record { name = name; value = value } ∷ entries)
 
 -- the entries from a word on, of which `rest` reads the words behind it. The word is the value of
 -- an option that was named just before it, whatever it looks like; or else it is an option, with
 -- its value or before its value; or else it belongs to no option, and there are no entries.
 abbrev pub entries_at : Option Text → Text → Option (Text × Option Text)
-    → (Option Text → Option (List Entry))
-    → Option (List Entry)
+    → (Option Text → Option (List NamedOption))
+    → Option (List NamedOption)
 entries_at (Some name) word as_option rest = with_entry name word (rest None)
 entries_at None word (Some (name, Some value)) rest = with_entry name value (rest None)
 entries_at None word (Some (name, None)) rest = rest (Some name)
@@ -45,10 +45,10 @@ entries_at None word None rest = None
 
 -- the entries of words. `named` is an option that was named just before them and has no value yet:
 -- there are no entries where the words end at it
-unfoldable pub entries_from : List Text → Option Text → Option (List Entry)
+unfoldable pub entries_from : List Text → Option Text → Option (List NamedOption)
 entries_from [] named = if is_some named then None else Some []
 entries_from (word ∷ words) named = entries_at named word (option_of word) (entries_from words)
 
 -- the options that the words name, with their values, in the order of the words
-abbrev pub entries_of : List Text → Option (List Entry)
+abbrev pub entries_of : List Text → Option (List NamedOption)
 entries_of words = entries_from words None

@@ -15,13 +15,21 @@ pub(crate) fn settings_are_in_range()
     ensures { (words : List Text) → IfSome (settings_of words) AreInRange }
 {}
 
-/// The numbers that each option takes, and the one that stands where it is left out.
-pub(crate) fn options_have_their_ranges()
+/// The numbers that each option of a core takes, and the one that stands where it is left out.
+pub(crate) fn options_of_a_core_have_their_ranges()
     ensures workers { WORKERS ≡ record { least = 0; greatest = 16; default = 0 } }
     ensures slots { SLOTS ≡ record { least = 1; greatest = 64; default = 64 } }
     ensures batch { BATCH ≡ record { least = 1; greatest = 1024; default = 256 } }
+{}
+
+/// The same for the options of a made workload.
+pub(crate) fn options_of_a_made_workload_have_their_ranges()
     ensures seed { SEED ≡ record { least = 0; greatest = 9999999; default = 7 } }
     ensures rows { ROWS ≡ record { least = 0; greatest = 1000000; default = 100000 } }
+{}
+
+/// The same for the options of a server.
+pub(crate) fn options_of_a_server_have_their_ranges()
     ensures port { PORT ≡ record { least = 1; greatest = 65535; default = 5433 } }
     ensures accept { ACCEPT ≡ record { least = 0; greatest = 9999999; default = 0 } }
 {}

@@ -1,7 +1,7 @@
 //! The numbers that each option takes.
 
 /// The numbers that an option takes, and the one that stands where the option is left out.
-#[derive(Clone, Copy, Debug, PartialEq, Eq)]
+#[derive(Clone, Copy, Debug)]
 pub(crate) struct OptionNumbers {
     /// The least that it takes.
     pub least: u32,

@@ -17,6 +17,7 @@ mod values;
 
 use crate::fault::Fault;
 use crate::top::{FAULTY_WORDS, OUT_OF_MEMORY, cjoin};
+use script_run::Host;
 use star_io::{StdSink, StdSource, TcpDoor};
 use std::env::{self, Env};
 use std::hash::RandomState;
@@ -37,18 +38,12 @@ fn main(rt: HostRuntime) -> ExitCode {
             let mut source = StdSource::new(rt.reader());
             let mut sink = StdSink::new(io::writer(&rt));
             let mut door = TcpDoor::new(&rt);
-            let alloc = rt.alloc();
-            cjoin(
-                &rt,
-                alloc,
+            let host = Host {
+                rt: &rt,
+                alloc: rt.alloc(),
                 hash_keys,
-                &words,
-                &mut source,
-                &mut sink,
-                &mut door,
-                &NoGate,
-            )
-            .status
+            };
+            cjoin(host, &words, &mut source, &mut sink, &mut door, &NoGate).status
         }
         Err(status) => status,
     };

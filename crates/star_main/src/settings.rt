@@ -1,7 +1,7 @@
 //! What the words of the command line set.
 
 /// What the program is to do.
-#[derive(Clone, Copy, Debug, PartialEq, Eq)]
+#[derive(Clone, Copy, Debug)]
 pub(crate) enum Mode {
     /// Answer the statements of a script, all queries together: `--mode run`, and where no mode is
     /// named.
@@ -15,7 +15,7 @@ pub(crate) enum Mode {
 }
 
 /// What the words of the command line set. What they leave out has its default.
-#[derive(Clone, Copy, Debug, PartialEq, Eq)]
+#[derive(Clone, Copy, Debug)]
 pub(crate) struct Settings {
     /// `--mode`, `run`, `alone`, `make` or `serve`. Default `run`.
     pub mode: Mode,

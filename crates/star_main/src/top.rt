@@ -8,6 +8,7 @@ ghost use Rattle.core_state.specs.Sound.{empty_core};
 ghost use Rattle.core_state.specs.declared.settings.RunSettings.{RunSettings as CoreSettings};
 ghost use Rattle.event_core.specs.Seen.{state_of};
 ghost use Rattle.script_run.specs.Front.{IsRun};
+ghost use Rattle.star_main.specs.ByMode.{AnswersByMode};
 ghost use Rattle.star_main.specs.Complete.{IsComplete};
 ghost use Rattle.star_main.specs.Headline.{Headline, HasCause, status_of as run_status};
 ghost use Rattle.star_main.specs.Made.{MadeHeadline, made_status_of};
@@ -22,12 +23,10 @@ use crate::settings::{Mode, Settings};
 use core_state::RunSettings;
 use event_core::Core;
 use make_load::{MadeDone, MadeEnd, run_made, run_made_on_one_thread};
-use script_run::{RunDone, run_alone, run_on_one_thread, run_script};
+use script_run::{Host, RunDone, run_alone, run_on_one_thread, run_script};
 use session_server::serve;
 use star_io::{Door, RunEnd, ServeEnd, Sink, Source};
 use star_values::NoMemory;
-use std::alloc::Global;
-use std::hash::RandomState;
 use std::sync::Wait;
 use std::thread::Threads;
 use worker_gate::Gate;
@@ -90,14 +89,13 @@ pub enum WordsOutcome {
 /// makes the other events of the core. The clauses are the same, whatever their number. With
 /// workers the call may wait.
 ///
-/// Rows and groups are found by hashes with these keys. No reply and no status depends on them.
+/// Rows and groups are found by hashes with the keys of the host. No reply and no status depends
+/// on them.
 ///
 /// Of the settings the mode has an effect, in the modes `run`, `make` and `serve` the workers, the
 /// slots and the batch, in `make` the seed and the rows, and in `serve` the port and `accept`.
 pub fn cjoin<R: Threads + Sync + Wait, S: Source, K: Sink, D: Door, G: Gate + Sync>(
-    rt: &R,
-    alloc: Global,
-    hash_keys: RandomState,
+    host: Host<&R>,
     words: &[String],
     source: &mut S,
     sink: &mut K,
@@ -138,14 +136,10 @@ pub fn cjoin<R: Threads + Sync + Wait, S: Source, K: Sink, D: Door, G: Gate + Sy
         IfSome (settings_of (map string_bytes words.now)) (λ settings.
         settings.workers ≡ 0 → IsRun (empty_core (run_settings_of settings)) (state_of core))) }
 {
-    match run_words(rt, alloc, hash_keys, words, source, sink) {
+    match run_words(host, words, source, sink) {
         WordsOutcome::Ran(done) => done,
-        WordsOutcome::Work(settings) => {
-            run_by_workers(rt, alloc, hash_keys, &settings, source, sink, gate)
-        }
-        WordsOutcome::Serve(settings) => serve_connections(
-            rt, alloc, hash_keys, &settings, door, gate,
-        ),
+        WordsOutcome::Work(settings) => run_by_workers(host, &settings, source, sink, gate),
+        WordsOutcome::Serve(settings) => serve_connections(host, &settings, door, gate),
     }
 }
 
@@ -154,9 +148,7 @@ pub fn cjoin<R: Threads + Sync + Wait, S: Source, K: Sink, D: Door, G: Gate + Sy
 /// the modes `run`, `alone` and `make` without workers holds here of a call that waits for no one,
 /// and so comes to its end, where source and sink do, and the threads of a turn.
 pub fn run_words<R: Threads + Sync, S: Source, K: Sink>(
-    rt: &R,
-    alloc: Global,
-    hash_keys: RandomState,
+    host: Host<&R>,
     words: &[String],
     source: &mut S,
     sink: &mut K,
@@ -204,19 +196,15 @@ pub fn run_words<R: Threads + Sync, S: Source, K: Sink>(
         IfSome done.core (λ core. IfSome (settings_of (map string_bytes words.now)) (λ settings.
         IsRun (empty_core (run_settings_of settings)) (state_of core)))) }
 {
-    match read_words(alloc, words) {
+    match read_words(host.alloc, words) {
         Ok(Some(settings)) => {
             if has_workers(&settings) {
                 return WordsOutcome::Work(settings);
             }
             match settings.mode {
-                Mode::Run => {
-                    WordsOutcome::Ran(run_shared(rt, alloc, hash_keys, &settings, source, sink))
-                }
-                Mode::Alone => WordsOutcome::Ran(run_each_alone(alloc, hash_keys, source, sink)),
-                Mode::Make => WordsOutcome::Ran(run_workload(
-                    rt, alloc, hash_keys, &settings, sink,
-                )),
+                Mode::Run => WordsOutcome::Ran(run_shared(host, &settings, source, sink)),
+                Mode::Alone => WordsOutcome::Ran(run_each_alone(host, source, sink)),
+                Mode::Make => WordsOutcome::Ran(run_workload(host, &settings, sink)),
                 Mode::Serve => WordsOutcome::Serve(settings),
             }
         }
@@ -247,9 +235,7 @@ fn shares_core(mode: Mode) -> bool
 /// Runs a script whose queries share the scan of one core, on one thread but for those of a turn,
 /// and hands the core back.
 fn run_shared<R: Threads + Sync, S: Source, K: Sink>(
-    rt: &R,
-    alloc: Global,
-    hash_keys: RandomState,
+    host: Host<&R>,
     settings: &Settings,
     source: &mut S,
     sink: &mut K,
@@ -265,16 +251,11 @@ fn run_shared<R: Threads + Sync, S: Source, K: Sink>(
         IsRun (empty_core (run_settings_of settings.now)) (state_of core)) }
 {
     let core = run_settings(settings);
-    done_of(run_on_one_thread(rt, alloc, hash_keys, core, source, sink))
+    done_of(run_on_one_thread(host, core, source, sink))
 }
 
 /// Runs a script each of whose queries is answered by itself, without a core.
-fn run_each_alone<S: Source, K: Sink>(
-    alloc: Global,
-    hash_keys: RandomState,
-    source: &mut S,
-    sink: &mut K,
-) -> TopDone
+fn run_each_alone<R, S: Source, K: Sink>(host: Host<&R>, source: &mut S, sink: &mut K) -> TopDone
     ensures headline { (settings : CoreSettings) → Headline settings result.core result.status
         (S.reading source.old) (S.reading source.new)
         (K.writing sink.old) (K.writing sink.new) }
@@ -282,15 +263,13 @@ fn run_each_alone<S: Source, K: Sink>(
         (K.writing sink.old) (K.writing sink.new) }
     ensures core { IsNone result.core }
 {
-    without_core(status_of(run_alone(alloc, hash_keys, source, sink)))
+    without_core(status_of(run_alone(host.alloc, host.hash_keys, source, sink)))
 }
 
 /// Runs the made workload, whose queries share the scan of one core, on one thread but for those of
 /// a turn, writes the line that sums its replies up, and hands the core back.
 fn run_workload<R: Threads + Sync, K: Sink>(
-    rt: &R,
-    alloc: Global,
-    hash_keys: RandomState,
+    host: Host<&R>,
     settings: &Settings,
     sink: &mut K,
 ) -> TopDone
@@ -304,22 +283,12 @@ fn run_workload<R: Threads + Sync, K: Sink>(
         IsRun (empty_core (run_settings_of settings.now)) (state_of core)) }
 {
     let core = run_settings(settings);
-    made_of(run_made_on_one_thread(
-        rt,
-        alloc,
-        hash_keys,
-        core,
-        settings.seed,
-        settings.rows,
-        sink,
-    ))
+    made_of(run_made_on_one_thread(host, core, settings.seed, settings.rows, sink))
 }
 
 /// Runs a script or the made workload with workers, as the settings say, and hands the core back.
 fn run_by_workers<R: Threads + Sync + Wait, S: Source, K: Sink, G: Gate + Sync>(
-    rt: &R,
-    alloc: Global,
-    hash_keys: RandomState,
+    host: Host<&R>,
     settings: &Settings,
     source: &mut S,
     sink: &mut K,
@@ -328,30 +297,23 @@ fn run_by_workers<R: Threads + Sync + Wait, S: Source, K: Sink, G: Gate + Sync>(
     requires works { Works settings.now }
     requires range { AreInRange settings.now }
     ensures known { result.status ≢ 2 }
-    ensures headline { HasScript settings.now →
-        Headline (run_settings_of settings.now) result.core result.status
+    ensures answers { AnswersByMode settings.now result.core result.status
         (S.reading source.old) (S.reading source.new)
-        (K.writing sink.old) (K.writing sink.new) }
-    ensures made { IsMade settings.now →
-        (source.new ≡ source.old)
-        × MadeHeadline (run_settings_of settings.now) settings.now.seed settings.now.rows
-        result.core result.status (K.writing sink.old) (K.writing sink.new) }
+        (K.writing sink.old) (K.writing sink.new) (source.new ≡ source.old) }
     ensures causes { HasCause result.status (S.reading source.old) (S.reading source.new)
         (K.writing sink.old) (K.writing sink.new) }
     ensures core { IsNone result.core ↔ (result.status ≡ 5) }
 {
     match settings.mode {
-        Mode::Run => run_shared_by_workers(rt, alloc, hash_keys, settings, source, sink, gate),
-        Mode::Make => run_workload_by_workers(rt, alloc, hash_keys, settings, sink, gate),
+        Mode::Run => run_shared_by_workers(host, settings, source, sink, gate),
+        Mode::Make => run_workload_by_workers(host, settings, sink, gate),
         Mode::Alone | Mode::Serve => unreachable!(),
     }
 }
 
 /// Runs a script whose queries share the scan of one core with workers, and hands the core back.
 fn run_shared_by_workers<R: Threads + Sync + Wait, S: Source, K: Sink, G: Gate + Sync>(
-    rt: &R,
-    alloc: Global,
-    hash_keys: RandomState,
+    host: Host<&R>,
     settings: &Settings,
     source: &mut S,
     sink: &mut K,
@@ -366,15 +328,13 @@ fn run_shared_by_workers<R: Threads + Sync + Wait, S: Source, K: Sink, G: Gate +
     ensures core { IsNone result.core ↔ (result.status ≡ 5) }
 {
     let core = run_settings(settings);
-    done_of(run_script(rt, alloc, hash_keys, core, source, sink, gate))
+    done_of(run_script(host, core, source, sink, gate))
 }
 
 /// Runs the made workload, whose queries share the scan of one core, with workers, writes the line
 /// that sums its replies up, and hands the core back.
 fn run_workload_by_workers<R: Threads + Sync + Wait, K: Sink, G: Gate + Sync>(
-    rt: &R,
-    alloc: Global,
-    hash_keys: RandomState,
+    host: Host<&R>,
     settings: &Settings,
     sink: &mut K,
     gate: &G,
@@ -389,14 +349,12 @@ fn run_workload_by_workers<R: Threads + Sync + Wait, K: Sink, G: Gate + Sync>(
     let core = run_settings(settings);
     let seed = settings.seed;
     let rows = settings.rows;
-    made_of(run_made(rt, alloc, hash_keys, core, seed, rows, sink, gate))
+    made_of(run_made(host, core, seed, rows, sink, gate))
 }
 
 /// Serves connections at the port over one core, many at once, beside the workers.
 fn serve_connections<R: Threads + Sync + Wait, D: Door, G: Gate + Sync>(
-    rt: &R,
-    alloc: Global,
-    hash_keys: RandomState,
+    host: Host<&R>,
     settings: &Settings,
     door: &mut D,
     gate: &G,
@@ -410,7 +368,7 @@ fn serve_connections<R: Threads + Sync + Wait, D: Door, G: Gate + Sync>(
     let core = serve_settings(settings);
     let port = settings.port;
     let accept = settings.accept;
-    let end = serve(rt, alloc, hash_keys, core, port, accept, door, gate);
+    let end = serve(host, core, port, accept, door, gate);
     without_core(serve_status_of(end))
 }
 

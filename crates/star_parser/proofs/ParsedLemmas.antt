@@ -13,7 +13,7 @@ use Rattle.star_parser.specs.Reading.{sentence_at}
 use Rattle.star_parser.specs.Parsed.{Over, Stopped, Means, parsed_by, parsed_of}
 use Rattle.star_parser.specs.Grammar.{sentence}
 use Rattle.star_parser.specs.Sentence.{IsSentenceOf, IsSentence, IsStopOf, IsStop}
-use Rattle.star_parser.specs.Printed.{statement_symbols, printed, IsWellFormed}
+use Rattle.star_parser.specs.Printed.{statement_symbols, printed, CanBeWritten}
 use Rattle.star_parser.proofs.ReadsLemmas.{none_some, some_same, true_false}
 use Rattle.star_parser.proofs.SentenceLemmas.{sentence_read, sentence_only, stops, stops_behind}
 use Rattle.star_parser.proofs.PrintedLemmas.{printed_is}
@@ -50,7 +50,7 @@ parsed_when : (line : Symbolic) (end : ℕ) (meaning : Statement) (out : ReaderO
 parsed_when line end meaning (Some found, rest) e whole = ap (λ z. option_map_or Stopped z (Means found)) whole ∙ ap Means (some_same e)
 parsed_when line end meaning (None, rest) e whole = none_some e
 
-pub printed_parsed : AreTested → AreReadBack → AreWhole → (meaning : Statement) → IsWellFormed meaning → parsed_of (printed meaning) ≡ Means meaning
+pub printed_parsed : AreTested → AreReadBack → AreWhole → (meaning : Statement) → CanBeWritten meaning → parsed_of (printed meaning) ≡ Means meaning
 printed_parsed tested back whole meaning formed =
     let symbols = statement_symbols meaning in
     let read : symbols_of (printed meaning) ≡ symbols = back symbols formed.writable in

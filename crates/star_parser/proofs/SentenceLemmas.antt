@@ -14,7 +14,7 @@ use Rattle.star_parser.specs.Reader.{ReaderOutcome, Reader, bind, gives, end_at}
 use Rattle.star_parser.specs.Reading as reading
 use Rattle.star_parser.specs.Reading.{sentence_at}
 use Rattle.star_parser.specs.Reads.{Reads}
-use Rattle.star_parser.specs.Sentence.{IsFront, IsStopOf, place_of}
+use Rattle.star_parser.specs.Sentence.{BeginsSentence, IsStopOf, place_of}
 use Rattle.star_parser.proofs.ReadsLemmas.{none_some, any_symbol}
 use Rattle.star_parser.proofs.SeparatedLemmas.{reads_length}
 use Rattle.star_parser.proofs.StatementLemmas.{sentence_reads}
@@ -66,19 +66,19 @@ stops_by : (line : Symbolic) (end : ℕ) (rest : List Symbol) → length line.pl
     → Reads grammar.sentence grammar.sentence any_symbol line.symbols (None, rest) → IsStopOf line end (place_of line (length rest) end)
 stops_by line end [] placed e r =
     let all : r.used ≡ line.symbols = sym (r.whole ∙ append-nil r.used) in
-    let front : IsFront line.symbols = (r.begun.0, r.begun.1, subst (λ z. grammar.sentence (z ++ r.begun.0) r.begun.1) all r.begun.2) in
+    let front : BeginsSentence line.symbols = (r.begun.0, r.begun.1, subst (λ z. grammar.sentence (z ++ r.begun.0) r.begun.1) all r.begun.2) in
     by line.bad refl front
   where
-    by : (bad : Option ℕ) → line.bad ≡ bad → IsFront line.symbols → IsStopOf line end (unwrap_or line.bad end)
+    by : (bad : Option ℕ) → line.bad ≡ bad → BeginsSentence line.symbols → IsStopOf line end (unwrap_or line.bad end)
     by (Some place) is front = inr (inl (front, is ∙ ap (λ z. Some (unwrap_or z end)) (sym is)))
     by None is front = inr (inr (front, is, (λ meaning m. none_some (sentence_only line.symbols meaning (None, []) e m)), ap (λ z. unwrap_or z end) is))
 stops_by line end (t ∷ rest) placed e r =
     let count = length r.used in
     let whole : length line.symbols ≡ length (r.used ++ t ∷ rest) = ap length r.whole in
-    let front : IsFront (take count line.symbols) =
+    let front : BeginsSentence (take count line.symbols) =
     (r.begun.0, r.begun.1, subst (λ z. grammar.sentence (z ++ r.begun.0) r.begun.1) (sym (ap (take count) r.whole ∙ take_front r.used (t ∷ rest))) r.begun.2) in
     let next : take (suc count) line.symbols ≡ r.used ++ t ∷ [] = ap (take (suc count)) r.whole ∙ take_next r.used t rest in
-    let never : IsFront (take (suc count) line.symbols) → ⊥ =
+    let never : BeginsSentence (take (suc count) line.symbols) → ⊥ =
     λ h. none_some (r.only (t ∷ h.0) ((r.used ++ t ∷ []) ++ h.0) [] h.1 refl
     (sym (append_assoc r.used (t ∷ []) h.0) ∙ sym (append-nil ((r.used ++ t ∷ []) ++ h.0)))
     (subst (λ z. grammar.sentence (z ++ h.0) h.1) next h.2) refl).0 in

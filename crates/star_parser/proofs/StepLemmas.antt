@@ -4,7 +4,7 @@ use Rattle.std.specs.Prelude.{if◌then◌else◌, IfOk}
 use Rattle.star_lexer.specs.declared.symbol.Symbol.{Symbol}
 use Rattle.star_parser.specs.declared.parser.Stop.{Stop}
 use Rattle.star_parser.specs.declared.parser.Stop.TheVariants.{Memory, Unfit}
-use Rattle.star_parser.specs.Reader.{ReaderOutcome, Reader, Gives, begins, behind, bind, gives, on}
+use Rattle.star_parser.specs.Reader.{ReaderOutcome, Reader, Gave, begins, behind, bind, gives, on}
 use Rattle.star_parser.proofs.ReadsLemmas.{true_false}
 
 pub on_true : {A : Type 0} (test : Symbol → Bool) (first second : Reader A) (symbols : List Symbol) → begins test symbols ≡ true
@@ -38,14 +38,14 @@ pub bind_bind : {A B C : Type 0} (out : ReaderOutcome A) (second : A → Reader 
 bind_bind (Some a, rest) second third = refl
 bind_bind (None, rest) second third = refl
 
-hands_on : {X A : Type 0} (view : X → A) (result : Result X Stop) (x : X) (rest : List Symbol) (out : ReaderOutcome (Unit {0})) → Gives (λ _. tt) result rest out → IfOk result (λ y. y ≡ x)
-    → Gives view result rest (bind out (λ _. gives (view x)))
+hands_on : {X A : Type 0} (view : X → A) (result : Result X Stop) (x : X) (rest : List Symbol) (out : ReaderOutcome (Unit {0})) → Gave (λ _. tt) result rest out → IfOk result (λ y. y ≡ x)
+    → Gave view result rest (bind out (λ _. gives (view x)))
 hands_on view (Ok y) x rest out read same = ap (λ z. bind z (λ _. gives (view x))) read ∙ ap (λ z. (Some (view z), rest)) (sym same)
 hands_on view (Err Memory) x rest out read same = tt
 hands_on view (Err Unfit) x rest out read same = ap (λ z. bind z (λ _. gives (view x))) read
 
 -- a value was read, and handed on by what was read behind it
 pub handed_on : {X A : Type 0} (view : X → A) (result : Result X Stop) (x : X) (middle rest : List Symbol) (out : ReaderOutcome A) (last : Reader (Unit {0})) → out ≡ (Some (view x), middle)
-    → Gives (λ _. tt) result rest (last middle) → IfOk result (λ y. y ≡ x) → Gives view result rest (bind out (λ v later. bind (last later) (λ _. gives v)))
+    → Gave (λ _. tt) result rest (last middle) → IfOk result (λ y. y ≡ x) → Gave view result rest (bind out (λ v later. bind (last later) (λ _. gives v)))
 handed_on view result x middle rest out last first read same =
-    subst (λ z. Gives view result rest z) (sym (bind_ok (λ v later. bind (last later) (λ _. gives v)) (view x) middle first)) (hands_on view result x rest (last middle) read same)
+    subst (λ z. Gave view result rest z) (sym (bind_ok (λ v later. bind (last later) (λ _. gives v)) (view x) middle first)) (hands_on view result x rest (last middle) read same)

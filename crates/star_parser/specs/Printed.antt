@@ -286,7 +286,7 @@ IsShaped Wait = Unit {0}
 
 -- a statement that some line says: its lists and trees have their shapes, each of its names is a
 -- name and each of its values a literal, and its printed line is within the limits
-pub record IsWellFormed (meaning : Statement) : Type 0 where
+pub record CanBeWritten (meaning : Statement) : Type 0 where
   pub shaped : IsShaped meaning
   pub writable : All IsWritable (statement_symbols meaning)
   pub within : ¬ (IsOverLimit (printed meaning))

@@ -122,7 +122,7 @@ with_front front (None, rest) = (None, rest)
 
 -- a function gave what reading gives, unless memory ran out: the value as it is seen, and
 -- the symbols that are left
-abbrev pub Gives : {X A : Type 0} → (X → A) → Result X Stop → List Symbol → ReaderOutcome A → Type 0
-Gives view (Ok x) rest read = read ≡ (Some (view x), rest)
-Gives view (Err Memory) rest read = Unit {0}
-Gives view (Err Unfit) rest read = read ≡ (None, rest)
+abbrev pub Gave : {X A : Type 0} → (X → A) → Result X Stop → List Symbol → ReaderOutcome A → Type 0
+Gave view (Ok x) rest read = read ≡ (Some (view x), rest)
+Gave view (Err Memory) rest read = Unit {0}
+Gave view (Err Unfit) rest read = read ≡ (None, rest)

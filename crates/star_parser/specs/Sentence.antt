@@ -13,24 +13,25 @@ abbrev pub IsSentenceOf : Symbolic → Statement → Type 0
 IsSentenceOf line meaning = (line.bad ≡ None) × sentence line.symbols meaning
 
 -- some sentence begins with the symbols
-abbrev pub IsFront : List Symbol → Type 0
-IsFront symbols = (more : List Symbol) × (meaning : Statement) × sentence (symbols ++ more) meaning
+abbrev pub BeginsSentence : List Symbol → Type 0
+BeginsSentence symbols =
+    (more : List Symbol) × (meaning : Statement) × sentence (symbols ++ more) meaning
 
 -- no sentence begins with the symbols up to this one, and some sentence does with those before it
 abbrev pub StopsAtSymbol : Symbolic → ℕ → Type 0
 StopsAtSymbol line place =
-    (count : ℕ) × (count < length line.symbols) × IsFront (take count line.symbols)
-    × (IsFront (take (suc count) line.symbols) → ⊥)
+    (count : ℕ) × (count < length line.symbols) × BeginsSentence (take count line.symbols)
+    × (BeginsSentence (take (suc count) line.symbols) → ⊥)
     × (place ≡ slice_index line.places count)
 
 -- some sentence begins with the symbols, and behind them no token can be read
 abbrev pub StopsAtToken : Symbolic → ℕ → Type 0
-StopsAtToken line place = IsFront line.symbols × (line.bad ≡ Some place)
+StopsAtToken line place = BeginsSentence line.symbols × (line.bad ≡ Some place)
 
 -- some sentence begins with the symbols, and they are none yet
 abbrev pub StopsAtEnd : Symbolic → ℕ → ℕ → Type 0
 StopsAtEnd line end place =
-    IsFront line.symbols × (line.bad ≡ None)
+    BeginsSentence line.symbols × (line.bad ≡ None)
     × ((meaning : Statement) → sentence line.symbols meaning → ⊥) × (place ≡ end)
 
 -- the first place where the line of so many bytes is the front of no sentence

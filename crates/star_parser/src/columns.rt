@@ -1,6 +1,6 @@
 //! Columns, kinds and items, read from the front.
 ghost use Rattle.std.specs.Prelude.{◌≡◌};
-ghost use Rattle.star_parser.specs.Reader.{Gives};
+ghost use Rattle.star_parser.specs.Reader.{Gave};
 ghost use Rattle.star_parser.specs.Reading.{kind_at, dotted_at, column_at, counted_column_at, counted_at, bracketed_column_at, item_at};
 
 use crate::ast::AstItem;
@@ -11,7 +11,7 @@ use star_values::{Kind, SmallText};
 
 impl Parser<'_> {
     pub fn kind(&mut self) -> Result<Kind, Stop>
-        ensures { Gives (λ kind. kind) result self.new.rest.now (kind_at self.old.rest.now) }
+        ensures { Gave (λ kind. kind) result self.new.rest.now (kind_at self.old.rest.now) }
     {
         if self.skip_keyword(Keyword::Int) {
             Ok(Kind::Int)
@@ -23,7 +23,7 @@ impl Parser<'_> {
 
     /// The name behind a dot, where a dot stands.
     fn dotted(&mut self) -> Result<Option<SmallText>, Stop>
-        ensures { Gives (λ name. name) result self.new.rest.now (dotted_at self.old.rest.now) }
+        ensures { Gave (λ name. name) result self.new.rest.now (dotted_at self.old.rest.now) }
     {
         if self.skip_sign(Sign::Dot) {
             Ok(Some(self.name()?))
@@ -34,7 +34,7 @@ impl Parser<'_> {
 
     #[tactic(auto, unfolding(crate::specs::Reading::column_at))]
     pub fn column(&mut self) -> Result<Column, Stop>
-        ensures { Gives (λ column. column) result self.new.rest.now (column_at self.old.rest.now) }
+        ensures { Gave (λ column. column) result self.new.rest.now (column_at self.old.rest.now) }
     {
         let first = self.name()?;
         match self.dotted()? {
@@ -51,7 +51,7 @@ impl Parser<'_> {
 
     #[tactic(auto, unfolding(crate::specs::Reading::bracketed_column_at))]
     fn bracketed_column(&mut self) -> Result<Column, Stop>
-        ensures { Gives (λ column. column) result self.new.rest.now
+        ensures { Gave (λ column. column) result self.new.rest.now
             (bracketed_column_at self.old.rest.now) }
     {
         self.sign(Sign::Open)?;
@@ -60,7 +60,7 @@ impl Parser<'_> {
     }
 
     fn counted_column(&mut self) -> Result<AstItem, Stop>
-        ensures { Gives (λ item. item) result self.new.rest.now
+        ensures { Gave (λ item. item) result self.new.rest.now
             (counted_column_at self.old.rest.now) }
     {
         if self.skip_sign(Sign::Star) {
@@ -72,7 +72,7 @@ impl Parser<'_> {
 
     #[tactic(auto, unfolding(crate::specs::Reading::counted_at))]
     fn counted(&mut self) -> Result<AstItem, Stop>
-        ensures { Gives (λ item. item) result self.new.rest.now (counted_at self.old.rest.now) }
+        ensures { Gave (λ item. item) result self.new.rest.now (counted_at self.old.rest.now) }
     {
         self.sign(Sign::Open)?;
         let item = self.counted_column()?;
@@ -81,7 +81,7 @@ impl Parser<'_> {
 
     #[tactic(auto, unfolding(crate::specs::Reading::item_at))]
     pub fn item(&mut self) -> Result<AstItem, Stop>
-        ensures { Gives (λ item. item) result self.new.rest.now (item_at self.old.rest.now) }
+        ensures { Gave (λ item. item) result self.new.rest.now (item_at self.old.rest.now) }
     {
         if self.skip_keyword(Keyword::Count) {
             self.counted()

@@ -1,6 +1,6 @@
 //! Conditions, read from the front.
 ghost use Rattle.std.specs.Prelude.{◌≡◌, ◌++◌, map, OnOk};
-ghost use Rattle.star_parser.specs.Reader.{Gives};
+ghost use Rattle.star_parser.specs.Reader.{Gave};
 ghost use Rattle.star_parser.specs.Condition.{condition_of, conditions, conjuncts, disjuncts, alone_or};
 ghost use Rattle.star_parser.specs.Condition as plain;
 ghost use Rattle.star_parser.specs.Reading.{compared_at, equal_to_at, upper_bound_at, between_at, bracketed_literals_at, listed_at, ranged_at, not_ranged_at, ranged_test_at, ordered_at, tested_at, test_at, negated_at, not_negated_at, closed_at, one_at, conjuncts_at, all_at, disjuncts_at, any_at, condition_at};
@@ -14,7 +14,7 @@ impl Parser<'_> {
     /// A condition. As many `not` and parentheses can stand around each other as there are symbols.
     #[tactic(auto, unfolding(crate::specs::Reading::condition_at))]
     pub fn condition(&mut self) -> Result<Tree, Stop>
-        ensures { Gives condition_of result self.new.rest.now (condition_at self.old.rest.now) }
+        ensures { Gave condition_of result self.new.rest.now (condition_at self.old.rest.now) }
     {
         self.any(self.rest.len() + 1)
     }
@@ -22,7 +22,7 @@ impl Parser<'_> {
     #[cycle(nesting)]
     #[tactic(auto, unfolding(crate::specs::Reading::any_at, crate::specs::Reading::disjuncts_at))]
     fn any(&mut self, depth: usize) -> Result<Tree, Stop>
-        ensures { Gives condition_of result self.new.rest.now (any_at depth self.old.rest.now) }
+        ensures { Gave condition_of result self.new.rest.now (any_at depth self.old.rest.now) }
     {
         let disjuncts = self.disjuncts(depth)?;
         Ok(any_of(disjuncts))
@@ -31,7 +31,7 @@ impl Parser<'_> {
     #[cycle(nesting)]
     #[tactic(auto, unfolding(crate::specs::Reading::disjuncts_at, crate::specs::Reading::all_at))]
     fn disjuncts(&mut self, depth: usize) -> Result<Vec<Tree>, Stop>
-        ensures { Gives (λ trees. map condition_of trees.items) result self.new.rest.now
+        ensures { Gave (λ trees. map condition_of trees.items) result self.new.rest.now
             (disjuncts_at depth self.old.rest.now) }
     {
         let mut trees = Vec::new(self.alloc);
@@ -46,7 +46,7 @@ impl Parser<'_> {
     #[cycle(nesting)]
     #[tactic(auto, unfolding(crate::specs::Reading::all_at, crate::specs::Reading::conjuncts_at))]
     fn all(&mut self, depth: usize) -> Result<Tree, Stop>
-        ensures { Gives condition_of result self.new.rest.now (all_at depth self.old.rest.now) }
+        ensures { Gave condition_of result self.new.rest.now (all_at depth self.old.rest.now) }
     {
         let conjuncts = self.conjuncts(depth)?;
         Ok(all_of(conjuncts))
@@ -55,7 +55,7 @@ impl Parser<'_> {
     #[cycle(nesting)]
     #[tactic(auto, unfolding(crate::specs::Reading::conjuncts_at))]
     fn conjuncts(&mut self, depth: usize) -> Result<Vec<Tree>, Stop>
-        ensures { Gives (λ trees. map condition_of trees.items) result self.new.rest.now
+        ensures { Gave (λ trees. map condition_of trees.items) result self.new.rest.now
             (conjuncts_at depth self.old.rest.now) }
     {
         let mut trees = Vec::new(self.alloc);
@@ -72,7 +72,7 @@ impl Parser<'_> {
     #[cycle(nesting)]
     #[tactic(auto, unfolding(crate::specs::Reading::one_at))]
     fn one(&mut self, depth: usize) -> Result<Tree, Stop>
-        ensures { Gives condition_of result self.new.rest.now (one_at depth self.old.rest.now) }
+        ensures { Gave condition_of result self.new.rest.now (one_at depth self.old.rest.now) }
     {
         let Some(inner) = depth.checked_sub(1) else {
             return Err(Stop::Unfit);
@@ -86,7 +86,7 @@ impl Parser<'_> {
 
     #[cycle(nesting)]
     fn not_negated(&mut self, depth: usize) -> Result<Tree, Stop>
-        ensures { Gives condition_of result self.new.rest.now
+        ensures { Gave condition_of result self.new.rest.now
             (not_negated_at depth self.old.rest.now) }
     {
         if self.skip_sign(Sign::Open) {
@@ -98,7 +98,7 @@ impl Parser<'_> {
 
     #[cycle(nesting)]
     fn negated(&mut self, depth: usize) -> Result<Tree, Stop>
-        ensures { Gives condition_of result self.new.rest.now (negated_at depth self.old.rest.now) }
+        ensures { Gave condition_of result self.new.rest.now (negated_at depth self.old.rest.now) }
     {
         let plain = self.one(depth)?;
         Ok(Tree::Negate(Box::new(self.alloc, plain)?))
@@ -107,7 +107,7 @@ impl Parser<'_> {
     #[cycle(nesting)]
     #[tactic(auto, unfolding(crate::specs::Reading::any_at))]
     fn closed(&mut self, depth: usize) -> Result<Tree, Stop>
-        ensures { Gives condition_of result self.new.rest.now (closed_at depth self.old.rest.now) }
+        ensures { Gave condition_of result self.new.rest.now (closed_at depth self.old.rest.now) }
     {
         let tree = self.any(depth)?;
         self.close(tree)
@@ -115,7 +115,7 @@ impl Parser<'_> {
 
     #[tactic(auto, unfolding(crate::specs::Reading::compared_at))]
     fn compared(&mut self, column: Column, how: Relation) -> Result<Tree, Stop>
-        ensures { Gives condition_of result self.new.rest.now
+        ensures { Gave condition_of result self.new.rest.now
             (compared_at column how self.old.rest.now) }
     {
         let value = self.literal()?;
@@ -124,7 +124,7 @@ impl Parser<'_> {
 
     #[tactic(auto, unfolding(crate::specs::Reading::equal_to_at))]
     fn equal_to(&mut self, left: Column) -> Result<Tree, Stop>
-        ensures { Gives condition_of result self.new.rest.now (equal_to_at left self.old.rest.now) }
+        ensures { Gave condition_of result self.new.rest.now (equal_to_at left self.old.rest.now) }
     {
         if self.at_literal() {
             self.compared(left, Relation::Eq)
@@ -136,7 +136,7 @@ impl Parser<'_> {
 
     #[tactic(auto, unfolding(crate::specs::Reading::between_at))]
     fn between(&mut self, column: Column) -> Result<Tree, Stop>
-        ensures { Gives condition_of result self.new.rest.now
+        ensures { Gave condition_of result self.new.rest.now
             (between_at column self.old.rest.now) }
     {
         let low = self.literal()?;
@@ -146,7 +146,7 @@ impl Parser<'_> {
 
     #[tactic(auto, unfolding(crate::specs::Reading::upper_bound_at))]
     fn upper_bound(&mut self) -> Result<Value, Stop>
-        ensures { Gives (λ value. value) result self.new.rest.now
+        ensures { Gave (λ value. value) result self.new.rest.now
             (upper_bound_at self.old.rest.now) }
     {
         self.keyword(Keyword::And)?;
@@ -155,7 +155,7 @@ impl Parser<'_> {
 
     #[tactic(auto, unfolding(crate::specs::Reading::listed_at))]
     fn listed(&mut self, column: Column) -> Result<Tree, Stop>
-        ensures { Gives condition_of result self.new.rest.now (listed_at column self.old.rest.now) }
+        ensures { Gave condition_of result self.new.rest.now (listed_at column self.old.rest.now) }
     {
         let values = self.bracketed_literals()?;
         Ok(Tree::OneOf {
@@ -166,7 +166,7 @@ impl Parser<'_> {
 
     #[tactic(auto, unfolding(crate::specs::Reading::bracketed_literals_at))]
     fn bracketed_literals(&mut self) -> Result<Vec<Value>, Stop>
-        ensures { Gives (λ values. values.items) result self.new.rest.now
+        ensures { Gave (λ values. values.items) result self.new.rest.now
             (bracketed_literals_at self.old.rest.now) }
     {
         self.sign(Sign::Open)?;
@@ -176,7 +176,7 @@ impl Parser<'_> {
 
     #[tactic(auto, unfolding(crate::specs::Reading::ranged_at))]
     fn ranged(&mut self, column: Column) -> Result<Tree, Stop>
-        ensures { Gives condition_of result self.new.rest.now (ranged_at column self.old.rest.now) }
+        ensures { Gave condition_of result self.new.rest.now (ranged_at column self.old.rest.now) }
     {
         if self.skip_keyword(Keyword::Between) {
             self.between(column)
@@ -188,7 +188,7 @@ impl Parser<'_> {
 
     #[tactic(auto, unfolding(crate::specs::Reading::not_ranged_at))]
     fn not_ranged(&mut self, column: Column) -> Result<Tree, Stop>
-        ensures { Gives condition_of result self.new.rest.now
+        ensures { Gave condition_of result self.new.rest.now
             (not_ranged_at column self.old.rest.now) }
     {
         let plain = self.ranged(column)?;
@@ -197,7 +197,7 @@ impl Parser<'_> {
 
     #[tactic(auto, unfolding(crate::specs::Reading::tested_at))]
     fn tested(&mut self, column: Column) -> Result<Tree, Stop>
-        ensures { Gives condition_of result self.new.rest.now (tested_at column self.old.rest.now) }
+        ensures { Gave condition_of result self.new.rest.now (tested_at column self.old.rest.now) }
     {
         if self.skip_sign(Sign::Equal) {
             self.equal_to(column)
@@ -211,7 +211,7 @@ impl Parser<'_> {
     /// A comparison by order, or else what is no comparison.
     #[tactic(auto, unfolding(crate::specs::Reading::ordered_at))]
     fn ordered(&mut self, column: Column) -> Result<Tree, Stop>
-        ensures { Gives condition_of result self.new.rest.now
+        ensures { Gave condition_of result self.new.rest.now
             (ordered_at column self.old.rest.now) }
     {
         if self.skip_sign(Sign::Less) {
@@ -229,7 +229,7 @@ impl Parser<'_> {
 
     #[tactic(auto, unfolding(crate::specs::Reading::ranged_test_at))]
     fn ranged_test(&mut self, column: Column) -> Result<Tree, Stop>
-        ensures { Gives condition_of result self.new.rest.now
+        ensures { Gave condition_of result self.new.rest.now
             (ranged_test_at column self.old.rest.now) }
     {
         if self.skip_keyword(Keyword::Not) {
@@ -241,7 +241,7 @@ impl Parser<'_> {
 
     #[tactic(auto, unfolding(crate::specs::Reading::test_at))]
     fn test(&mut self) -> Result<Tree, Stop>
-        ensures { Gives condition_of result self.new.rest.now (test_at self.old.rest.now) }
+        ensures { Gave condition_of result self.new.rest.now (test_at self.old.rest.now) }
     {
         let column = self.column()?;
         self.tested(column)

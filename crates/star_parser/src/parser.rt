@@ -2,7 +2,7 @@
 ghost use Rattle.std.specs.Prelude.{◌≡◌, IfOk};
 ghost use Rattle.star_lexer.specs.declared.sign.Sign.TheVariants as mark;
 ghost use Rattle.star_lexer.specs.declared.symbol.Symbol.TheVariants as symbol;
-ghost use Rattle.star_parser.specs.Reader.{Gives, begins, behind, is_word, is_sign, is_literal, expect, name_at, literal_at, end_at};
+ghost use Rattle.star_parser.specs.Reader.{Gave, begins, behind, is_word, is_sign, is_literal, expect, name_at, literal_at, end_at};
 
 use star_lexer::{Keyword, Sign, Symbol};
 use star_values::{NoMemory, SmallText, Value};
@@ -92,7 +92,7 @@ impl<'a> Parser<'a> {
     }
 
     pub fn keyword(&mut self, keyword: Keyword) -> Result<(), Stop>
-        ensures { Gives (λ u. u) result self.new.rest.now
+        ensures { Gave (λ u. u) result self.new.rest.now
             (expect (is_word keyword) self.old.rest.now) }
     {
         if self.skip_keyword(keyword) {
@@ -103,7 +103,7 @@ impl<'a> Parser<'a> {
     }
 
     pub fn sign(&mut self, sign: Sign) -> Result<(), Stop>
-        ensures { Gives (λ u. u) result self.new.rest.now
+        ensures { Gave (λ u. u) result self.new.rest.now
             (expect (is_sign sign) self.old.rest.now) }
     {
         if self.skip_sign(sign) {
@@ -114,7 +114,7 @@ impl<'a> Parser<'a> {
     }
 
     pub fn name(&mut self) -> Result<SmallText, Stop>
-        ensures { Gives (λ text. text) result self.new.rest.now (name_at self.old.rest.now) }
+        ensures { Gave (λ text. text) result self.new.rest.now (name_at self.old.rest.now) }
     {
         match self.rest {
             [Symbol::Name(name), rest @ ..] => {
@@ -127,7 +127,7 @@ impl<'a> Parser<'a> {
     }
 
     pub fn literal(&mut self) -> Result<Value, Stop>
-        ensures { Gives (λ value. value) result self.new.rest.now (literal_at self.old.rest.now) }
+        ensures { Gave (λ value. value) result self.new.rest.now (literal_at self.old.rest.now) }
     {
         match self.rest {
             [Symbol::Literal(value), rest @ ..] => {
@@ -141,7 +141,7 @@ impl<'a> Parser<'a> {
 
     /// Hands on what stood between parentheses, where the second one follows.
     pub fn close<T: Drop>(&mut self, inner: T) -> Result<T, Stop>
-        ensures read { Gives (λ _. tt) result self.new.rest.now
+        ensures read { Gave (λ _. tt) result self.new.rest.now
             (expect (is_sign mark.Close) self.old.rest.now) }
         ensures same { IfOk result (λ value. value ≡ inner) }
     {
@@ -151,7 +151,7 @@ impl<'a> Parser<'a> {
 
     /// Hands on what was read, where nothing follows.
     pub fn end<T: Drop>(&mut self, whole: T) -> Result<T, Stop>
-        ensures read { Gives (λ _. tt) result self.new.rest.now (end_at self.old.rest.now) }
+        ensures read { Gave (λ _. tt) result self.new.rest.now (end_at self.old.rest.now) }
         ensures same { IfOk result (λ value. value ≡ whole) }
     {
         if self.rest.is_empty() {

@@ -6,7 +6,7 @@ ghost use Rattle.star_parser.specs.Condition.{condition_of};
 ghost use Rattle.star_parser.specs.Statement.{statement_of};
 ghost use Rattle.star_parser.specs.Statement as plain;
 ghost use Rattle.star_parser.specs.Parsed.{Means, parsed_of};
-ghost use Rattle.star_parser.specs.Printed.{statement_symbols, dimension_column_symbols, header_symbols, where_symbols, group_symbols, printed, IsWellFormed};
+ghost use Rattle.star_parser.specs.Printed.{statement_symbols, dimension_column_symbols, header_symbols, where_symbols, group_symbols, printed, CanBeWritten};
 
 use crate::ast::{Ast, AstColumn, AstItem};
 use crate::print_conditions::add_any;
@@ -24,8 +24,8 @@ use std::alloc::Global;
 /// What is printed of a well-formed statement is read again as that statement.
 pub fn print(alloc: Global, ast: &Ast) -> Result<ByteText, NoMemory>
     ensures printed { IfOk result (λ text. text ≡ printed (statement_of ast.now)) }
-    ensures text { IsWellFormed (statement_of ast.now) → IfOk result IsUtf8 }
-    ensures reads_back { IsWellFormed (statement_of ast.now)
+    ensures text { CanBeWritten (statement_of ast.now) → IfOk result IsUtf8 }
+    ensures reads_back { CanBeWritten (statement_of ast.now)
         → IfOk result (λ text. parsed_of text ≡ Means (statement_of ast.now)) }
 {
     limits_are_tested();

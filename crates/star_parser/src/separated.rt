@@ -1,5 +1,5 @@
 //! Lists with a comma between each two, read from the front. Each has one member at least.
-ghost use Rattle.star_parser.specs.Reader.{Gives};
+ghost use Rattle.star_parser.specs.Reader.{Gave};
 ghost use Rattle.star_parser.specs.Reading.{names_at, items_at, columns_at, literals_at, plain_columns_at, fact_columns_at};
 
 use crate::ast::{AstColumn, AstItem};
@@ -11,7 +11,7 @@ use star_values::{SmallText, Value};
 impl Parser<'_> {
     #[tactic(auto, unfolding(crate::specs::Reading::names_at))]
     pub fn names(&mut self) -> Result<Vec<SmallText>, Stop>
-        ensures { Gives (λ names. names.items) result self.new.rest.now
+        ensures { Gave (λ names. names.items) result self.new.rest.now
             (names_at self.old.rest.now) }
     {
         let mut names = Vec::new(self.alloc);
@@ -25,7 +25,7 @@ impl Parser<'_> {
 
     #[tactic(auto, unfolding(crate::specs::Reading::items_at))]
     pub fn items(&mut self) -> Result<Vec<AstItem>, Stop>
-        ensures { Gives (λ items. items.items) result self.new.rest.now
+        ensures { Gave (λ items. items.items) result self.new.rest.now
             (items_at self.old.rest.now) }
     {
         let mut items = Vec::new(self.alloc);
@@ -39,7 +39,7 @@ impl Parser<'_> {
 
     #[tactic(auto, unfolding(crate::specs::Reading::columns_at))]
     pub fn columns(&mut self) -> Result<Vec<Column>, Stop>
-        ensures { Gives (λ columns. columns.items) result self.new.rest.now
+        ensures { Gave (λ columns. columns.items) result self.new.rest.now
             (columns_at self.old.rest.now) }
     {
         let mut columns = Vec::new(self.alloc);
@@ -53,7 +53,7 @@ impl Parser<'_> {
 
     #[tactic(auto, unfolding(crate::specs::Reading::literals_at))]
     pub fn literals(&mut self) -> Result<Vec<Value>, Stop>
-        ensures { Gives (λ values. values.items) result self.new.rest.now
+        ensures { Gave (λ values. values.items) result self.new.rest.now
             (literals_at self.old.rest.now) }
     {
         let mut values = Vec::new(self.alloc);
@@ -67,7 +67,7 @@ impl Parser<'_> {
 
     #[tactic(auto, unfolding(crate::specs::Reading::plain_columns_at))]
     pub fn plain_columns(&mut self) -> Result<Vec<AstColumn>, Stop>
-        ensures { Gives (λ columns. columns.items) result self.new.rest.now
+        ensures { Gave (λ columns. columns.items) result self.new.rest.now
             (plain_columns_at self.old.rest.now) }
     {
         let mut columns = Vec::new(self.alloc);
@@ -81,7 +81,7 @@ impl Parser<'_> {
 
     #[tactic(auto, unfolding(crate::specs::Reading::fact_columns_at))]
     pub fn fact_columns(&mut self) -> Result<Vec<AstColumn>, Stop>
-        ensures { Gives (λ columns. columns.items) result self.new.rest.now
+        ensures { Gave (λ columns. columns.items) result self.new.rest.now
             (fact_columns_at self.old.rest.now) }
     {
         let mut columns = Vec::new(self.alloc);

@@ -2,7 +2,7 @@
 ghost use Rattle.std.specs.Prelude.{◌≡◌, Some, option_map, IfOk};
 ghost use Rattle.star_parser.specs.Condition.{condition_of};
 ghost use Rattle.star_parser.specs.Statement.{statement_of};
-ghost use Rattle.star_parser.specs.Reader.{Gives};
+ghost use Rattle.star_parser.specs.Reader.{Gave};
 ghost use Rattle.star_parser.specs.Reading.{where_at, group_at, plain_column_at, other_columns_at, dimension_columns_at, target_at, fact_column_at, dimension_at, fact_at, header_at, load_at, delete_at, select_at, statement_at, semicolon_at, sentence_at};
 
 use crate::ast::{Ast, AstColumn};
@@ -16,7 +16,7 @@ impl Parser<'_> {
     /// The whole of the symbols as one statement.
     #[tactic(auto, unfolding(crate::specs::Reading::sentence_at))]
     pub fn sentence(&mut self) -> Result<Ast, Stop>
-        ensures { Gives statement_of result self.new.rest.now (sentence_at self.old.rest.now) }
+        ensures { Gave statement_of result self.new.rest.now (sentence_at self.old.rest.now) }
     {
         let statement = self.statement()?;
         self.skip_semicolon();
@@ -25,7 +25,7 @@ impl Parser<'_> {
 
     #[tactic(auto, unfolding(crate::specs::Reading::statement_at))]
     fn statement(&mut self) -> Result<Ast, Stop>
-        ensures { Gives statement_of result self.new.rest.now (statement_at self.old.rest.now) }
+        ensures { Gave statement_of result self.new.rest.now (statement_at self.old.rest.now) }
     {
         if self.skip_keyword(Keyword::Dimension) {
             self.dimension()
@@ -52,7 +52,7 @@ impl Parser<'_> {
 
     #[tactic(auto, unfolding(crate::specs::Reading::dimension_at))]
     fn dimension(&mut self) -> Result<Ast, Stop>
-        ensures { Gives statement_of result self.new.rest.now (dimension_at self.old.rest.now) }
+        ensures { Gave statement_of result self.new.rest.now (dimension_at self.old.rest.now) }
     {
         let name = self.name()?;
         self.sign(Sign::Open)?;
@@ -67,7 +67,7 @@ impl Parser<'_> {
     /// The key, and then the other columns.
     #[tactic(auto, unfolding(crate::specs::Reading::dimension_columns_at))]
     fn dimension_columns(&mut self) -> Result<Vec<AstColumn>, Stop>
-        ensures { Gives (λ columns. columns.items) result self.new.rest.now
+        ensures { Gave (λ columns. columns.items) result self.new.rest.now
             (dimension_columns_at self.old.rest.now) }
     {
         let key = self.plain_column()?;
@@ -79,7 +79,7 @@ impl Parser<'_> {
 
     #[tactic(auto, unfolding(crate::specs::Reading::other_columns_at))]
     fn other_columns(&mut self) -> Result<Vec<AstColumn>, Stop>
-        ensures { Gives (λ columns. columns.items) result self.new.rest.now
+        ensures { Gave (λ columns. columns.items) result self.new.rest.now
             (other_columns_at self.old.rest.now) }
     {
         if self.skip_sign(Sign::Comma) {
@@ -91,7 +91,7 @@ impl Parser<'_> {
 
     #[tactic(auto, unfolding(crate::specs::Reading::plain_column_at))]
     pub fn plain_column(&mut self) -> Result<AstColumn, Stop>
-        ensures { Gives (λ column. column) result self.new.rest.now
+        ensures { Gave (λ column. column) result self.new.rest.now
             (plain_column_at self.old.rest.now) }
     {
         let name = self.name()?;
@@ -105,7 +105,7 @@ impl Parser<'_> {
 
     #[tactic(auto, unfolding(crate::specs::Reading::fact_at))]
     fn fact(&mut self) -> Result<Ast, Stop>
-        ensures { Gives statement_of result self.new.rest.now (fact_at self.old.rest.now) }
+        ensures { Gave statement_of result self.new.rest.now (fact_at self.old.rest.now) }
     {
         let name = self.name()?;
         self.sign(Sign::Open)?;
@@ -119,7 +119,7 @@ impl Parser<'_> {
 
     #[tactic(auto, unfolding(crate::specs::Reading::fact_column_at))]
     pub fn fact_column(&mut self) -> Result<AstColumn, Stop>
-        ensures { Gives (λ column. column) result self.new.rest.now
+        ensures { Gave (λ column. column) result self.new.rest.now
             (fact_column_at self.old.rest.now) }
     {
         let name = self.name()?;
@@ -135,7 +135,7 @@ impl Parser<'_> {
     /// The dimension that a column references, if it references one.
     #[tactic(auto, unfolding(crate::specs::Reading::target_at))]
     fn target(&mut self) -> Result<Option<SmallText>, Stop>
-        ensures { Gives (λ target. target) result self.new.rest.now (target_at self.old.rest.now) }
+        ensures { Gave (λ target. target) result self.new.rest.now (target_at self.old.rest.now) }
     {
         if self.skip_keyword(Keyword::References) {
             Ok(Some(self.name()?))
@@ -146,7 +146,7 @@ impl Parser<'_> {
 
     #[tactic(auto, unfolding(crate::specs::Reading::load_at, crate::specs::Reading::header_at))]
     fn load(&mut self) -> Result<Ast, Stop>
-        ensures { Gives statement_of result self.new.rest.now (load_at self.old.rest.now) }
+        ensures { Gave statement_of result self.new.rest.now (load_at self.old.rest.now) }
     {
         let name = self.name()?;
         let header = self.skip_keyword(Keyword::Header);
@@ -155,7 +155,7 @@ impl Parser<'_> {
 
     #[tactic(auto, unfolding(crate::specs::Reading::delete_at))]
     fn delete(&mut self) -> Result<Ast, Stop>
-        ensures { Gives statement_of result self.new.rest.now (delete_at self.old.rest.now) }
+        ensures { Gave statement_of result self.new.rest.now (delete_at self.old.rest.now) }
     {
         self.keyword(Keyword::From)?;
         let name = self.name()?;
@@ -165,7 +165,7 @@ impl Parser<'_> {
 
     #[tactic(auto, unfolding(crate::specs::Reading::select_at))]
     fn select(&mut self) -> Result<Ast, Stop>
-        ensures { Gives statement_of result self.new.rest.now (select_at self.old.rest.now) }
+        ensures { Gave statement_of result self.new.rest.now (select_at self.old.rest.now) }
     {
         let items = self.items()?;
         self.keyword(Keyword::From)?;
@@ -182,7 +182,7 @@ impl Parser<'_> {
 
     #[tactic(auto, unfolding(crate::specs::Reading::where_at))]
     fn where_part(&mut self) -> Result<Option<Tree>, Stop>
-        ensures { Gives (option_map condition_of) result self.new.rest.now
+        ensures { Gave (option_map condition_of) result self.new.rest.now
             (where_at self.old.rest.now) }
     {
         if self.skip_keyword(Keyword::Where) {
@@ -194,7 +194,7 @@ impl Parser<'_> {
 
     /// What was read, and the columns behind it.
     fn with_groups<T: Drop>(&mut self, front: T) -> Result<(T, Vec<Column>), Stop>
-        ensures read { Gives (λ both. both.1.items) result self.new.rest.now
+        ensures read { Gave (λ both. both.1.items) result self.new.rest.now
             (group_at self.old.rest.now) }
         ensures same { IfOk result (λ both. both.0 ≡ front) }
     {
@@ -204,7 +204,7 @@ impl Parser<'_> {
 
     #[tactic(auto, unfolding(crate::specs::Reading::group_at))]
     fn group_part(&mut self) -> Result<Vec<Column>, Stop>
-        ensures { Gives (λ columns. columns.items) result self.new.rest.now
+        ensures { Gave (λ columns. columns.items) result self.new.rest.now
             (group_at self.old.rest.now) }
     {
         if self.skip_keyword(Keyword::Group) {

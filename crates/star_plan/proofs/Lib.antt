@@ -3,10 +3,10 @@ mod FitsLemmas
 mod FoldingLemmas
 mod TruthLemmas
 mod KeysLemmas
-mod PermutationLemmas
+pub mod PermutationLemmas
 mod FirstLemmas
 mod AnswerLemmas
 pub mod FlatLemmas
-mod ListLemmas
+pub mod ListLemmas
 mod RepeatLemmas
 mod SchemaLemmas

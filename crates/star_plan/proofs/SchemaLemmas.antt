@@ -18,7 +18,8 @@ use Rattle.star_plan.specs.declared.schema.Schema.{Schema}
 use Rattle.star_plan.specs.declared.table.Table.{Table}
 use Rattle.star_plan.specs.declared.table.Table.TheVariants.{Dimension}
 use Rattle.star_plan.specs.declared.table_def.TableDef.{TableDef}
-use Rattle.star_plan.specs.declared.TheConstants.{MAX_COLUMNS, MAX_DIMENSIONS}
+use Rattle.star_values.specs.declared.column_lists.TheConstants.{MAX_COLUMNS}
+use Rattle.star_plan.specs.declared.TheConstants.{MAX_DIMENSIONS}
 use Rattle.star_plan.specs.Declaration.{declared_dimension, declared_fact, has_key_of, is_referenced_twice, references, references_another_kind, references_nothing, references_twice, same_name, takes_a_name_twice}
 use Rattle.star_plan.specs.Limits.{HasFewColumns, IsWithinLimits, with_dimension, with_fact}
 use Rattle.star_plan.specs.Named.{dimension_named, fact_named, has_name, table_named}

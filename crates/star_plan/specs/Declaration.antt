@@ -10,7 +10,8 @@ use Rattle.star_plan.specs.Fits.{same_kind}
 use Rattle.star_plan.specs.declared.column_def.ColumnDef.{ColumnDef}
 use Rattle.star_plan.specs.declared.schema.Schema.{Schema}
 use Rattle.star_plan.specs.declared.table_def.TableDef.{TableDef}
-use Rattle.star_plan.specs.declared.TheConstants.{MAX_COLUMNS, MAX_DIMENSIONS}
+use Rattle.star_values.specs.declared.column_lists.TheConstants.{MAX_COLUMNS}
+use Rattle.star_plan.specs.declared.TheConstants.{MAX_DIMENSIONS}
 use Rattle.star_plan.specs.Named.{table_named}
 use Rattle.star_plan.specs.Repeats.{repeats}
 

@@ -2,7 +2,8 @@
 use Rattle.std.specs.Prelude.{ℕ, ◌≤◌, [], ◌∷◌, ◌++◌, length, All, IfSome, Some}
 use Rattle.star_plan.specs.declared.schema.Schema.{Schema}
 use Rattle.star_plan.specs.declared.table_def.TableDef.{TableDef}
-use Rattle.star_plan.specs.declared.TheConstants.{MAX_COLUMNS, MAX_DIMENSIONS}
+use Rattle.star_values.specs.declared.column_lists.TheConstants.{MAX_COLUMNS}
+use Rattle.star_plan.specs.declared.TheConstants.{MAX_DIMENSIONS}
 
 -- a table has so few columns
 abbrev pub HasFewColumns : TableDef → Type 0

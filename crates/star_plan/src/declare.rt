@@ -6,14 +6,14 @@ ghost use Rattle.star_plan.specs.Fault.{Declares, DeclaresFact, Refuses};
 ghost use Rattle.star_plan.specs.Limits.{IsWithinLimits};
 ghost use Rattle.star_plan.specs.Schemas.{IsDeclared, ReferencesNothing};
 
+use crate::MAX_DIMENSIONS;
 use crate::column_def::ColumnDef;
 use crate::find::{columns_of, find_table};
 use crate::names::has_repeated_name;
 use crate::schema::Schema;
 use crate::table::Table;
 use crate::table_def::TableDef;
-use crate::{MAX_COLUMNS, MAX_DIMENSIONS};
-use star_values::{Kind, Refusal, StatementFault};
+use star_values::{Kind, MAX_COLUMNS, Refusal, StatementFault};
 
 /// Adds a dimension behind those that were declared. Its first column is its key.
 ///

@@ -5,12 +5,11 @@ ghost use Rattle.star_plan.specs.Columns.{columns_of, definition_of};
 ghost use Rattle.star_plan.specs.Limits.{IsWithinLimits};
 ghost use Rattle.star_plan.specs.Named.{column_named, dimension_named, has_name, table_named};
 
-use crate::MAX_COLUMNS;
 use crate::column_def::ColumnDef;
 use crate::schema::Schema;
 use crate::table::Table;
 use crate::table_def::TableDef;
-use star_values::SmallText;
+use star_values::{MAX_COLUMNS, SmallText};
 
 /// The table of this name.
 pub fn find_table(schema: &Schema, name: &SmallText) -> Option<Table>

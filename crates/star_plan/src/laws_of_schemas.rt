@@ -7,7 +7,8 @@ ghost use Rattle.star_plan.specs.Declaration.{declared_dimension, declared_fact,
 ghost use Rattle.star_plan.specs.Limits.{with_dimension, with_fact};
 ghost use Rattle.star_plan.specs.Repeats.{repeats};
 ghost use Rattle.star_plan.specs.Schemas.{IsDeclared, ReferencesNothing};
-ghost use Rattle.star_plan.specs.declared.TheConstants.{MAX_DIMENSIONS, MAX_COLUMNS};
+ghost use Rattle.star_values.specs.declared.column_lists.TheConstants.{MAX_COLUMNS};
+ghost use Rattle.star_plan.specs.declared.TheConstants.{MAX_DIMENSIONS};
 
 /// A schema without tables is one that declarations give: none.
 pub fn empty_schemas_are_declared()

@@ -61,13 +61,10 @@ pub use range_test::{RangeTest, RangeTests};
 pub use repeat::sorts_to_repeat;
 pub use schema::Schema;
 pub use star_query::StarQuery;
-pub use star_values::Cell;
+pub use star_values::{Cell, MAX_COLUMNS};
 pub use table::Table;
 pub use table_def::{TableDef, TableList};
 pub use truth::{equal_values_are_the_same, holds, tests_hold_by_their_parts};
 
 /// The most dimensions of a schema.
 pub const MAX_DIMENSIONS: usize = 8;
-
-/// The most columns of a table.
-pub const MAX_COLUMNS: usize = 16;

@@ -5,8 +5,8 @@ ghost use Rattle.star_plan.specs.Declaration.{same_name};
 ghost use Rattle.star_plan.specs.Repeats.{Ascends, repeats};
 ghost use Rattle.star_plan.specs.Names.{name_cmp};
 
-use crate::MAX_COLUMNS;
 use crate::column_def::ColumnDef;
+use star_values::MAX_COLUMNS;
 use std::cmp::Ordering;
 
 /// Whether two columns have one name.

@@ -46,10 +46,6 @@ committed_versions schema dims facts grown commits next commit new rows found do
     ∙ ap (λ n. map plain_version facts.items ++ versions_by n rows) commit_is in
     rw is (λ i. record { schema = schema; dimensions = rows_of_all dims; versions = versions i; commits = next_is i }, done_is)
 
-pub length_rows : (versions : List Version) → length (map (λ version. version.row) versions) ≡ length versions
-length_rows [] = refl
-length_rows (version ∷ versions) = ap suc (length_rows versions)
-
 -- a number of a commit that is counted up and stands still at the last is the next one, where there is one
 pub saturated : (next commits : ℕ) → next ≡ min (commits + 1) 18446744073709551615 → commits + 1 < 2 ^ 64 → next ≡ commits + 1
 saturated next commits is low = is ∙ min-eq_left (omega arith)

@@ -2,6 +2,7 @@
 use Rattle.std.proofs.Common.{◌≡◌, ℕ, zero, suc, ◌+◌, ◌-◌, ◌<◌, ◌≤◌, Bool, true, false, cond, List, [], ◌∷◌, length, map, Option, Some, slice_get, option_map, refl, ap, sym, subst, ◌∙◌, arith}
 use Rattle.std.specs.List.{All, filter, fold, range_with_len}
 use Rattle.std.specs.Option.{option_map_or}
+use Rattle.std.proofs.lemmas.List.{length-map}
 use Rattle.fact_versions.specs.declared.version.Version.{Version}
 use Rattle.fact_versions.specs.Ends.{with_end}
 use Rattle.star_plan.specs.Test.{Test}
@@ -31,14 +32,10 @@ pub record IsEndedTo (condition : Option Test) (commit : ℕ) (old now : List Ve
   pub left : ended_at commit now (positions_from condition old place count) ≡ ended_at commit old (positions_of condition (map plain_version old))
   pub counted : ended + length (positions_from condition old place count) ≡ length (positions_of condition (map plain_version old))
 
-length_map : (versions : List Version) → length (map plain_version versions) ≡ length versions
-length_map [] = refl
-length_map (version ∷ versions) = ap suc (length_map versions)
-
 all_positions : (condition : Option Test) (versions : List Version) (count : ℕ) → count ≡ length versions
     → positions_from condition versions 0 count ≡ positions_of condition (map plain_version versions)
 all_positions condition versions count e =
-    let same : count - 0 ≡ length (map plain_version versions) = let n = length_map versions in omega arith in
+    let same : count - 0 ≡ length (map plain_version versions) = let n = length-map versions plain_version in omega arith in
     ap (λ n. filter (ends_at condition versions) (range_with_len 0 n)) same
 
 pub IsEndedTo-start : (condition : Option Test) (commit : ℕ) (versions : List Version) (count : ℕ) → count ≡ length versions

@@ -15,7 +15,8 @@ use Rattle.star_plan.specs.Test.{Query, Test}
 use Rattle.star_plan.specs.declared.schema.Schema.{Schema}
 use Rattle.star_plan.specs.declared.table_def.TableDef.{TableDef}
 use Rattle.star_plan.specs.Declaration.{declared_dimension, declared_fact, references_another_kind, references_nothing, references_twice, takes_a_name_twice}
-use Rattle.star_plan.specs.declared.TheConstants.{MAX_COLUMNS, MAX_DIMENSIONS}
+use Rattle.star_values.specs.declared.column_lists.TheConstants.{MAX_COLUMNS}
+use Rattle.star_plan.specs.declared.TheConstants.{MAX_DIMENSIONS}
 use Rattle.star_binder.specs.Named.{where_conjuncts}
 use Rattle.star_binder.specs.Refused.{bound_delete, bound_select}
 use Rattle.star_binder.specs.Select.{select_of, SelectParts}

@@ -13,30 +13,13 @@ use Rattle.star_values.specs.Value.{value_cmp}
 use Rattle.star_plan.specs.Repeats.{repeats}
 use Rattle.dimension_rows.specs.declared.dimension_row.DimensionRow.{DimensionRow}
 use Rattle.dimension_rows.specs.Keys.{index_of, is_key, key_of}
+use Rattle.star_plan.proofs.ListLemmas.{All-none, neither}
 use Rattle.query_meaning.specs.Accepted.{HaveOtherKeys}
 use Rattle.star_store.specs.Loads.{is_taken, repeats_a_key, same_key}
 
 -- each row has a key
 abbrev pub HaveKeys : List (List cell.Value) → Type 0
 HaveKeys rows = All (λ row. IsSome (key_of row)) rows
-
-first_false : (a b : Bool) → (a || b) ≡ false → a ≡ false
-first_false true b e = cc
-first_false false b e = refl
-
-second_false : (a b : Bool) → (a || b) ≡ false → b ≡ false
-second_false true b e = cc
-second_false false b e = e
-
--- neither of two tests holds where the two together do not
-pub neither : (a b : Bool) → (a || b) ≡ false → (a ≡ false) × (b ≡ false)
-neither a b e = (first_false a b e, second_false a b e)
-
--- a test that no member passes
-pub all_fail : {X : Type 0} (p : X → Bool) (xs : List X) → list_any p xs ≡ false → All (λ x. p x ≡ false) xs
-all_fail p [] e = All-nil (λ x. p x ≡ false)
-all_fail p (x ∷ xs) e =
-    let both = neither (p x) (list_any p xs) e in All-cons (λ y. p y ≡ false) x xs both.0 (all_fail p xs both.1)
 
 found_key : (key : Option cell.Value) → IsSome key → (k : cell.Value) × (key ≡ Some k)
 found_key None h = cc
@@ -61,7 +44,7 @@ keys_apart [] keys e = λ i j d lt low. absurd (omega arith)
 keys_apart (row ∷ new) keys e =
     let both = neither (list_any (same_key row) new) (repeats same_key new) e in
     AllPairs-cons HaveOtherKeys row new
-    (λ k d low. other_keys row (get_or new k d) (keys 0 row (omega arith)) (all_fail (same_key row) new both.0 k d low))
+    (λ k d low. other_keys row (get_or new k d) (keys 0 row (omega arith)) (All-none (same_key row) new both.0 k d low))
     (keys_apart new (λ k d low. keys (suc k) d (omega arith)) both.1)
 
 none_by : (found : Option ℕ) → is_some found ≡ false → found ≡ None
@@ -82,7 +65,7 @@ apart_unless_repeated rows new keys e = keys_apart new keys (neither (repeats sa
 pub new_unless_repeated : (rows : List DimensionRow) (new : List (List cell.Value)) → repeats_a_key rows new ≡ false
     → All (λ row. IfSome (key_of row) (λ key. index_of rows key ≡ None)) new
 new_unless_repeated rows new e k d low =
-    free_by rows (key_of (get_or new k d)) (all_fail (is_taken rows) new (neither (repeats same_key new) (list_any (is_taken rows) new) e).1 k d low)
+    free_by rows (key_of (get_or new k d)) (All-none (is_taken rows) new (neither (repeats same_key new) (list_any (is_taken rows) new) e).1 k d low)
 
 -- the keys of rows, read where they lie
 abbrev AreKeysOf : List (Bor cell.Value) → List (List cell.Value) → Type 0

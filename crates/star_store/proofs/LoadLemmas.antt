@@ -4,7 +4,7 @@ use Rattle.std.specs.Prelude.{IfErr, IfOk, IfSome, IsSome, IsTrue, OnErr, OnOk, 
 use Rattle.std.specs.List.{All, list_any, refill}
 use Rattle.std.specs.Option.{option_map_or}
 use Rattle.std.proofs.lemmas.Bool.Decides.{nat_tests}
-use Rattle.std.proofs.lemmas.List.{length-set}
+use Rattle.std.proofs.lemmas.List.{length-map, length-set}
 use Rattle.std.proofs.lemmas.List.Elements.{All-cons, All-head, All-nil, All-tail, All-weaker}
 use Rattle.star_values.specs.declared.refusal.Refusal.TheVariants.{DanglingReference, Limit}
 use Rattle.star_values.specs.declared.value.Kind.{Kind}
@@ -30,6 +30,7 @@ use Rattle.query_meaning.specs.Store.{Store}
 use Rattle.star_values.specs.declared.statement_fault.StatementFault.{StatementFault}
 use Rattle.star_values.specs.declared.statement_fault.StatementFault.TheVariants.{Refused, Memory}
 use Rattle.query_meaning.specs.KeptTables.{rows_of_all}
+use Rattle.star_store.specs.Parts.{AreVersionsBy}
 use Rattle.star_store.specs.Fault.{Tells}
 use Rattle.star_store.specs.Loads.{count_in, dangles, loaded_records, loaded_rows, most_in}
 
@@ -54,17 +55,13 @@ key_by : (kinds : ℕ) (row : List cell.Value) → length (kinds_in row) ≡ kin
 key_by kinds [] same some = let none : 0 ≡ kinds = same in absurd (omega arith)
 key_by kinds (value ∷ row) same some = refl
 
-length_map : {X Y : Type 0} (f : X → Y) (xs : List X) → length (map f xs) ≡ length xs
-length_map f [] = refl
-length_map f (x ∷ xs) = ap suc (length_map f xs)
-
 -- each row whose values have the kinds of the columns of a dimension has a key
 pub rows_have_keys : (schema : Schema) (number : ℕ) (rows : List (List cell.Value)) → IsDeclared schema → number < length schema.dimensions
     → All (λ row. kinds_in row ≡ kinds_of (columns_of schema (Dimension number))) rows → All (λ row. IsSome (key_of row)) rows
 rows_have_keys schema number rows declared low kinds =
     let columns = columns_of schema (Dimension number) in
     All-weaker (λ row. kinds_in row ≡ kinds_of columns) (λ row. IsSome (key_of row))
-    (λ row same. key_by (length columns) row (ap length same ∙ length_map (λ column. column.kind) columns) (some_column schema number declared low))
+    (λ row same. key_by (length columns) row (ap length same ∙ length-map columns (λ column. column.kind)) (some_column schema number declared low))
     rows kinds
 
 -- rows that were read by kinds are rows by the kinds that those are
@@ -153,32 +150,37 @@ found_versions store records rows room typed = rw (room, typed) refl
 pub accepted_versions : {V : Type 0} (items : V → List Version) (result : Result V StatementFault) (store : Store) (records : List (List (List ℕ)))
     (rows : List (List cell.Value)) (commit : ℕ) → nat_lt (most_in Fact) (count_in store Fact + length records) ≡ false
     → typed_rows (kinds_of (columns_of store.schema Fact)) records ≡ Some rows
-    → IfOk result (λ versions. map plain_version (items versions) ≡ versions_by commit rows)
+    → IfOk result (λ versions. AreVersionsBy store.schema store.dimensions commit rows (items versions))
     → OnOk result (list_any (dangles store.schema store.dimensions) rows ≡ false)
     → IfOk result (λ versions. loaded_records store Fact records ≡ Ok (Loaded Fact (map (λ version. version.row) (items versions))))
 accepted_versions items (Ok versions) store records rows commit room typed made none =
-    found_versions store records rows room typed ∙ rw none (ap (λ found. Ok (Loaded Fact found)) (sym (rows_of_versions (items versions) commit rows made)))
+    found_versions store records rows room typed ∙ rw none (ap (λ found. Ok (Loaded Fact found)) (sym (rows_of_versions (items versions) commit rows made.versions)))
 accepted_versions items (Err fault) store records rows commit room typed made none = tt
 
-pub versions_of_rows : {V : Type 0} (items : V → List Version) (result : Result V StatementFault) (rows : List (List cell.Value)) (commit : ℕ)
-    → IfOk result (λ versions. map plain_version (items versions) ≡ versions_by commit rows)
-    → IfOk result (λ versions. map plain_version (items versions) ≡ versions_by commit (map (λ version. version.row) (items versions)))
-versions_of_rows items (Ok versions) rows commit made = made ∙ ap (versions_by commit) (sym (rows_of_versions (items versions) commit rows made))
-versions_of_rows items (Err fault) rows commit made = tt
+pub versions_of_rows : {V : Type 0} (items : V → List Version) (result : Result V StatementFault) (schema : Schema)
+    (dimensions : List (List DimensionRow)) (rows : List (List cell.Value)) (commit : ℕ)
+    → IfOk result (λ versions. AreVersionsBy schema dimensions commit rows (items versions))
+    → IfOk result (λ versions. AreVersionsBy schema dimensions commit (map (λ version. version.row) (items versions)) (items versions))
+versions_of_rows items (Ok versions) schema dimensions rows commit made = record {
+  versions = made.versions ∙ ap (versions_by commit) (sym (rows_of_versions (items versions) commit rows made.versions));
+  keyed = made.keyed;
+}
+versions_of_rows items (Err fault) schema dimensions rows commit made = tt
 
 few_by : (most count more : ℕ) → nat_lt most (count + more) ≡ false → count + more ≤ most
 few_by most count more room = grind (arith, nat_tests)
 
-pub few_versions : {V : Type 0} (items : V → List Version) (result : Result V StatementFault) (rows : List (List cell.Value)) (commit most count records : ℕ)
+pub few_versions : {V : Type 0} (items : V → List Version) (result : Result V StatementFault) (schema : Schema)
+    (dimensions : List (List DimensionRow)) (rows : List (List cell.Value)) (commit most count records : ℕ)
     → length rows ≡ records → nat_lt most (count + records) ≡ false
-    → IfOk result (λ versions. map plain_version (items versions) ≡ versions_by commit rows)
+    → IfOk result (λ versions. AreVersionsBy schema dimensions commit rows (items versions))
     → IfOk result (λ versions. count + length (items versions) ≤ most)
-few_versions items (Ok versions) rows commit most count records all room made =
+few_versions items (Ok versions) schema dimensions rows commit most count records all room made =
     let same : length (items versions) ≡ length rows =
-    sym (length_map (λ version. version.row) (items versions)) ∙ ap length (rows_of_versions (items versions) commit rows made) in
+    sym (length-map (items versions) (λ version. version.row)) ∙ ap length (rows_of_versions (items versions) commit rows made.versions) in
     let few = few_by most count records room in
     rw (same ∙ all) few
-few_versions items (Err fault) rows commit most count records all room made = tt
+few_versions items (Err fault) schema dimensions rows commit most count records all room made = tt
 
 dangling_fault : (store : Store) (records : List (List (List ℕ))) (rows : List (List cell.Value)) (fault : StatementFault)
     → nat_lt (most_in Fact) (count_in store Fact + length records) ≡ false → typed_rows (kinds_of (columns_of store.schema Fact)) records ≡ Some rows
@@ -211,4 +213,4 @@ not_over true is = cc
 not_over false is = refl
 
 pub length_plain : (versions : List Version) → length (map plain_version versions) ≡ length versions
-length_plain versions = length_map plain_version versions
+length_plain versions = length-map versions plain_version

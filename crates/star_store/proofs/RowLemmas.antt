@@ -11,7 +11,8 @@ use Rattle.dimension_rows.specs.declared.dimension_row.DimensionRow.{DimensionRo
 use Rattle.dimension_rows.specs.Keys.{index_of, key_of}
 use Rattle.query_meaning.specs.History.{rows_by}
 use Rattle.star_store.specs.Loads.{is_taken, repeats_a_key, same_key}
-use Rattle.star_store.proofs.KeyTestLemmas.{HaveKeys, all_fail, free_by, neither, other_keys}
+use Rattle.star_store.proofs.KeyTestLemmas.{HaveKeys, free_by, other_keys}
+use Rattle.star_plan.proofs.ListLemmas.{All-none, neither}
 
 -- a key that no row has is not that of a row appended with another key
 abbrev pub OthersLaw : Type 0
@@ -36,8 +37,8 @@ repeats_after law rows entry more keys e =
     (λ k d low.
     still_free rows (rows ++ entry ∷ []) (key_of (get_or more k d))
     (λ key is none. law rows entry key
-    (λ same. other_keys row (get_or more k d) (keys 0 row (omega arith)) (all_fail (same_key row) more first.0 k d low) (same ∙ sym is)) none)
-    (free_by rows (key_of (get_or more k d)) (all_fail (is_taken rows) more second.1 k d low))) in
+    (λ same. other_keys row (get_or more k d) (keys 0 row (omega arith)) (All-none (same_key row) more first.0 k d low) (same ∙ sym is)) none)
+    (free_by rows (key_of (get_or more k d)) (All-none (is_taken rows) more second.1 k d low))) in
     ap (λ t. t || list_any (is_taken (rows ++ entry ∷ [])) more) first.1 ∙ free
 
 -- the rows that were appended, and those that are left, are all; and what is left has room and keys, none of them repeated

@@ -1,6 +1,6 @@
 -- Each call leaves the tables of an accepted history, with their key numbers.
 use Rattle.std.proofs.Common.{◌≡◌, ℕ, ◌<◌, Bool, true, false, cond, ◌||◌, nat_le, nat_lt, List, [], ◌∷◌, ◌++◌, length, map, Option, Some, None, is_some, Result, Ok, Err, refl, ap, sym, subst, ◌∙◌}
-use Rattle.std.specs.Prelude.{IfSome, IsOkAnd, IsTrue, OnErr, OnOk}
+use Rattle.std.specs.Prelude.{IfErr, IfSome, IsOkAnd, IsTrue, OnErr, OnOk}
 use Rattle.std.specs.List.{All, list_any}
 use Rattle.std.proofs.lemmas.List.Elements.{All-cons, All-head, All-nil, All-tail}
 use Rattle.star_values.specs.declared.refusal.Refusal.{Refusal}
@@ -12,7 +12,8 @@ use Rattle.star_plan.specs.Fits.{fits_table}
 use Rattle.star_plan.specs.Declaration.{declared_dimension, declared_fact, references_another_kind, references_nothing, references_twice, takes_a_name_twice}
 use Rattle.star_plan.specs.Limits.{with_dimension, with_fact}
 use Rattle.star_plan.specs.Schemas.{ReferencesNothing}
-use Rattle.star_plan.specs.declared.TheConstants.{MAX_COLUMNS, MAX_DIMENSIONS}
+use Rattle.star_values.specs.declared.column_lists.TheConstants.{MAX_COLUMNS}
+use Rattle.star_plan.specs.declared.TheConstants.{MAX_DIMENSIONS}
 use Rattle.fact_versions.specs.declared.version.Version.{Version}
 use Rattle.dimension_rows.specs.declared.dimension_row.DimensionRow.{DimensionRow}
 use Rattle.query_meaning.specs.Accepted.{Accepts}
@@ -23,7 +24,9 @@ use Rattle.query_meaning.specs.Store.{PlainVersion, Store}
 use Rattle.star_store.specs.declared.done.Done.{Done}
 use Rattle.star_values.specs.declared.statement_fault.StatementFault.{StatementFault}
 use Rattle.star_values.specs.declared.statement_fault.StatementFault.TheVariants.{Refused, Memory}
-use Rattle.star_store.specs.Done.{Commits}
+use Rattle.star_store.specs.Done.{Commits, DeclaresTable}
+use Rattle.star_store.specs.Fault.{TellsReasonFirst}
+use Rattle.star_store.specs.Parts.{AddsDimension}
 use Rattle.query_meaning.specs.KeptTables.{AreSound, rows_of_all, tables_of}
 
 -- settled tables stay settled by a change that they take
@@ -105,13 +108,33 @@ dimension_declared stays schema grown dims more facts commits table (Ok declared
 
 pub dimension_sound : StaysSettled → (schema grown : Schema) (dims more : List (Roomy DimensionRow)) (facts : Roomy Version) (commits : ℕ) (table : TableDef)
     (result : Result (Unit {0}) StatementFault) → 0 < length table.columns → ReferencesNothing table
-    → OnOk result (IsOkAnd (declared_dimension schema table) (λ declared. grown ≡ with_dimension schema declared))
-    → OnOk result (rows_of_all more ≡ rows_of_all dims ++ [] ∷ []) → OnErr result ((grown ≡ schema) × (more ≡ dims))
+    → OnOk result (AddsDimension table schema grown (rows_of_all dims) (rows_of_all more)) → OnErr result ((grown ≡ schema) × (more ≡ dims))
     → AreSound (tables_of schema dims facts commits) → AreSound (tables_of grown more facts commits)
-dimension_sound stays schema grown dims more facts commits table (Ok done) some nothing schema_is rows_are same sound =
-    dimension_declared stays schema grown dims more facts commits table (declared_dimension schema table) some nothing refl schema_is rows_are sound
-dimension_sound stays schema grown dims more facts commits table (Err fault) some nothing schema_is rows_are same sound =
+dimension_sound stays schema grown dims more facts commits table (Ok done) some nothing added same sound =
+    dimension_declared stays schema grown dims more facts commits table (declared_dimension schema table) some nothing refl added.schema added.rows sound
+dimension_sound stays schema grown dims more facts commits table (Err fault) some nothing added same sound =
     subst AreSound (sym (λ i. tables_of (same.0 i) (same.1 i) facts commits)) sound
+
+-- the tables after a dimension more
+dimension_added : (schema grown : Schema) (dims more : List (Roomy DimensionRow)) (facts : Roomy Version) (commits : ℕ) (found : Result TableDef Refusal)
+    → IsOkAnd found (λ declared. grown ≡ with_dimension schema declared) → rows_of_all more ≡ rows_of_all dims ++ [] ∷ []
+    → IsOkAnd found (λ declared. plain (tables_of grown more facts commits) ≡ after_change (plain (tables_of schema dims facts commits)) (DimensionDeclared declared))
+dimension_added schema grown dims more facts commits (Err reason) schema_is rows_are = absurd schema_is
+dimension_added schema grown dims more facts commits (Ok declared) schema_is rows_are =
+    λ i. record { schema = schema_is i; dimensions = rows_are i; versions = map plain_version facts.items; commits = commits }
+
+-- a dimension is declared, or is refused for its reason
+pub dimension_declares : (schema grown : Schema) (dims more : List (Roomy DimensionRow)) (facts : Roomy Version) (commits : ℕ) (table : TableDef)
+    (result : Result (Unit {0}) StatementFault)
+    → OnOk result (AddsDimension table schema grown (rows_of_all dims) (rows_of_all more))
+    → IfErr result (TellsReasonFirst (declared_dimension schema table)) → OnErr result ((grown ≡ schema) × (more ≡ dims))
+    → DeclaresTable DimensionDeclared (declared_dimension schema table) (tables_of schema dims facts commits) (tables_of grown more facts commits) result
+dimension_declares schema grown dims more facts commits table (Ok done) added tells same =
+    dimension_added schema grown dims more facts commits (declared_dimension schema table) added.schema added.rows
+dimension_declares schema grown dims more facts commits table (Err (Refused reason)) added tells same =
+    (tells, λ i. tables_of (same.0 i) (same.1 i) facts commits)
+dimension_declares schema grown dims more facts commits table (Err Memory) added tells same =
+    (tells, λ i. tables_of (same.0 i) (same.1 i) facts commits)
 
 fact_declared : StaysSettled → (schema grown : Schema) (dims : List (Roomy DimensionRow)) (facts : Roomy Version) (commits : ℕ) (table : TableDef)
     (found : Result TableDef Refusal) → 0 < length table.columns → declared_fact schema table ≡ found

@@ -36,7 +36,8 @@ use Rattle.query_meaning.specs.Settled.{IsSettled}
 use Rattle.query_meaning.specs.Store.{PlainVersion, Store, rows_in}
 use Rattle.star_store.specs.Deletes.{delete_change, is_ended_by, positions_of}
 use Rattle.star_store.specs.Loads.{count_in, dangles, dangles_at, load_change, loaded_records, loaded_rows, most_in, repeats_a_key}
-use Rattle.star_store.proofs.KeyTestLemmas.{all_fail, apart_unless_repeated, new_unless_repeated}
+use Rattle.star_store.proofs.KeyTestLemmas.{apart_unless_repeated, new_unless_repeated}
+use Rattle.star_plan.proofs.ListLemmas.{All-none}
 use Rattle.star_values.specs.Value.{kinds_in}
 use Rattle.star_store.proofs.LoadLemmas.{FitsByKinds, fit_by_kinds, rows_have_keys}
 
@@ -111,7 +112,7 @@ dangles_nowhere schema dimensions row dimension none low =
     let n = length schema.dimensions in
     let number : 0 + dimension ≡ dimension = omega arith in
     subst (λ d. dangles_at schema dimensions row d ≡ false) (get_or-range_with_len 0 n dimension 0 low ∙ number)
-    (all_fail (dangles_at schema dimensions row) (range_with_len 0 n) none dimension 0 (rw (length-range_with_len 0 n) low))
+    (All-none (dangles_at schema dimensions row) (range_with_len 0 n) none dimension 0 (rw (length-range_with_len 0 n) low))
 
 foreign_by : (schema : Schema) (dimensions : List (List DimensionRow)) (row : List cell.Value) (dimension : ℕ) (place : Option ℕ) → IsDeclared schema
     → position (references dimension) (fact_columns schema) ≡ place → dangles schema dimensions row ≡ false
@@ -130,7 +131,7 @@ rows_matched : (schema : Schema) (dimensions : List (List DimensionRow)) (rows :
 rows_matched schema dimensions rows declared none =
     All-weaker (λ row. dangles schema dimensions row ≡ false)
     (λ row. (dimension : ℕ) → IfSome (foreign_key schema dimension row) (λ key. IsSome (index_of (rows_in dimensions dimension) key)))
-    (λ row is dimension. foreign_by schema dimensions row dimension _ declared refl is) rows (all_fail (dangles schema dimensions) rows none)
+    (λ row is dimension. foreign_by schema dimensions row dimension _ declared refl is) rows (All-none (dangles schema dimensions) rows none)
 
 -- A load.
 

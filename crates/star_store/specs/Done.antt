@@ -28,9 +28,9 @@ Commits found old new (Err Memory) = new ≡ old
 
 -- the same of a declaration, which is no commit, and for which no memory is
 -- wanted where it is refused
-abbrev pub Declares : (TableDef → Change) → Result TableDef Refusal → KeyedStore → KeyedStore
+abbrev pub DeclaresTable : (TableDef → Change) → Result TableDef Refusal → KeyedStore → KeyedStore
     → Result (Unit {0}) StatementFault → Type 0
-Declares declared found old new (Ok done) =
+DeclaresTable declared found old new (Ok done) =
     IsOkAnd found (λ table. plain new ≡ after_change (plain old) (declared table))
-Declares declared found old new (Err (Refused reason)) = (found ≡ Err reason) × (new ≡ old)
-Declares declared found old new (Err Memory) = IsOk found × (new ≡ old)
+DeclaresTable declared found old new (Err (Refused reason)) = (found ≡ Err reason) × (new ≡ old)
+DeclaresTable declared found old new (Err Memory) = IsOk found × (new ≡ old)

@@ -1,10 +1,10 @@
 //! Declarations: a table more, and for a dimension the list of its rows.
-ghost use Rattle.std.specs.Prelude.{◌≡◌, ◌<◌, List, [], ◌∷◌, ◌++◌, length, IsOk, IsOkAnd, IsErrOf, IfErr, OnOk, OnErr};
+ghost use Rattle.std.specs.Prelude.{◌≡◌, ◌<◌, List, [], ◌∷◌, ◌++◌, length, IfErr, OnOk, OnErr};
 ghost use Rattle.star_plan.specs.Declaration.{declared_dimension};
-ghost use Rattle.star_plan.specs.Limits.{with_dimension};
 ghost use Rattle.star_plan.specs.Schemas.{IsDeclared, ReferencesNothing};
 ghost use Rattle.query_meaning.specs.KeptTables.{rows_of_all};
-ghost use Rattle.star_store.specs.Fault.{Tells};
+ghost use Rattle.star_store.specs.Fault.{TellsReasonFirst};
+ghost use Rattle.star_store.specs.Parts.{AddsDimension};
 
 use dimension_rows::{DimensionRows, Dims};
 use star_plan::{Schema, TableDef, declare_dimension};
@@ -24,12 +24,9 @@ pub(crate) fn add_dimension(
     requires declared { IsDeclared schema.old }
     requires columns { 0 < length table.columns }
     requires plain { ReferencesNothing table }
-    ensures schema { OnOk result (IsOkAnd (declared_dimension schema.old table) (λ declared.
-        schema.new ≡ with_dimension schema.old declared)) }
-    ensures rows { OnOk result (rows_of_all dims.new ≡ rows_of_all dims.old ++ [] ∷ []) }
-    ensures tells { IfErr result (Tells (declared_dimension schema.old table)) }
-    ensures memory { IsErrOf result StatementFault.Memory →
-        IsOk (declared_dimension schema.old table) }
+    ensures added { OnOk result (AddsDimension table schema.old schema.new
+        (rows_of_all dims.old) (rows_of_all dims.new)) }
+    ensures tells { IfErr result (TellsReasonFirst (declared_dimension schema.old table)) }
     ensures err { OnErr result ((schema.new ≡ schema.old) × (dims.new ≡ dims.old)) }
 {
     declare_dimension(schema, table)?;

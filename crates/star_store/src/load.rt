@@ -8,18 +8,17 @@ ghost use Rattle.star_values.specs.Value.{kinds_in};
 ghost use Rattle.star_plan.specs.declared.table.Table.TheVariants.{Fact, Dimension};
 ghost use Rattle.star_plan.specs.Named.{table_named};
 ghost use Rattle.star_plan.specs.Limits.{IsWithinLimits};
-ghost use Rattle.star_plan.specs.Schemas.{IsDeclared};
 ghost use Rattle.fact_versions.specs.declared.version.Version.{Version};
 ghost use Rattle.dimension_rows.specs.declared.dimension_row.DimensionRow.{DimensionRow};
-ghost use Rattle.dimension_rows.specs.Keys.{key_of};
 ghost use Rattle.csv_load.specs.Records.{records_in};
 ghost use Rattle.csv_load.specs.Rows.{typed_rows};
-ghost use Rattle.query_meaning.specs.History.{Loaded, grown_at, rows_by, versions_by};
-ghost use Rattle.query_meaning.specs.Keyed.{HasKeyNumbers, IsKeyed, plain, plain_version};
+ghost use Rattle.query_meaning.specs.History.{Loaded, grown_at, rows_by};
+ghost use Rattle.query_meaning.specs.Keyed.{HasKeyNumbers, IsKeyed, plain};
 ghost use Rattle.query_meaning.specs.Store.{rows_in};
 ghost use Rattle.star_store.specs.Done.{Commits};
 ghost use Rattle.query_meaning.specs.KeptTables.{AreSound, rows_of_all, tables_of};
 ghost use Rattle.star_store.specs.Fault.{Tells};
+ghost use Rattle.star_store.specs.Parts.{AreVersionsBy, HasRowsUpTo, IsReadForDimension, TakesNewRows};
 ghost use Rattle.star_store.specs.Loads.{load_change, load_form, loaded_records, repeats_a_key};
 ghost use Rattle.star_store.specs.declared.done.Done.{Done};
 ghost use Rattle.star_values.specs.declared.statement_fault.StatementFault.TheVariants.{Refused, Memory};
@@ -153,19 +152,12 @@ fn checked_rows(
     number: u8,
     read: ReadBlock<'_>,
 ) -> Result<LoadRows, StatementFault>
-    requires declared { IsDeclared schema.now }
-    requires there { number < length schema.now.dimensions }
-    requires count { length dims.now ≡ length schema.now.dimensions }
-    requires kinds { read.form.kinds ≡ kinds_of (columns_of schema.now (Dimension number)) }
+    requires read { IsReadForDimension schema.now dims.now number read.form.kinds }
     ensures rows { (facts : Roomy Version) (commits : ℕ) → IfOk result (λ rows.
         loaded_records (plain (tables_of schema.now dims.now facts commits))
         (Dimension number) (records_in read.entry.form.header read.entry.block.now)
         ≡ Ok (Loaded (Dimension number) rows)) }
-    ensures keys { IfOk result (All (λ row. IsSome (key_of row))) }
-    ensures fresh { IfOk result (λ rows.
-        repeats_a_key (rows_in (rows_of_all dims.now) number) rows ≡ false) }
-    ensures few { IfOk result (λ rows.
-        length (rows_in (rows_of_all dims.now) number) + length rows ≤ MAX_DIMENSION_ROWS) }
+    ensures taken { IfOk result (TakesNewRows (rows_in (rows_of_all dims.now) number)) }
     ensures tells { (facts : Roomy Version) (commits : ℕ) → IfErr result (Tells
         (loaded_records (plain (tables_of schema.now dims.now facts commits))
         (Dimension number) (records_in read.entry.form.header read.entry.block.now))) }
@@ -193,10 +185,7 @@ fn commit_rows(
     commits: &mut u64,
 ) -> Result<Done, NoMemory>
     requires there { number < length dims.old }
-    requires few { length (rows_in (rows_of_all dims.old) number) + length rows
-        ≤ MAX_DIMENSION_ROWS }
-    requires keys { All (λ row. IsSome (key_of row)) rows }
-    requires fresh { repeats_a_key (rows_in (rows_of_all dims.old) number) rows ≡ false }
+    requires taken { TakesNewRows (rows_in (rows_of_all dims.old) number) rows }
     ensures rows { OnOk result (rows_of_all dims.new
         ≡ grown_at number (rows_by (commits.old + 1) rows) (rows_of_all dims.old)) }
     ensures commits { OnOk result (commits.new ≡ commits.old + 1) }
@@ -226,10 +215,7 @@ fn load_dimension(
     number: u8,
     read: ReadBlock<'_>,
 ) -> Result<Done, StatementFault>
-    requires declared { IsDeclared schema.now }
-    requires there { number < length schema.now.dimensions }
-    requires count { length dims.old ≡ length schema.now.dimensions }
-    requires kinds { read.form.kinds ≡ kinds_of (columns_of schema.now (Dimension number)) }
+    requires read { IsReadForDimension schema.now dims.old number read.form.kinds }
     ensures commits { (facts : Roomy Version) → Commits
         (loaded_records (plain (tables_of schema.now dims.old facts commits.old))
         (Dimension number) (records_in read.entry.form.header read.entry.block.now))
@@ -244,9 +230,7 @@ fn load_dimension(
 
 /// Appends rows that a commit loads to a dimension. All room is made before the first row goes in.
 fn grow(dimension: &mut DimensionRows, rows: LoadRows, commit: u64) -> Result<(), NoMemory>
-    requires few { length dimension.old.items + length rows ≤ MAX_DIMENSION_ROWS }
-    requires keys { All (λ row. IsSome (key_of row)) rows }
-    requires fresh { repeats_a_key dimension.old.items rows ≡ false }
+    requires taken { TakesNewRows dimension.old.items rows }
     ensures ok { OnOk result (dimension.new.items ≡ dimension.old.items ++ rows_by commit rows) }
     ensures err { OnErr result (dimension.new.items ≡ dimension.old.items) }
 {
@@ -264,20 +248,15 @@ fn checked_versions(
     commit: u64,
     read: ReadBlock<'_>,
 ) -> Result<Vec<Version>, StatementFault>
-    requires declared { IsDeclared schema.now }
-    requires count { length dims.now ≡ length schema.now.dimensions }
+    requires rows { HasRowsUpTo schema.now dims.now commit }
     requires kinds { read.form.kinds ≡ kinds_of (columns_of schema.now Fact) }
-    requires loaded { (dimension : ℕ) →
-        All (λ entry. entry.commit ≤ commit) (rows_in (rows_of_all dims.now) dimension) }
     ensures rows { (commits : ℕ) → IfOk result (λ versions.
         loaded_records (plain (tables_of schema.now dims.now facts.now commits)) Fact
         (records_in read.entry.form.header read.entry.block.now)
         ≡ Ok (Loaded Fact (map (λ version. version.row) versions.items))) }
     ensures versions { IfOk result (λ versions.
-        map plain_version versions.items
-        ≡ versions_by commit (map (λ version. version.row) versions.items)) }
-    ensures keyed { IfOk result (λ versions.
-        All (HasKeyNumbers schema.now (rows_of_all dims.now)) versions.items) }
+        AreVersionsBy schema.now (rows_of_all dims.now) commit
+        (map (λ version. version.row) versions.items) versions.items) }
     ensures few { IfOk result (λ versions.
         length facts.now.items + length versions.items ≤ MAX_VERSIONS) }
     ensures tells { (commits : ℕ) → IfErr result (Tells
@@ -333,11 +312,8 @@ fn load_facts(
     commits: &mut u64,
     read: ReadBlock<'_>,
 ) -> Result<Done, StatementFault>
-    requires declared { IsDeclared schema.now }
-    requires count { length dims.now ≡ length schema.now.dimensions }
+    requires rows { HasRowsUpTo schema.now dims.now commits.old }
     requires kinds { read.form.kinds ≡ kinds_of (columns_of schema.now Fact) }
-    requires loaded { (dimension : ℕ) →
-        All (λ entry. entry.commit ≤ commits.old) (rows_in (rows_of_all dims.now) dimension) }
     ensures commits { Commits
         (loaded_records (plain (tables_of schema.now dims.now facts.old commits.old)) Fact
         (records_in read.entry.form.header read.entry.block.now))

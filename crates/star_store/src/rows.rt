@@ -6,9 +6,10 @@ ghost use Rattle.star_plan.specs.Repeats.{repeats};
 ghost use Rattle.dimension_rows.specs.Keys.{key_of};
 ghost use Rattle.query_meaning.specs.History.{rows_by};
 ghost use Rattle.star_store.specs.Loads.{is_taken, repeats_a_key, same_key};
+ghost use Rattle.star_store.specs.Parts.{TakesNewRows};
 
 use csv_load::LoadRows;
-use dimension_rows::{DimensionRows, MAX_DIMENSION_ROWS, a_new_row_moves_no_other};
+use dimension_rows::{DimensionRows, a_new_row_moves_no_other};
 use star_plan::{ColumnDef, sorts_to_repeat};
 use star_values::{Kind, NoMemory, Row, Value, values_are_in_order};
 use std::alloc::{AllocError, Global};
@@ -74,10 +75,8 @@ fn takes_a_key(dimension: &DimensionRows, rows: &[Row]) -> bool
 
 /// Appends rows to a dimension where there is room for them.
 pub(crate) fn append_rows(dimension: &mut DimensionRows, rows: LoadRows, commit: u64)
-    requires few { length dimension.old.items + length rows ≤ MAX_DIMENSION_ROWS }
     requires room { length rows ≤ dimension.old.room }
-    requires keys { All (λ row. IsSome (key_of row)) rows }
-    requires fresh { repeats_a_key dimension.old.items rows ≡ false }
+    requires taken { TakesNewRows dimension.old.items rows }
     ensures { dimension.new.items ≡ dimension.old.items ++ rows_by commit rows }
 {
     a_new_row_moves_no_other();

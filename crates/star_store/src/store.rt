@@ -11,7 +11,7 @@ ghost use Rattle.query_meaning.specs.Keyed.{IsKeyed, plain};
 ghost use Rattle.query_meaning.specs.Settled.{IsSettled};
 ghost use Rattle.query_meaning.specs.Store.{empty_store};
 ghost use Rattle.star_store.specs.Deletes.{delete_change};
-ghost use Rattle.star_store.specs.Done.{Commits, Declares};
+ghost use Rattle.star_store.specs.Done.{Commits, DeclaresTable};
 ghost use Rattle.query_meaning.specs.KeptTables.{rows_of_all};
 ghost use Rattle.star_store.specs.Loads.{load_change, load_form};
 
@@ -106,7 +106,7 @@ impl Store {
     pub fn declare_dimension(&mut self, table: TableDef) -> Result<(), StatementFault>
         requires columns { 0 < length table.columns }
         requires plain { ReferencesNothing table }
-        ensures { Declares DimensionDeclared
+        ensures { DeclaresTable DimensionDeclared
             (declared_dimension self.old.schema table) self.old self.new result }
     {
         accepted_histories_are_settled();
@@ -123,7 +123,7 @@ impl Store {
     /// gives, and takes no memory.
     pub fn declare_fact(&mut self, table: TableDef) -> Result<(), StatementFault>
         requires columns { 0 < length table.columns }
-        ensures declares { Declares FactDeclared
+        ensures declares { DeclaresTable FactDeclared
             (declared_fact self.old.schema table) self.old self.new result }
         ensures known { ¬ (IsErrOf result StatementFault.Memory) }
     {

@@ -19,7 +19,7 @@ integer_of bytes =
     if has_minus bytes then neg_ℤ (pos n) else pos n
 
 -- perhaps a minus, then one or more decimal digits, and all in the signed range of 64 bits
-pub record IsInteger (bytes : List ℕ) : Type 0 where
+pub record IsWrittenInteger (bytes : List ℕ) : Type 0 where
   pub numeral : IsNumeral 10 (magnitude_of bytes)
   pub in_range : FitsSigned w64 (integer_of bytes)
 

@@ -5,7 +5,7 @@ use crate::list_of::ListOf;
 use crate::no_memory::NoMemory;
 use std::alloc::Global;
 
-/// How many columns are kept at most: as many as a table may have.
+/// The most columns of a table, and the most that are kept.
 pub const MAX_COLUMNS: usize = 16;
 
 /// Makes an empty list for each column that has none, of so many columns and at most

@@ -2,14 +2,14 @@
 ghost use Rattle.std.specs.Prelude.{◌≡◌, ℤ, Some, SomeIff, FitsSigned};
 ghost use Rattle.std.specs.Int.{w64};
 ghost use Rattle.std.specs.Fmt.{signed_decimal};
-ghost use Rattle.star_values.specs.Integer.{IsInteger, integer_of, integer_in};
+ghost use Rattle.star_values.specs.Integer.{IsWrittenInteger, integer_of, integer_in};
 
 use std::str;
 
 /// The integer that the bytes write: an optional `-` and one or more decimal digits, in the signed
 /// range of 64 bits, and nothing else. Leading zeros are allowed, and `-0` is 0.
 pub fn read_int(bytes: &[u8]) -> Option<i64>
-    ensures exact { SomeIff result (IsInteger bytes.now) (integer_of bytes.now) }
+    ensures exact { SomeIff result (IsWrittenInteger bytes.now) (integer_of bytes.now) }
     ensures value { result ≡ integer_in bytes.now }
 {
     // std's `parse` would take a plus in front.

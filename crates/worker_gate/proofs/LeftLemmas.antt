@@ -19,7 +19,7 @@ use Rattle.event_core.specs.Chosen.{kind_of}
 use Rattle.event_core.specs.Lent.{IsAtHome}
 use Rattle.event_core.specs.Parts.{LeavesLoans, Loan, Parts, loan_of}
 use Rattle.event_core.specs.Seen.{state_of}
-use Rattle.event_core.specs.Took.{IsOf, Took}
+use Rattle.event_core.specs.Took.{IsEventOf, Took}
 use Rattle.event_core.specs.declared.choosing.EventKind.{EventKind}
 use Rattle.event_core.proofs.MadeLemmas.{makes-taken}
 use Rattle.event_core.proofs.TakenStepLemmas.{StepFor, taken-step}
@@ -57,7 +57,7 @@ MovesOne = (step : Step) (state : State) (seat : ℕ) → MayStep state step →
     → IsMindful seat state (after_step step state)
 
 -- a step of an event is of the seat whose row the event may move
-step-moves : (event : Event) (step : Step) (state : State) (seat : ℕ) → IsOf event step
+step-moves : (event : Event) (step : Step) (state : State) (seat : ℕ) → IsEventOf event step
     → IfSome (mover_of_event state event) (λ mover. mover ≡ seat) → IsOfSeat seat state step
 step-moves event (Done other) state seat is moves =
     subst (λ one. IfSome (mover_of_event state one) (λ mover. mover ≡ seat)) (sym is) moves

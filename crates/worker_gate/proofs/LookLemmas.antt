@@ -14,7 +14,7 @@ use Rattle.core_state.specs.State.{Flight, Hand, State}
 use Rattle.core_state.specs.Tables.{tables_of}
 use Rattle.core_state.specs.declared.event.Event.TheVariants.{Carry}
 use Rattle.event_core.specs.Board.{CoreRow, core_row}
-use Rattle.event_core.specs.Lent.{IsHome, IsWorkOf}
+use Rattle.event_core.specs.Lent.{IsNotLent, IsWorkOf}
 use Rattle.event_core.specs.Parts.{Beside, Parts, beside_of, loan_of}
 use Rattle.event_core.specs.Seen.{state_of}
 use Rattle.event_core.specs.Took.{Took}
@@ -22,7 +22,7 @@ use Rattle.event_core.specs.declared.marks.Marks.{Marks}
 use Rattle.event_core.specs.declared.work.Work.{Work}
 use Rattle.worker_gate.specs.Hands.{HasNothing, HasWork, Holds, IsCarriedOf}
 use Rattle.worker_gate.specs.Left.{LeavesAllLoans, LeavesRows}
-use Rattle.worker_gate.specs.Looks.{HasLooked, IsIdle, IsStuck, Takes, TellsLook}
+use Rattle.worker_gate.specs.Looks.{HasLooked, IsIdle, IsStuck, TakesWork, TellsLook}
 use Rattle.worker_gate.specs.Turns.{LooksLast}
 use Rattle.worker_gate.specs.declared.carried.Carried.{Carried}
 use Rattle.worker_gate.specs.declared.carried.Carried.TheVariants as carried
@@ -66,9 +66,9 @@ held-took worker batch old new took =
 
 -- and nothing is lent to it
 pub home-took : (worker batch : ℕ) (old new : Parts) → Took (Carry worker batch) (state_of old) (state_of new) → beside_of new ≡ beside_of old
-    → IsHome worker (lent_to new.flights)
+    → IsNotLent worker (lent_to new.flights)
 home-took worker batch old new took beside =
-    subst (IsHome worker) (sym (ap (λ (b : Beside). b.lent) beside))
+    subst (IsNotLent worker) (sym (ap (λ (b : Beside). b.lent) beside))
     (home-empty (known_in old.asked) (reaches_in old.lives.queries) old.flights worker took.enabled.empty)
 
 -- what is in the hands of a sound core is sound
@@ -90,7 +90,7 @@ has-work right work worker core sound holds = record {
 pub takes-by : IsRight → (work : Work) (worker batch : ℕ) (old between new : Parts) → Took (Carry worker batch) (state_of old) (state_of between)
     → beside_of between ≡ beside_of old → state_of new ≡ state_of between → new.marks ≡ between.marks
     → IfSome (held_by (state_of between).scan.flights worker) (λ flight. IfSome flight.hand (IsWorkOf work (loan_of new worker) flight))
-    → (IsTrue between.marks.waiting → work.folding ≡ None) → IsSound (state_of new) → Takes work worker old new
+    → (IsTrue between.marks.waiting → work.folding ≡ None) → IsSound (state_of new) → TakesWork work worker old new
 takes-by right work worker batch old between new took beside same marks is waits sound = record {
   batch = batch;
   took = subst (λ (state : State). Took (Carry worker batch) (state_of old) state) (sym same) took;

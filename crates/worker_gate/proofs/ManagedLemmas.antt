@@ -23,7 +23,7 @@ use Rattle.event_core.specs.declared.stepping.StepFault.{StepFault}
 use Rattle.event_core.specs.declared.stepping.StepFault.TheVariants.{Memory, NotEnabled}
 use Rattle.event_core.proofs.MadeLemmas.{makes-taken}
 use Rattle.worker_gate.specs.Left.{LeavesAllLoans, LeavesRows}
-use Rattle.worker_gate.specs.Managed.{IsFirstOf, IsToClear, Manages, OrdersIf, counted_by, is_sixteenth, managed_kinds}
+use Rattle.worker_gate.specs.Managed.{IsFirstOf, ClearsNext, Manages, OrdersIf, counted_by, is_sixteenth, managed_kinds}
 use Rattle.worker_gate.proofs.LeftLemmas.{MovesOne, leaves-kind, leaves-same, leaves-taken, leaves-then}
 
 -- Steps.
@@ -55,7 +55,7 @@ all-before P kinds place within = λ k d low.
 
 -- the first event that may come, and that wants memory, clears a filter
 first-clears : (state : State) (of_kind : EventKind) (event : Event) → IsFirstOf managed_kinds state of_kind event → MayWantMemory event
-    → IsToClear state
+    → ClearsNext state
 first-clears state of_kind (Submit seat statement) first wants = absurd (none-some of_kind first.is_of)
 first-clears state of_kind (Clear slot dimension) first wants =
     let same : kind.Clear ≡ of_kind = same_Some kind.Clear of_kind first.is_of in
@@ -68,7 +68,7 @@ first-clears state of_kind other first wants = absurd wants
 -- so does one that was not taken
 pub to-clear : {T : Type 0} (result : Result T StepFault) (fault : StepFault) (state : State) (of_kind : EventKind) (event : Event)
     → result ≡ Err fault → IsFirstOf managed_kinds state of_kind event → IsErrOf result NotEnabled ↔ (IsEnabled state event → ⊥)
-    → (IsErrOf result Memory → IsEnabled state event × MayWantMemory event) → IsToClear state
+    → (IsErrOf result Memory → IsEnabled state event × MayWantMemory event) → ClearsNext state
 to-clear result fault state of_kind event is first disabled memory =
     first-clears state of_kind event first (refused result fault state event is first.enabled disabled memory)
 

@@ -12,7 +12,7 @@ use Rattle.event_core.specs.declared.choosing.EventKind.TheVariants as kind
 use Rattle.event_core.specs.declared.work.BlankWork.{BlankWork}
 use Rattle.event_core.specs.declared.work.Work.{Work}
 use Rattle.worker_gate.specs.Hands.{HasNothing, HasWork}
-use Rattle.worker_gate.specs.Managed.{IsFirstOf, IsToClear, Manages, NoneIsLeft, managed_kinds}
+use Rattle.worker_gate.specs.Managed.{IsFirstOf, ClearsNext, Manages, NoneIsLeft, managed_kinds}
 use Rattle.worker_gate.specs.declared.carried.Carried.{Carried}
 use Rattle.worker_gate.specs.declared.carried.Carried.TheVariants as carried
 use Rattle.worker_gate.specs.declared.working.TakenWork.{TakenWork}
@@ -26,7 +26,7 @@ NoneWants state = All (λ flight. IsWanting state.filters flight → ⊥) state.
 
 -- a worker carries a batch through all filters that it did not pass, and has it as its work, with
 -- what it was lent beside it: nothing to fold with while a statement waits for the tables
-pub record Takes (work : Work) (worker : ℕ) (old new : Parts) : Type 0 where
+pub record TakesWork (work : Work) (worker : ℕ) (old new : Parts) : Type 0 where
   pub batch : ℕ
   pub took : Took (Carry worker batch) (state_of old) (state_of new)
   pub has : HasWork (carried.Written work) (core_row new worker)
@@ -35,7 +35,7 @@ pub record Takes (work : Work) (worker : ℕ) (old new : Parts) : Type 0 where
 
 -- what `take_work` tells
 abbrev pub TellsTaken : TakenWork → (worker : ℕ) → (old new : Parts) → Type 0
-TellsTaken (taken.Got work) worker old new = Takes work worker old new
+TellsTaken (taken.Got work) worker old new = TakesWork work worker old new
 TellsTaken taken.Nothing worker old new = (new ≡ old) × NoneWants (state_of old)
 
 -- a worker of the core whose hand is empty finds no batch that wants a filter
@@ -52,7 +52,7 @@ pub record IsIdle (state : State) : Type 0 where
 -- no batch wants a filter, and a filter is to be cleared first
 pub record IsStuck (state : State) : Type 0 where
   pub wants : NoneWants state
-  pub clear : IsToClear state
+  pub clear : ClearsNext state
 
 -- no batch wants a filter, and an event of this kind was made
 pub record MakesEvent (of_kind : EventKind) (old new : Parts) : Type 0 where
@@ -71,7 +71,7 @@ pub record CutsFor (blank : BlankWork) (worker : ℕ) (old new : Parts) : Type 0
 
 -- how a worker came by what it carries: it took a batch, or cut one
 abbrev pub TellsGot : Carried → (worker : ℕ) → (old new : Parts) → Type 0
-TellsGot (carried.Written work) worker old new = Takes work worker old new
+TellsGot (carried.Written work) worker old new = TakesWork work worker old new
 TellsGot (carried.Blank blank) worker old new = CutsFor blank worker old new
 
 -- what `worker_look` tells: what the worker carries; that an event of a kind was made; that there

@@ -61,7 +61,7 @@ pub record Manages (of_kind : EventKind) (old new : Parts) : Type 0 where
   pub orders : OrdersIf (is_sixteenth of_kind old.marks) between (state_of new)
 
 -- the first of these events that may come clears a filter of a slot
-pub record IsToClear (state : State) : Type 0 where
+pub record ClearsNext (state : State) : Type 0 where
   pub event : Event
   pub first : IsFirstOf managed_kinds state kind.Clear event
 
@@ -70,7 +70,7 @@ pub record IsToClear (state : State) : Type 0 where
 abbrev pub TellsManaged : Managed → (old new : Parts) → Type 0
 TellsManaged (managed.Did of_kind) old new = Manages of_kind old new
 TellsManaged managed.Idle old new = (new ≡ old) × NoneIsLeft (state_of old)
-TellsManaged managed.Memory old new = (new ≡ old) × IsToClear (state_of old)
+TellsManaged managed.Memory old new = (new ≡ old) × ClearsNext (state_of old)
 
 -- the marks behind a batch that came home: where it was folded outside its Distribute is counted
 abbrev pub counted_home : (is_folded : Bool) → Marks → Marks

@@ -52,18 +52,18 @@ IsReady board done seat = IsOutWith board (HasDoneIf done) seat
 
 -- how a worker ends: of the core that it left last there is nothing to do and it is marked closing,
 -- or a filter is to be cleared
-abbrev pub EndsSo : WorkerEnd → Option Parts → Type 0
-EndsSo end.Closed last =
+abbrev pub EndsWorking : WorkerEnd → Option Parts → Type 0
+EndsWorking end.Closed last =
     IsSomeAnd last (λ core. IsIdle (state_of core) × (core.marks.closing ≡ true))
-EndsSo end.Memory last = IsSomeAnd last (λ core. IsStuck (state_of core))
+EndsWorking end.Memory last = IsSomeAnd last (λ core. IsStuck (state_of core))
 
 -- the same of a look at which a worker ends
 abbrev pub LooksLast : Look → Option Parts → Type 0
-LooksLast look.Closed last = EndsSo end.Closed last
-LooksLast look.Memory last = EndsSo end.Memory last
+LooksLast look.Closed last = EndsWorking end.Closed last
+LooksLast look.Memory last = EndsWorking end.Memory last
 LooksLast other last = Unit {0}
 
 -- behind a turn, and the work that was taken in it: a worker is ready for the next one, or ends so
 abbrev pub GoesOn : Turned → BoardLock Parts → BoardSeat Parts → Type 0
 GoesOn (turned.Goes done) board seat = IsReady board done seat
-GoesOn (turned.Ends how) board seat = IsReady board None seat × EndsSo how (view_of seat).last
+GoesOn (turned.Ends how) board seat = IsReady board None seat × EndsWorking how (view_of seat).last

@@ -9,7 +9,7 @@ ghost use Rattle.event_core.specs.Seen.{state_of};
 ghost use Rattle.worker_gate.specs.Hands.{HasDoneIf, HasNothing};
 ghost use Rattle.worker_gate.specs.Left.{MovesHand};
 ghost use Rattle.worker_gate.specs.Looks.{HasLooked};
-ghost use Rattle.worker_gate.specs.Turns.{EndsSo, GoesOn, IsOutWith, IsReady, LooksLast, sight_in};
+ghost use Rattle.worker_gate.specs.Turns.{EndsWorking, GoesOn, IsOutWith, IsReady, LooksLast, sight_in};
 
 use crate::looking::{Look, worker_look};
 use crate::passing::{Gate, do_work};
@@ -55,7 +55,7 @@ pub fn worker_loop<G: Gate, R: Wait>(
     ensures ready { IsReady board.now None seat.new }
     ensures same { IsSameSeat seat.old seat.new }
     ensures passes { Passes (sight_in (view_of seat.old)) (sight_in (view_of seat.new)) }
-    ensures end { EndsSo result (view_of seat.new).last }
+    ensures end { EndsWorking result (view_of seat.new).last }
 {
     let mut done = None;
     'turns: for _ in rt.forever() {

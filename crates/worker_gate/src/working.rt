@@ -7,7 +7,7 @@ ghost use Rattle.event_core.specs.Parts.{LeavesLoans};
 ghost use Rattle.event_core.specs.Seen.{state_of};
 ghost use Rattle.worker_gate.specs.Hands.{HasDone, HasNothing};
 ghost use Rattle.worker_gate.specs.Left.{MovesHand};
-ghost use Rattle.worker_gate.specs.Looks.{Takes, TellsTaken};
+ghost use Rattle.worker_gate.specs.Looks.{TakesWork, TellsTaken};
 ghost use Rattle.worker_gate.specs.Managed.{BringsHome};
 
 use crate::making::make;
@@ -46,7 +46,7 @@ pub fn take_work(core: &mut Core, worker: u32) -> TakenWork
 /// Takes the batch of a number.
 fn carry_batch(core: &mut Core, worker: u32, batch: u64) -> Work
     requires { MayCarry worker batch (state_of core.old) }
-    ensures takes { Takes result worker core.old core.new }
+    ensures takes { TakesWork result worker core.old core.new }
     ensures moves { MovesHand worker (state_of core.old) (state_of core.new) }
     ensures others { LeavesLoans worker core.old core.new }
 {

@@ -15,10 +15,9 @@ returns-clause-all c = record {
   none = none-first kind.Cut [] (state_of c.take_all.new.core) c.take_all.ensures.none;
 }
 
-pub returns-clause-cuts : goal.returns-clause-cuts
-returns-clause-cuts c =
-    cuts-rise c.every_step_keeps_a_core_sound.ensures (state_of c.args.core.now) (state_of c.take_all.new.core) c.every_core_is_sound.ensures
-    (returns-clause-all c)
-
-pub returns-clause-less : goal.returns-clause-less
-returns-clause-less c = cuts-fall (state_of c.args.core.now) (state_of c.take_all.new.core) c.take_all.ensures.some (returns-clause-all c)
+pub returns-clause-more : goal.returns-clause-more
+returns-clause-more c = record {
+  cuts = cuts-rise c.every_step_keeps_a_core_sound.ensures (state_of c.args.core.now) (state_of c.take_all.new.core) c.every_core_is_sound.ensures
+      (returns-clause-all c);
+  less = cuts-fall (state_of c.args.core.now) (state_of c.take_all.new.core) c.take_all.ensures.some (returns-clause-all c);
+}

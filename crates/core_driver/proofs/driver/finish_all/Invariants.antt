@@ -1,11 +1,10 @@
 -- What was in flight landed, and turns followed so far.
-use Rattle.core_driver.proofs.Words.{◌≡◌, state_of, work_in}
+use Rattle.core_driver.proofs.Words.{state_of, StaysIdle, work_in}
 use Rattle.core_driver.proofs.FinishLemmas.{HasGone}
-use Rattle.event_core.specs.Parts.{beside_of}
 use Rattle.core_driver.proofs.driver.finish_all.Given as goal
 
 abbrev pub invariant-turns : goal.invariant-turns
-invariant-turns g l = HasGone (state_of l.fn.core) (state_of l.core) × (beside_of l.core ≡ beside_of l.fn.core)
+invariant-turns g l = HasGone (state_of l.fn.core) (state_of l.core) × StaysIdle l.fn.core l.core
 
 abbrev pub decreases-turns : goal.decreases-turns
 decreases-turns g l = work_in (state_of l.core)

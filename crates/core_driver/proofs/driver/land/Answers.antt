@@ -1,8 +1,8 @@
 -- The batches pass the filters, are distributed, and slots become free.
-use Rattle.core_driver.proofs.Words.{◌∙◌, ◌∷◌, [], IsOfLanding, on_ok_weaker, state_of}
+use Rattle.core_driver.proofs.Words.{◌∷◌, [], IsOfLanding, on_ok_weaker, state_of}
 use Rattle.std.proofs.lemmas.Result.{on_err_weaker}
 use Rattle.event_core.specs.declared.choosing.EventKind.TheVariants as kind
-use Rattle.core_driver.proofs.IdleLemmas.{idle-through}
+use Rattle.core_driver.proofs.IdleLemmas.{idle-through, stays-then}
 use Rattle.core_driver.proofs.LapKindLemmas.{landing-distributes, landing-frees, landing-led, landing-passes}
 use Rattle.core_driver.proofs.LedLemmas.{led-joined, led-sound}
 use Rattle.core_driver.proofs.RoundLemmas.{round-lands}
@@ -35,9 +35,8 @@ returns-clause-memory g c = on_err_weaker c.try_take_all.result
     (wants-clear (kind.Finish ∷ kind.Clear ∷ kind.Release ∷ []) (state_of c.try_take_all.new.core))
     c.try_take_all.ensures.memory
 
-pub returns-clause-idle : goal.returns-clause-idle
-returns-clause-idle g c =
-    c.try_take_all.ensures.idle (c.take_all.ensures.idle (idle-through (state_of c.pass_all.new.self) c.pass_all.ensures.through))
-
-pub returns-clause-beside : goal.returns-clause-beside
-returns-clause-beside g c = c.try_take_all.ensures.beside ∙ c.take_all.ensures.beside ∙ c.pass_all.ensures.beside
+pub returns-clause-stays : goal.returns-clause-stays
+returns-clause-stays g c =
+    stays-then c.args.core.now c.pass_all.new.self c.try_take_all.new.core
+    (record { idle = λ idle. idle-through (state_of c.pass_all.new.self) c.pass_all.ensures.through; beside = c.pass_all.ensures.beside })
+    (stays-then c.pass_all.new.self c.take_all.new.core c.try_take_all.new.core c.take_all.ensures.stays c.try_take_all.ensures.stays)

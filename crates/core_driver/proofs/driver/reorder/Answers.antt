@@ -10,6 +10,7 @@ use Rattle.event_core.specs.Took.{MayWantMemory}
 use Rattle.event_core.specs.declared.stepping.StepFault.{StepFault}
 use Rattle.event_core.specs.declared.stepping.StepFault.TheVariants.{NotEnabled, Memory}
 use Rattle.core_driver.specs.Driven.{OrdersFilters}
+use Rattle.core_driver.proofs.IdleLemmas.{idle-reordered}
 use Rattle.core_driver.proofs.LedLemmas.{led-none}
 use Rattle.core_driver.proofs.driver.reorder.Goals as goal
 
@@ -43,3 +44,9 @@ step-requires c = record { home = tt }
 pub returns-clause-orders : goal.returns-clause-orders
 returns-clause-orders c =
     once c.step.result c.args.core.now c.step.new.self c.step.ensures.taken c.step.ensures.err c.step.ensures.disabled c.step.ensures.memory
+
+pub returns-clause-stays : goal.returns-clause-stays
+returns-clause-stays c = record {
+  idle = idle-reordered (state_of c.args.core.now) (state_of c.step.new.self) (returns-clause-orders c).led;
+  beside = c.step.ensures.beside;
+}

@@ -13,16 +13,16 @@ use Rattle.crate_tests.proofs.lent.cut_and_pass.Goals as goal
 
 pub do_behind-requires : goal.do_behind-requires
 do_behind-requires c =
-    has-work c.a_work_stays_right.ensures (carried.Blank c.in-Some.blank) 1 c.cut_for.new.self c.cut_for.ensures.sound
+    has-work c.a_work_stays_right.ensures (carried.Blank c.in-Some.blank) 1 c.cut_for.new.self c.cut_for.ensures.touches.sound
     (holds-there (IsBlankWorkOf c.in-Some.blank) (core_row c.cut_for.new.self 1) (state_of c.cut_for.new.self).scan.flights 1 refl
-    c.in-Some.ensures.work)
+    c.in-Some.ensures.carried.work)
 
 pub returns-in-Some-clause-seat : goal.returns-in-Some-clause-seat
 returns-in-Some-clause-seat c =
     subst (λ (settings : RunSettings). 1 < settings.seats)
     (sym (c.do_behind.ensures.settings
     ∙ (moves-cut c.a_step_moves_one_row.ensures.one c.every_step_keeps_a_core_sound.ensures 1 (state_of c.args.core.now)
-    (state_of c.cut_for.new.self) c.every_core_is_sound.ensures c.in-Some.ensures.carries).settings))
+    (state_of c.cut_for.new.self) c.every_core_is_sound.ensures c.in-Some.ensures.carried.carries).settings))
     c.requires.seat
 
 pub returns-in-None-clause-seat : goal.returns-in-None-clause-seat

@@ -5,4 +5,4 @@ pub returns : goal.returns
 returns c = becomes-first
     c.an_empty_core_is_sound.ensures
     c.a_new_scan_is_that_of_an_empty_core.ensures
-    c.a_distributor_follows_the_core.ensures.empty
+    c.a_new_distributor_is_that_of_an_empty_core.ensures

@@ -5,4 +5,4 @@ pub returns : goal.returns
 returns c = core-quiet
     c.every_step_keeps_a_core_sound.ensures
     c.other_events_leave_a_scan.ensures.event
-    c.a_distributor_follows_the_core.ensures.others
+    c.other_events_leave_a_distributor.ensures.event

@@ -1,19 +1,7 @@
-use Rattle.event_core.proofs.Words.{All, fed_in, state_of, subst, sym}
-use Rattle.distributor.specs.Slots.{HaveRoom}
-use Rattle.event_core.proofs.DistributedLemmas.{attached-seen, batch-frame, batch-within, distributed-becomes, held-begun, seen, seen-among, seen-there}
+use Rattle.event_core.proofs.Words.{fed_in, state_of}
+use Rattle.event_core.proofs.DistributedLemmas.{attached-seen, distributed-becomes, held-begun, seen, seen-there}
 use Rattle.event_core.proofs.DistributedSlotLemmas.{held-are-fed}
 use Rattle.event_core.proofs.laws_of_distribution.distributions_follow_the_core.Goals as goal
-
-pub returns-clause-within : goal.returns-clause-within
-returns-clause-within c = batch-within
-
-pub returns-clause-room : goal.returns-clause-room
-returns-clause-room c parts place flight core is =
-    subst (All (HaveRoom flight.batch.count)) (sym core.attached)
-    (c.folded_rows_are_few.ensures.attached (state_of parts) (seen parts flight) core.sound (seen-among parts place flight is))
-
-pub returns-clause-frame : goal.returns-clause-frame
-returns-clause-frame c = batch-frame
 
 pub returns-clause-holders : goal.returns-clause-holders
 returns-clause-holders c parts slots core attached = held-are-fed (state_of parts) slots (attached-seen parts slots core attached)

@@ -15,4 +15,4 @@ pub returns-clause-wants : goal.returns-clause-wants
 returns-clause-wants c = becomes-unbuilt
     c.every_step_keeps_a_core_sound.ensures
     c.other_events_leave_a_scan.ensures.wants
-    c.a_distributor_follows_the_core.ensures.wants
+    c.other_events_leave_a_distributor.ensures.wants

@@ -10,7 +10,7 @@ pub returns-clause-replied : goal.returns-clause-replied
 returns-clause-replied c = becomes-replied (record {
   step = c.every_step_keeps_a_core_sound.ensures;
   scan = c.other_events_leave_a_scan.ensures.event;
-  attached = c.a_distributor_follows_the_core.ensures.others;
+  attached = c.other_events_leave_a_distributor.ensures.event;
 })
 
 pub returns-clause-changed : goal.returns-clause-changed
@@ -18,7 +18,7 @@ returns-clause-changed c = λ parts seat statement reply change tables core ther
     becomes-changed (record {
       step = c.every_step_keeps_a_core_sound.ensures;
       scan = c.other_events_leave_a_scan.ensures.event;
-      attached = c.a_distributor_follows_the_core.ensures.others;
+      attached = c.other_events_leave_a_distributor.ensures.event;
     }) (record {
       follow = c.changes_follow_from_the_tables.ensures;
       ascending = c.deletes_name_ascending_positions.ensures;
@@ -30,7 +30,7 @@ pub returns-clause-accepted : goal.returns-clause-accepted
 returns-clause-accepted c = becomes-accepted (record {
   step = c.every_step_keeps_a_core_sound.ensures;
   scan = c.other_events_leave_a_scan.ensures.event;
-  attached = c.a_distributor_follows_the_core.ensures.others;
+  attached = c.other_events_leave_a_distributor.ensures.event;
 })
 
 pub returns-clause-new : goal.returns-clause-new

@@ -1,25 +1,6 @@
-use Rattle.event_core.proofs.FirstReplyLemmas.{next-closed, next-groups, next-nothing, next-open, next-reply, next-spoiled}
 use Rattle.event_core.proofs.TakenReplyLemmas.{taking-becomes}
 use Rattle.event_core.proofs.laws_of_statements.taken_replies_follow_the_core.Goals as goal
 
-pub returns-clause-nothing : goal.returns-clause-nothing
-returns-clause-nothing c = next-nothing
-
-pub returns-clause-reply : goal.returns-clause-reply
-returns-clause-reply c = next-reply
-
-pub returns-clause-open : goal.returns-clause-open
-returns-clause-open c = next-open
-
-pub returns-clause-closed : goal.returns-clause-closed
-returns-clause-closed c = next-closed c.a_reply_that_may_be_taken_is_right.ensures.waits
-
-pub returns-clause-spoiled : goal.returns-clause-spoiled
-returns-clause-spoiled c = next-spoiled
-
-pub returns-clause-answered : goal.returns-clause-answered
-returns-clause-answered c = next-groups c.a_reply_that_may_be_taken_is_right.ensures.waits
-
-pub returns-clause-done : goal.returns-clause-done
-returns-clause-done c = taking-becomes c.every_step_keeps_a_core_sound.ensures c.a_distributor_follows_the_core.ensures.taken
+pub returns : goal.returns
+returns c = taking-becomes c.every_step_keeps_a_core_sound.ensures c.other_events_leave_a_distributor.ensures.taken
     c.other_events_leave_a_scan.ensures.taken

@@ -1,7 +1,7 @@
 use Rattle.std.proofs.Common.{◌≡◌, ◌++◌, ◌+◌, drop, option_map, ap, ◌∙◌, subst, sym, arith}
 use Rattle.std.specs.List.{All, cons_option}
 use Rattle.filter_order.specs.Filters.{left_of, rows_or_none}
-use Rattle.filter_order.specs.Spares.{AreApart, IsKept, with_all_taken}
+use Rattle.filter_order.specs.Spares.{AreApart, IsSpareFor, with_all_taken}
 use Rattle.filter_order.proofs.TakingLemmas.{first-holds, left-next, taken-one}
 use Rattle.filter_order.proofs.spares.take_left.Goals as goal
 
@@ -12,9 +12,9 @@ take_next-requires-clause-kept c =
     let order = c.args.order.now in
     let place = c.order.dimension-index in
     let low = c.order-test.true in
-    first-holds c.left_to-left.result (λ version. version.now) (IsKept c.args.seat c.order.spares)
+    first-holds c.left_to-left.result (λ version. version.now) (IsSpareFor c.args.seat c.order.spares)
     (left_of versions rows (drop (place + 1) order))
-    (subst (All (IsKept c.args.seat c.order.spares))
+    (subst (All (IsSpareFor c.args.seat c.order.spares))
     (left-next versions rows order place _ (option_map (λ version. version.now) c.left_to-left.result)
     (omega arith) c.left_to-left.ensures)
     c.order.invariant.kept)
@@ -35,7 +35,7 @@ order-preserved c =
     let next =
     taken-one seat c.order.spares c.take_next.new.spares c.order.versions
     c.take_next.new.versions one rest
-    (subst AreApart first before.apart) (subst (All (IsKept seat c.order.spares)) first before.kept)
+    (subst AreApart first before.apart) (subst (All (IsSpareFor seat c.order.spares)) first before.kept)
     c.take_next.ensures.versions c.take_next.ensures.left in
     let few = before.few in
     let long = next.long in

@@ -1,5 +1,5 @@
 use Rattle.std.proofs.Common.{◌∙◌, ◌≡◌, refl}
-use Rattle.make_load.proofs.RunLemmas.{answers_of, core-without, core_of, faults-without, run-without, run_of, text-by, without_core}
+use Rattle.make_load.proofs.RunLemmas.{answers_of, back-without, back_of, faults-without, text-by, without_core}
 use Rattle.make_load.proofs.made.run_made.Goals as goal
 
 pub tell-requires-clause-text : goal.tell-requires-clause-text
@@ -13,15 +13,11 @@ returns-clause-answers g c =
     answers_of (c.args.settings.workers ≡ 0) c.args.settings c.args.seed c.args.rows c.as_bytes-bytes.result.now ran.result
     c.tell.result _ _ (c.as_bytes-bytes.ensures ∙ c.in-Ok.ensures.made) ran.ensures.ran c.tell.ensures.tells
 
-pub returns-clause-core : goal.returns-clause-core
-returns-clause-core g c =
+pub returns-clause-back : goal.returns-clause-back
+returns-clause-back g c =
     let ran = c.run_text-ran in
-    core_of c.as_bytes-bytes.result.now ran.result c.tell.result _ _ ran.ensures.core.0 c.tell.ensures.tells
-
-pub returns-clause-run : goal.returns-clause-run
-returns-clause-run g c = λ none.
-    let ran = c.run_text-ran in
-    run_of c.args.settings c.as_bytes-bytes.result.now ran.result c.tell.result _ _ c.tell.ensures.tells (ran.ensures.run none)
+    back_of (c.args.settings.workers ≡ 0) c.args.settings c.as_bytes-bytes.result.now ran.result c.tell.result _ _ c.tell.ensures.tells
+    ran.ensures.back
 
 pub returns-in_default-clause-answers : goal.returns-in_default-clause-answers
 returns-in_default-clause-answers g c =
@@ -31,9 +27,7 @@ returns-in_default-clause-answers g c =
 pub returns-in_default-clause-faults : goal.returns-in_default-clause-faults
 returns-in_default-clause-faults g c = faults-without c.without_memory.result.end _ c.without_memory.ensures.end
 
-pub returns-in_default-clause-core : goal.returns-in_default-clause-core
-returns-in_default-clause-core g c =
-    core-without c.without_memory.result.core c.without_memory.result.end c.without_memory.ensures.core c.without_memory.ensures.end
-
-pub returns-in_default-clause-run : goal.returns-in_default-clause-run
-returns-in_default-clause-run g c = λ none. run-without c.args.settings c.without_memory.result.core c.without_memory.ensures.core
+pub returns-in_default-clause-back : goal.returns-in_default-clause-back
+returns-in_default-clause-back g c =
+    back-without (c.args.settings.workers ≡ 0) c.args.settings c.without_memory.result.core c.without_memory.result.end
+    c.without_memory.ensures.core c.without_memory.ensures.end

@@ -8,11 +8,15 @@ returns-clause-ran g c =
     ran_of (Unit {0}) c.args.settings run.result.core run.result.end c.args.script.now c.new-source.result.rest.now run.new.source.rest.now
     c.new-sink.result.taken run.new.sink.taken _ _ _ _ c.new-source.ensures.rest (search rules) refl refl refl refl run.ensures.answers
 
-pub returns-clause-read : goal.returns-clause-read
-returns-clause-read g c = let run = c.run_on_one_thread-done in never-read-fault run.result.end _ _ _ _ refl run.ensures.faults
-
-pub returns-clause-limit : goal.returns-clause-limit
-returns-clause-limit g c =
+pub returns-clause-ends : goal.returns-clause-ends
+returns-clause-ends g c =
     let run = c.run_on_one_thread-done in
-    never-limit run.result.end _ _ _ _ c.args.script.now c.new-source.result.rest.now run.new.source.rest.now c.requires.short
-    c.new-source.ensures.rest refl refl run.ensures.answers.0
+    record {
+      read = never-read-fault run.result.end _ _ _ _ refl run.ensures.faults;
+      limit = never-limit run.result.end _ _ _ _ c.args.script.now c.new-source.result.rest.now run.new.source.rest.now
+          c.requires.short c.new-source.ensures.rest refl refl run.ensures.answers.0;
+    }
+
+pub returns-clause-back : goal.returns-clause-back
+returns-clause-back g c =
+    let run = c.run_on_one_thread-done in record { core = run.ensures.core; run = λ alone. run.ensures.run }

@@ -7,9 +7,11 @@ use Rattle.script_run.proofs.board_run.open_crew.Goals as goal
 pub make_seats-requires : goal.make_seats-requires
 make_seats-requires c = record {
   leader = c.in_ok-board.ensures.leader;
-  room = let most = c.in_ok-board.ensures.most in let seats = c.requires.seats in omega arith;
-  seated = seated-new c.args.settings (view_of c.in_ok-board.first) c.args.settings.workers c.in_ok-board.ensures.knows
-      (let seats = c.requires.seats in omega arith);
+  room = record {
+    room = let most = c.in_ok-board.ensures.most in let seats = c.requires.seats in omega arith;
+    seated = seated-new c.args.settings (view_of c.in_ok-board.first) c.args.settings.workers c.in_ok-board.ensures.knows
+        (let seats = c.requires.seats in omega arith);
+  };
 }
 
 pub returns-in-Ok : goal.returns-in-Ok

@@ -6,8 +6,11 @@ use Rattle.script_run.proofs.BoardSeatLemmas.{leader-as, lent-whole}
 use Rattle.script_run.proofs.SharedEndLemmas.{none-shared}
 use Rattle.script_run.proofs.board_run.run_with_workers.Goals as goal
 
+pub open_crew-requires-clause-settings : goal.open_crew-requires-clause-settings
+open_crew-requires-clause-settings g c = c.requires.settings.within
+
 pub open_crew-requires-clause-seats : goal.open_crew-requires-clause-seats
-open_crew-requires-clause-seats g c = let seats = c.requires.seats in omega arith
+open_crew-requires-clause-seats g c = let seats = c.requires.settings.seats in omega arith
 
 pub returns-in_default-clause-answers : goal.returns-in_default-clause-answers
 returns-in_default-clause-answers g c = (none-shared _ _, tt)

@@ -34,7 +34,7 @@ joins-preserved c =
           c.joins.first c.join.new.seat c.in-Some.seat
           (subst (λ n. HasJoined c.args.board.now (length c.args.seats.now.items) n (view_of c.args.first.now) c.joins.first) long
           c.joins.invariant.joined)
-          popped.1 c.join.ensures.same.0 c.join.ensures.same.1 c.join.ensures.joined c.join.ensures.mine;
+          popped.1 c.join.ensures.same.0 c.join.ensures.same.1 c.join.ensures.joined c.join.ensures.seen.mine;
     }
 
 pub returns : goal.returns

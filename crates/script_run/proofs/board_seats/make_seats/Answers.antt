@@ -20,7 +20,7 @@ pub split-seat-requires : goal.split-seat-requires
 split-seat-requires c = record {
   own = c.splits.invariant.leader.own;
   first = c.splits.invariant.leader.first;
-  room = let made = c.splits.invariant.leader.made in let few = c.requires.room in omega arith;
+  room = let made = c.splits.invariant.leader.made in let few = c.requires.room.room in omega arith;
 }
 
 pub push_reserved-requires : goal.push_reserved-requires
@@ -31,16 +31,16 @@ splits-preserved c =
     let long = c.splits.invariant.count in
     record {
       leader = leader-split c.args.board.now c.splits.counter c.splits.first c.split-seat.new.seat c.splits.invariant.leader
-          c.split-seat.ensures.same (c.split-seat.ensures.outside c.splits.invariant.leader.outside) c.split-seat.ensures.made;
+          c.split-seat.ensures.seat.same (c.split-seat.ensures.seat.outside c.splits.invariant.leader.outside) c.split-seat.ensures.seat.made;
       knows = knows-then (view_of c.args.first.now) (view_of c.splits.first) (view_of c.split-seat.new.seat) c.splits.invariant.knows
-          (knows-split (view_of c.splits.first) (view_of c.split-seat.new.seat) c.split-seat.ensures.made);
+          (knows-split (view_of c.splits.first) (view_of c.split-seat.new.seat) c.split-seat.ensures.seat.made);
       workers = subst (AreWorkers c.args.board.now) (sym c.push_reserved.ensures.items)
           (workers-pushed c.args.board.now c.splits.seats.items c.split-seat.result c.splits.invariant.workers
           (subst (λ n. IsWorker c.args.board.now (n + 1) c.split-seat.result) (sym long)
           (worker-made c.args.board.now c.splits.counter c.splits.first c.split-seat.result c.splits.invariant.leader
           (seated-high (view_of c.args.first.now) (view_of c.splits.first) (c.splits.counter + 1) c.args.count c.splits.invariant.knows
-          (omega arith) c.requires.seated)
-          c.split-seat.ensures.new.0 c.split-seat.ensures.new.1 c.split-seat.ensures.new.2 c.split-seat.ensures.empty)));
+          (omega arith) c.requires.room.seated)
+          c.split-seat.ensures.new.0 c.split-seat.ensures.new.1 c.split-seat.ensures.new.2 c.split-seat.ensures.empty.last)));
       count = ap length c.push_reserved.ensures.items ∙ length_push c.splits.seats.items c.split-seat.result ∙ ap (λ n. n + 1) long;
       len = c.push_reserved.ensures.len ∙ ap (λ n. n + 1) c.splits.invariant.len;
       room = let room = c.splits.invariant.room in let same = c.push_reserved.ensures.capacity in omega arith;

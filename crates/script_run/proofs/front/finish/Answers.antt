@@ -15,8 +15,7 @@ returns-clause-finishes g c =
     record {
       passes = passes-frame old new 0 frame;
       stay = λ query was. (frame.lives c.every_core_is_sound.ensures.slots.lives.rising).over query Answered refl was;
-      round = goes-round old new c.every_core_is_sound.ensures c.requires.calm c.requires.some c.requires.few c.finish_all.ensures.driven
-          c.finish_all.ensures.lap;
+      round = goes-round old new c.every_core_is_sound.ensures c.requires c.finish_all.ensures.driven c.finish_all.ensures.lap;
       run = submits-driven c.taken_events_are_steps.ensures old new c.finish_all.ensures.driven;
     }
 
@@ -24,8 +23,11 @@ pub returns-clause-number : goal.returns-clause-number
 returns-clause-number g c = (frame-driven (state_of c.args.core.now) (state_of c.finish_all.new.core) c.finish_all.ensures.driven).number
 
 pub returns-clause-closed : goal.returns-clause-closed
-returns-clause-closed g c = on_ok_weaker c.finish_all.result (λ finished. finished.none_open) c.finish_all.ensures.finished
+returns-clause-closed g c = on_ok_weaker c.finish_all.result (λ all. all.finished.none_open) c.finish_all.ensures.finishes
 
 pub returns-clause-waits : goal.returns-clause-waits
 returns-clause-waits g c = on-err c.finish_all.result
     (awaited-some (state_of c.args.core.now) (let some = c.requires.some in let unfinished = c.requires.calm.awaited in omega arith))
+
+pub returns-clause-hands : goal.returns-clause-hands
+returns-clause-hands g c = c.finish_all.ensures.stays.idle c.requires.calm.idle

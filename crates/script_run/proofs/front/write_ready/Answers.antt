@@ -1,4 +1,4 @@
-use Rattle.script_run.proofs.Words.{◌∙◌, ap, err_from_is_err_and, refl, state_of}
+use Rattle.script_run.proofs.Words.{◌∙◌, ap, err_from_is_err_and, next_ready, refl, state_of, sym}
 use Rattle.script_run.proofs.FrontOpenLemmas.{taken-less}
 use Rattle.script_run.proofs.FrontReadyLemmas.{halts-writing, ready-some, starts-writing, takes-reply, writes-more, wrote-idle}
 use Rattle.script_run.proofs.FrontRunLemmas.{run-taken, run-then}
@@ -38,8 +38,12 @@ returns-clause-plays g c = rw (ap state_of (c.in_default.ensures.none refl)) c.r
 
 pub returns-clause-all : goal.returns-clause-all
 returns-clause-all g c =
-    wrote-idle c.a_reply_that_may_be_taken_is_right.ensures.waits _ (state_of c.replies.core) (state_of c.take_reply.new.self) _ _ _ c.replies.invariant.writing
-    (ap state_of (c.in_default.ensures.none refl)) c.in_default.ensures.ready c.in_default.ensures.sound
+    let same = ap state_of (c.in_default.ensures.none refl) in
+    record {
+      none = ap (λ state. next_ready state 0) same ∙ sym c.in_default.ensures.ready;
+      all = wrote-idle c.a_reply_that_may_be_taken_is_right.ensures.waits _ (state_of c.replies.core) (state_of c.take_reply.new.self) _ _ _
+          c.replies.invariant.writing same c.in_default.ensures.ready c.in_default.ensures.sound;
+    }
 
 pub replies-smaller : goal.replies-smaller
 replies-smaller g c =

@@ -2,7 +2,7 @@
 use Rattle.script_run.proofs.Words.{refl, state_of}
 use Rattle.board_lock.specs.Seats.{view_of}
 use Rattle.worker_gate.proofs.TurnLemmas.{view-left}
-use Rattle.script_run.specs.SeatTurns.{Stays}
+use Rattle.script_run.specs.SeatTurns.{SitsStill}
 use Rattle.script_run.proofs.SeatTurnLemmas.{keeps-same, stays-same, stays-then, turn-keeps-hand, turn-stays-ready, turn-tells}
 use Rattle.script_run.proofs.seat_ahead.form_turn.Goals as goal
 
@@ -25,7 +25,7 @@ pub returns-clause-stays : goal.returns-clause-stays
 returns-clause-stays g c =
     let number = (view_of c.args.seat.now).number in
     let state = state_of c.enter-core.result in
-    turn-tells Stays stays-then c.args.seat.now c.leave.new.seat c.enter-core.result c.enter-core.result number
+    turn-tells SitsStill stays-then c.args.seat.now c.leave.new.seat c.enter-core.result c.enter-core.result number
     (view-left (view_of c.args.seat.now) (view_of c.enter-core.new.seat) (view_of c.leave.new.seat) c.enter-core.result
     c.enter-core.result c.enter-core.ensures.inside.1 c.leave.ensures.outside.1)
     c.enter-core.ensures.finds refl (stays-same number state state refl)

@@ -4,7 +4,7 @@ use Rattle.board_lock.specs.Seats.{view_of}
 use Rattle.script_reader.specs.declared.statement.Statement.{Statement}
 use Rattle.worker_gate.specs.Hands.{HasDoneIf}
 use Rattle.worker_gate.specs.Turns.{sight_in}
-use Rattle.script_run.specs.SeatTurns.{Stays, SendsOne}
+use Rattle.script_run.specs.SeatTurns.{SitsStill, SendsOne}
 use Rattle.script_run.proofs.SeatFrontLemmas.{by-number, tried-behind}
 use Rattle.script_run.proofs.SeatTurnLemmas.{out-none, out-then, stays-none, stays-then}
 use Rattle.script_run.proofs.seat_turn.give_turn.Goals as goal
@@ -25,7 +25,7 @@ tries-preserved g c =
       seat = out-then c.args.board.now (HasDoneIf None) (HasDoneIf None) c.args.seat.now c.tries.seat c.try_turn.new.seat
           c.tries.invariant.seat c.in-Waits.ensures.seat;
       stays = stays-then old.number (sight_in old) (sight_in mid) (sight_in new) c.tries.invariant.stays
-          (by-number (λ (number : ℕ). Stays number (sight_in mid) (sight_in new)) c.args.seat.now c.tries.seat
+          (by-number (λ (number : ℕ). SitsStill number (sight_in mid) (sight_in new)) c.args.seat.now c.tries.seat
           c.tries.invariant.seat.same c.in-Waits.ensures.tells);
       statement = c.in-Waits.ensures.statement ∙ c.tries.invariant.statement;
     }

@@ -5,17 +5,21 @@ use Rattle.script_run.proofs.SharedDoneLemmas.{ended-shared, fault-shared, limit
 use Rattle.script_run.proofs.SharedEndLemmas.{ended-halted, halted-shared, halts-alone, unfed-shared}
 use Rattle.script_run.proofs.SharedRunLemmas.{fed-shared, starts-shared, way-none, whole-shared}
 use Rattle.script_run.proofs.FrontNewLemmas.{some-slots}
+use Rattle.script_run.proofs.FrontPlayLemmas.{ended-all, ended-round}
 use Rattle.script_run.proofs.FrontRunLemmas.{run-itself, run-then}
 use Rattle.script_run.proofs.shared.play_script.Goals as goal
 
 pub pieces-init : goal.pieces-init
 pieces-init g c = record {
-  run = starts-shared _ _ _ _ _ c.requires.empty c.requires.reader;
+  run = starts-shared _ _ _ _ _ c.requires.front.empty c.requires.reader;
   steps = run-itself _;
   alone = λ new run. run-alone c.a_seat_alone_has_the_queries_of_the_core.ensures c.only_abandon_abandons.ensures c.every_core_is_sound.ensures.on
-      (state_of c.args.front.now.core).settings (state_of c.args.front.now.core) new c.every_front_is_sound.ensures c.requires.empty run;
-  counted = c.requires.counted;
-  free = subst (λ n. n < (state_of c.args.front.now.core).settings.slots) (sym c.requires.none) (some-slots _ c.every_front_is_sound.ensures.settings);
+      (state_of c.args.front.now.core).settings (state_of c.args.front.now.core) new c.every_front_is_sound.ensures c.requires.front.empty run;
+  room = record {
+    counted = c.requires.front.counted;
+    free = subst (λ n. n < (state_of c.args.front.now.core).settings.slots) (sym c.requires.front.none)
+        (some-slots _ c.every_front_is_sound.ensures.settings);
+  };
   ended = refl;
   unread = refl;
   unwritten = refl;
@@ -23,7 +27,7 @@ pieces-init g c = record {
 }
 
 pub returns-in-Err-clause-run : goal.returns-in-Err-clause-run
-returns-in-Err-clause-run g c = run-then _ _ _ c.pieces.invariant.steps c.in-Err.ensures.run
+returns-in-Err-clause-run g c = run-then _ _ _ c.pieces.invariant.steps c.in-Err.ensures.runs.run
 
 pub returns-in-Err-clause-answers : goal.returns-in-Err-clause-answers
 returns-in-Err-clause-answers g c =
@@ -40,18 +44,17 @@ pieces-preserved g c =
     let takes = c.in-Fed.ensures.takes in
     record {
       run = fed-shared _ _ _ _ _ _ _ _ _ _ takes.0 run takes.1 takes.2.0 takes.2.2;
-      steps = run-then _ _ _ c.pieces.invariant.steps c.in-Ok.ensures.run;
+      steps = run-then _ _ _ c.pieces.invariant.steps c.in-Ok.ensures.runs.run;
       alone = c.pieces.invariant.alone;
-      counted = c.in-Ok.ensures.counted;
-      free = c.in-Ok.ensures.free;
+      room = c.in-Ok.ensures.runs.room;
       ended = c.in-Fed.ensures.end ∙ c.pieces.invariant.ended;
       unread = c.in-Fed.ensures.faults ∙ c.pieces.invariant.unread;
-      unwritten = c.in-Ok.ensures.faults ∙ c.pieces.invariant.unwritten;
+      unwritten = c.in-Ok.ensures.runs.faults ∙ c.pieces.invariant.unwritten;
       apart = c.play_whole.ensures.apart ∙ c.pieces.invariant.apart;
     }
 
 pub returns-in-Fault-clause-run : goal.returns-in-Fault-clause-run
-returns-in-Fault-clause-run g c = run-then _ _ _ (run-then _ _ _ c.pieces.invariant.steps c.in-Ok.ensures.run) c.play_out.ensures.run
+returns-in-Fault-clause-run g c = run-then _ _ _ (run-then _ _ _ c.pieces.invariant.steps c.in-Ok.ensures.runs.run) c.play_out.ensures.runs.run
 
 pub returns-in-Fault-clause-answers : goal.returns-in-Fault-clause-answers
 returns-in-Fault-clause-answers g c =
@@ -61,10 +64,11 @@ returns-in-Fault-clause-answers g c =
     let takes = c.in-Fault.ensures.takes in
     rw c.end_behind.ensures (fault-shared _ _ (state_of c.play_out.new.self.core) _ c.play_out.result _ _ _ _ _ _ _ takes.0 (some-slots _ c.every_front_is_sound.ensures.settings) run
     (c.pieces.invariant.alone _ (returns-in-Fault-clause-run g c)) none takes.1 takes.2.1
-    c.play_out.ensures.plays c.play_out.ensures.round c.play_out.ensures.all)
+    c.play_out.ensures.plays (ended-round c.play_out.result c.play_whole.new.front c.play_out.new.self c.play_out.ensures.ends)
+    (ended-all c.play_out.result c.play_whole.new.front c.play_out.new.self c.play_out.ensures.ends))
 
 pub returns-in-Limit-clause-run : goal.returns-in-Limit-clause-run
-returns-in-Limit-clause-run g c = run-then _ _ _ (run-then _ _ _ c.pieces.invariant.steps c.in-Ok.ensures.run) c.play_out-in-Limit.ensures.run
+returns-in-Limit-clause-run g c = run-then _ _ _ (run-then _ _ _ c.pieces.invariant.steps c.in-Ok.ensures.runs.run) c.play_out-in-Limit.ensures.runs.run
 
 pub returns-in-Limit-clause-answers : goal.returns-in-Limit-clause-answers
 returns-in-Limit-clause-answers g c =
@@ -74,10 +78,11 @@ returns-in-Limit-clause-answers g c =
     let takes = c.in-Limit.ensures.takes in
     rw c.end_behind-in-Limit.ensures (limit-shared _ _ (state_of c.play_out-in-Limit.new.self.core) _ c.play_out-in-Limit.result _ _ _ _ _ _ _ takes.0 (some-slots _ c.every_front_is_sound.ensures.settings) run
     (c.pieces.invariant.alone _ (returns-in-Limit-clause-run g c)) none takes.1 takes.2.1 takes.2.2
-    c.play_out-in-Limit.ensures.plays c.play_out-in-Limit.ensures.round c.play_out-in-Limit.ensures.all)
+    c.play_out-in-Limit.ensures.plays (ended-round c.play_out-in-Limit.result c.play_whole.new.front c.play_out-in-Limit.new.self c.play_out-in-Limit.ensures.ends)
+    (ended-all c.play_out-in-Limit.result c.play_whole.new.front c.play_out-in-Limit.new.self c.play_out-in-Limit.ensures.ends))
 
 pub returns-in-NoMemory-clause-run : goal.returns-in-NoMemory-clause-run
-returns-in-NoMemory-clause-run g c = run-then _ _ _ c.pieces.invariant.steps c.in-Ok.ensures.run
+returns-in-NoMemory-clause-run g c = run-then _ _ _ c.pieces.invariant.steps c.in-Ok.ensures.runs.run
 
 pub returns-in-NoMemory-clause-answers : goal.returns-in-NoMemory-clause-answers
 returns-in-NoMemory-clause-answers g c =
@@ -91,7 +96,7 @@ returns-in-NoMemory-clause-answers g c =
 
 pub returns-in-Ok-play_whole-clause-run : goal.returns-in-Ok-play_whole-clause-run
 returns-in-Ok-play_whole-clause-run g c =
-    run-then _ _ _ (run-then _ _ _ (run-then _ _ _ c.pieces.invariant.steps c.in-Ok.ensures.run) c.in-Ok-play_whole.ensures.run) c.play_out-in-Ok-play_whole.ensures.run
+    run-then _ _ _ (run-then _ _ _ (run-then _ _ _ c.pieces.invariant.steps c.in-Ok.ensures.runs.run) c.in-Ok-play_whole.ensures.runs.run) c.play_out-in-Ok-play_whole.ensures.runs.run
 
 pub returns-in-Ok-play_whole-clause-answers : goal.returns-in-Ok-play_whole-clause-answers
 returns-in-Ok-play_whole-clause-answers g c =
@@ -101,10 +106,11 @@ returns-in-Ok-play_whole-clause-answers g c =
     let stays = rw (c.finish.ensures, takes.2.0) at c.in-Ok-play_whole.ensures.stays in
     rw c.end_of_rest.ensures (ended-shared _ _ (state_of c.play_whole-2.new.front.core) (state_of c.play_out-in-Ok-play_whole.new.self.core) _ _ c.play_out-in-Ok-play_whole.result _ _ _ _ _ _ _ _ _ takes.0
     (some-slots _ c.every_front_is_sound.ensures.settings) run (c.pieces.invariant.alone _ (returns-in-Ok-play_whole-clause-run g c)) takes.1 takes.2.1 c.in-Ended.ensures.end whole stays
-    c.play_out-in-Ok-play_whole.ensures.plays c.play_out-in-Ok-play_whole.ensures.round c.play_out-in-Ok-play_whole.ensures.all)
+    c.play_out-in-Ok-play_whole.ensures.plays (ended-round c.play_out-in-Ok-play_whole.result c.play_whole-2.new.front c.play_out-in-Ok-play_whole.new.self c.play_out-in-Ok-play_whole.ensures.ends)
+    (ended-all c.play_out-in-Ok-play_whole.result c.play_whole-2.new.front c.play_out-in-Ok-play_whole.new.self c.play_out-in-Ok-play_whole.ensures.ends))
 
 pub returns-in-Err-play_whole-clause-run : goal.returns-in-Err-play_whole-clause-run
-returns-in-Err-play_whole-clause-run g c = run-then _ _ _ (run-then _ _ _ c.pieces.invariant.steps c.in-Ok.ensures.run) c.in-Err-play_whole.ensures.run
+returns-in-Err-play_whole-clause-run g c = run-then _ _ _ (run-then _ _ _ c.pieces.invariant.steps c.in-Ok.ensures.runs.run) c.in-Err-play_whole.ensures.runs.run
 
 pub returns-in-Err-play_whole-clause-answers : goal.returns-in-Err-play_whole-clause-answers
 returns-in-Err-play_whole-clause-answers g c =

@@ -1,4 +1,5 @@
-use Rattle.script_run.proofs.Words.{◌-◌, ◌<◌, ◌≡◌, IsCounted, IsRun, SCRIPT_LIMIT, State, state_of}
+use Rattle.script_run.proofs.Words.{◌-◌, ◌≡◌, IsRun, SCRIPT_LIMIT, State, state_of}
+use Rattle.script_run.specs.Counted.{HasFreeSlot}
 use Rattle.script_run.proofs.SharedRunLemmas.{IsShared}
 use Rattle.script_run.proofs.SharedScriptLemmas.{IsAlone}
 use Rattle.script_run.proofs.shared.play_script.Given as goal
@@ -9,8 +10,7 @@ invariant-pieces g l = record {
   run : IsShared (state_of l.fn.front.core).settings (state_of l.front.core) l.reader l.refused (g.S.Source.reading l.fn.source).left (g.S.Source.reading l.source).left (g.K.Sink.writing l.fn.sink).taken (g.K.Sink.writing l.sink).taken;
   steps : IsRun (state_of l.fn.front.core) (state_of l.front.core);
   alone : (new : State) → IsRun (state_of l.fn.front.core) new → IsAlone new;
-  counted : IsCounted l.front;
-  free : l.front.unfinished < (state_of l.front.core).settings.slots;
+  room : HasFreeSlot l.front;
   ended : (g.S.Source.reading l.source).ended ≡ (g.S.Source.reading l.fn.source).ended;
   unread : (g.S.Source.reading l.source).faults ≡ (g.S.Source.reading l.fn.source).faults;
   unwritten : (g.K.Sink.writing l.sink).faults ≡ (g.K.Sink.writing l.fn.sink).faults;

@@ -1,5 +1,5 @@
 use Rattle.script_run.proofs.Words.{◌∙◌, ◌∷◌, [], err_from_is_err_and, refl, state_of}
-use Rattle.script_run.proofs.FrontRunLemmas.{run-itself, run-then}
+use Rattle.script_run.proofs.FrontRunLemmas.{run-itself, run-then, runs-behind}
 use Rattle.script_run.proofs.SharedReadLemmas.{reads-first}
 use Rattle.script_run.proofs.SharedWholeLemmas.{playing-then, starts-playing, stops-first, stops-wanting, whole-done}
 use Rattle.script_run.proofs.WholeLemmas.{fed_on}
@@ -10,8 +10,7 @@ statements-init g c = record {
   way = λ due waits. starts-playing _ due _ _ waits;
   stays = (refl, refl);
   run = run-itself _;
-  counted = c.requires.counted;
-  free = c.requires.free;
+  room = c.requires;
   unfailed = refl;
   apart = refl;
 }
@@ -33,8 +32,23 @@ returns-in_err-refused-clause-plays g c =
       tt,
     ))
 
-pub returns-in_err-refused-clause-run : goal.returns-in_err-refused-clause-run
-returns-in_err-refused-clause-run g c = run-then _ _ _ c.statements.invariant.run c.in_err-refused.ensures.run
+pub returns-in_err-statement-clause-runs : goal.returns-in_err-statement-clause-runs
+returns-in_err-statement-clause-runs g c =
+    let failed = err_from_is_err_and c.from_residual.result c.from_residual.ensures.1 in
+    rw (failed.1, failed.2) (record { run = c.statements.invariant.run; room = tt; faults = c.statements.invariant.unfailed })
+
+pub returns-in_err-refused-clause-runs : goal.returns-in_err-refused-clause-runs
+returns-in_err-refused-clause-runs g c =
+    let failed = err_from_is_err_and c.from_residual-in_err-refused.result c.from_residual-in_err-refused.ensures.1 in
+    rw (failed.1, failed.2) (runs-behind _ c.args.front.now c.statements.front c.play.new.self _ _ _ c.statements.invariant.run
+    c.statements.invariant.unfailed c.in_err-refused.ensures.runs)
+
+pub returns-in_default-clause-runs : goal.returns-in_default-clause-runs
+returns-in_default-clause-runs g c = record {
+  run = c.statements.invariant.run;
+  room = c.statements.invariant.room;
+  faults = c.statements.invariant.unfailed;
+}
 
 pub statements-preserved : goal.statements-preserved
 statements-preserved g c =
@@ -46,10 +60,9 @@ statements-preserved g c =
           playing-then _ _ _ due _ _ _ _ _ _ _ _ (c.in-Got.statement ∷ []) ⊥ way (reads-first c.statements.reader c.next_statement.new.self c.in-Got.statement first)
           c.in_ok-statement.ensures.stays plays.0 plays.1;
       stays = fed_on c.args.reader.now c.statements.reader c.next_statement.new.self c.statements.invariant.stays c.in_ok-statement.ensures.stays;
-      run = run-then _ _ _ c.statements.invariant.run c.in_ok-refused.ensures.run;
-      counted = c.in_ok-refused.ensures.counted;
-      free = c.in_ok-refused.ensures.free;
-      unfailed = c.in_ok-refused.ensures.faults ∙ c.statements.invariant.unfailed;
+      run = run-then _ _ _ c.statements.invariant.run c.in_ok-refused.ensures.runs.run;
+      room = c.in_ok-refused.ensures.runs.room;
+      unfailed = c.in_ok-refused.ensures.runs.faults ∙ c.statements.invariant.unfailed;
       apart = c.play.ensures.apart ∙ c.statements.invariant.apart;
     }
 

@@ -1,7 +1,8 @@
-use Rattle.script_run.proofs.Words.{◌<◌, ◌≡◌, IsCounted, IsRun, List, state_of, StaysFed}
+use Rattle.script_run.proofs.Words.{◌≡◌, IsRun, List, state_of, StaysFed}
 use Rattle.core_state.specs.Fronts.{IsDue}
 use Rattle.core_state.specs.Rows.{sight_of}
 use Rattle.core_state.specs.Sent.{Sent}
+use Rattle.script_run.specs.Counted.{HasFreeSlot}
 use Rattle.script_run.proofs.SharedWholeLemmas.{IsPlaying, statements_left}
 use Rattle.script_run.proofs.shared.play_whole.Given as goal
 
@@ -13,8 +14,7 @@ invariant-statements g l = record {
       (g.K.Sink.writing l.initial.sink).taken (g.K.Sink.writing l.sink).taken;
   stays : StaysFed l.initial.reader l.reader;
   run : IsRun (state_of l.initial.front.core) (state_of l.front.core);
-  counted : IsCounted l.front;
-  free : l.front.unfinished < (state_of l.front.core).settings.slots;
+  room : HasFreeSlot l.front;
   unfailed : (g.K.Sink.writing l.sink).faults ≡ (g.K.Sink.writing l.initial.sink).faults;
   apart : g.K.Sink.reading_side l.sink ≡ g.K.Sink.reading_side l.initial.sink;
 }

@@ -23,7 +23,7 @@ pub split-seat-requires : goal.split-seat-requires
 split-seat-requires c = record {
   own = c.splits.invariant.leader.own;
   first = c.splits.invariant.leader.first;
-  room = let made = c.splits.invariant.leader.made in let most = c.requires.most in let all = c.requires.count in omega arith;
+  room = let made = c.splits.invariant.leader.made in let most = c.requires.left.most in let all = c.requires.left.count in omega arith;
 }
 
 pub push_reserved-requires : goal.push_reserved-requires
@@ -37,16 +37,16 @@ splits-preserved c =
     record {
       leader = leader-as c.args.board.now (others + 1) ((c.splits.counter + 1) + c.args.settings.workers) c.split-seat.new.seat
           c.split-seat.new.seat (omega arith) refl
-          (leader-split c.args.board.now others c.splits.first c.split-seat.new.seat c.splits.invariant.leader c.split-seat.ensures.same
-          (c.split-seat.ensures.outside c.splits.invariant.leader.outside) c.split-seat.ensures.made);
+          (leader-split c.args.board.now others c.splits.first c.split-seat.new.seat c.splits.invariant.leader c.split-seat.ensures.seat.same
+          (c.split-seat.ensures.seat.outside c.splits.invariant.leader.outside) c.split-seat.ensures.seat.made);
       knows = knows-then (view_of c.args.first.now) (view_of c.splits.first) (view_of c.split-seat.new.seat) c.splits.invariant.knows
-          (knows-split (view_of c.splits.first) (view_of c.split-seat.new.seat) c.split-seat.ensures.made);
+          (knows-split (view_of c.splits.first) (view_of c.split-seat.new.seat) c.split-seat.ensures.seat.made);
       fronts = subst (AreAtRest c.args.board.now) (sym c.push_reserved.ensures.items)
           (fronts-pushed c.args.board.now c.splits.fronts.items c.new-front.result c.splits.invariant.fronts
           (subst (IsAtRest c.args.board.now) (sym c.new-front.ensures.seat)
           (seat-rests c.args.settings c.args.board.now others c.splits.first c.split-seat.result c.splits.invariant.leader knows
-          (let all = c.requires.count in omega arith)
-          c.split-seat.ensures.new.0 c.split-seat.ensures.new.1 c.split-seat.ensures.new.2 c.split-seat.ensures.empty)));
+          (let all = c.requires.left.count in omega arith)
+          c.split-seat.ensures.new.0 c.split-seat.ensures.new.1 c.split-seat.ensures.new.2 c.split-seat.ensures.empty.last)));
       count = ap length c.push_reserved.ensures.items ∙ length_push c.splits.fronts.items c.new-front.result ∙ ap (λ n. n + 1) long;
       len = c.push_reserved.ensures.len ∙ ap (λ n. n + 1) c.splits.invariant.len;
       room = let room = c.splits.invariant.room in let same = c.push_reserved.ensures.capacity in omega arith;
@@ -56,4 +56,4 @@ pub returns-clause-own : goal.returns-clause-own
 returns-clause-own c =
     leader-rests c.args.settings c.args.board.now _ c.splits.first c.splits.invariant.leader
     (knows-new c.args.settings (view_of c.args.first.now) (view_of c.splits.first) c.splits.invariant.knows c.requires.knows)
-    (let all = c.requires.count in omega arith)
+    (let all = c.requires.left.count in omega arith)

@@ -15,7 +15,7 @@ pub links-preserved : goal.links-preserved
 links-preserved g c = record {
   own = c.take_next.ensures.own;
   listening = c.take_next.ensures.listening;
-  asked = c.take_next.ensures.asked ∙ c.links.invariant.asked;
-  unfailed = c.in_default.ensures.faults ∙ c.links.invariant.unfailed;
-  given = given-next _ _ _ _ c.links.invariant.given (c.in_default.ensures.given refl);
+  asked = c.take_next.ensures.takes.same ∙ c.links.invariant.asked;
+  unfailed = c.in_default.ensures.takes.counts ∙ c.links.invariant.unfailed;
+  given = given-next _ _ _ _ c.links.invariant.given (c.in_default.ensures.tells.handed refl);
 }

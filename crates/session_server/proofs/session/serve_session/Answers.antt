@@ -10,7 +10,7 @@ use Rattle.session_server.proofs.session.serve_session.Goals as goal
 
 pub returns-in-WriteFault-clause-same : goal.returns-in-WriteFault-clause-same
 returns-in-WriteFault-clause-same g c =
-    same-then c.args.front.now.seat c.play_session.new.front.seat c.let_go.new.front.seat c.in-WriteFault.ensures.same c.let_go.ensures.same
+    same-then c.args.front.now.seat c.play_session.new.front.seat c.let_go.new.front.seat c.in-WriteFault.ensures.seat.same c.let_go.ensures.same
 
 pub returns-in-WriteFault-clause-answers : goal.returns-in-WriteFault-clause-answers
 returns-in-WriteFault-clause-answers g c =
@@ -20,11 +20,11 @@ returns-in-WriteFault-clause-answers g c =
     lets-end end.WriteFault old.number (sight_in old) (sight_in mid) (sight_in new) _ _ _ _ (λ whole. whole) c.in-WriteFault.ensures.made
     c.in-WriteFault.ensures.answers
     (by-number (λ (number : ℕ). LetsGo number (sight_in mid) (sight_in new)) c.args.front.now.seat c.play_session.new.front.seat
-    c.in-WriteFault.ensures.same c.let_go.ensures.lets_go)
+    c.in-WriteFault.ensures.seat.same c.let_go.ensures.lets_go)
 
 pub returns-in-Memory-clause-same : goal.returns-in-Memory-clause-same
 returns-in-Memory-clause-same g c =
-    same-then c.args.front.now.seat c.play_session.new.front.seat c.let_go-in-Memory.new.front.seat c.in-Memory.ensures.same
+    same-then c.args.front.now.seat c.play_session.new.front.seat c.let_go-in-Memory.new.front.seat c.in-Memory.ensures.seat.same
     c.let_go-in-Memory.ensures.same
 
 pub returns-in-Memory-clause-answers : goal.returns-in-Memory-clause-answers
@@ -35,4 +35,4 @@ returns-in-Memory-clause-answers g c =
     lets-end end.Memory old.number (sight_in old) (sight_in mid) (sight_in new) _ _ _ _ (λ whole. whole) c.in-Memory.ensures.made
     c.in-Memory.ensures.answers
     (by-number (λ (number : ℕ). LetsGo number (sight_in mid) (sight_in new)) c.args.front.now.seat c.play_session.new.front.seat
-    c.in-Memory.ensures.same c.let_go-in-Memory.ensures.lets_go)
+    c.in-Memory.ensures.seat.same c.let_go-in-Memory.ensures.lets_go)

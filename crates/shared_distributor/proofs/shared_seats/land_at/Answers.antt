@@ -1,22 +1,8 @@
 use Rattle.std.proofs.Common.{◌<◌, ◌∙◌, ap, length, map, set}
 use Rattle.std.proofs.lemmas.List.{map-set}
 use Rattle.shared_distributor.specs.Seats.{lending_in}
-use Rattle.shared_distributor.proofs.LandLemmas.{MayCome, long-come, may-come, out-come, out-low, seen-come, shared-come, spoiled-come}
+use Rattle.shared_distributor.proofs.LandLemmas.{MayCome, may-come, out-low, seen-come, shared-come, spoiled-come}
 use Rattle.shared_distributor.proofs.shared_seats.land_at.Goals as goal
-
-pub land_at_seat-requires-clause-long : goal.land_at_seat-requires-clause-long
-land_at_seat-requires-clause-long c =
-    let low : c.args.seat < length c.args.seats.now = out-low c.args.seats.now c.args.seat (MayCome c.args.batch.now c.args.lost c.args.own)
-    c.requires.folded in
-    long-come c.args.batch.now c.args.lost c.args.own c.args.seats.now c.args.seat c.index-seats-seat.result low c.requires.folded c.args.home.now
-    c.requires.shared
-
-pub land_at_seat-requires-clause-out : goal.land_at_seat-requires-clause-out
-land_at_seat-requires-clause-out c =
-    let low : c.args.seat < length c.args.seats.now = out-low c.args.seats.now c.args.seat (MayCome c.args.batch.now c.args.lost c.args.own)
-    c.requires.folded in
-    out-come c.args.batch.now c.args.lost c.args.own c.args.seats.now c.args.seat c.index-seats-seat.result low c.requires.folded c.args.home.now
-    c.requires.shared
 
 pub land_at_seat-requires-clause-may : goal.land_at_seat-requires-clause-may
 land_at_seat-requires-clause-may c =
@@ -33,7 +19,7 @@ returns-clause-seen c =
     let now = c.land_at_seat in
     seen-come c.args.batch.now c.args.lost c.args.own c.args.seats.now c.args.seat c.index-seats-seat.result low c.requires.folded c.args.home.now
     c.requires.shared
-    c.rows_fold_apart.ensures c.requires.room now.new.home now.new.seat now.result now.ensures.long now.ensures.seat now.ensures.landed
+    c.rows_fold_apart.ensures c.requires.room now.new.home now.new.seat now.result now.ensures.seat.long now.ensures.seat.fits now.ensures.landed.each
 
 pub returns-clause-spoiled : goal.returns-clause-spoiled
 returns-clause-spoiled c slot has =
@@ -42,19 +28,18 @@ returns-clause-spoiled c slot has =
     let now = c.land_at_seat in
     spoiled-come c.args.batch.now c.args.lost c.args.own c.args.seats.now c.args.seat c.index-seats-seat.result low c.requires.folded
     c.args.home.now c.requires.shared
-    c.rows_fold_apart.ensures c.requires.room now.new.home now.new.seat now.result now.ensures.long now.ensures.seat now.ensures.landed slot has
-    (now.ensures.low slot has)
+    c.rows_fold_apart.ensures c.requires.room now.new.home now.new.seat now.result now.ensures.seat.long now.ensures.seat.fits now.ensures.landed.each slot has
+    (now.ensures.landed.low slot has)
 
-pub returns-clause-out : goal.returns-clause-out
-returns-clause-out c =
-    let now = c.land_at_seat in
-    map-set lending_in c.args.seats.now c.args.seat now.new.seat ∙ ap (set (map lending_in c.args.seats.now) c.args.seat) now.ensures.home
-
-pub returns-clause-shared : goal.returns-clause-shared
-returns-clause-shared c =
+pub returns-clause-stays : goal.returns-clause-stays
+returns-clause-stays c =
     let low : c.args.seat < length c.args.seats.now = out-low c.args.seats.now c.args.seat (MayCome c.args.batch.now c.args.lost c.args.own)
     c.requires.folded in
     let now = c.land_at_seat in
-    shared-come c.args.batch.now c.args.lost c.args.own c.args.seats.now c.args.seat c.index-seats-seat.result low c.requires.folded
-    c.args.home.now c.requires.shared
-    c.rows_fold_apart.ensures c.requires.room now.new.home now.new.seat now.result now.ensures.long now.ensures.seat now.ensures.landed
+    record {
+      out = map-set lending_in c.args.seats.now c.args.seat now.new.seat ∙ ap (set (map lending_in c.args.seats.now) c.args.seat) now.ensures.home;
+      shared =
+          shared-come c.args.batch.now c.args.lost c.args.own c.args.seats.now c.args.seat c.index-seats-seat.result low c.requires.folded
+          c.args.home.now c.requires.shared
+          c.rows_fold_apart.ensures c.requires.room now.new.home now.new.seat now.result now.ensures.seat.long now.ensures.seat.fits now.ensures.landed.each;
+    }

@@ -8,12 +8,19 @@ use Rattle.shared_distributor.proofs.LandLemmas.{few-lent, if-both}
 use Rattle.shared_distributor.proofs.SeatLemmas.{lending-get, pair-at, seat-moved}
 use Rattle.shared_distributor.proofs.shared_seats.lend_to.Goals as goal
 
-pub lend_to_seat-requires-clause-pairs : goal.lend_to_seat-requires-clause-pairs
-lend_to_seat-requires-clause-pairs c slot =
+pub lend_to_seat-requires-clause-may : goal.lend_to_seat-requires-clause-may
+lend_to_seat-requires-clause-may c =
     let within = slice_get_within (map lending_in c.args.seats.now) c.args.seat None c.requires.home in
     let long = length-map c.args.seats.now lending_in in
     let low : c.args.seat < length c.args.seats.now = omega (arith, within, long) in
-    pair-at c.args.home.now c.args.seats.now c.args.seat slot c.index-seats-seat.result low c.requires.shared
+    let d = c.index-seats-seat.result in
+    record {
+      none =
+          sym (lending-get c.args.seats.now c.args.seat d low)
+          ∙ get_or_from_slice_get (map lending_in c.args.seats.now) c.args.seat None None c.requires.home;
+      fits = c.requires.shared.seats c.args.seat d low;
+      pairs = λ slot. pair-at c.args.home.now c.args.seats.now c.args.seat slot d low c.requires.shared;
+    }
 
 pub returns-clause-seen : goal.returns-clause-seen
 returns-clause-seen c =
@@ -23,12 +30,12 @@ returns-clause-seen c =
     let now = c.lend_to_seat in
     seat-moved c.rows_fold_apart.ensures c.args.home.now now.new.home c.args.seats.now c.args.seat c.index-seats-seat.result now.new.seat low
     c.requires.shared
-    now.ensures.long now.ensures.seat now.ensures.moved
+    now.ensures.seat.long now.ensures.seat.fits now.ensures.moved
 
 pub returns-clause-out : goal.returns-clause-out
 returns-clause-out c =
     let now = c.lend_to_seat in
-    IfSome_then now.result now.ensures.out
+    IfSome_then now.result now.ensures.out.out
     (λ own is. map-set lending_in c.args.seats.now c.args.seat now.new.seat ∙ ap (set (map lending_in c.args.seats.now) c.args.seat) is)
 
 pub returns-clause-none : goal.returns-clause-none
@@ -41,7 +48,7 @@ returns-clause-none c none =
     let was : lending_in (get_or c.args.seats.now c.args.seat d) ≡ None =
     sym (lending-get c.args.seats.now c.args.seat d low) ∙ get_or_from_slice_get (map lending_in c.args.seats.now) c.args.seat None None
     c.requires.home in
-    map-set_same lending_in c.args.seats.now c.args.seat now.new.seat d (now.ensures.none none ∙ sym was)
+    map-set_same lending_in c.args.seats.now c.args.seat now.new.seat d (now.ensures.out.none none ∙ sym was)
 
 pub returns-clause-few : goal.returns-clause-few
 returns-clause-few c =
@@ -51,8 +58,8 @@ returns-clause-few c =
     let now = c.lend_to_seat in
     let same = (seat-moved c.rows_fold_apart.ensures c.args.home.now now.new.home c.args.seats.now c.args.seat c.index-seats-seat.result
     now.new.seat low c.requires.shared
-    now.ensures.long now.ensures.seat now.ensures.moved).0 in
-    IfSome_then now.result (if-both now.result _ _ now.ensures.out now.ensures.inside)
+    now.ensures.seat.long now.ensures.seat.fits now.ensures.moved).0 in
+    IfSome_then now.result (if-both now.result _ _ now.ensures.out.out now.ensures.out.inside)
     (λ own is.
     few-lent c.args.seats.now c.args.home.now now.new.home c.args.seat now.new.seat (record { slots = c.args.slots; groups = own }) low is.0 is.1
     same)

@@ -7,7 +7,5 @@ pub returns-in-Worked : goal.returns-in-Worked
 returns-in-Worked g c = rw c.end_of-in-Worked.ensures c.run_script.ensures.answers.0
 
 pub run_script-requires-clause-settings : goal.run_script-requires-clause-settings
-run_script-requires-clause-settings g c κs within = let is = rw c.in-Worked.is at c.requires in is.0
-
-pub run_script-requires-clause-seats : goal.run_script-requires-clause-seats
-run_script-requires-clause-seats g c κs within = let is = rw c.in-Worked.is at c.requires in is.1
+run_script-requires-clause-settings g c κs within =
+    let is = rw c.in-Worked.is at c.requires in record { within = is.0; seats = is.1 }

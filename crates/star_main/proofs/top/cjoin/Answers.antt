@@ -22,12 +22,12 @@ pub returns-in-Work-clause-headline : goal.returns-in-Work-clause-headline
 returns-in-Work-clause-headline g c =
     headline_named _ c.in-Work.settings c.run_by_workers.result.core c.run_by_workers.result.status _ _ _ _ _ _ c.in-Work.ensures.work.0
     (ap (λ s. g.S.Source.reading s) c.in-Work.ensures.work.2)
-    (ap (λ s. g.K.Sink.writing s) c.in-Work.ensures.work.3) c.run_by_workers.ensures.headline
+    (ap (λ s. g.K.Sink.writing s) c.in-Work.ensures.work.3) c.run_by_workers.ensures.answers.headline
 
 pub returns-in-Work-clause-made : goal.returns-in-Work-clause-made
 returns-in-Work-clause-made g c =
     made_named _ c.in-Work.settings c.run_by_workers.result.core c.run_by_workers.result.status _ _ _ _ _ _ c.in-Work.ensures.work.0
-    c.in-Work.ensures.work.2 (ap (λ s. g.K.Sink.writing s) c.in-Work.ensures.work.3) c.run_by_workers.ensures.made
+    c.in-Work.ensures.work.2 (ap (λ s. g.K.Sink.writing s) c.in-Work.ensures.work.3) c.run_by_workers.ensures.answers.made
 
 pub returns-in-Work-clause-served : goal.returns-in-Work-clause-served
 returns-in-Work-clause-served g c = served-apart _ _ c.in-Work.settings c.in-Work.ensures.work.0 c.in-Work.ensures.work.1.0
@@ -42,7 +42,7 @@ returns-in-Work-clause-complete g c =
     complete-named _ c.in-Work.settings c.run_by_workers.result.status _ _ _ _ _ _ _ c.in-Work.ensures.work.0
     (ap (λ s. g.S.Source.reading s) c.in-Work.ensures.work.2) (ap (λ s. g.K.Sink.writing s) c.in-Work.ensures.work.3)
     (complete-works c.in-Work.settings c.run_by_workers.result.core c.run_by_workers.result.status _ _ _ _ _ c.in-Work.ensures.work.1.0
-    c.run_by_workers.ensures.headline c.run_by_workers.ensures.made c.run_by_workers.ensures.causes)
+    c.run_by_workers.ensures.answers.headline c.run_by_workers.ensures.answers.made c.run_by_workers.ensures.causes)
 
 pub returns-in-Work-clause-core : goal.returns-in-Work-clause-core
 returns-in-Work-clause-core g c =

@@ -13,11 +13,14 @@ pub returns-in-Make-clause-known : goal.returns-in-Make-clause-known
 returns-in-Make-clause-known g c is =
     let made = c.run_workload_by_workers.ensures.made in absurd (never_faulty_made made.end (sym made.told ∙ is))
 
-pub returns-in-Make-clause-headline : goal.returns-in-Make-clause-headline
-returns-in-Make-clause-headline g c has = absurd (subst RunsSource c.in-Make.is has)
+pub returns-in-Run-clause-answers : goal.returns-in-Run-clause-answers
+returns-in-Run-clause-answers g c = record {
+  headline = λ has. c.run_shared_by_workers.ensures.headline;
+  made = λ made. let wrong : mode.Run ≡ mode.Make = sym c.in-Run.is ∙ made in cc;
+}
 
-pub returns-in-Run-clause-made : goal.returns-in-Run-clause-made
-returns-in-Run-clause-made g c made = let wrong : mode.Run ≡ mode.Make = sym c.in-Run.is ∙ made in cc
-
-pub returns-in-Make-clause-made : goal.returns-in-Make-clause-made
-returns-in-Make-clause-made g c made = (refl, c.run_workload_by_workers.ensures.made)
+pub returns-in-Make-clause-answers : goal.returns-in-Make-clause-answers
+returns-in-Make-clause-answers g c = record {
+  headline = λ has. absurd (subst RunsSource c.in-Make.is has);
+  made = λ made. (refl, c.run_workload_by_workers.ensures.made);
+}

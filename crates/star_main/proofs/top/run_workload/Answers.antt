@@ -18,7 +18,7 @@ returns-clause-run g c =
     let IsLed : Option Parts → RunSettings → Type 0 = λ core settings. IfSome core (λ held. IsRun (empty_core settings) (state_of held)) in
     subst (λ core. IsLed core (run_settings_of c.args.settings.now)) (sym c.made_of.ensures.core)
     (subst (λ settings. IsLed c.run_made_on_one_thread.result.core settings) c.run_settings-core.ensures.size
-    c.run_made_on_one_thread.ensures.run)
+    (c.run_made_on_one_thread.ensures.back.run tt))
 
 pub returns-clause-causes : goal.returns-clause-causes
 returns-clause-causes g c source =

@@ -3,7 +3,7 @@ use Rattle.std.specs.Prelude.{IfOk, IsErrOf}
 use Rattle.std.specs.Option.{option_map_or}
 use Rattle.star_parser.specs.declared.fault.ParseFault.TheVariants.{Limit, Syntax}
 use Rattle.star_parser.specs.Statement.{statement_of}
-use Rattle.star_parser.specs.Reader.{Gives}
+use Rattle.star_parser.specs.Reader.{Gave}
 use Rattle.star_parser.specs.Sentence.{Answers, IsSentenceOf, IsStopOf}
 use Rattle.star_parser.specs.Parsed.{IsParsed, Stopped, Means, parsed_by}
 use Rattle.star_parser.specs.Reading.{sentence_at}
@@ -14,7 +14,7 @@ use Rattle.star_parser.proofs.reading.read_sentence.Goals as goal
 pub place_of-requires : goal.place_of-requires
 place_of-requires c =
     let rest = c.sentence.new.self.rest.now in
-    let gives = subst (λ z. Gives statement_of (Err z) rest (sentence_at c.as_slice.result.now)) c.in-Err-Unfit.field-0-is c.in-Err-Unfit.ensures in
+    let gives = subst (λ z. Gave statement_of (Err z) rest (sentence_at c.as_slice.result.now)) c.in-Err-Unfit.field-0-is c.in-Err-Unfit.ensures in
     sentence_shorter c.args.symbols.now.symbols (None, rest) (ap sentence_at (sym c.as_slice.ensures.symbols) ∙ gives)
 
 pub returns-in-Ok-clause-read : goal.returns-in-Ok-clause-read
@@ -54,13 +54,13 @@ returns-in-Ok-clause-exact c =
 pub returns-in-Err-Unfit-clause-only : goal.returns-in-Err-Unfit-clause-only
 returns-in-Err-Unfit-clause-only c = λ meaning is.
     let rest = c.sentence.new.self.rest.now in
-    let gives = subst (λ z. Gives statement_of (Err z) rest (sentence_at c.as_slice.result.now)) c.in-Err-Unfit.field-0-is c.in-Err-Unfit.ensures in
+    let gives = subst (λ z. Gave statement_of (Err z) rest (sentence_at c.as_slice.result.now)) c.in-Err-Unfit.field-0-is c.in-Err-Unfit.ensures in
     none_some (sentence_only c.args.symbols.now.symbols meaning (None, rest) (ap sentence_at (sym c.as_slice.ensures.symbols) ∙ gives) is.1)
 
 pub returns-in-Err-Unfit-clause-syntax : goal.returns-in-Err-Unfit-clause-syntax
 returns-in-Err-Unfit-clause-syntax c = λ place is.
     let rest = c.sentence.new.self.rest.now in
-    let gives = subst (λ z. Gives statement_of (Err z) rest (sentence_at c.as_slice.result.now)) c.in-Err-Unfit.field-0-is c.in-Err-Unfit.ensures in
+    let gives = subst (λ z. Gave statement_of (Err z) rest (sentence_at c.as_slice.result.now)) c.in-Err-Unfit.field-0-is c.in-Err-Unfit.ensures in
     let found = stops c.args.symbols.now c.args.end rest c.as_slice.ensures.placed (ap sentence_at (sym c.as_slice.ensures.symbols) ∙ gives) in
     let same : c.place_of.result ≡ place = cc is in
     subst (IsStopOf c.args.symbols.now c.args.end) (sym c.place_of.ensures ∙ same) found

@@ -1,13 +1,11 @@
-use Rattle.std.proofs.Common.{◌≡◌, ◌∙◌, ◌+◌, nat_lt, false, subst, sym, Some}
-use Rattle.std.specs.Prelude.{All, IfSome, length}
+use Rattle.std.proofs.Common.{◌≡◌, ◌∙◌, ◌+◌, nat_lt, false, subst, sym}
+use Rattle.std.specs.Prelude.{length}
 use Rattle.star_plan.specs.declared.table.Table.TheVariants.{Fact}
 use Rattle.star_plan.specs.Columns.{columns_of, kinds_of}
-use Rattle.star_values.specs.Value.{kinds_in}
 use Rattle.csv_load.specs.Records.{records_in}
-use Rattle.csv_load.specs.Rows.{typed_rows}
 use Rattle.fact_versions.specs.declared.version.TheConstants.{MAX_VERSIONS}
 use Rattle.query_meaning.specs.Keyed.{plain}
-use Rattle.query_meaning.specs.KeptTables.{tables_of}
+use Rattle.query_meaning.specs.KeptTables.{rows_of_all, tables_of}
 use Rattle.star_store.proofs.LoadLemmas.{accepted_versions, few_versions, fit_by_kinds, length_plain, not_over, tells_dangling, typed_by, versions_of_rows}
 use Rattle.star_store.proofs.load.checked_versions.Goals as goal
 
@@ -28,13 +26,15 @@ returns-clause-rows c = λ commits.
     c.versions_of.ensures.versions c.versions_of.ensures.taken
 
 pub returns-clause-versions : goal.returns-clause-versions
-returns-clause-versions c = versions_of_rows (λ versions. versions.items) c.versions_of.result c.in-Some.rows c.args.commit c.versions_of.ensures.versions
+returns-clause-versions c =
+    versions_of_rows (λ versions. versions.items) c.versions_of.result c.args.schema.now (rows_of_all c.args.dims.now) c.in-Some.rows
+    c.args.commit c.versions_of.ensures.versions
 
 pub returns-clause-few : goal.returns-clause-few
 returns-clause-few c =
     let records = records_in c.args.read.form.header c.args.read.block.now in
-    few_versions (λ versions. versions.items) c.versions_of.result c.in-Some.rows c.args.commit MAX_VERSIONS (length c.args.facts.now.items)
-    (length records)
+    few_versions (λ versions. versions.items) c.versions_of.result c.args.schema.now (rows_of_all c.args.dims.now) c.in-Some.rows
+    c.args.commit MAX_VERSIONS (length c.args.facts.now.items) (length records)
     (c.each_record_is_a_row.ensures c.args.read.form.kinds records c.in-Some.rows (sym c.into_rows.ensures ∙ c.in-Some.is))
     (subst (λ count. nat_lt MAX_VERSIONS (count + length records) ≡ false) c.len.ensures.count
     (not_over (nat_lt MAX_VERSIONS (c.len.result + length records)) (sym c.if-not-has_room.false ∙ c.has_room.ensures)))

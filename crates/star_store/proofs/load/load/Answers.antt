@@ -1,4 +1,5 @@
 use Rattle.std.proofs.Common.{◌∙◌, ap, not, refl, subst, sym, Some}
+use Rattle.std.proofs.lemmas.List.{length-map}
 use Rattle.star_plan.specs.declared.table.Table.TheVariants.{Fact, Dimension}
 use Rattle.query_meaning.specs.Keyed.{plain}
 use Rattle.star_store.specs.Done.{Commits}
@@ -32,9 +33,12 @@ returns-then-over-clause-commits c =
       refl,
     )
 
-pub load_facts-requires-clause-loaded : goal.load_facts-requires-clause-loaded
-load_facts-requires-clause-loaded c =
-    loaded_in (plain (tables_of c.args.schema.now c.args.dims.now c.args.facts.now c.args.commits.now)) c.requires.sound.0
+pub load_facts-requires-clause-rows : goal.load_facts-requires-clause-rows
+load_facts-requires-clause-rows c = record {
+  declared = c.requires.sound.0.declared;
+  count = sym (length-map c.args.dims.now (λ dimension. dimension.items)) ∙ c.requires.sound.0.count;
+  loaded = loaded_in (plain (tables_of c.args.schema.now c.args.dims.now c.args.facts.now c.args.commits.now)) c.requires.sound.0;
+}
 
 pub returns-in-Fact-clause-commits : goal.returns-in-Fact-clause-commits
 returns-in-Fact-clause-commits c =

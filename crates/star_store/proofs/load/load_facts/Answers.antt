@@ -1,6 +1,7 @@
 use Rattle.std.proofs.Common.{◌+◌, ◌∙◌, ap, map, refl, sym}
+use Rattle.std.proofs.lemmas.List.{length-map}
 use Rattle.std.proofs.lemmas.Result.{err_from_is_err_and}
-use Rattle.star_store.proofs.CommitLemmas.{commits_told, committed_versions, length_rows, saturated}
+use Rattle.star_store.proofs.CommitLemmas.{commits_told, committed_versions, saturated}
 use Rattle.star_store.proofs.load.load_facts.Goals as goal
 
 pub returns-in_err-versions-clause-commits : goal.returns-in_err-versions-clause-commits
@@ -12,6 +13,6 @@ pub returns-clause-commits : goal.returns-clause-commits
 returns-clause-commits c =
     committed_versions c.args.schema.now c.args.dims.now c.args.facts.now c.commit_versions.new.facts c.args.commits.now c.commit_versions.new.commits
     c.saturating_add-commit.result c.in_ok-versions.versions.items (map (λ version. version.row) c.in_ok-versions.versions.items) _ c.in_ok-commit_versions.field-0
-    (c.in_ok-versions.ensures.rows c.args.commits.now) c.in_ok-versions.ensures.versions (saturated _ c.args.commits.now c.saturating_add-commit.ensures c.in_ok-commit_versions.ensures.within)
+    (c.in_ok-versions.ensures.rows c.args.commits.now) c.in_ok-versions.ensures.versions.versions (saturated _ c.args.commits.now c.saturating_add-commit.ensures c.in_ok-commit_versions.ensures.within)
     c.in_ok-commit_versions.ensures.versions c.in_ok-commit_versions.ensures.commits
-    (c.in_ok-commit_versions.ensures.done ∙ ap (λ n. record { commit = c.args.commits.now + 1; rows = n }) (sym (length_rows c.in_ok-versions.versions.items)))
+    (c.in_ok-commit_versions.ensures.done ∙ ap (λ n. record { commit = c.args.commits.now + 1; rows = n }) (sym (length-map c.in_ok-versions.versions.items (λ version. version.row))))

@@ -3,6 +3,13 @@ use Rattle.dimension_rows.specs.declared.dimension_row.TheConstants.{MAX_DIMENSI
 use Rattle.star_store.proofs.RowLemmas.{AreAppendedTo-may, AreAppendedTo-next}
 use Rattle.star_store.proofs.rows.append_rows.Goals as goal
 
+pub append-requires : goal.append-requires
+append-requires c =
+    let may = AreAppendedTo-may c.args.commit MAX_DIMENSION_ROWS c.args.dimension.now.items c.rows.dimension.items c.args.rows
+    (into_iter_items c.rows.row-iterator) (into_iter_items c.next.new.self) c.in-Some.row c.rows.dimension.room c.rows.invariant
+    c.in-Some.ensures.steps.0 in
+    record { follows = record { few = may.0; key = may.2; fresh = may.3 } }
+
 pub rows-preserved : goal.rows-preserved
 rows-preserved c =
     let may = AreAppendedTo-may c.args.commit MAX_DIMENSION_ROWS c.args.dimension.now.items c.rows.dimension.items c.args.rows

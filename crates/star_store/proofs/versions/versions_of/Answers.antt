@@ -28,16 +28,15 @@ rows-preserved c =
     rw (c.push_reserved.ensures.items, c.push_reserved.ensures.len, c.push_reserved.ensures.capacity)
     (AreMadeOf-next c.args.schema.now (map (λ d. d.items) c.args.dims.now) c.args.commit c.args.rows (into_iter_items c.rows.row-iterator)
     (into_iter_items c.next.new.self) c.in-Some.row c.rows.versions.items _ (vec_len c.rows.versions) (vec_capacity c.rows.versions)
-    c.rows.invariant c.in-Some.ensures.steps.0 refl c.in-Some-keys_of.ensures.found refl c.in-Some-keys_of.ensures.missing c.requires.loaded)
+    c.rows.invariant c.in-Some.ensures.steps.0 refl c.in-Some-keys_of.ensures.found refl c.in-Some-keys_of.ensures.missing c.requires.rows.loaded)
 
 pub returns-clause-versions : goal.returns-clause-versions
-returns-clause-versions c =
-    (AreMadeOf-all c.args.schema.now (map (λ d. d.items) c.args.dims.now) c.args.commit c.args.rows (into_iter_items c.rows.row-iterator)
-    c.rows.versions.items (vec_len c.rows.versions) (vec_capacity c.rows.versions) c.rows.invariant
-    (none_left (into_iter_items c.rows.row-iterator) (into_iter_len c.rows.row-iterator) c.rows.row-iterator.rest.ok.0 c.in-None.ensures.steps.0)).0
-
-pub returns-clause-keyed : goal.returns-clause-keyed
-returns-clause-keyed c = c.rows.invariant.keyed
+returns-clause-versions c = record {
+  versions = (AreMadeOf-all c.args.schema.now (map (λ d. d.items) c.args.dims.now) c.args.commit c.args.rows (into_iter_items c.rows.row-iterator)
+      c.rows.versions.items (vec_len c.rows.versions) (vec_capacity c.rows.versions) c.rows.invariant
+      (none_left (into_iter_items c.rows.row-iterator) (into_iter_len c.rows.row-iterator) c.rows.row-iterator.rest.ok.0 c.in-None.ensures.steps.0)).0;
+  keyed = c.rows.invariant.keyed;
+}
 
 pub returns-clause-taken : goal.returns-clause-taken
 returns-clause-taken c =

@@ -17,8 +17,8 @@ lend-requires c = record {
 pub returns-clause-takes : goal.returns-clause-takes
 returns-clause-takes c =
     takes-by c.a_work_stays_right.ensures c.lend.result c.args.worker c.args.batch c.args.core.now c.make.new.core c.lend.new.self
-    c.make.ensures.took c.make.ensures.beside c.lend.ensures.state c.lend.ensures.marks c.lend.ensures.work
-    c.lend.ensures.waiting c.lend.ensures.sound
+    c.make.ensures.took c.make.ensures.beside c.lend.ensures.state c.lend.ensures.touches.marks c.lend.ensures.work
+    c.lend.ensures.waiting c.lend.ensures.touches.sound
 
 pub returns-clause-moves : goal.returns-clause-moves
 returns-clause-moves c =
@@ -30,4 +30,4 @@ returns-clause-moves c =
 pub returns-clause-others : goal.returns-clause-others
 returns-clause-others c =
     others-then c.args.worker c.args.core.now c.make.new.core c.lend.new.self
-    (others-all c.args.worker c.args.core.now c.make.new.core c.make.ensures.loans) c.lend.ensures.others
+    (others-all c.args.worker c.args.core.now c.make.new.core c.make.ensures.loans) c.lend.ensures.touches.others

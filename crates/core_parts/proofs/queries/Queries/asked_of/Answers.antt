@@ -1,11 +1,11 @@
 use Rattle.std.proofs.Common.{◌∙◌, ap, sym, subst, IsSome}
-use Rattle.core_parts.specs.Asked.{AreRising, AskedQueries, IsNoneOf, asked_at, asked_in, handed_in}
+use Rattle.core_parts.specs.Asked.{AreAskedRising, AskedQueries, IsNoneOf, asked_at, asked_in, handed_in}
 use Rattle.core_parts.proofs.LetGoLemmas.{rest-found, rest-rises}
 use Rattle.core_parts.proofs.queries.Queries.asked_of.Goals as goal
 
 pub asked_of-requires-clause-rising : goal.asked_of-requires-clause-rising
 asked_of-requires-clause-rising c =
-    subst (λ list. AreRising (asked_in list)) (sym c.rest.ensures)
+    subst (λ list. AreAskedRising (asked_in list)) (sym c.rest.ensures)
     (rest-rises c.self.inside.asked c.args.self.now c.self.view_is c.requires.rising)
 
 pub asked_of-requires-clause-there : goal.asked_of-requires-clause-there

@@ -1,13 +1,13 @@
 use Rattle.std.proofs.Common.{◌∙◌, ◌∷◌, None, ap, subst, sym}
 use Rattle.std.specs.List.{All, Contains}
-use Rattle.core_parts.specs.Asked.{AreRising, AskedQueries, asked_in, handed_in, with_kept_at}
+use Rattle.core_parts.specs.Asked.{AreAskedRising, AskedQueries, asked_in, handed_in, with_kept_at}
 use Rattle.core_parts.proofs.AskedLemmas.{lent}
 use Rattle.core_parts.proofs.LetGoLemmas.{items-kept, rest-rises}
 use Rattle.core_parts.proofs.queries.Queries.give_up.Goals as goal
 
 pub give_up-requires : goal.give_up-requires
 give_up-requires c =
-    subst (λ list. AreRising (asked_in list)) (sym c.rest_mut.ensures.members)
+    subst (λ list. AreAskedRising (asked_in list)) (sym c.rest_mut.ensures.members)
     (rest-rises c.self.inside.asked c.args.self.now c.self.view_is c.requires.rising)
 
 pub returns-clause-items : goal.returns-clause-items

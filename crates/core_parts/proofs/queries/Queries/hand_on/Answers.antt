@@ -2,27 +2,25 @@ use Rattle.std.proofs.Common.{◌≡◌, ◌∙◌, ◌∷◌, ◌++◌, IsSome,
 use Rattle.std.specs.Prelude.{IfSome}
 use Rattle.std.specs.Arc.{arc_value}
 use Rattle.std.specs.List.{All, Contains}
-use Rattle.core_parts.specs.Asked.{AreRising, AskedQueries, AskedQuery, IsNoneOf, asked_at, asked_in, handed_in}
+use Rattle.core_parts.specs.Asked.{AreAskedRising, AskedQueries, AskedQuery, IsNoneOf, asked_at, asked_in, handed_in}
 use Rattle.core_parts.proofs.AskedLemmas.{lent}
 use Rattle.core_parts.proofs.LetGoLemmas.{rest-found, rest-rises}
 use Rattle.core_parts.proofs.queries.Queries.hand_on.Goals as goal
 
-pub hand_on-requires-clause-rising : goal.hand_on-requires-clause-rising
-hand_on-requires-clause-rising c =
-    subst (λ list. AreRising (asked_in list)) (sym c.rest_mut.ensures.members)
-    (rest-rises c.self.inside.asked c.args.self.now c.self.view_is c.requires.rising)
-
-pub hand_on-requires-clause-there : goal.hand_on-requires-clause-there
-hand_on-requires-clause-there c =
-    subst (λ o. IsSome o)
-    (rest-found c.self.inside.asked c.args.self.now c.args.number c.self.view_is c.requires.stands
-    ∙ ap (λ list. asked_at (asked_in list) c.args.number) (sym c.rest_mut.ensures.members))
-    c.requires.there
-
-pub hand_on-requires-clause-whole : goal.hand_on-requires-clause-whole
-hand_on-requires-clause-whole c =
-    subst (λ list. IsNoneOf (handed_in list) c.args.number) (sym c.rest_mut.ensures.members)
-    (subst (λ (all : AskedQueries). IsNoneOf all.handed c.args.number) (sym c.self.view_is) c.requires.whole)
+pub hand_on-requires : goal.hand_on-requires
+hand_on-requires c = record {
+  rising =
+      subst (λ list. AreAskedRising (asked_in list)) (sym c.rest_mut.ensures.members)
+      (rest-rises c.self.inside.asked c.args.self.now c.self.view_is c.requires.can.rising);
+  there =
+      subst (λ o. IsSome o)
+      (rest-found c.self.inside.asked c.args.self.now c.args.number c.self.view_is c.requires.stands
+      ∙ ap (λ list. asked_at (asked_in list) c.args.number) (sym c.rest_mut.ensures.members))
+      c.requires.can.there;
+  whole =
+      subst (λ list. IsNoneOf (handed_in list) c.args.number) (sym c.rest_mut.ensures.members)
+      (subst (λ (all : AskedQueries). IsNoneOf all.handed c.args.number) (sym c.self.view_is) c.requires.can.whole);
+}
 
 pub returns-clause-query : goal.returns-clause-query
 returns-clause-query c =

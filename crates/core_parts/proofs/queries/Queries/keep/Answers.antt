@@ -1,12 +1,12 @@
 use Rattle.std.proofs.Common.{◌∙◌, ap, subst, sym}
-use Rattle.core_parts.specs.Asked.{AreRising, asked_in, handed_in, with_kept_at}
+use Rattle.core_parts.specs.Asked.{AreAskedRising, asked_in, handed_in, with_kept_at}
 use Rattle.core_parts.proofs.AskedLemmas.{lent}
 use Rattle.core_parts.proofs.LetGoLemmas.{items-kept, rest-rises, seen-kept}
 use Rattle.core_parts.proofs.queries.Queries.keep.Goals as goal
 
 pub keep-requires : goal.keep-requires
 keep-requires c =
-    subst (λ list. AreRising (asked_in list)) (sym c.rest_mut.ensures.members)
+    subst (λ list. AreAskedRising (asked_in list)) (sym c.rest_mut.ensures.members)
     (rest-rises c.self.inside.asked c.args.self.now c.self.view_is c.requires.rising)
 
 pub returns : goal.returns

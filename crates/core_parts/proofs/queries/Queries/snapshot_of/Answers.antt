@@ -1,12 +1,12 @@
 use Rattle.std.proofs.Common.{◌∙◌, Option, ap, sym, subst}
 use Rattle.std.specs.Option.{option_map_or}
-use Rattle.core_parts.specs.Asked.{AreRising, AskedQuery, asked_at, asked_in}
+use Rattle.core_parts.specs.Asked.{AreAskedRising, AskedQuery, asked_at, asked_in}
 use Rattle.core_parts.proofs.LetGoLemmas.{kept-found, rest-rises}
 use Rattle.core_parts.proofs.queries.Queries.snapshot_of.Goals as goal
 
 pub snapshot_of-requires : goal.snapshot_of-requires
 snapshot_of-requires c =
-    subst (λ list. AreRising (asked_in list)) (sym c.rest.ensures)
+    subst (λ list. AreAskedRising (asked_in list)) (sym c.rest.ensures)
     (rest-rises c.self.inside.asked c.args.self.now c.self.view_is c.requires)
 
 pub returns : goal.returns

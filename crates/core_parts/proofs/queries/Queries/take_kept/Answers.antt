@@ -1,13 +1,13 @@
 use Rattle.std.proofs.Common.{◌∙◌, None, ap, subst, sym}
 use Rattle.std.specs.Option.{option_and_then}
-use Rattle.core_parts.specs.Asked.{AreRising, AskedQuery, asked_at, asked_in, handed_in, with_kept_at}
+use Rattle.core_parts.specs.Asked.{AreAskedRising, AskedQuery, asked_at, asked_in, handed_in, with_kept_at}
 use Rattle.core_parts.proofs.AskedLemmas.{lent}
 use Rattle.core_parts.proofs.LetGoLemmas.{items-bare, rest-kept, rest-rises, seen-kept}
 use Rattle.core_parts.proofs.queries.Queries.take_kept.Goals as goal
 
 pub take_kept-requires : goal.take_kept-requires
 take_kept-requires c =
-    subst (λ list. AreRising (asked_in list)) (sym c.rest_mut.ensures.members)
+    subst (λ list. AreAskedRising (asked_in list)) (sym c.rest_mut.ensures.members)
     (rest-rises c.self.inside.asked c.args.self.now c.self.view_is c.requires)
 
 pub returns-clause-groups : goal.returns-clause-groups

@@ -2,7 +2,7 @@ use Rattle.event_core.proofs.Words.{◌∙◌, All, All-nil, ap, AskedQuery, Fil
 use Rattle.std.proofs.Math.ListN.{length-replicate}
 use Rattle.event_core.proofs.NewCoreLemmas.{becomes-empty, room-made}
 use Rattle.event_core.proofs.SparedLemmas.{spare-none}
-use Rattle.core_parts.specs.Asked.{AreOver, HasBegun, IsOver}
+use Rattle.core_parts.specs.Asked.{AreOver, HasBegun, IsQueryOver}
 use Rattle.shared_distributor.specs.Shared.{SharedGroups}
 use Rattle.event_core.specs.Parts.{first_marks}
 use Rattle.event_core.proofs.OutLemmas.{backed-none, beside-first}
@@ -19,7 +19,7 @@ invariant_of-result c =
       becomes.core,
       room-made c.args.settings frames.flights frames.ensures.room,
       record {
-        over = subst (AreOver slots.manager) (sym c.new-2.ensures.gone) (All-nil (λ (entry : AskedQuery). IsOver slots.manager entry.number));
+        over = subst (AreOver slots.manager) (sym c.new-2.ensures.gone) (All-nil (λ (entry : AskedQuery). IsQueryOver slots.manager entry.number));
         begun = subst (All (HasBegun slots.manager)) (sym c.new-2.ensures.handed) (All-nil (HasBegun slots.manager));
       },
       spare-none c.args.settings.seats c.new-3.result.versions frames.flights.items c.new-4.result

@@ -1,4 +1,4 @@
-use Rattle.event_core.proofs.Words.{◌∙◌, ◌≡◌, after_start, All, ap, AreRising, asked_at, AskedQueries, AskedQuery, Becomes, IfSome, IsSome, KeyedStore, length, Lives, None, option_and_then, refl, state_of, subst, sym, the_view, with_kept_at}
+use Rattle.event_core.proofs.Words.{◌∙◌, ◌≡◌, after_start, All, ap, AreAskedRising, asked_at, AskedQueries, AskedQuery, Becomes, IfSome, IsSome, KeyedStore, length, Lives, None, option_and_then, refl, state_of, subst, sym, the_view, with_kept_at}
 use Rattle.std.specs.Arc.{arc_value}
 use Rattle.event_core.proofs.AskedKeptLemmas.{asked-rise}
 use Rattle.event_core.proofs.StartEventLemmas.{start-becomes, start-free, start-kept, start-open, start-scans, start-some, starting}
@@ -19,19 +19,16 @@ pub asked_of-requires-clause-stands : goal.asked_of-requires-clause-stands
 asked_of-requires-clause-stands c =
     (building-stands _ c.args.self.now c.self.inside.asked c.args.query c.self.view_is c.self.invariant.2 c.requires.building).gone
 
-pub hand_on-bound-requires-clause-rising : goal.hand_on-bound-requires-clause-rising
-hand_on-bound-requires-clause-rising c = asked-rise _ c.self.invariant.0
-
-pub hand_on-bound-requires-clause-there : goal.hand_on-bound-requires-clause-there
-hand_on-bound-requires-clause-there c = subst (λ o. IsSome o) (sym c.asked_of.ensures.asked) refl
-
 pub hand_on-bound-requires-clause-stands : goal.hand_on-bound-requires-clause-stands
 hand_on-bound-requires-clause-stands c =
     (building-stands _ c.args.self.now c.self.inside.asked c.args.query c.self.view_is c.self.invariant.2 c.requires.building).gone
 
-pub hand_on-bound-requires-clause-whole : goal.hand_on-bound-requires-clause-whole
-hand_on-bound-requires-clause-whole c =
-    (building-stands _ c.args.self.now c.self.inside.asked c.args.query c.self.view_is c.self.invariant.2 c.requires.building).handed
+pub hand_on-bound-requires-clause-can : goal.hand_on-bound-requires-clause-can
+hand_on-bound-requires-clause-can c = record {
+  rising = asked-rise _ c.self.invariant.0;
+  there = subst (λ o. IsSome o) (sym c.asked_of.ensures.asked) refl;
+  whole = (building-stands _ c.args.self.now c.self.inside.asked c.args.query c.self.view_is c.self.invariant.2 c.requires.building).handed;
+}
 
 pub start_scan-requires : goal.start_scan-requires
 start_scan-requires c =
@@ -42,7 +39,7 @@ start_scan-requires c =
     (c.facts.ensures.versions ∙ ap (λ (store : KeyedStore). store.versions) c.store.ensures))
 
 pub take_kept-requires : goal.take_kept-requires
-take_kept-requires c = subst AreRising (sym c.hand_on-bound.ensures.items) (asked-rise _ c.self.invariant.0)
+take_kept-requires c = subst AreAskedRising (sym c.hand_on-bound.ensures.items) (asked-rise _ c.self.invariant.0)
 
 pub unwrap-groups-requires : goal.unwrap-groups-requires
 unwrap-groups-requires c =

@@ -47,7 +47,7 @@ invariant_of-self-in-Replied-1 c = (
   (replied c).core,
   c.self.invariant.1,
   finished-on c.self.inside.manager c.self.inside.manager c.self.inside.asked c.make_room.new.asked
-      (on-same c.self.inside.manager c.self.inside.manager refl) c.make_room.ensures.gone c.make_room.ensures.handed c.self.invariant.2,
+      (on-same c.self.inside.manager c.self.inside.manager refl) c.make_room.ensures.past.gone c.make_room.ensures.past.handed c.self.invariant.2,
   spare-ready (the_view c.self.inside) c.self.inside.spares c.make_filters.new.spares c.self.invariant.0 c.make_filters.ensures.declared
       c.self.invariant.3,
   subst AreBacked (sym (replied_beside c)) c.self.invariant.4,
@@ -77,16 +77,17 @@ filter_for-requires-clause-quiet c = λ declares.
     (ap (λ store. (outcome_of store c.args.statement.now).change) (sym c.self.invariant.0.tables.same) ∙ change.is)
     (sym change.same ∙ declares)
 
-pub accept-requires-clause-whole : goal.accept-requires-clause-whole
-accept-requires-clause-whole c = c.in_ok-asked-in-Accepted.ensures.whole
-
-pub accept-requires-clause-is_new : goal.accept-requires-clause-is_new
-accept-requires-clause-is_new c = λ k d low.
-    let new : (get_or c.self.inside.manager.queries k d).query < c.self.inside.last_statement + 1 =
-    c.submissions_follow_the_core.ensures.new (the_view c.self.inside) c.self.invariant.0 k d low in
-    let number : c.in_ok-asked-in-Accepted.asked.asked.number ≡ c.in-Some.number =
-    ap (λ (asked : AskedQuery). asked.number) c.in_ok-asked-in-Accepted.ensures.asked in
-    omega (arith, c.in-Some.ensures)
+pub accept-requires : goal.accept-requires
+accept-requires c = record {
+  room = c.in_ok-make_room.ensures.for_query;
+  whole = c.in_ok-asked-in-Accepted.ensures.whole;
+  is_new = λ k d low.
+      let new : (get_or c.self.inside.manager.queries k d).query < c.self.inside.last_statement + 1 =
+      c.submissions_follow_the_core.ensures.new (the_view c.self.inside) c.self.invariant.0 k d low in
+      let number : c.in_ok-asked-in-Accepted.asked.asked.number ≡ c.in-Some.number =
+      ap (λ (asked : AskedQuery). asked.number) c.in_ok-asked-in-Accepted.ensures.asked in
+      omega (arith, c.in-Some.ensures);
+}
 
 -- the parts are those after a query that is accepted
 accepted : (c : goal.After-drop-all-inside-in-Accepted-3)
@@ -131,7 +132,7 @@ invariant_of-self-in-Accepted-1 c = (
   c.self.invariant.1,
   finished-on c.self.inside.manager c.accept.new.manager c.self.inside.asked c.accept.new.asked
       (on-submitted _ _ c.self.inside.manager c.accept.new.manager c.in_ok-accept-in-Accepted.ensures.lives)
-      (c.accept.ensures.gone ∙ c.make_room.ensures.gone) (c.accept.ensures.handed ∙ c.make_room.ensures.handed) c.self.invariant.2,
+      (c.accept.ensures.past.gone ∙ c.make_room.ensures.past.gone) (c.accept.ensures.past.handed ∙ c.make_room.ensures.past.handed) c.self.invariant.2,
   spare-ready (the_view c.self.inside) c.self.inside.spares c.make_filters.new.spares c.self.invariant.0 c.make_filters.ensures.declared
       c.self.invariant.3,
   subst AreBacked (sym (accepted_beside c)) c.self.invariant.4,
@@ -193,8 +194,8 @@ invariant_of-self-in-Changed c = (
   (changed c).core,
   c.self.invariant.1,
   finished-on c.self.inside.manager c.filter_for.new.manager c.self.inside.asked c.make_room.new.asked
-      (on-same c.self.inside.manager c.filter_for.new.manager c.filter_for.ensures.queries) c.make_room.ensures.gone
-      c.make_room.ensures.handed c.self.invariant.2,
+      (on-same c.self.inside.manager c.filter_for.new.manager c.filter_for.ensures.queries) c.make_room.ensures.past.gone
+      c.make_room.ensures.past.handed c.self.invariant.2,
   spare-changed c.in-Changed.kind (the_view c.self.inside) c.apply_to.new.tables c.filter_for.new.filters c.make_filters.new.spares
       c.apply_to.ensures.settled.declared.limits.dimensions
       (ap (λ (parts : Parts). parts.filters)
@@ -222,7 +223,7 @@ invariant_of-self c =
       subst IsCore (sym same) c.self.invariant.0,
       c.self.invariant.1,
       finished-on c.self.inside.manager c.self.inside.manager c.self.inside.asked c.make_room.new.asked
-          (on-same c.self.inside.manager c.self.inside.manager refl) c.make_room.ensures.gone c.make_room.ensures.handed c.self.invariant.2,
+          (on-same c.self.inside.manager c.self.inside.manager refl) c.make_room.ensures.past.gone c.make_room.ensures.past.handed c.self.invariant.2,
       c.self.invariant.3,
       subst AreBacked (sym (ap beside_of same)) c.self.invariant.4,
       c.self.invariant.5,
@@ -243,7 +244,7 @@ invariant_of-self-in_err-all c =
       subst IsCore (sym same) c.self.invariant.0,
       c.self.invariant.1,
       finished-on c.self.inside.manager c.self.inside.manager c.self.inside.asked c.make_room.new.asked
-          (on-same c.self.inside.manager c.self.inside.manager refl) c.make_room.ensures.gone c.make_room.ensures.handed c.self.invariant.2,
+          (on-same c.self.inside.manager c.self.inside.manager refl) c.make_room.ensures.past.gone c.make_room.ensures.past.handed c.self.invariant.2,
       spare-ready (the_view c.self.inside) c.self.inside.spares c.make_filters.new.spares c.self.invariant.0 c.make_filters.ensures.declared
           c.self.invariant.3,
       subst AreBacked (sym (ap beside_of same)) c.self.invariant.4,
@@ -265,7 +266,7 @@ invariant_of-self-in_err-reply c =
       subst IsCore (sym same) c.self.invariant.0,
       c.self.invariant.1,
       finished-on c.self.inside.manager c.self.inside.manager c.self.inside.asked c.make_room.new.asked
-          (on-same c.self.inside.manager c.self.inside.manager refl) c.make_room.ensures.gone c.make_room.ensures.handed c.self.invariant.2,
+          (on-same c.self.inside.manager c.self.inside.manager refl) c.make_room.ensures.past.gone c.make_room.ensures.past.handed c.self.invariant.2,
       spare-ready (the_view c.self.inside) c.self.inside.spares c.make_filters.new.spares c.self.invariant.0 c.make_filters.ensures.declared
           c.self.invariant.3,
       subst AreBacked (sym (ap beside_of same)) c.self.invariant.4,
@@ -291,7 +292,7 @@ invariant_of-self-in_err-asked-in-Accepted c =
       subst IsCore (sym same) c.self.invariant.0,
       c.self.invariant.1,
       finished-on c.self.inside.manager c.self.inside.manager c.self.inside.asked c.make_room.new.asked
-          (on-same c.self.inside.manager c.self.inside.manager refl) c.make_room.ensures.gone c.make_room.ensures.handed c.self.invariant.2,
+          (on-same c.self.inside.manager c.self.inside.manager refl) c.make_room.ensures.past.gone c.make_room.ensures.past.handed c.self.invariant.2,
       spare-ready (the_view c.self.inside) c.self.inside.spares c.make_filters.new.spares c.self.invariant.0 c.make_filters.ensures.declared
           c.self.invariant.3,
       subst AreBacked (sym (ap beside_of same)) c.self.invariant.4,
@@ -323,8 +324,8 @@ invariant_of-self-in_err-accept-in-Accepted c =
       c.self.invariant.1,
       finished-on c.self.inside.manager c.accept.new.manager c.self.inside.asked c.accept.new.asked
           (on-same c.self.inside.manager c.accept.new.manager
-          (ap (λ (lives : Lives). lives.queries) c.in_err-accept-in-Accepted.ensures.err_lives)) (c.accept.ensures.gone ∙ c.make_room.ensures.gone)
-          (c.accept.ensures.handed ∙ c.make_room.ensures.handed) c.self.invariant.2,
+          (ap (λ (lives : Lives). lives.queries) c.in_err-accept-in-Accepted.ensures.err_lives)) (c.accept.ensures.past.gone ∙ c.make_room.ensures.past.gone)
+          (c.accept.ensures.past.handed ∙ c.make_room.ensures.past.handed) c.self.invariant.2,
       spare-ready (the_view c.self.inside) c.self.inside.spares c.make_filters.new.spares c.self.invariant.0 c.make_filters.ensures.declared
           c.self.invariant.3,
       subst AreBacked (sym (ap beside_of same)) c.self.invariant.4,
@@ -375,9 +376,6 @@ stand-requires-in-Accepted-clause-there c =
 
 pub stand-requires-in-Accepted-clause-room : goal.stand-requires-in-Accepted-clause-room
 stand-requires-in-Accepted-clause-room c = c.in_ok-make_room.ensures.for_statement
-
-pub accept-requires-clause-room : goal.accept-requires-clause-room
-accept-requires-clause-room c = c.in_ok-make_room.ensures.for_query
 
 pub returns-in-Replied-clause-beside : goal.returns-in-Replied-clause-beside
 returns-in-Replied-clause-beside c = replied_beside c ∙ ap beside_of c.self.view_is

@@ -1,6 +1,6 @@
 use Rattle.std.proofs.Common.{ap, sym, subst, ◌∙◌, ◌++◌}
 use Rattle.pipeline_manager.specs.Changes.{with_answer}
-use Rattle.pipeline_manager.specs.LetGo.{AreKept}
+use Rattle.pipeline_manager.specs.LetGo.{AreLetGo}
 use Rattle.pipeline_manager.specs.Sound.{AreRising}
 use Rattle.pipeline_manager.proofs.GoneLemmas.{answered-behind, rising-rest}
 use Rattle.pipeline_manager.proofs.KeptLemmas.{kept-answered, rising-answered}
@@ -19,7 +19,7 @@ settle-requires-clause-rising c =
 
 pub settle-requires-clause-kept : goal.settle-requires-clause-kept
 settle-requires-clause-kept c =
-    subst (λ rest. AreKept c.self.inside.gone rest c.self.inside.passed c.self.inside.closed) (sym c.answer.ensures)
+    subst (λ rest. AreLetGo c.self.inside.gone rest c.self.inside.passed c.self.inside.closed) (sym c.answer.ensures)
     (kept-answered c.self.inside.gone c.self.inside.rest c.self.inside.passed c.self.inside.closed c.args.query c.self.invariant)
 
 pub returns : goal.returns

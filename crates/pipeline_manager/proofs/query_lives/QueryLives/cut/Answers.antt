@@ -1,5 +1,5 @@
 use Rattle.std.proofs.Common.{ap, sym, subst, map, ◌∙◌, ◌++◌}
-use Rattle.pipeline_manager.specs.LetGo.{AreKept, cut_held}
+use Rattle.pipeline_manager.specs.LetGo.{AreLetGo, cut_held}
 use Rattle.pipeline_manager.specs.Sound.{AreRising}
 use Rattle.pipeline_manager.proofs.CutLemmas.{cut_held-all}
 use Rattle.pipeline_manager.proofs.GoneLemmas.{cut-behind, rising-rest}
@@ -16,7 +16,7 @@ cut_holders-requires-clause-one c = λ query. fits-one _ _ (c.requires.held quer
 
 pub invariant_of-self : goal.invariant_of-self
 invariant_of-self c =
-    subst (λ rest. AreKept c.self.inside.gone rest c.self.inside.passed c.self.inside.closed) (sym c.cut_holders.ensures)
+    subst (λ rest. AreLetGo c.self.inside.gone rest c.self.inside.passed c.self.inside.closed) (sym c.cut_holders.ensures)
     (kept-cut c.self.inside.gone c.self.inside.rest c.self.inside.passed c.self.inside.closed c.args.first c.args.last c.args.slots.now
     c.self.invariant)
 

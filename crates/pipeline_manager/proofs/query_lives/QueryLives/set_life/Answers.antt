@@ -1,6 +1,6 @@
 use Rattle.std.proofs.Common.{ap, sym, subst, ◌∙◌, ◌++◌}
 use Rattle.pipeline_manager.specs.Changes.{with_life}
-use Rattle.pipeline_manager.specs.LetGo.{AreKept, IsOpenIn}
+use Rattle.pipeline_manager.specs.LetGo.{AreLetGo, IsOpenIn}
 use Rattle.pipeline_manager.specs.Sound.{AreRising}
 use Rattle.pipeline_manager.proofs.GoneLemmas.{rising-rest, written-behind}
 use Rattle.pipeline_manager.proofs.KeptLemmas.{kept-written}
@@ -22,7 +22,7 @@ settle-requires-clause-rising c =
 pub settle-requires-clause-kept : goal.settle-requires-clause-kept
 settle-requires-clause-kept c =
     let may = subst (λ list. IsOpenIn list c.args.query) (sym c.self.view_is) c.requires.may in
-    subst (λ rest. AreKept c.self.inside.gone rest c.self.inside.passed c.self.inside.closed) (sym c.set_life.ensures)
+    subst (λ rest. AreLetGo c.self.inside.gone rest c.self.inside.passed c.self.inside.closed) (sym c.set_life.ensures)
     (kept-written c.self.inside.gone c.self.inside.rest c.self.inside.passed c.self.inside.closed c.args.query c.args.life
     c.requires.passed may c.self.invariant)
 

@@ -1,6 +1,7 @@
 use Rattle.script_run.proofs.Words.{◌<◌, ◌≢◌, [], err_from_is_err_and, Finishes, FrontParts, IsCounted, seat_at, state_of, subst, sym}
+use Rattle.std.proofs.Common.{rules}
 use Rattle.script_run.specs.contracts.front.Front.{the_view}
-use Rattle.script_run.proofs.FrontCountLemmas.{calm-open, few-open, finishes-none, knows-finished, slots-some}
+use Rattle.script_run.proofs.FrontCountLemmas.{finishes-none, knows-finished, share-open, slots-some}
 use Rattle.script_run.proofs.front.Front.finish_open.Goals as goal
 
 pub invariant_of-self : goal.invariant_of-self
@@ -13,11 +14,9 @@ invariant_of-self-2 g c =
     knows-finished _ _ (state_of c.self.inside.core) (state_of c.finish.new.core) c.self.invariant c.finish.ensures.finishes c.finish.ensures.number
     c.finish.ensures.hands
 
-pub finish-requires-clause-calm : goal.finish-requires-clause-calm
-finish-requires-clause-calm g c κs within = calm-open (the_view c.self.inside) (subst IsCounted (sym c.self.view_is) c.requires.counted)
-
-pub finish-requires-clause-few : goal.finish-requires-clause-few
-finish-requires-clause-few g c κs within = few-open (the_view c.self.inside) (subst IsCounted (sym c.self.view_is) c.requires.counted)
+pub finish-requires : goal.finish-requires
+finish-requires g c =
+    (search rules, share-open (the_view c.self.inside) (subst IsCounted (sym c.self.view_is) c.requires) c.if-self-eq0.false)
 
 pub returns-then-self-eq0-clause-finishes : goal.returns-then-self-eq0-clause-finishes
 returns-then-self-eq0-clause-finishes g c = finishes-none (state_of c.args.self.now.core)

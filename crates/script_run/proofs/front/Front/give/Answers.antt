@@ -1,4 +1,4 @@
-use Rattle.script_run.proofs.Words.{◌+◌, ◌<◌, ◌∙◌, ap, FrontParts, Gives, IsCounted, KnowsCore, refl, state_of, subst, sym}
+use Rattle.script_run.proofs.Words.{◌+◌, ◌<◌, ◌∙◌, ap, FrontParts, GivesStatement, IsCounted, KnowsCore, refl, state_of, subst, sym}
 use Rattle.event_core.specs.Parts.{Parts}
 use Rattle.script_run.specs.contracts.front.Front.{the_view}
 use Rattle.script_run.proofs.FrontCountLemmas.{knows-given}
@@ -16,7 +16,7 @@ invariant_of-self-2 c =
 
 pub returns-clause-gives : goal.returns-clause-gives
 returns-clause-gives c given =
-    subst (λ (front : FrontParts). Gives c.args.statement (state_of front.core) (state_of c.submit.new.core)) c.self.view_is c.in-Ok.ensures.gives
+    subst (λ (front : FrontParts). GivesStatement c.args.statement (state_of front.core) (state_of c.submit.new.core)) c.self.view_is c.in-Ok.ensures.gives
 
 pub returns-clause-counted : goal.returns-clause-counted
 returns-clause-counted c given = counted-given c.args.statement (the_view c.self.inside) _ c.in-Some.number c.one_if_waiting.result

@@ -3,7 +3,8 @@ use Rattle.script_run.proofs.Words.{◌∷◌, [], err_from_is_err_and, refl}
 use Rattle.board_lock.specs.Seats.{view_of}
 use Rattle.worker_gate.specs.Turns.{sight_in}
 use Rattle.script_run.proofs.SeatFrontLemmas.{seat-loses}
-use Rattle.script_run.proofs.SeatPlaysLemmas.{counts-behind, played-short}
+use Rattle.script_run.proofs.RunLemmas.{counts-behind}
+use Rattle.script_run.proofs.SeatPlaysLemmas.{played-short}
 use Rattle.script_run.proofs.seat_front.SeatFront.lose.Goals as goal
 
 pub returns-in_err-write_replies-clause-plays : goal.returns-in_err-write_replies-clause-plays

@@ -4,7 +4,7 @@ use Rattle.board_lock.specs.Seats.{view_of}
 use Rattle.worker_gate.specs.Hands.{HasDoneIf}
 use Rattle.worker_gate.specs.Turns.{sight_in}
 use Rattle.script_run.specs.SeatFront.{TellsWaited}
-use Rattle.script_run.specs.SeatTurns.{Stays}
+use Rattle.script_run.specs.SeatTurns.{SitsStill}
 use Rattle.script_run.specs.declared.seat_front.AfterAsking.TheVariants.{Ends}
 use Rattle.script_run.proofs.SeatFrontLemmas.{by-number, waited-behind}
 use Rattle.script_run.proofs.SeatTurnLemmas.{out-none, out-then, stays-none, stays-then}
@@ -25,7 +25,7 @@ turns-preserved g c =
       seat = out-then c.args.board.now (HasDoneIf c.turns.done) (HasDoneIf c.in-Goes.next) c.args.self.now.seat c.turns.self.seat
           c.ask_and_work.new.seat c.turns.invariant.seat c.in-Goes.ensures.seat;
       stays = stays-then old.number (sight_in old) (sight_in mid) (sight_in new) c.turns.invariant.stays
-          (by-number (λ (number : ℕ). Stays number (sight_in mid) (sight_in new)) c.args.self.now.seat c.turns.self.seat
+          (by-number (λ (number : ℕ). SitsStill number (sight_in mid) (sight_in new)) c.args.self.now.seat c.turns.self.seat
           c.turns.invariant.seat.same c.in-Goes.ensures.tells);
     }
 

@@ -14,7 +14,7 @@ pub pieces-init : goal.pieces-init
 pieces-init g c = record {
   seat = out-none c.args.board.now (HasDoneIf None) c.args.self.now.seat c.requires.ready;
   number = c.requires.first;
-  run = starts-by _ _ _ _ c.requires.nothing c.requires.reader;
+  run = starts-by _ _ _ _ c.requires.sight c.new-reader.ensures;
   ended = refl;
   unread = refl;
   unwritten = refl;
@@ -162,15 +162,15 @@ returns-in-Ok-play_whole-clause-due g c =
     waits-rest c.write_replies-written-in-Ok-play_whole.result _ _ _ _
     (waits-whole (Ok c.in-Ok-play_whole.some) _ _ _ _ _ _ (waits-by _ _ _ _ _ _ _ run) last) rest
 
-pub returns-in-Err-play_whole-clause-seat : goal.returns-in-Err-play_whole-clause-seat
-returns-in-Err-play_whole-clause-seat g c =
+pub returns-clause-seat : goal.returns-clause-seat
+returns-clause-seat g c =
     out-then c.args.board.now (HasDoneIf None) (HasDoneIf None) c.args.self.now.seat c.play_whole.new.self.seat c.play_whole-2.new.self.seat
     (out-then c.args.board.now (HasDoneIf None) (HasDoneIf None) c.args.self.now.seat c.pieces.self.seat c.play_whole.new.self.seat
     c.pieces.invariant.seat c.play_whole.ensures.seat)
     c.play_whole-2.ensures.seat
 
-pub returns-in-Err-play_whole-clause-answers : goal.returns-in-Err-play_whole-clause-answers
-returns-in-Err-play_whole-clause-answers g c =
+pub returns-clause-answers : goal.returns-clause-answers
+returns-clause-answers g c =
     let zero = same-number c.pieces.self.seat c.play_whole.new.self.seat c.play_whole.ensures.seat.same ∙ c.pieces.invariant.number in
     let plays = whole-zero (Ok c.in-Ok.some) _ _ _ _ _ _ _ c.pieces.invariant.number c.in-Ok.ensures.plays in
     let run = whole-by _ _ _ _ _ _ _ _ _ _ _ c.pieces.invariant.run plays c.in-Ok.ensures.stays in
@@ -180,8 +180,8 @@ returns-in-Err-play_whole-clause-answers g c =
     rw c.end_of_halt-in-Err-play_whole.ensures (last-sent (sight_in (view_of c.play_whole-2.new.self.seat)) _ _ _ _ c.in-Err-play_whole.halt
     _ _ c.play_whole-2.new.reader _ _ _ takes.0 run takes.1 takes.2.1 c.in-Ended.ensures.end last)
 
-pub returns-in-Err-play_whole-clause-due : goal.returns-in-Err-play_whole-clause-due
-returns-in-Err-play_whole-clause-due g c =
+pub returns-clause-due : goal.returns-clause-due
+returns-clause-due g c =
     let zero = same-number c.pieces.self.seat c.play_whole.new.self.seat c.play_whole.ensures.seat.same ∙ c.pieces.invariant.number in
     let plays = whole-zero (Ok c.in-Ok.some) _ _ _ _ _ _ _ c.pieces.invariant.number c.in-Ok.ensures.plays in
     let run = whole-by _ _ _ _ _ _ _ _ _ _ _ c.pieces.invariant.run plays c.in-Ok.ensures.stays in

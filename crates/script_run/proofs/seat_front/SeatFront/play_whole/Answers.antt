@@ -4,7 +4,7 @@ use Rattle.board_lock.specs.Seats.{view_of}
 use Rattle.worker_gate.specs.Hands.{HasDoneIf}
 use Rattle.worker_gate.specs.Turns.{sight_in}
 use Rattle.script_run.specs.SeatFront.{SeatPlays}
-use Rattle.script_run.specs.SeatRun.{StopsAt, statements_in_run}
+use Rattle.script_run.specs.SeatRun.{StopsReading, statements_in_run}
 use Rattle.script_run.specs.declared.seat_run.Behind.{Behind}
 use Rattle.script_run.proofs.SeatFrontLemmas.{by-number}
 use Rattle.script_run.proofs.SeatManyLemmas.{reads-fewer}
@@ -48,7 +48,7 @@ pub runs-smaller : goal.runs-smaller
 runs-smaller g c =
     let statements = statements_in_run c.read_run-run.result in
     reads-fewer c.runs.reader c.read_run-run.new.reader statements c.read_run-run.ensures.reads.reads c.read_run-run.ensures.stays
-    (subst (λ (behind : Behind). StopsAt behind statements c.read_run-run.new.reader) (sym c.in-More.ensures)
+    (subst (λ (behind : Behind). StopsReading behind statements c.read_run-run.new.reader) (sym c.in-More.ensures)
     c.read_run-run.ensures.reads.stops)
 
 pub returns-in-Nothing-clause-seat : goal.returns-in-Nothing-clause-seat
@@ -65,7 +65,7 @@ returns-in-Nothing-clause-plays g c =
     let plays = by-number (λ (number : ℕ). SeatPlays c.play_run.result number (sight_in mid) statements (sight_in new)
     (g.K.Sink.writing c.runs.sink).taken (g.K.Sink.writing c.play_run.new.sink).taken) c.args.self.now.seat c.runs.self.seat
     c.runs.invariant.seat.same c.play_run.ensures.plays.plays in
-    let none = subst (λ (behind : Behind). StopsAt behind statements c.read_run-run.new.reader) (sym c.in-Nothing.ensures)
+    let none = subst (λ (behind : Behind). StopsReading behind statements c.read_run-run.new.reader) (sym c.in-Nothing.ensures)
     c.read_run-run.ensures.reads.stops in
     λ due waits.
     let way = c.runs.invariant.way due waits in
@@ -88,7 +88,7 @@ returns-in-NoMemory-clause-plays g c =
     let plays = by-number (λ (number : ℕ). SeatPlays c.play_run.result number (sight_in mid) statements (sight_in new)
     (g.K.Sink.writing c.runs.sink).taken (g.K.Sink.writing c.play_run.new.sink).taken) c.args.self.now.seat c.runs.self.seat
     c.runs.invariant.seat.same c.play_run.ensures.plays.plays in
-    let left = subst (λ (behind : Behind). StopsAt behind statements c.read_run-run.new.reader) (sym c.in-NoMemory.ensures)
+    let left = subst (λ (behind : Behind). StopsReading behind statements c.read_run-run.new.reader) (sym c.in-NoMemory.ensures)
     c.read_run-run.ensures.reads.stops in
     λ due waits.
     let way = c.runs.invariant.way due waits in (

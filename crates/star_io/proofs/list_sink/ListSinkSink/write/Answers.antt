@@ -10,10 +10,15 @@ at_err : {T E Q : Type 0} (r : Result T E) → is_err r ≡ true → OnErr r Q �
 at_err (Ok _) e h = cc
 at_err (Err _) e h = h
 
-pub returns-then-contains-clause-cause : goal.returns-then-contains-clause-cause
-returns-then-contains-clause-cause c =
-    rw (← c.self.view_is) (elim c.then-contains.branch [
-      | then-contains-via-then-contains w ↦ inl (let found = w.if-contains.ensures in grind (arith, common_steps))
-      | then-contains-via-else-contains+then-is_err w ↦
-          inr (let h = at_err w.extend_from_slice.result (search rules) w.extend_from_slice.ensures.full in omega (arith, length-take {A = ℕ}))
-    ])
+pub returns-then-contains-clause-piece : goal.returns-then-contains-clause-piece
+returns-then-contains-clause-piece c = record {
+  listed = search rules;
+  cause =
+      rw (← c.self.view_is) (elim c.then-contains.branch [
+        | then-contains-via-then-contains w ↦ inl (let found = w.if-contains.ensures in grind (arith, common_steps))
+        | then-contains-via-else-contains+then-is_err w ↦
+            inr (let h = at_err w.extend_from_slice.result (search rules) w.extend_from_slice.ensures.full in omega (arith, length-take {A = ℕ}))
+      ]);
+  count = search rules;
+  state = search rules;
+}

@@ -1,7 +1,7 @@
 use Rattle.std.proofs.Common.{◌≡◌, ◌≤◌, ◌-◌, Some, map, subst, sym, ap, ◌∙◌, arith}
 use Rattle.star_lexer.specs.declared.keyword.Keyword.TheVariants as key
 use Rattle.star_parser.specs.Condition.{Both, Either, alone_or, conjuncts, disjuncts, condition_of}
-use Rattle.star_parser.specs.Reader.{Gives, gives, is_word}
+use Rattle.star_parser.specs.Reader.{Gave, gives, is_word}
 use Rattle.star_parser.specs.Reading.{one_at, all_by, all_at, any_at, conjuncts_at, disjuncts_at}
 use Rattle.star_parser.proofs.SeparatedLemmas.{flat_on, smaller_on}
 use Rattle.star_parser.proofs.ShorterLemmas.{one_shorter, all_shorter}
@@ -38,7 +38,7 @@ disjuncts-members-preserved t c =
 pub one-returns-else-skip_keyword : goal.one-returns-else-skip_keyword
 one-returns-else-skip_keyword t c =
     let deep : (1 ≤ c.args.depth) × (c.in-Some.inner ≡ c.args.depth - 1) = c.in-Some.ensures in
-    subst (λ z. Gives condition_of c.not_negated.result c.not_negated.new.self.rest.now z)
+    subst (λ z. Gave condition_of c.not_negated.result c.not_negated.new.self.rest.now z)
     (sym (one_else c.args.depth c.in-Some.inner c.args.self.now.rest.now c.skip_keyword.new.self.rest.now (omega (arith, deep.0, deep.1)) (sym c.if-skip_keyword.ensures.skipped) c.skip_keyword.ensures.rest))
     c.not_negated.ensures
 

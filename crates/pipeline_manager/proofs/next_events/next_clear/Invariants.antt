@@ -1,0 +1,6 @@
+use Rattle.std.proofs.Common.{ℕ, ◌<◌}
+use Rattle.pipeline_manager.specs.Conditions.{CanClear}
+use Rattle.pipeline_manager.proofs.next_events.next_clear.Given as goal
+
+abbrev pub invariant-loop-slot : goal.invariant-loop-slot
+invariant-loop-slot l = (k : ℕ) → k < l.slot → (dimension : ℕ) → CanClear k dimension l.manager → ⊥

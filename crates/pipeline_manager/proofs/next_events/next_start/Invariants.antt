@@ -1,0 +1,7 @@
+use Rattle.std.proofs.Common.{◌≡◌, ℕ, ◌<◌, Some}
+use Rattle.pipeline_manager.specs.Conditions.{CanRun}
+use Rattle.pipeline_manager.specs.Lives.{slot_of}
+use Rattle.pipeline_manager.proofs.next_events.next_start.Given as goal
+
+abbrev pub invariant-loop-slot : goal.invariant-loop-slot
+invariant-loop-slot l = (k : ℕ) → k < l.slot → (query : ℕ) → slot_of l.manager query ≡ Some k → CanRun query l.manager → ⊥

@@ -1,6 +1,0 @@
-use Rattle.std.proofs.Common.{ℕ, ◌<◌}
-use Rattle.pipeline_manager.specs.Conditions.{CanClear}
-use Rattle.pipeline_manager.proofs.next_slots.next_clear.Given as goal
-
-abbrev pub invariant-loop-slot : goal.invariant-loop-slot
-invariant-loop-slot l = (k : ℕ) → k < l.slot → (dimension : ℕ) → CanClear k dimension l.manager → ⊥
