@@ -6,7 +6,7 @@ use Rattle.std.proofs.Math.Seq.{take-add}
 use Rattle.std.proofs.lemmas.List.{drop-drop, take_all, drop_all}
 use Rattle.std.proofs.lemmas.List.Elements.{All-nil, All-push}
 use Rattle.std.proofs.lemmas.List.Folds.{concat-append}
-use Rattle.script_reader.specs.Script.{lines_of, whole_lines, line_text, is_no_statement, is_dot_line, statements_of}
+use Rattle.script_reader.specs.Script.{lines_of, whole_lines, line_text, clipped, is_no_statement, is_dot_line, statements_of}
 use Rattle.script_reader.specs.Coming.{StaysLine, StaysPassed}
 use Rattle.script_reader.specs.Reach.{AreLines, BeginNone, TakesLines, TakesBehind, Opens, Closes}
 use Rattle.script_reader.specs.declared.statement.Statement.{Statement}
@@ -118,7 +118,7 @@ Opens-next ended s text end n first is_text sofar =
 
 -- a statement with a block takes the lines up to and with its own, and those of its block
 pub TakesLines-block : (ended : Bool) (s text : List ℕ) (statement : Statement) (end len : ℕ)
-    → Opens ended s text end → statement.line ≡ text → TakesBehind ended (drop end s) statement.block len
+    → Opens ended s text end → statement.line ≡ clipped text → TakesBehind ended (drop end s) statement.block len
     → TakesLines ended s statement (end + len)
 TakesLines-block ended s text statement end len opens line behind =
     record {
@@ -128,7 +128,7 @@ TakesLines-block ended s text statement end len opens line behind =
       lines = subst (AreLines ended s (end + len)) (append_assoc opens.passed (opens.own ∷ []) behind.0)
           (AreLines-append ended s end len (opens.passed ++ opens.own ∷ []) behind.0 opens.lines behind.1);
       begin_none = opens.begin_none;
-      is_own = opens.is_own ∙ sym line;
+      is_own = ap clipped opens.is_own ∙ sym line;
       are_behind = behind.2;
     }
 

@@ -7,3 +7,5 @@ pub mod Cut
 pub mod Reading
 pub mod Steps
 pub mod Open
+pub mod Short
+pub mod Whole

@@ -6,7 +6,7 @@ use Rattle.script_reader.specs.declared.closing.Closing.TheVariants.{Dot, Input}
 use Rattle.script_reader.specs.declared.statement.Statement.{Statement}
 use Rattle.script_reader.specs.declared.statement.Block.{Block}
 use Rattle.script_reader.specs.declared.statement.Block.TheVariants.{Absent, Closed, Unclosed}
-use Rattle.script_reader.specs.Script.{whole_lines, line_text, is_no_statement, is_dot_line}
+use Rattle.script_reader.specs.Script.{whole_lines, line_text, clipped, is_no_statement, is_dot_line}
 
 -- the first bytes, so many of them, are these lines, and these lines come first
 pub record AreLines (ended : Bool) (script : List ℕ) (len : ℕ)
@@ -36,7 +36,7 @@ pub record TakesLines (ended : Bool) (script : List ℕ) (statement : Statement)
   pub behind : List (List ℕ)
   pub lines : AreLines ended script len (passed ++ own ∷ behind)
   pub begin_none : BeginNone passed
-  pub is_own : line_text own ≡ statement.line
+  pub is_own : clipped (line_text own) ≡ statement.line
   pub are_behind : AreBehind statement.block behind
 
 -- the lines up to there begin no statement, but for the last, which has this text
@@ -60,7 +60,7 @@ abbrev pub TakesBehind : Bool → List ℕ → Block → ℕ → Type 0
 TakesBehind ended rest block len =
     (lines : List (List ℕ)) × AreLines ended rest len lines × AreBehind block lines
 
--- the `load` has the line with this text, and takes the lines of its block from the bytes behind
+-- the `load` has this of its line, and takes the lines of its block from the bytes behind
 pub record TakesLoad (ended : Bool) (text rest : List ℕ) (statement : Statement) (len : ℕ)
     : Type 0 where
   pub line : statement.line ≡ text

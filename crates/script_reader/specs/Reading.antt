@@ -1,10 +1,11 @@
 -- A reader that is fed a script in pieces, and what its statements are.
-use Rattle.std.specs.Prelude.{◌≡◌, ◌≢◌, ℕ, ◌+◌, ◌-◌, min, Bool, true, false, List, [], ◌∷◌, ◌++◌, length, take}
+use Rattle.std.specs.Prelude.{◌≡◌, ◌≢◌, ℕ, ◌+◌, ◌-◌, ◌<◌, min, Bool, true, false, List, [], ◌∷◌, ◌++◌, length, take}
 use Rattle.script_reader.specs.declared.reader.TheConstants.{SCRIPT_LIMIT}
 use Rattle.script_reader.specs.declared.reader.NextStatement.{NextStatement}
 use Rattle.script_reader.specs.declared.reader.NextStatement.TheVariants.{Got, NotYet, End}
 use Rattle.script_reader.specs.declared.statement.Statement.{Statement}
-use Rattle.script_reader.specs.Script.{statements_of}
+use Rattle.script_reader.specs.declared.pending_bytes.TheConstants.{SHORTENED_BYTES}
+use Rattle.script_reader.specs.Script.{statements_of, whole_lines}
 
 -- what a reader stands for: the bytes that were fed and stand in no statement that was taken, how
 -- many bytes were fed in all, but at most one past the limit, and whether the input has ended
@@ -62,3 +63,11 @@ AnswersNext old new End =
 abbrev pub WantsMemory : Reading → Reading → Type 0
 WantsMemory old new =
     (old.ended ≡ true → statements_of true old.waiting ≢ []) × MeansTheSame old new
+
+-- where nothing that waits is a whole line, few bytes wait: a line that is coming is not kept whole,
+-- however long it becomes. Behind a whole line that waits they are the block of a `load`
+abbrev pub KeepsShort : Reading → NextStatement → Type 0
+KeepsShort new (Got statement) = Unit {0}
+KeepsShort new NotYet =
+    whole_lines false new.waiting ≡ [] → length new.waiting < SHORTENED_BYTES
+KeepsShort new End = Unit {0}

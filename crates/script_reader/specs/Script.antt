@@ -1,8 +1,9 @@
 -- The lines of a script, and the statements that they are cut into. Nothing here knows of pieces.
-use Rattle.std.specs.Prelude.{ℕ, ◌-◌, Bool, ◌||◌, ◌==◌, nat_eq, List, [], ◌∷◌, ◌++◌, length, take, drop, filter, take_while, codes, Option, Some, None, if◌then◌else◌}
+use Rattle.std.specs.Prelude.{ℕ, ◌+◌, ◌-◌, Bool, ◌||◌, ◌==◌, nat_eq, nat_lt, List, [], ◌∷◌, ◌++◌, length, map, take, drop, filter, take_while, codes, Option, Some, None, if◌then◌else◌}
 use Rattle.std.specs.List.{list_any, prefix_len, starts_with, ends_with}
 use Rattle.std.specs.Char.{is_ascii_alphanumeric}
-use Rattle.std.specs.Str.{bytes_eq, str_eq_ignore_ascii_case}
+use Rattle.std.specs.Str.{bytes_eq, is_utf8, str_eq_ignore_ascii_case}
+use Rattle.script_reader.specs.declared.clipping.TheConstants.{LINE_LIMIT}
 use Rattle.script_reader.specs.declared.statement.Statement.{Statement}
 use Rattle.script_reader.specs.declared.statement.Block.TheVariants.{Absent, Closed, Unclosed}
 
@@ -59,19 +60,32 @@ first_word text = take_while is_word_byte (without_blanks text)
 abbrev pub has_block : List ℕ → Bool
 has_block text = str_eq_ignore_ascii_case (first_word text) (codes "load")
 
+-- what stands for a text that is too long to be read: more letters `x` than a line may have, or
+-- the byte 0xFF where the text is not UTF-8. What is answered of it is answered of the text
+abbrev pub stand_in : (limit : ℕ) → List ℕ → List ℕ
+stand_in limit text = if is_utf8 text then map (λ _. 120) (take (limit + 1) text) else 255 ∷ []
+
+-- the text, but for one of more bytes than the limit what stands for it
+unfoldable pub clipped_to : (limit : ℕ) → List ℕ → List ℕ
+clipped_to limit text = if nat_lt limit (length text) then stand_in limit text else text
+
+-- what a statement has of the text of its line
+abbrev pub clipped : List ℕ → List ℕ
+clipped text = clipped_to LINE_LIMIT text
+
 -- a line that is a single dot, which closes a block
 abbrev pub is_dot_line : List ℕ → Bool
 is_dot_line line = bytes_eq (line_text line) (codes ".")
 
--- the statements of lines. Where a block is open, `load` is the text of its line and the
--- bytes of its lines so far
+-- the statements of lines. Where a block is open, `load` is what the statement has of its line and
+-- the bytes of the block's lines so far
 abbrev pub statements_in : Bool → Option (List ℕ × List ℕ) → List (List ℕ) → List Statement
 statements_in ended None [] = []
 statements_in ended None (line ∷ lines) =
     let text = line_text line in
     if is_no_statement text then statements_in ended None lines
-    else (if has_block text then statements_in ended (Some (text, [])) lines
-    else (record { line = text; block = Absent } ∷ statements_in ended None lines))
+    else (if has_block text then statements_in ended (Some (clipped text, [])) lines
+    else (record { line = clipped text; block = Absent } ∷ statements_in ended None lines))
 statements_in ended (Some load) [] =
     if ended then record { line = load.0; block = Unclosed load.1 } ∷ [] else []
 statements_in ended (Some load) (line ∷ lines) =

@@ -1,10 +1,11 @@
 //! The first statement of a script, copied out of it.
 ghost use Rattle.std.specs.Prelude.{◌≡◌, ◌≢◌, ◌∷◌, ◌<◌, ◌≤◌, [], length, drop, IfOk, OnErr, IfNone, IfSome};
-ghost use Rattle.script_reader.specs.Script.{statements_of};
+ghost use Rattle.script_reader.specs.Script.{clipped, statements_of};
 ghost use Rattle.script_reader.specs.Cut.{statements_from_load};
 ghost use Rattle.script_reader.specs.Coming.{StaysFirst, StaysLoad};
 ghost use Rattle.script_reader.specs.Reach.{TakesLines, TakesLoad};
 
+use crate::clipping::clipped;
 use crate::closing::{Closing, first_closing};
 use crate::lines::has_block;
 use crate::opening::first_opening;
@@ -46,7 +47,7 @@ pub fn take_statement(
         return Ok(None);
     };
     if !has_block(opening.text) {
-        let line = copy_bytes(alloc, opening.text)?;
+        let line = clipped(alloc, opening.text)?;
         let statement = Statement {
             line,
             block: Block::Absent,
@@ -72,20 +73,20 @@ fn take_load(
     rest: &[u8],
     ended: bool,
 ) -> Result<Option<TakenStatement>, NoMemory>
-    ensures none { IfOk result (λ r. IfNone r (statements_from_load ended text.now rest.now ≡ [])) }
+    ensures none { IfOk result (λ r. IfNone r (statements_from_load ended (clipped text.now) rest.now ≡ [])) }
     ensures found { IfOk result (λ r. IfSome r (λ t.
-        statements_from_load ended text.now rest.now
+        statements_from_load ended (clipped text.now) rest.now
         ≡ t.statement ∷ statements_of ended (drop t.len rest.now))) }
-    ensures wanted { OnErr result (statements_from_load ended text.now rest.now ≢ []) }
+    ensures wanted { OnErr result (statements_from_load ended (clipped text.now) rest.now ≢ []) }
     ensures takes { IfOk result (λ r. IfSome r (λ t.
-        TakesLoad ended text.now rest.now t.statement t.len)) }
+        TakesLoad ended (clipped text.now) rest.now t.statement t.len)) }
     ensures stays { IfOk result (λ r. IfSome r (λ t.
-        StaysLoad ended text.now rest.now t.statement t.len)) }
+        StaysLoad ended (clipped text.now) rest.now t.statement t.len)) }
 {
     let Some(closing) = first_closing(rest, ended) else {
         return Ok(None);
     };
-    let line = copy_bytes(alloc, text)?;
+    let line = clipped(alloc, text)?;
     match closing {
         Closing::Dot { len, end } => {
             let block = Block::Closed(copy_bytes(alloc, &rest[..len])?);

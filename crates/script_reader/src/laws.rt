@@ -1,7 +1,10 @@
 //! What the definitions of lines and blocks mean, said once more in other words.
 ghost use Rattle.std.specs.Prelude.{◌≡◌};
 ghost use Rattle.script_reader.specs.Steps.{StatementsComeInOrder};
-ghost use Rattle.script_reader.specs.Laws.{LinesJoinedAreTheScript, LineEndsAtItsLineFeed, BlockEndsAtTheFirstDotLine};
+ghost use Rattle.script_reader.specs.Whole.{StatementsAreGiven};
+ghost use Rattle.script_reader.specs.Laws.{LinesJoinedAreTheScript, LineEndsAtItsLineFeed, BlockEndsAtTheFirstDotLine, LongLinesAreClipped};
+ghost use Rattle.script_reader.specs.declared.clipping.TheConstants.{LINE_LIMIT};
+ghost use Rattle.script_reader.specs.declared.pending_bytes.TheConstants.{SHORTENED_BYTES};
 ghost use Rattle.script_reader.specs.declared.reader.TheConstants.{SCRIPT_LIMIT};
 
 /// No byte of a script is lost between its lines.
@@ -27,7 +30,25 @@ pub fn statements_come_in_order()
     ensures { StatementsComeInOrder }
 {}
 
+/// The statements are those with the whole texts of their lines, but that long lines are clipped.
+pub fn statements_are_given()
+    ensures { StatementsAreGiven }
+{}
+
+/// What a statement has of its line is the line's text, and of a text that is too long to be read a
+/// short one that is refused in the same way.
+pub fn long_lines_are_clipped()
+    ensures { LongLinesAreClipped }
+{}
+
 /// The most bytes of a script.
 pub fn scripts_have_their_limit()
     ensures { SCRIPT_LIMIT ≡ 67108864 }
+{}
+
+/// The most bytes of a line that are given as they stand, and how many of a line that is coming are
+/// never kept.
+pub fn lines_have_their_limits()
+    ensures limit { LINE_LIMIT ≡ 65536 }
+    ensures kept { SHORTENED_BYTES ≡ 131074 }
 {}

@@ -77,6 +77,17 @@ pub fn line_text(line: &[u8]) -> &[u8]
     without_last(b'\r', without_last(b'\n', line))
 }
 
+/// The first bytes, as many as the limit at most.
+pub(crate) fn within(bytes: &[u8], limit: usize) -> &[u8]
+    ensures { result.now ≡ take limit bytes.now }
+{
+    if bytes.len() <= limit {
+        bytes
+    } else {
+        bytes.split_at(limit).0
+    }
+}
+
 fn blanks_in_front(text: &[u8]) -> usize
     ensures len { result ≡ prefix_len is_blank text.now }
     ensures within { result ≤ length text.now }
@@ -86,7 +97,7 @@ fn blanks_in_front(text: &[u8]) -> usize
         .count()
 }
 
-fn without_blanks(text: &[u8]) -> &[u8]
+pub(crate) fn without_blanks(text: &[u8]) -> &[u8]
     ensures { result.now ≡ without_blanks text.now }
 {
     let blanks = blanks_in_front(text);

@@ -2,9 +2,9 @@
 //! found is in `pending_bytes`.
 ghost use Rattle.std.specs.Prelude.{◌≡◌, ◌<◌, length, IfOk, OnErr, OnOk};
 ghost use Rattle.script_reader.specs.Open.{LeavesSome, TakesLine, none_open};
-ghost use Rattle.script_reader.specs.Script.{line_text};
+ghost use Rattle.script_reader.specs.Script.{clipped, line_text};
 
-use crate::first_statement::copy_bytes;
+use crate::clipping::clipped;
 use crate::lines::{has_block, is_dot_line, is_no_statement, line_text};
 use crate::statement::{Block, Statement};
 use star_values::{ByteText, NoMemory};
@@ -74,7 +74,7 @@ fn take_first_line(alloc: Global, load: &mut OpenLoad, line: &[u8]) -> Result<Ta
         load.line.extend_from_slice(line)?;
         return Ok(TakenLine::Joined);
     }
-    let line = copy_bytes(alloc, text)?;
+    let line = clipped(alloc, text)?;
     Ok(TakenLine::Whole(Statement {
         line,
         block: Block::Absent,
@@ -98,14 +98,14 @@ fn take_block_line(alloc: Global, load: &mut OpenLoad, line: &[u8]) -> Result<Ta
     Ok(TakenLine::Joined)
 }
 
-/// Ends an open block: the text of its line, and the bytes of the block.
+/// Ends an open block: what the statement has of its line, and the bytes of the block.
 pub(crate) fn close(alloc: Global, load: &mut OpenLoad) -> Result<(ByteText, ByteText), NoMemory>
-    ensures line { IfOk result (λ closed. closed.0 ≡ line_text load.old.line) }
+    ensures line { IfOk result (λ closed. closed.0 ≡ clipped (line_text load.old.line)) }
     ensures block { IfOk result (λ closed. closed.1 ≡ load.old.block) }
     ensures none { OnOk result (load.new ≡ none_open) }
     ensures err { OnErr result (load.new ≡ load.old) }
 {
-    let line = copy_bytes(alloc, line_text(load.line.as_bytes()))?;
+    let line = clipped(alloc, line_text(load.line.as_bytes()))?;
     let closed = mem::replace(load, none_open(alloc));
     Ok((line, closed.block))
 }

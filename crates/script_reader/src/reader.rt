@@ -1,11 +1,15 @@
 //! A reader of statements from pieces. What a line is to them is in `open_load`, where
 //! lines end in `pending_bytes`.
-ghost use Rattle.std.specs.Prelude.{◌≡◌, ℕ, ◌<◌, ◌≤◌, false, length, take, true, IfOk, IsErrOf, Ok, OnErr, OnOk};
-ghost use Rattle.script_reader.specs.Open.{WaitBehindLoad, TakesLast, none_open, reading_of};
-ghost use Rattle.script_reader.specs.Reading.{AnswersNext, StaysFed, WantsMemory, after_piece, no_reading};
+ghost use Rattle.std.specs.Prelude.{◌≡◌, ℕ, ◌<◌, ◌≤◌, [], false, length, true, IfOk, IsErrOf, Ok, OnErr, OnOk};
+ghost use Rattle.script_reader.specs.Script.{is_ended};
+ghost use Rattle.script_reader.specs.Short.{StandsFor};
+ghost use Rattle.script_reader.specs.declared.pending_bytes.TheConstants.{SHORTENED_BYTES};
+ghost use Rattle.script_reader.specs.Open.{AreParts, TakesLast, none_open, reading_of};
+ghost use Rattle.script_reader.specs.Reading.{AnswersNext, KeepsShort, StaysFed, WantsMemory, after_piece, no_reading};
 ghost use Rattle.script_reader.specs.declared.reader.FeedFault.TheVariants.{Memory};
 ghost use Rattle.script_reader.specs.declared.reader.NextStatement.TheVariants.{NotYet};
 
+use crate::lines::within;
 use crate::open_load::{OpenLoad, TakenLine, close, none_open, take_line};
 use crate::pending_bytes::PendingBytes;
 use crate::statement::{Block, Statement};
@@ -62,7 +66,7 @@ pub struct ScriptReader {
 
 impl Model for ScriptReader {
     ghost use Rattle.std.specs.Prelude.{◌≡◌, ◌+◌, ◌++◌, ◌≤◌, length};
-    ghost use Rattle.script_reader.specs.Open.{WaitBehindLoad, bytes_of, none_open};
+    ghost use Rattle.script_reader.specs.Open.{AreParts, bytes_of};
     ghost use Rattle.script_reader.specs.Reading.{Reading};
     ghost use Rattle.script_reader.specs.declared.reader.TheConstants.{SCRIPT_LIMIT};
 
@@ -75,8 +79,7 @@ impl Model for ScriptReader {
     } };
 
     ghost invariant = { λ reader. (reader.fed ≤ SCRIPT_LIMIT + 1)
-        × (length reader.load.line ≡ 0 → reader.load ≡ none_open)
-        × WaitBehindLoad reader.load reader.pending reader.ended };
+        × AreParts reader.load reader.pending reader.ended };
 }
 
 impl ScriptReader {
@@ -138,19 +141,9 @@ impl ScriptReader {
         ensures answers { IfOk result (AnswersNext self.old self.new) }
         ensures wanted { OnErr result (WantsMemory self.old self.new) }
         ensures stays { StaysFed self.old self.new }
+        ensures short { IfOk result (KeepsShort self.new) }
     {
         take_next(self.alloc, &mut self.load, &mut self.pending, self.ended)
-    }
-}
-
-/// The first bytes, as many as the limit at most.
-fn within(bytes: &[u8], limit: usize) -> &[u8]
-    ensures { result.now ≡ take limit bytes.now }
-{
-    if bytes.len() <= limit {
-        bytes
-    } else {
-        bytes.split_at(limit).0
     }
 }
 
@@ -161,17 +154,18 @@ fn take_next(
     pending: &mut PendingBytes,
     ended: bool,
 ) -> Result<NextStatement, NoMemory>
-    requires load { (length load.old.line ≡ 0) → load.old ≡ none_open }
-    requires left { WaitBehindLoad load.old pending.old ended }
+    requires { AreParts load.old pending.old ended }
     ensures answers { (fed : ℕ) → IfOk result (AnswersNext
         (reading_of load.old pending.old fed ended) (reading_of load.new pending.new fed ended)) }
     ensures wanted { (fed : ℕ) → OnErr result (WantsMemory
         (reading_of load.old pending.old fed ended) (reading_of load.new pending.new fed ended)) }
-    ensures load { (length load.new.line ≡ 0) → load.new ≡ none_open }
-    ensures left { WaitBehindLoad load.new pending.new ended }
+    ensures parts { AreParts load.new pending.new ended }
+    ensures short { (fed : ℕ) → IfOk result (KeepsShort
+        (reading_of load.new pending.new fed ended)) }
 {
     'lines: loop {
         let Some(len) = pending.line_len(ended) else {
+            keep_short(alloc, load, pending)?;
             return take_last(alloc, load, ended);
         };
         let line = pending.as_slice().split_at(len).0;
@@ -180,6 +174,24 @@ fn take_next(
         if let TakenLine::Whole(statement) = taken {
             return Ok(NextStatement::Got(statement));
         }
+    }
+}
+
+/// Keeps the line that is coming short, where no block is open: a line of a block is kept as it is.
+fn keep_short(alloc: Global, load: &OpenLoad, pending: &mut PendingBytes) -> Result<(), NoMemory>
+    requires none { is_ended pending.old ≡ false }
+    ensures open { 0 < length load.now.line → pending.new ≡ pending.old }
+    ensures stands { StandsFor pending.new pending.old }
+    ensures none { is_ended pending.new ≡ false }
+    ensures empty { pending.old ≡ [] → pending.new ≡ [] }
+    ensures short { OnOk result
+        (length load.now.line ≡ 0 → length pending.new < SHORTENED_BYTES) }
+    ensures err { OnErr result ((pending.new ≡ pending.old) × (0 < length pending.old)) }
+{
+    if load.line.is_empty() {
+        pending.shorten(alloc)
+    } else {
+        Ok(())
     }
 }
 

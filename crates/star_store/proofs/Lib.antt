@@ -25,6 +25,7 @@ mod AnswerLemmas
 mod StoreLemmas
 mod NameLemmas
 mod LineLemmas
+mod LongLineLemmas
 mod ReasonLemmas
 mod FormedLemmas
 mod ScriptLemmas

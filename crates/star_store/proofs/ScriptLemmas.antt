@@ -3,7 +3,7 @@ use Rattle.std.proofs.Common.{◌≡◌, ℕ, suc, ◌+◌, ◌<◌, ◌≤◌, 
 use Rattle.std.specs.Prelude.{◌||◌, IfSome}
 use Rattle.std.specs.Option.{option_map_or}
 use Rattle.std.proofs.lemmas.List.Elements.{All-cons, All-head, All-nil, All-tail}
-use Rattle.script_reader.specs.Script.{has_block, is_dot_line, is_ended, is_no_statement, line_text, lines_of, put_before, statements_in, statements_of, whole_lines}
+use Rattle.script_reader.specs.Script.{clipped, has_block, is_dot_line, is_ended, is_no_statement, line_text, lines_of, put_before, statements_in, statements_of, whole_lines}
 use Rattle.script_reader.specs.declared.reader.TheConstants.{SCRIPT_LIMIT}
 use Rattle.script_reader.specs.declared.statement.Statement.{Statement}
 use Rattle.script_reader.specs.declared.statement.Block.TheVariants.{Absent, Closed, Unclosed}
@@ -52,8 +52,8 @@ statements-few ended (line ∷ lines) =
     let Few = λ (l : List Statement). length l ≤ suc (length lines) in
     record {
       closed = either Few (is_no_statement text) (statements_in ended None lines) _ (let few = rest.closed in omega (arith, few))
-          (either Few (has_block text) (statements_in ended (Some (text, [])) lines) (record { line = text; block = Absent } ∷ statements_in ended None lines)
-          (rest.opened (text, [])) (let few = rest.closed in omega (arith, few)));
+          (either Few (has_block text) (statements_in ended (Some (clipped text, [])) lines) (record { line = clipped text; block = Absent } ∷ statements_in ended None lines)
+          (rest.opened (clipped text, [])) (let few = rest.closed in omega (arith, few)));
       opened = λ load. either (λ (l : List Statement). length l ≤ suc (suc (length lines))) (is_dot_line line)
           (record { line = load.0; block = Closed load.1 } ∷ statements_in ended None lines) (statements_in ended (Some (load.0, load.1 ++ line)) lines)
           (let few = rest.closed in omega (arith, few)) (let few = rest.opened (load.0, load.1 ++ line) in omega (arith, few));

@@ -10,6 +10,7 @@ mod declare;
 mod delete;
 mod done;
 mod ends;
+mod laws_of_long_lines;
 mod laws_of_queries;
 mod laws_of_scripts;
 mod laws_of_statements;
@@ -29,6 +30,7 @@ pub use crossing::{
 };
 pub use csv_load::BlockForm;
 pub use done::Done;
+pub use laws_of_long_lines::long_lines_are_answered_as_whole_ones;
 pub use laws_of_queries::selects_are_answered_by_the_rows_where_their_where_holds;
 pub use laws_of_scripts::{
     histories_of_scripts_are_accepted, replies_are_well_formed,
