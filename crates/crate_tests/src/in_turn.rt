@@ -170,6 +170,7 @@ impl Link for Watched<'_> {
 struct InTurn<'a> {
     links: IntoIter<PairLink>,
     asked: Option<u16>,
+    listening: bool,
     given: u64,
     ended: bool,
     notes: &'a Notes,
@@ -181,6 +182,7 @@ impl<'a> InTurn<'a> {
         InTurn {
             links: links.into_iter(),
             asked: None,
+            listening: false,
             given: 0,
             ended: false,
             notes,
@@ -189,24 +191,22 @@ impl<'a> InTurn<'a> {
 }
 
 impl<'a> Door for InTurn<'a> {
-    ghost use Rattle.std.specs.Prelude.{false, is_some};
+    ghost use Rattle.std.specs.Prelude.{false};
 
     type Link = Watched<'a>;
 
-    ghost door_faults = { λ _. 0 };
-
-    ghost door_failed = { λ _. false };
-
-    ghost asked = { λ s. s.asked };
-
-    ghost listening = { λ s. is_some s.asked };
-
-    ghost given = { λ s. s.given };
-
-    ghost ended = { λ s. s.ended };
+    ghost accepting = { λ s. record {
+      faults = 0;
+      failed = false;
+      asked = s.asked;
+      listening = s.listening;
+      given = s.given;
+      ended = s.ended;
+    } };
 
     fn listen(&mut self, port: u16) -> Result<(), Failed> {
         self.asked = Some(port);
+        self.listening = true;
         Ok(())
     }
 
@@ -228,6 +228,10 @@ impl<'a> Door for InTurn<'a> {
                 Ok(None)
             }
         }
+    }
+
+    fn close(&mut self) {
+        self.listening = false;
     }
 }
 

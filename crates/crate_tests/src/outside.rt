@@ -6,28 +6,48 @@ use script_run::Host;
 use session_server::serve;
 use star_io::{Door, Failed, ServeEnd, Sink, Source, StdSink, StdSource, TcpDoor};
 use std::hash::RandomState;
-use std::io::{self, ErrorKind, Read, Write};
+use std::io::{self, Eprint, ErrorKind, Read, Write};
 use std::net::{Ipv4Addr, Net, Shutdown, TcpListener, TcpStream};
 use std::sync::Wait;
 use std::thread::{Threads, join_mut, yield_now};
+use std::time::Clock;
 use worker_gate::NoGate;
 
-/// Fails at its second call, with an error at which std's own loops try again, and gives or takes
-/// two bytes at each other.
+/// Fails at its second call, with an error of this kind, and gives or takes two bytes at each other.
 #[derive(Drop)]
 struct FailsOnce {
     calls: u32,
+    kind: ErrorKind,
 }
 
 impl FailsOnce {
+    fn new(kind: ErrorKind) -> FailsOnce {
+        FailsOnce { calls: 0, kind }
+    }
+
     fn move_bytes(&mut self) -> io::Result<usize> {
         self.calls = self.calls.saturating_add(1);
         if self.calls == 2 {
-            return Err(ErrorKind::Interrupted.into());
+            return Err(self.kind.into());
         }
         Ok(2)
     }
 }
+
+/// Three calls, of which the second fails with an error of a kind: what they answer, how many
+/// faults are counted, and how many calls are made in all.
+type Case = (ErrorKind, [Result<usize, Failed>; 3], u64, u32);
+
+/// A call that a signal interrupts is tried again, and no other.
+const CASES: [Case; 2] = [
+    (ErrorKind::Interrupted, [Ok(2), Ok(2), Ok(2)], 0, 4),
+    (
+        ErrorKind::ConnectionReset,
+        [Ok(2), Err(Failed), Ok(2)],
+        1,
+        3,
+    ),
+];
 
 impl Read for FailsOnce {
     fn read(&mut self, into: &mut [u8]) -> io::Result<usize> {
@@ -46,32 +66,36 @@ impl Write for FailsOnce {
 }
 
 #[test]
-fn a_read_that_fails_is_not_tried_again(rt: HostRuntime) {
-    let mut reader = FailsOnce { calls: 0 };
-    let mut source = StdSource::new(&mut reader);
-    let mut into = [0; 4];
-    let reads = [
-        source.read(&mut into),
-        source.read(&mut into),
-        source.read(&mut into),
-    ];
-    assert_eq!(rt; reads, [Ok(2), Err(Failed), Ok(2)]);
-    assert_eq!(rt; source.faults(), 1);
-    assert_eq!(rt; reader.calls, 3);
+fn an_interrupted_read_alone_is_tried_again(rt: HostRuntime) {
+    for (kind, answers, faults, calls) in CASES {
+        let mut reader = FailsOnce::new(kind);
+        let mut source = StdSource::new(&mut reader);
+        let mut into = [0; 4];
+        let reads = [
+            source.read(&mut into),
+            source.read(&mut into),
+            source.read(&mut into),
+        ];
+        assert_eq!(rt; reads, answers);
+        assert_eq!(rt; source.faults(), faults);
+        assert_eq!(rt; reader.calls, calls);
+    }
 }
 
 #[test]
-fn a_write_that_fails_is_not_tried_again(rt: HostRuntime) {
-    let mut writer = FailsOnce { calls: 0 };
-    let mut sink = StdSink::new(&mut writer);
-    let writes = [
-        sink.write(b"star"),
-        sink.write(b"star"),
-        sink.write(b"star"),
-    ];
-    assert_eq!(rt; writes, [Ok(2), Err(Failed), Ok(2)]);
-    assert_eq!(rt; sink.faults(), 1);
-    assert_eq!(rt; writer.calls, 3);
+fn an_interrupted_write_alone_is_tried_again(rt: HostRuntime) {
+    for (kind, answers, faults, calls) in CASES {
+        let mut writer = FailsOnce::new(kind);
+        let mut sink = StdSink::new(&mut writer);
+        let writes = [
+            sink.write(b"star"),
+            sink.write(b"star"),
+            sink.write(b"star"),
+        ];
+        assert_eq!(rt; writes, answers);
+        assert_eq!(rt; sink.faults(), faults);
+        assert_eq!(rt; writer.calls, calls);
+    }
 }
 
 /// Whether a read into four bytes gives these.
@@ -155,10 +179,9 @@ const SERVER: RunSettings = RunSettings {
 };
 
 /// Serves the next connection that comes to a port.
-fn serve_one<R: Threads + Wait + Net<Listener = TcpListener, Stream = TcpStream> + Sync>(
-    host: Host<&R>,
-    port: u16,
-) -> ServeEnd {
+fn serve_one<
+    R: Threads + Wait + Net<Listener = TcpListener, Stream = TcpStream> + Clock + Eprint + Sync,
+>(host: Host<&R>, port: u16) -> ServeEnd {
     let mut door = TcpDoor::new(host.rt);
     serve(host, SERVER, port, 1, &mut door, &NoGate)
 }

@@ -60,7 +60,7 @@ pub fn work_beside<R: Threads + Wait + Sync, G: Gate + Sync, F: FnMut() -> A, A>
 
 /// Calls `each` at all members of a list, each in a thread of its own where one can be made, and
 /// `front` beside them.
-pub fn each_beside<R: Threads + Sync, E: Fn(usize, &mut T) + Sync, T: Send, F: FnMut() -> A, A>(
+fn each_beside<R: Threads + Sync, E: Fn(usize, &mut T) + Sync, T: Send, F: FnMut() -> A, A>(
     rt: &R,
     each: &E,
     members: &mut [T],

@@ -22,7 +22,7 @@ mod shared;
 mod waiting;
 
 pub use board_run::{Crew, open_crew};
-pub use board_seats::{each_beside, work_beside};
+pub use board_seats::work_beside;
 pub use halt::Halt;
 pub use host::Host;
 pub use laws::a_seat_alone_is_a_run;

@@ -66,12 +66,3 @@ fronts-pushed board fronts front rest rests place other low =
     (λ apart. subst (λ (at : SeatFront). IsAtRest board at.seat)
     (sym (get_or_append_left fronts (front ∷ []) other place (omega arith)))
     (rest place other (omega arith)))
-
--- each of them served
-pub fronts-served : (board : BoardLock Parts) (old new : List SeatFront) → length new ≡ length old
-    → ((place : ℕ) (other : SeatFront) → place < length old → IsAtRest board (get_or new place other).seat) → AreAtRest board new
-fronts-served board old new long rest place other low = rest place other (omega arith)
-
--- one that served, by another name
-pub served-as : (board : BoardLock Parts) (left new : SeatFront) → left ≡ new → IsAtRest board left.seat → IsAtRest board new.seat
-served-as board left new same = subst (λ (front : SeatFront). IsAtRest board front.seat) same

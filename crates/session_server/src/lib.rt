@@ -1,6 +1,7 @@
 //! Serves connections, many at once, by the seats of a board over one core.
 #![tactic(auto)]
 
+mod hand_over;
 mod seats;
 mod server;
 mod session;

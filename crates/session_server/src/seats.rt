@@ -1,24 +1,25 @@
 //! The seats of a server: how they are made, and how sessions are served by them, each in a thread
 //! of its own where one can be made. Where their connections come from is in `server`.
-ghost use Rattle.std.specs.Prelude.{◌≡◌, ◌+◌, ◌<◌, IfOk, OnOk, length};
+ghost use denote.Param.Send.{IsSend, IsSync};
+ghost use Rattle.std.specs.Prelude.{◌≡◌, ℕ, ◌+◌, ◌<◌, IfOk, OnOk, length};
 ghost use Rattle.board_lock.specs.Seats.{view_of};
 ghost use Rattle.core_state.specs.Settings.{AreWithin};
 ghost use Rattle.script_run.specs.BoardRun.{IsLeader, KnowsNew};
 ghost use Rattle.script_run.specs.Home.{IsAtRest};
 ghost use Rattle.session_server.specs.Server.{AreAtRest, HasSeatsLeft, IsNewServer};
 
+use crate::hand_over::Connections;
 use crate::session::serve_session;
 use board_lock::{BoardLock, BoardSeat};
 use core_state::RunSettings;
-use crossbeam_channel::Receiver;
 use event_core::Core;
-use script_run::{Crew, SeatFront, each_beside, open_crew};
+use script_run::{Crew, SeatFront, open_crew};
 use star_io::Link;
 use star_values::NoMemory;
 use std::alloc::Global;
 use std::hash::RandomState;
 use std::sync::Wait;
-use std::thread::Threads;
+use std::thread::{Threads, scope, scope_env};
 use worker_gate::Gate;
 
 /// A board over a core, and its seats: the first one, by which the one who takes connections may
@@ -100,32 +101,52 @@ fn make_fronts(
     Ok(fronts)
 }
 
-/// Lets the sessions serve the connections that come to them, and calls `receive` beside them. It
-/// ends when `receive` and all sessions have ended.
+/// Starts a thread for each front, which serves the connections that come to it, and calls `receive`
+/// with the number of threads that began. Where no thread can be made any more, the fronts that are
+/// left serve nothing. It ends when `receive` and all threads have ended.
 pub(crate) fn serve_beside<
     R: Threads + Wait + Sync,
     L: Link + Send + Drop,
     G: Gate + Sync,
-    F: FnMut() -> A,
+    F: FnMut(usize) -> A,
     A,
 >(
     rt: &R,
     board: &BoardLock<Core>,
     gate: &G,
-    links: &Receiver<L>,
+    links: &Connections<L>,
     fronts: &mut [SeatFront],
     receive: &mut F,
 ) -> A
     requires fronts { AreAtRest board.now fronts.old }
-    requires receive { F.pre receive.old }
-    ensures fronts { AreAtRest board.now fronts.new }
-    ensures receive { F.step receive.old result receive.new }
+    requires receive { (began : ℕ) → F.pre receive.old began }
+    ensures { (began : ℕ) × F.step receive.old began result receive.new }
 {
-    let by_front = move |_place: usize, front: &mut SeatFront|
-        requires { IsAtRest board.now front.now.seat }
-        ensures { IsAtRest board.entry.now front.exit.now.seat }
-    { serve_links(rt, board, gate, links, front) };
-    each_beside(rt, &by_front, fronts, receive)
+    let (receive, result) = scope(
+        scope_env(),
+        rt,
+        move |scope| -> (&mut F, A)
+            requires { (IsSync R.row × IsSync G.row × IsSend L.row) × AreAtRest board.now fronts.now
+                × ((began : ℕ) → F.pre receive.now began) }
+            ensures { (result.0.ghost_name ≡ receive.entry.ghost_name)
+                × ((began : ℕ) × F.step receive.entry.now began result.1 result.0.now) }
+        {
+            let mut began = 0;
+            for front in fronts.iter_mut() {
+                let serve = move ||
+                    requires { IsAtRest board.now front.now.seat }
+                { serve_links(rt, board, gate, links, front) };
+                if scope.spawn(serve).is_err() {
+                    break;
+                }
+                began += 1;
+            }
+            let result = receive(began);
+            (receive, result)
+        },
+    );
+    take_back(receive);
+    result
 }
 
 /// Serves the connections that come, one after the other, until no more do.
@@ -133,18 +154,25 @@ fn serve_links<R: Wait, L: Link + Drop, G: Gate>(
     rt: &R,
     board: &BoardLock<Core>,
     gate: &G,
-    links: &Receiver<L>,
+    links: &Connections<L>,
     front: &mut SeatFront,
 )
     requires { IsAtRest board.now front.old.seat }
     ensures { IsAtRest board.now front.new.seat }
 {
     'links: for _ in rt.forever() {
-        match links.recv(rt) {
-            Ok(mut link) => {
-                let _end = serve_session(rt, board, front, &mut link, gate);
-            }
-            Err(_) => return,
-        }
+        let Some(mut link) = links.next(rt) else {
+            return;
+        };
+        let _end = serve_session(rt, board, front, &mut link, gate);
+        // Closed before the reception takes the next one.
+        drop(link);
+        links.end(rt);
     }
 }
+
+/// Takes a reference that a scope gave back. It does nothing: the use alone tells that what was
+/// lent to the scope is as the scope left it.
+fn take_back<T>(lent: &mut T)
+    ensures { lent.new ≡ lent.old }
+{}

@@ -1,16 +1,17 @@
-//! Connections: each is taken at a door and handed to one of the sessions, many of which go on at
-//! once. By which seats they are served is in `seats`, and what one of them does in `session`.
-ghost use Rattle.std.specs.Prelude.{◌≡◌, ◌≢◌, ◌<◌, ◌⊎◌, true, Some};
+//! Connections: each is taken at a door while a session is free, and given to one of the sessions,
+//! many of which run at once. How the sessions run is in `seats`, and what one of them does in
+//! `session`.
+ghost use Rattle.std.specs.Prelude.{◌≡◌, ◌≢◌, ◌<◌, ◌⊎◌, true};
 ghost use Rattle.core_state.specs.Settings.{AreWithin};
 ghost use Rattle.script_run.specs.Home.{IsAtRest};
-ghost use Rattle.session_server.specs.Server.{AreAtRest, CanServe, CountsDoor, HasGiven};
-ghost use Rattle.session_server.specs.Server.{HasServed, TakesLinks, TellsNext};
+ghost use Rattle.session_server.specs.Server.{AreAtRest, CanServe, HasCome, HasGiven, HasServed};
+ghost use Rattle.session_server.specs.Server.{ServesPort, TakesLinks, TellsNext};
 
+use crate::hand_over::{Connections, FreeSessions, make_ways};
 use crate::seats::{Server, open_server, serve_beside};
 use crate::session::serve_session;
 use board_lock::BoardLock;
 use core_state::RunSettings;
-use crossbeam_channel::{Receiver, Sender, unbounded};
 use event_core::Core;
 use script_run::{Host, SeatFront, work_beside};
 use star_io::{Door, Failed, Link, ServeEnd};
@@ -18,9 +19,6 @@ use std::alloc::Global;
 use std::sync::Wait;
 use std::thread::Threads;
 use worker_gate::Gate;
-
-/// The two ends of the way by which connections come to the sessions.
-type Channel<L> = (Sender<L>, Receiver<L>);
 
 /// What is asked of a door.
 #[derive(Clone, Copy)]
@@ -32,15 +30,17 @@ struct DoorRequest {
     accept: u32,
 }
 
-/// The one who takes connections.
+/// The two ways between the one who takes connections and the sessions.
+type Ways<L> = (FreeSessions<L>, Connections<L>);
+
+/// Takes the connections.
 #[derive(Drop)]
 struct Reception<L> {
     /// Serves the connections that no session takes.
     own: SeatFront,
 
-    /// The way to the sessions, as long as connections are taken. There is none where there is no
-    /// session.
-    to: Option<Sender<L>>,
+    /// The sessions, many of which run at once.
+    sessions: FreeSessions<L>,
 
     /// How many connections are taken. 0 is no bound.
     accept: u32,
@@ -52,20 +52,21 @@ struct Sessions<L> {
     fronts: Vec<SeatFront>,
 
     /// Where the connections come from.
-    links: Receiver<L>,
+    links: Connections<L>,
 }
 
 /// Listens at a port of this machine, and serves connections until the door ends or so many were
-/// taken, where that number is not 0. Each connection is handed to one of the threads of sessions,
-/// each of which serves one connection after the other by a seat of its own; workers work beside
-/// them. What a hand-over gives back, and what no thread serves, the caller serves.
+/// taken, if that number is not 0. Each connection is given to one of the threads of sessions, each
+/// of which serves one connection after the other by a seat of its own; workers work beside them. A
+/// connection is taken from the door only while a session is free. If no thread can be made for a
+/// session, the caller serves the connections itself, one after the other.
 ///
-/// Each session sees what was committed before its statements, by whomever. One that ends early
-/// leaves the others. At the end the sessions come to theirs, then the core is marked closing, the
-/// workers end, and the board goes.
+/// Each session sees what was committed before its statements, by any session. One that ends early
+/// leaves the others. After the last connection was taken the door is closed, the sessions end, the
+/// core is marked closing, the workers end, and the board is dropped.
 ///
-/// The core is made before the door is asked: where it finds no memory, the door is untouched. It
-/// hashes by the keys of the host, on which no reply depends.
+/// The core is made before the door is asked: if there is no memory for it, the door is untouched.
+/// It hashes by the keys of the host, on which no reply depends.
 pub fn serve<R: Threads + Wait + Sync, D: Door, G: Gate + Sync>(
     host: Host<&R>,
     settings: RunSettings,
@@ -76,23 +77,20 @@ pub fn serve<R: Threads + Wait + Sync, D: Door, G: Gate + Sync>(
 ) -> ServeEnd
     requires settings { AreWithin settings }
     requires seats { settings.workers < settings.seats }
-    ensures asked { result ≢ ServeEnd.NoMemory → D.asked door.new ≡ Some port }
-    ensures ended { result ≡ ServeEnd.Ended → (D.ended door.new ≡ true)
-        ⊎ ((accept ≢ 0) × HasGiven accept (D.given door.old) (D.given door.new)) }
-    ensures faults { CountsDoor result
-        (D.door_faults door.old) (D.door_faults door.new) (D.door_failed door.new) }
+    ensures serves { result ≢ ServeEnd.NoMemory
+        → ServesPort port accept result (D.accepting door.old) (D.accepting door.new) }
     ensures untouched { result ≡ ServeEnd.NoMemory → door.new ≡ door.old }
 {
     let Ok(server) = open_server(host.alloc, host.hash_keys, settings) else {
         return ServeEnd::NoMemory;
     };
     let asked = DoorRequest { port, accept };
-    open_links(host.rt, host.alloc, server, asked, door, gate)
+    open_ways(host.rt, host.alloc, server, asked, door, gate)
 }
 
-/// Makes the way to the sessions, and listens. Where no memory is left for it, the door is
+/// Makes the ways to the sessions, and listens. If there is no memory for them, the door is
 /// untouched.
-fn open_links<R: Threads + Wait + Sync, D: Door, G: Gate + Sync>(
+fn open_ways<R: Threads + Wait + Sync, D: Door, G: Gate + Sync>(
     rt: &R,
     alloc: Global,
     server: Server,
@@ -101,60 +99,51 @@ fn open_links<R: Threads + Wait + Sync, D: Door, G: Gate + Sync>(
     gate: &G,
 ) -> ServeEnd
     requires server { CanServe server }
-    ensures asked { result ≢ ServeEnd.NoMemory → D.asked door.new ≡ Some asked.port }
-    ensures ended { result ≡ ServeEnd.Ended → (D.ended door.new ≡ true)
-        ⊎ ((asked.accept ≢ 0) × HasGiven asked.accept (D.given door.old) (D.given door.new)) }
-    ensures faults { CountsDoor result
-        (D.door_faults door.old) (D.door_faults door.new) (D.door_failed door.new) }
+    ensures serves { result ≢ ServeEnd.NoMemory
+        → ServesPort asked.port asked.accept result (D.accepting door.old) (D.accepting door.new) }
     ensures untouched { result ≡ ServeEnd.NoMemory → door.new ≡ door.old }
 {
-    let Ok(channel) = unbounded::<D::Link, Global>(alloc) else {
+    let Ok(ways) = make_ways::<D::Link>(alloc, server.sessions.len()) else {
         drop(server);
         return ServeEnd::NoMemory;
     };
-    listen(rt, server, channel, asked, door, gate)
+    listen(rt, server, ways, asked, door, gate)
 }
 
 /// Listens at a port, and serves connections by a server that is made.
 fn listen<R: Threads + Wait + Sync, D: Door, G: Gate + Sync>(
     rt: &R,
     server: Server,
-    channel: Channel<D::Link>,
+    ways: Ways<D::Link>,
     asked: DoorRequest,
     door: &mut D,
     gate: &G,
 ) -> ServeEnd
     requires server { CanServe server }
-    ensures asked { D.asked door.new ≡ Some asked.port }
-    ensures ended { result ≡ ServeEnd.Ended → (D.ended door.new ≡ true)
-        ⊎ ((asked.accept ≢ 0) × HasGiven asked.accept (D.given door.old) (D.given door.new)) }
     ensures served { result ≢ ServeEnd.NoMemory }
-    ensures faults { CountsDoor result
-        (D.door_faults door.old) (D.door_faults door.new) (D.door_failed door.new) }
+    ensures serves { ServesPort asked.port asked.accept result (D.accepting door.old) (D.accepting door.new) }
 {
     match door.listen(asked.port) {
         Err(Failed) => {
             drop(server);
             ServeEnd::DoorFault
         }
-        Ok(()) => serve_door(rt, server, channel, asked.accept, door, gate),
+        Ok(()) => serve_door(rt, server, ways, asked.accept, door, gate),
     }
 }
 
-/// Serves the connections of a door that listens, with workers beside those who serve them.
+/// Serves the connections of a door that listens, with workers beside the sessions.
 fn serve_door<R: Threads + Wait + Sync, D: Door, G: Gate + Sync>(
     rt: &R,
     server: Server,
-    channel: Channel<D::Link>,
+    ways: Ways<D::Link>,
     accept: u32,
     door: &mut D,
     gate: &G,
 ) -> ServeEnd
     requires server { CanServe server }
-    requires listening { D.listening door.old ≡ true }
-    ensures { HasServed accept result (D.asked door.old) (D.asked door.new) (D.ended door.new)
-        (D.given door.old) (D.given door.new)
-        (D.door_faults door.old) (D.door_faults door.new) (D.door_failed door.new) }
+    requires listening { (D.accepting door.old).listening ≡ true }
+    ensures { HasServed accept result (D.accepting door.old) (D.accepting door.new) }
 {
     let Server {
         board,
@@ -162,18 +151,18 @@ fn serve_door<R: Threads + Wait + Sync, D: Door, G: Gate + Sync>(
         mut workers,
         sessions: fronts,
     } = server;
-    let (to, links) = channel;
-    let to = way_to(to, fronts.len());
-    let mut reception = Reception { own, to, accept };
+    let (free, links) = ways;
+    let mut reception = Reception {
+        own,
+        sessions: free,
+        accept,
+    };
     let mut sessions = Sessions { fronts, links };
     let mut play = ||
         requires { AreAtRest board sessions.fronts.items × IsAtRest board reception.own.seat
-            × (D.listening door.now ≡ true) }
+            × ((D.accepting door.now).listening ≡ true) }
         ensures { HasServed reception.entry.accept result
-            (D.asked door.entry.now) (D.asked door.exit.now) (D.ended door.exit.now)
-            (D.given door.entry.now) (D.given door.exit.now)
-            (D.door_faults door.entry.now) (D.door_faults door.exit.now)
-            (D.door_failed door.exit.now) }
+            (D.accepting door.entry.now) (D.accepting door.exit.now) }
     { serve_sessions(rt, &board, gate, &mut sessions, &mut reception, door) };
     let end = work_beside(rt, &board, gate, workers.as_mut_slice(), &mut play);
     drop(sessions);
@@ -181,14 +170,6 @@ fn serve_door<R: Threads + Wait + Sync, D: Door, G: Gate + Sync>(
     drop(workers);
     drop(board);
     end
-}
-
-/// The way to the sessions, if there are some.
-fn way_to<L: Drop>(to: Sender<L>, sessions: usize) -> Option<Sender<L>> {
-    if sessions == 0 {
-        return None;
-    }
-    Some(to)
 }
 
 /// Takes connections beside the sessions, and marks the core closing once all of them have ended.
@@ -202,35 +183,27 @@ fn serve_sessions<R: Threads + Wait + Sync, D: Door, G: Gate + Sync>(
 ) -> ServeEnd
     requires sessions { AreAtRest board.now sessions.old.fronts.items }
     requires own { IsAtRest board.now reception.old.own.seat }
-    requires listening { D.listening door.old ≡ true }
-    ensures { HasServed reception.old.accept result
-        (D.asked door.old) (D.asked door.new) (D.ended door.new)
-        (D.given door.old) (D.given door.new)
-        (D.door_faults door.old) (D.door_faults door.new) (D.door_failed door.new) }
+    requires listening { (D.accepting door.old).listening ≡ true }
+    ensures { HasServed reception.old.accept result (D.accepting door.old) (D.accepting door.new) }
 {
-    let mut receive = ||
-        requires { IsAtRest board.now reception.now.own.seat × (D.listening door.now ≡ true) }
+    let mut receive = |began: usize|
+        requires { IsAtRest board.now reception.now.own.seat
+            × ((D.accepting door.now).listening ≡ true) }
         ensures { IsAtRest board.entry.now reception.exit.now.own.seat
             × HasServed reception.entry.now.accept result
-            (D.asked door.entry.now) (D.asked door.exit.now) (D.ended door.exit.now)
-            (D.given door.entry.now) (D.given door.exit.now)
-            (D.door_faults door.entry.now) (D.door_faults door.exit.now)
-            (D.door_failed door.exit.now) }
-    { take_links(rt, board, gate, reception, door) };
-    let end = serve_beside(
-        rt,
-        board,
-        gate,
-        &sessions.links,
-        sessions.fronts.as_mut_slice(),
-        &mut receive,
-    );
+            (D.accepting door.entry.now) (D.accepting door.exit.now) }
+    {
+        reception.sessions.begin(began);
+        take_links(rt, board, gate, reception, door)
+    };
+    let fronts = sessions.fronts.as_mut_slice();
+    let end = serve_beside(rt, board, gate, &sessions.links, fronts, &mut receive);
     reception.own.close(rt, board);
     end
 }
 
-/// Takes connections until the door ends or so many were taken, where that number is not 0. Behind
-/// them no more come to the sessions.
+/// Takes connections until the door ends or so many were taken, if that number is not 0. Then the
+/// door is closed, and no more come to the sessions.
 fn take_links<R: Wait, D: Door, G: Gate>(
     rt: &R,
     board: &BoardLock<Core>,
@@ -239,20 +212,19 @@ fn take_links<R: Wait, D: Door, G: Gate>(
     door: &mut D,
 ) -> ServeEnd
     requires own { IsAtRest board.now reception.old.own.seat }
-    requires listening { D.listening door.old ≡ true }
+    requires listening { (D.accepting door.old).listening ≡ true }
     ensures own { IsAtRest board.now reception.new.own.seat }
     ensures served { HasServed reception.old.accept result
-        (D.asked door.old) (D.asked door.new) (D.ended door.new)
-        (D.given door.old) (D.given door.new)
-        (D.door_faults door.old) (D.door_faults door.new) (D.door_failed door.new) }
+        (D.accepting door.old) (D.accepting door.new) }
 {
     let accept = reception.accept;
     let end = take_counted(rt, board, gate, reception, accept, door);
-    drop(reception.to.take());
+    door.close();
+    reception.sessions.close();
     end
 }
 
-/// Takes connections until the door ends or so many were taken, where that number is not 0.
+/// Takes connections until the door ends or so many were taken, if that number is not 0.
 fn take_counted<R: Wait, D: Door, G: Gate>(
     rt: &R,
     board: &BoardLock<Core>,
@@ -262,12 +234,10 @@ fn take_counted<R: Wait, D: Door, G: Gate>(
     door: &mut D,
 ) -> ServeEnd
     requires own { IsAtRest board.now reception.old.own.seat }
-    requires listening { D.listening door.old ≡ true }
+    requires listening { (D.accepting door.old).listening ≡ true }
     ensures own { IsAtRest board.now reception.new.own.seat }
-    ensures served { HasServed accept result
-        (D.asked door.old) (D.asked door.new) (D.ended door.new)
-        (D.given door.old) (D.given door.new)
-        (D.door_faults door.old) (D.door_faults door.new) (D.door_failed door.new) }
+    ensures ended { HasCome accept result (D.accepting door.old) (D.accepting door.new) }
+    ensures takes { TakesLinks (Some result) (D.accepting door.old) (D.accepting door.new) }
 {
     if accept == 0 {
         return take_all(rt, board, gate, reception, door);
@@ -284,11 +254,10 @@ fn take_all<R: Wait, D: Door, G: Gate>(
     door: &mut D,
 ) -> ServeEnd
     requires own { IsAtRest board.now reception.old.own.seat }
-    requires listening { D.listening door.old ≡ true }
+    requires listening { (D.accepting door.old).listening ≡ true }
     ensures own { IsAtRest board.now reception.new.own.seat }
-    ensures ended { result ≡ ServeEnd.Ended → D.ended door.new ≡ true }
-    ensures takes { TakesLinks (Some result) (D.asked door.old) (D.asked door.new)
-        (D.door_faults door.old) (D.door_faults door.new) (D.door_failed door.new) }
+    ensures ended { result ≡ ServeEnd.Ended → (D.accepting door.new).ended ≡ true }
+    ensures takes { TakesLinks (Some result) (D.accepting door.old) (D.accepting door.new) }
 {
     'links: for _ in rt.forever() {
         if let Some(end) = take_next(rt, board, gate, reception, door) {
@@ -298,7 +267,7 @@ fn take_all<R: Wait, D: Door, G: Gate>(
     unreachable!()
 }
 
-/// Takes so many connections, or fewer where the door ends before.
+/// Takes so many connections, or fewer if the door ends before.
 fn take_some<R: Wait, D: Door, G: Gate>(
     rt: &R,
     board: &BoardLock<Core>,
@@ -308,12 +277,11 @@ fn take_some<R: Wait, D: Door, G: Gate>(
     door: &mut D,
 ) -> ServeEnd
     requires own { IsAtRest board.now reception.old.own.seat }
-    requires listening { D.listening door.old ≡ true }
+    requires listening { (D.accepting door.old).listening ≡ true }
     ensures own { IsAtRest board.now reception.new.own.seat }
-    ensures ended { result ≡ ServeEnd.Ended → (D.ended door.new ≡ true)
-        ⊎ HasGiven accept (D.given door.old) (D.given door.new) }
-    ensures takes { TakesLinks (Some result) (D.asked door.old) (D.asked door.new)
-        (D.door_faults door.old) (D.door_faults door.new) (D.door_failed door.new) }
+    ensures ended { result ≡ ServeEnd.Ended → ((D.accepting door.new).ended ≡ true)
+        ⊎ HasGiven accept (D.accepting door.old).given (D.accepting door.new).given }
+    ensures takes { TakesLinks (Some result) (D.accepting door.old) (D.accepting door.new) }
 {
     'links: for _taken in 0..accept {
         if let Some(end) = take_next(rt, board, gate, reception, door) {
@@ -323,7 +291,8 @@ fn take_some<R: Wait, D: Door, G: Gate>(
     ServeEnd::Ended
 }
 
-/// Takes the next connection and hands it on. Where none comes, the end of the serving is answered.
+/// Takes the next connection, once a session is free, and gives it to a session. If none comes, the
+/// end of the serving is answered.
 fn take_next<R: Wait, D: Door, G: Gate>(
     rt: &R,
     board: &BoardLock<Core>,
@@ -332,13 +301,13 @@ fn take_next<R: Wait, D: Door, G: Gate>(
     door: &mut D,
 ) -> Option<ServeEnd>
     requires own { IsAtRest board.now reception.old.own.seat }
-    requires listening { D.listening door.old ≡ true }
+    requires listening { (D.accepting door.old).listening ≡ true }
     ensures own { IsAtRest board.now reception.new.own.seat }
-    ensures listening { D.listening door.new ≡ true }
-    ensures takes { TakesLinks result (D.asked door.old) (D.asked door.new)
-        (D.door_faults door.old) (D.door_faults door.new) (D.door_failed door.new) }
-    ensures tells { TellsNext result (D.given door.old) (D.given door.new) (D.ended door.new) }
+    ensures listening { (D.accepting door.new).listening ≡ true }
+    ensures takes { TakesLinks result (D.accepting door.old) (D.accepting door.new) }
+    ensures tells { TellsNext result (D.accepting door.old) (D.accepting door.new) }
 {
+    reception.sessions.wait(rt);
     match door.accept() {
         Err(Failed) => Some(ServeEnd::DoorFault),
         Ok(None) => Some(ServeEnd::Ended),
@@ -349,7 +318,7 @@ fn take_next<R: Wait, D: Door, G: Gate>(
     }
 }
 
-/// Hands a connection to the sessions. One that none of them takes is served here, however its
+/// Gives a connection to the sessions. One that none of them takes is served here, however its
 /// session ends.
 fn hand_on<R: Wait, L: Link + Drop, G: Gate>(
     rt: &R,
@@ -361,19 +330,8 @@ fn hand_on<R: Wait, L: Link + Drop, G: Gate>(
     requires { IsAtRest board.now reception.old.own.seat }
     ensures { IsAtRest board.now reception.new.own.seat }
 {
-    let Some(mut link) = send_on(rt, &reception.to, link) else {
+    let Some(mut link) = reception.sessions.give(rt, link) else {
         return;
     };
     let _end = serve_session(rt, board, &mut reception.own, &mut link, gate);
-}
-
-/// Sends a connection to the sessions, and gives it back where none of them takes it.
-fn send_on<R: Wait, L: Drop>(rt: &R, to: &Option<Sender<L>>, link: L) -> Option<L> {
-    let Some(to) = to else {
-        return Some(link);
-    };
-    match to.send(rt, link) {
-        Ok(()) => None,
-        Err(refused) => Some(refused.into_inner()),
-    }
 }

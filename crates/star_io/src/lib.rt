@@ -3,12 +3,14 @@
 //! crate stands on std alone.
 #![tactic(auto)]
 
+mod again;
 mod door;
 mod failed;
 mod laws;
 mod link;
 mod list_door;
 mod list_sink;
+mod os_errors;
 mod pair_link;
 mod piece_source;
 mod run_end;

@@ -1,7 +1,7 @@
-//! A door in memory that hands out links that it was given, and fails where it is told to.
+//! A door in memory that gives out links that it was given, and fails where it is told to.
 ghost use Rattle.std.specs.Prelude.{◌≡◌, true, false, None, IsOk};
-ghost use Rattle.star_io.specs.Faults.{TellsFault};
-ghost use Rattle.star_io.specs.Door.{CountsLink};
+ghost use Rattle.star_io.specs.Door.{Accepts};
+ghost use Rattle.star_io.specs.ListDoor.{door_side};
 
 use crate::door::Door;
 use crate::failed::Failed;
@@ -9,7 +9,7 @@ use crate::pair_link::PairLink;
 use std::marker::Model;
 use std::vec::IntoIter;
 
-/// A door that hands out its links in order, each once, and has ended after the last of them. The
+/// A door that gives out its links in order, each once, and has ended after the last of them. The
 /// calls of `accept` whose numbers, counted from 0, are listed fail, and lose no link.
 ///
 /// Numbers and counts stand still at the last value of a `u64`.
@@ -75,21 +75,11 @@ impl ListDoor {
 }
 
 impl Door for ListDoor {
-    ghost use Rattle.star_io.specs.ListDoor.{HandsOutNext, after_listen};
+    ghost use Rattle.star_io.specs.ListDoor.{GivesNext, after_close, after_listen};
 
     type Link = PairLink;
 
-    ghost door_faults = { λ s. s.faults };
-
-    ghost door_failed = { λ s. s.failed };
-
-    ghost asked = { λ s. s.asked };
-
-    ghost listening = { λ s. s.listening };
-
-    ghost given = { λ s. s.given };
-
-    ghost ended = { λ s. s.ended };
+    ghost accepting = { door_side };
 
     // It never fails.
     fn listen(&mut self, port: u16) -> Result<(), Failed>
@@ -106,14 +96,10 @@ impl Door for ListDoor {
         requires { self.old.listening ≡ true }
 
         // As every door.
-        ensures fault { TellsFault self.old.faults self.new.faults self.new.failed result }
-        ensures asked { self.new.asked ≡ self.old.asked }
-        ensures listening { self.new.listening ≡ self.old.listening }
-        ensures link { CountsLink self.old.given self.new.given
-            self.old.ended self.new.ended result }
+        ensures accepts { Accepts (door_side self.old) (door_side self.new) result }
 
-        // The listed calls fail, another hands out the next link, or tells the end.
-        ensures next { HandsOutNext self.old self.new result }
+        // The listed calls fail, another gives out the next link, or tells the end.
+        ensures next { GivesNext self.old self.new result }
     {
         let number = self.calls;
         self.calls = number.saturating_add(1);
@@ -129,5 +115,11 @@ impl Door for ListDoor {
             None => self.ended = true,
         }
         Ok(link)
+    }
+
+    fn close(&mut self)
+        ensures state { self.new ≡ after_close self.old }
+    {
+        self.listening = false;
     }
 }

@@ -2,12 +2,14 @@
 //! sockets.
 ghost use Rattle.std.specs.Prelude.{◌≡◌, false};
 
+use crate::again::{read_again, write_again};
 use crate::failed::Failed;
 use crate::sink::Sink;
 use crate::source::Source;
 use std::io::{Read, Write};
 
-/// A source over a reader. A read of the reader that fails, for whatever reason, is a fault.
+/// A source over a reader. A read that a signal interrupts is tried again. One that fails for another
+/// reason is a fault.
 ///
 /// The count of faults stands still at the last value of a `u64`.
 #[derive(Drop)]
@@ -51,7 +53,7 @@ impl<R: Read> Source for StdSource<R> {
     } };
 
     fn read(&mut self, into: &mut [u8]) -> Result<usize, Failed> {
-        match self.reader.read(into) {
+        match read_again(&mut self.reader, into) {
             Ok(n) => {
                 self.failed = false;
                 self.ended = n == 0 || self.ended;
@@ -66,8 +68,8 @@ impl<R: Read> Source for StdSource<R> {
     }
 }
 
-/// A sink over a writer. A write that fails, for whatever reason, is a fault, and so is one that
-/// takes nothing.
+/// A sink over a writer. A write that a signal interrupts is tried again. One that fails for another
+/// reason is a fault, and so is one that takes nothing.
 ///
 /// It never flushes: over a writer with a buffer, what was taken may still stand in the buffer.
 /// The count of faults stands still at the last value of a `u64`.
@@ -109,7 +111,7 @@ impl<W: Write> Sink for StdSink<W> {
     } };
 
     fn write(&mut self, bytes: &[u8]) -> Result<usize, Failed> {
-        match self.writer.write(bytes) {
+        match write_again(&mut self.writer, bytes) {
             Ok(n) if n > 0 => {
                 self.failed = false;
                 Ok(n)

@@ -1,13 +1,13 @@
 //! A real link, over one of the system's TCP connections.
+use crate::again::{read_again, write_again};
 use crate::failed::Failed;
 use crate::link::Link;
 use crate::sink::Sink;
 use crate::source::Source;
-use std::io::{Read, Write};
 use std::net::TcpStream;
 
-/// A link over a TCP connection. A read or a write that fails, for whatever reason, is a fault, and
-/// so is a write that takes nothing.
+/// A link over a TCP connection. A read or a write that a signal interrupts is tried again. One
+/// that fails for another reason is a fault, and so is a write that takes nothing.
 ///
 /// The counts of faults stand still at the last value of a `u64`.
 #[derive(Drop)]
@@ -43,7 +43,7 @@ impl Source for TcpLink {
     ghost writing_side = { λ link. Some (tcp_writing link) };
 
     fn read(&mut self, into: &mut [u8]) -> Result<usize, Failed> {
-        match self.stream.read(into) {
+        match read_again(&mut self.stream, into) {
             Ok(n) => {
                 self.read_failed = false;
                 self.ended = n == 0 || self.ended;
@@ -67,7 +67,7 @@ impl Sink for TcpLink {
     ghost reading_side = { λ link. Some (tcp_reading link) };
 
     fn write(&mut self, bytes: &[u8]) -> Result<usize, Failed> {
-        match self.stream.write(bytes) {
+        match write_again(&mut self.stream, bytes) {
             Ok(n) if n > 0 => {
                 self.write_failed = false;
                 Ok(n)

@@ -1,24 +1,19 @@
 -- How a call ends of which nothing failed, from the headline and the causes of its status.
 use Rattle.std.specs.Prelude.{IfSome}
-use Rattle.std.proofs.Common.{◌≡◌, ◌∙◌, ◌⊎◌, inl, inr, ℕ, Bool, Option, Some, None, sym, subst}
-use Rattle.star_io.specs.Faults.{FailedOnce}
+use Rattle.std.proofs.Common.{◌≡◌, ◌∙◌, inl, inr, ℕ, Option, Some, None, sym, subst}
 use Rattle.star_io.specs.Link.{ReadingSide, WritingSide}
 use Rattle.star_io.specs.declared.run_end.RunEnd.{RunEnd}
 use Rattle.star_io.specs.declared.run_end.RunEnd.TheVariants.{Clean, SomeRefused, ReadFault, WriteFault, NoMemory, ScriptLimit}
-use Rattle.star_io.specs.declared.serve_end.ServeEnd.{ServeEnd}
-use Rattle.star_io.specs.declared.serve_end.ServeEnd.TheVariants as serve_end
 use Rattle.core_state.specs.declared.settings.RunSettings.{RunSettings}
 use Rattle.event_core.specs.Parts.{Parts}
 use Rattle.script_run.specs.Run.{AnswersScript}
 use Rattle.make_load.specs.Made.{AnswersMade}
 use Rattle.make_load.specs.declared.made.MadeEnd.{MadeEnd}
 use Rattle.make_load.specs.declared.made.MadeEnd.TheVariants as made_end
-use Rattle.session_server.specs.Server.{CountsDoor}
 use Rattle.star_main.specs.Complete.{EndsMade, EndsScript, IsComplete, ReadFailed, WriteFailed}
 use Rattle.star_main.specs.Headline.{Headline, HasCause, status_of}
 use Rattle.star_main.specs.Made.{MadeHeadline, made_status_of}
-use Rattle.star_main.specs.Modes.{HasScript, IsMade, RunsSource, Serves, Works, run_settings_of}
-use Rattle.star_main.specs.Serving.{ServeHeadline, serve_status_of}
+use Rattle.star_main.specs.Modes.{HasScript, IsMade, RunsSource, Works, run_settings_of}
 use Rattle.star_main.specs.declared.settings.Mode.TheVariants.{Make, Serve}
 use Rattle.star_main.specs.declared.settings.Settings.{Settings}
 use Rattle.star_main.proofs.WorkLemmas.{works-apart}
@@ -44,12 +39,6 @@ made-ends Alone size seed rows core made_end.SomeRefused status from from' to to
 made-ends Alone size seed rows core made_end.WriteFault status from from' to to' told answers causes write =
     absurd (write (causes.write_fault told).1)
 made-ends Alone size seed rows core made_end.NoMemory status from from' to to' told answers causes write = inr (inr told)
-
-served-ends : (end : ServeEnd) (status faults faults' : ℕ) (failed : Bool) → status ≡ serve_status_of end
-    → CountsDoor end faults faults' failed → ¬ FailedOnce faults faults' failed → (status ≡ 0) ⊎ (status ≡ 5)
-served-ends serve_end.Ended status faults faults' failed told counts door = inl told
-served-ends serve_end.NoMemory status faults faults' failed told counts door = inr told
-served-ends serve_end.DoorFault status faults faults' failed told counts door = absurd (door counts)
 
 -- a script was run
 pub complete-script : (settings : Settings) (size : RunSettings) (core : Option Parts) (status : ℕ) (from from' : ReadingSide)
@@ -85,17 +74,6 @@ complete-works settings core status from from' to to' DoorFailed works scripted 
       made-ends (settings.workers ≡ 0) (run_settings_of settings) settings.seed settings.rows core headline.end status from from' to to'
       headline.told headline.answers causes;
   served = λ serves. absurd (works-apart settings works serves);
-}
-
--- connections were served
-pub complete-served : (settings : Settings) (status : ℕ) (from from' : ReadingSide) (to to' : WritingSide) (asked' : Option ℕ)
-    (ended' : Bool) (given given' faults faults' : ℕ) (failed : Bool) → Serves settings
-    → ServeHeadline settings.port settings.accept status asked' ended' given given' faults faults' failed
-    → IsComplete settings status from from' to to' (FailedOnce faults faults' failed)
-complete-served settings status from from' to to' asked' ended' given given' faults faults' failed is headline = record {
-  script = λ has. absurd (subst RunsSource is has);
-  made = λ made. let wrong : Serve ≡ Make = sym is ∙ made in cc;
-  served = λ _. served-ends headline.end status faults faults' failed headline.told headline.counts;
 }
 
 -- no memory was left for the words, whatever settings they name

@@ -1,5 +1,5 @@
--- What `clap` makes of words, readers of words, and the table of options; and the headline from what
--- a run promises.
+-- What `clap` makes of words, readers of words, and the table of options; what is wrong with words;
+-- and the headline from what a run promises.
 pub mod ValueLemmas
 pub mod TableLemmas
 mod RangeLemmas
@@ -14,6 +14,10 @@ pub mod ReaderLemmas
 pub mod ReadingLemmas
 pub mod AnswerLemmas
 pub mod SettingsLemmas
+mod FineLemmas
+mod WordFaultLemmas
+mod FaultLemmas
+mod HelpLemmas
 mod HeadlineLemmas
 mod CompleteLemmas
 mod MadeLemmas

@@ -22,7 +22,7 @@ number_of_hyphen text true true = refl
 number_of_hyphen text true false = refl
 number_of_hyphen text false b = refl
 
-hyphen_is_no_number : (text : Text) (numbers : OptionNumbers) → number_in numbers (45 ∷ text) ≡ None
+pub hyphen_is_no_number : (text : Text) (numbers : OptionNumbers) → number_in numbers (45 ∷ text) ≡ None
 hyphen_is_no_number text numbers =
     ap (λ b. option_and_then (within numbers) (cond b (Some (digits_value 10 (45 ∷ text))) None))
     (number_of_hyphen text (not (length (45 ∷ text) == 0)) (nat_le (length (45 ∷ text)) MAX_DIGITS))
@@ -101,7 +101,7 @@ is_not true e = sym e
 is_not false e = refl
 
 -- an entry among new ones is known, and none before it has its name
-new_entry : (known named : List Text) (front : List NamedOption) (entry : NamedOption) (rest : List NamedOption) → are_new known named (front ++ entry ∷ rest) ≡ true
+pub new_entry : (known named : List Text) (front : List NamedOption) (entry : NamedOption) (rest : List NamedOption) → are_new known named (front ++ entry ∷ rest) ≡ true
     → (is_among known entry.name ≡ true) × (is_among named entry.name ≡ false) × (value_of (front ++ entry ∷ rest) entry.name ≡ Some entry.value)
 new_entry known named [] entry rest e =
     let parts = and_parts (is_among known entry.name) _ e in

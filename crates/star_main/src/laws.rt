@@ -1,13 +1,25 @@
 //! What follows from the table for words of one kind, and for all words.
-ghost use Rattle.std.specs.Prelude.{◌≡◌, true, None, List, IfSome, codes};
+ghost use Rattle.std.specs.Prelude.{◌≡◌, ◌↔◌, true, None, List, IfSome, IsNone, IsSome, codes};
+ghost use Rattle.star_main.specs.Help.{asks_for_help};
 ghost use Rattle.star_main.specs.Ranges.{AreInRange};
 ghost use Rattle.star_main.specs.Table.{is_among, settings_of};
+ghost use Rattle.star_main.specs.WordFault.{fault_of_words};
 ghost use Rattle.star_main.specs.Words.{Text};
 ghost use Rattle.star_main.specs.declared.limits.TheConstants.{WORKERS, SLOTS, BATCH, SEED, ROWS, PORT, ACCEPT};
 
 /// Words with `--` among them name no settings, wherever it stands.
 pub(crate) fn two_hyphens_name_no_settings()
     ensures { (words : List Text) → is_among words (codes "--") ≡ true → settings_of words ≡ None }
+{}
+
+/// Words name no settings exactly if they have a fault.
+pub(crate) fn words_without_settings_have_a_fault()
+    ensures { (words : List Text) → IsNone (settings_of words) ↔ IsSome (fault_of_words words) }
+{}
+
+/// Words that ask for help name no settings.
+pub(crate) fn words_that_ask_for_help_name_no_settings()
+    ensures { (words : List Text) → asks_for_help words ≡ true → IsNone (settings_of words) }
 {}
 
 /// Each number of the settings that words name is one that its option takes.

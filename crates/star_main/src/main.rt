@@ -1,4 +1,4 @@
-//! The CJOIN program: the command line, the top call, and what is told of a run that was cut short.
+//! The CJOIN program: the command line, the top call, and what is said of a run that was cut short.
 #![tactic(auto)]
 
 ghost use Rattle.std.specs.Prelude.{◌≡◌, ◌≢◌};
@@ -6,6 +6,7 @@ ghost use Rattle.std.specs.IoError.{error_kind};
 
 mod examples;
 mod fault;
+mod help;
 mod laws;
 mod limits;
 mod options;
@@ -14,8 +15,10 @@ mod settings;
 mod table;
 mod top;
 mod values;
+mod word_fault;
 
 use crate::fault::Fault;
+use crate::help::explain_words;
 use crate::top::{FAULTY_WORDS, OUT_OF_MEMORY, cjoin};
 use script_run::Host;
 use star_io::{StdSink, StdSource, TcpDoor};
@@ -43,15 +46,29 @@ fn main(rt: HostRuntime) -> ExitCode {
                 alloc: rt.alloc(),
                 hash_keys,
             };
-            cjoin(host, &words, &mut source, &mut sink, &mut door, &NoGate).status
+            let status = cjoin(host, &words, &mut source, &mut sink, &mut door, &NoGate).status;
+            if status == FAULTY_WORDS {
+                // There is nowhere to report a standard error that fails.
+                let _ = explain_words(&rt, &words);
+            } else {
+                say_fault(&rt, status);
+            }
+            status
         }
-        Err(status) => status,
+        Err(status) => {
+            say_fault(&rt, status);
+            status
+        }
     };
-    if let Some(fault) = Fault::of_status(status) {
-        // There is nowhere to tell of a standard error that fails.
-        let _ = eprintln!(rt; "{fault}");
-    }
     ExitCode::from(status)
+}
+
+/// Says on the standard error what a status means, if it is that of a fault.
+fn say_fault(rt: &impl Eprint, status: u8) {
+    if let Some(fault) = Fault::of_status(status) {
+        // There is nowhere to report a standard error that fails.
+        let _ = rt.eprintln(fault);
+    }
 }
 
 /// The words behind the program's name, and keys for hashes, drawn at random; or the status where

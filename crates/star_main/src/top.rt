@@ -119,14 +119,14 @@ pub fn cjoin<R: Threads + Sync + Wait, S: Source, K: Sink, D: Door, G: Gate + Sy
         Serves settings →
         (source.new ≡ source.old) × (sink.new ≡ sink.old)
         × ServeHeadline settings.port settings.accept result.status
-        (D.asked door.new) (D.ended door.new) (D.given door.old) (D.given door.new)
-        (D.door_faults door.old) (D.door_faults door.new) (D.door_failed door.new)) }
+        (D.accepting door.old) (D.accepting door.new)) }
     ensures causes { HasCause result.status (S.reading source.old) (S.reading source.new)
         (K.writing sink.old) (K.writing sink.new) }
     ensures complete { IfSome (settings_of (map string_bytes words.now)) (λ settings.
         IsComplete settings result.status
         (S.reading source.old) (S.reading source.new) (K.writing sink.old) (K.writing sink.new)
-        (FailedOnce (D.door_faults door.old) (D.door_faults door.new) (D.door_failed door.new))) }
+        (FailedOnce (D.accepting door.old).faults (D.accepting door.new).faults
+        (D.accepting door.new).failed)) }
     ensures door { ¬ IsSomeAnd (settings_of (map string_bytes words.now)) Serves →
         door.new ≡ door.old }
     ensures core { IsNone result.core ↔ (IsNone (settings_of (map string_bytes words.now))
@@ -361,8 +361,7 @@ fn serve_connections<R: Threads + Sync + Wait, D: Door, G: Gate + Sync>(
 ) -> TopDone
     requires { AreInRange settings.now }
     ensures served { ServeHeadline settings.now.port settings.now.accept result.status
-        (D.asked door.new) (D.ended door.new) (D.given door.old) (D.given door.new)
-        (D.door_faults door.old) (D.door_faults door.new) (D.door_failed door.new) }
+        (D.accepting door.old) (D.accepting door.new) }
     ensures core { IsNone result.core }
 {
     let core = serve_settings(settings);

@@ -5,5 +5,4 @@ use Rattle.session_server.proofs.server.serve_door.Goals as goal
 
 pub returns : goal.returns
 returns g c =
-    served-by g.D.Door.asked g.D.Door.ended g.D.Door.given g.D.Door.door_faults g.D.Door.door_failed c.args.accept
-    c.work_beside-end.result c.args.door.now _ _ (search rules) c.work_beside-end.ensures.front.met.1
+    served-by g.D.Door.accepting c.args.accept c.work_beside-end.result c.args.door.now _ _ (search rules) c.work_beside-end.ensures.front.met.1

@@ -7,8 +7,8 @@ use Rattle.session_server.proofs.server.take_some.Given as goal
 abbrev pub invariant-links : goal.invariant-links
 invariant-links g l = record {
   own : IsAtRest l.board l.reception.own.seat;
-  listening : g.D.Door.listening l.door ≡ true;
-  asked : g.D.Door.asked l.door ≡ g.D.Door.asked l.fn.door;
-  unfailed : g.D.Door.door_faults l.door ≡ g.D.Door.door_faults l.fn.door;
-  given : HasGiven l._taken (g.D.Door.given l.fn.door) (g.D.Door.given l.door);
+  listening : (g.D.Door.accepting l.door).listening ≡ true;
+  asked : (g.D.Door.accepting l.door).asked ≡ (g.D.Door.accepting l.fn.door).asked;
+  unfailed : (g.D.Door.accepting l.door).faults ≡ (g.D.Door.accepting l.fn.door).faults;
+  given : HasGiven l._taken (g.D.Door.accepting l.fn.door).given (g.D.Door.accepting l.door).given;
 }

@@ -7,7 +7,7 @@ use Rattle.star_main.proofs.WorkLemmas.{core-named, named-some, run-named, serve
 use Rattle.star_main.proofs.top.cjoin.Goals as goal
 
 pub returns-in-Ran-clause-served : goal.returns-in-Ran-clause-served
-returns-in-Ran-clause-served g c = serve_unread _ _ _ _ _ _ _ c.in-Ran.ensures.ran
+returns-in-Ran-clause-served g c = serve_unread _ _ _ c.in-Ran.ensures.ran
 
 pub returns-in-Ran-clause-run : goal.returns-in-Ran-clause-run
 returns-in-Ran-clause-run g c = run-weaker _ c.in-Ran.done.core c.in-Ran.ensures.run
