@@ -1,4 +1,4 @@
-"""In which order the crates are proved that a crate stands on, and how long that takes."""
+"""The order in which a crate and the crates below it are proved, and a forecast of how long that takes."""
 
 import heapq
 import statistics
@@ -10,7 +10,7 @@ SHARES = TOP / "tools/shares"
 
 
 def read_rows(file):
-    """The lines of a file without comments, where something is left of them."""
+    """The lines of a file without comments and empty lines."""
     rows = [line.partition("#")[0].strip() for line in file.read_text().splitlines()]
     return [row for row in rows if row]
 
@@ -21,7 +21,7 @@ def crate_rows():
 
 
 def read_crates():
-    """The crates of crates.txt, lowest first, and on which of them each stands itself."""
+    """The crates of crates.txt, lowest first, and which of them each one uses directly."""
     rows = crate_rows()
     return {name: [it for it in row.partition(":")[2].split() if it in rows] for name, row in rows.items()}
 
@@ -40,13 +40,13 @@ def read_seconds(file):
 
 
 def shares_of(crates):
-    """The seconds of some crates by tools/shares, and the usual ones for a crate that is not there."""
+    """The seconds of some crates by tools/shares. A crate that is not there gets the median."""
     told = read_seconds(SHARES)
     return {name: told.get(name, statistics.median(told.values())) for name in crates}
 
 
 def write_shares(crates, taken):
-    """Writes tools/shares anew, from what proofs took. A crate that is not among them keeps its seconds."""
+    """Writes tools/shares with the seconds that proofs took. Any other crate keeps its seconds."""
     head = [row for row in SHARES.read_text().splitlines() if row.startswith("#")]
     told = {**read_seconds(SHARES), **taken}
     rows = [f"{name} {told[name]:.0f}" for name in crates if name in told]
@@ -54,11 +54,11 @@ def write_shares(crates, taken):
 
 
 class Plan:
-    """The crates that are to be proved, and what is behind each."""
+    """The crates to be proved, and the work that waits for each."""
 
     def __init__(self, crates, shares):
         self.crates, self.shares = crates, shares
-        # The seconds from the begin of each crate to the end of all, along the longest chain.
+        # The seconds from the start of each crate to the end of all, along the longest chain.
         self.behind = dict.fromkeys(crates, 0.0)
         for name in reversed(list(crates)):
             self.behind[name] += shares[name]
@@ -66,12 +66,12 @@ class Plan:
                 self.behind[below] = max(self.behind[below], self.behind[name])
 
     def next(self, waiting, standing):
-        """The crate to be proved next: of those for which all below them stands, the one with most behind it."""
+        """The crate to be proved next: of those whose lower crates are all proved, the one with the longest chain."""
         ready = [name for name in waiting if standing.issuperset(self.crates[name])]
         return max(ready, key=self.behind.get, default=None)
 
     def left(self, lasts, running, standing, at_once):
-        """The seconds until all stand, if each crate lasts as is said, and those that run have so many seconds left."""
+        """The seconds until all are proved, from the seconds of each crate, and those left of the running ones."""
         now, standing = 0.0, set(standing)
         ends = [(seconds, name) for name, seconds in running.items()]
         waiting = [name for name in self.crates if name not in standing and name not in running]
@@ -88,9 +88,9 @@ class Plan:
 
 
 class Pace:
-    """How long proofs last here, against their shares."""
+    """How long proofs take here, compared with their shares."""
 
-    # What is kept of an earlier run is only looked at.
+    # The seconds for a crate that is kept from an earlier run, and only checked.
     LOOK = 2.0
 
     def __init__(self, shares, kept):
@@ -98,12 +98,12 @@ class Pace:
         self.lasted = self.told = 0.0
 
     def take(self, name, seconds):
-        """Takes in how long a proof from nothing lasted, by the clock."""
+        """Adds the seconds by the clock that a proof from nothing took."""
         self.lasted += seconds
         self.told += self.shares[name]
 
     def lasts(self, running):
-        """How long each crate lasts, where some run for so many seconds: one that is late tells of the pace, too."""
+        """The seconds of each crate, given how long some have run: a late one counts for the pace, too."""
         pace = self.lasted / self.told if self.told else 1.0
         late = {name: seconds for name, seconds in running.items() if seconds > self.shares[name] * pace}
         if late:

@@ -1,12 +1,13 @@
 #!/usr/bin/env python3
-"""Proves all crates that the program stands on, and builds it: crates/star_main/out/star_main. For `./cjoin --prove`.
+"""Proves all crates of the program and builds it: crates/star_main/out/star_main. For `./cjoin --prove`.
 
-    python3 tools/prove.py              proves and builds, and tells how far it is
-    python3 tools/prove.py --record     writes tools/shares anew, from what the proofs took here
+    python3 tools/prove.py              proves and builds, and prints its progress
+    python3 tools/prove.py --record     writes tools/shares with the seconds that the proofs took here
 
-As many crates are proved at a time as processors and memory allow, each once those stand that it stands on. `rt` lets
-one command at a time into the folders of a crate and of all crates below it. So each crate is proved in a lane, a copy
-of the sources, to which the libraries below it are linked, and what is made there comes back to its own folder.
+As many crates are proved at a time as processors and memory allow. A proof begins once all crates below its own are
+proved. `rt` allows one command at a time in the folders of a crate and of all crates below it. So each crate is
+proved in a lane, which is a copy of the sources with links to the libraries below the crate. What is made in a lane is
+moved to the crate's own folder.
 """
 
 import math
@@ -23,40 +24,39 @@ TARGET = "star_main"
 PROGRAM = TOP / "crates" / TARGET / "out" / TARGET
 PARTS = ("src", "specs", "proofs")
 LANES = OUT / "lanes"
-# The seconds of processor time of each proof from nothing, as they come.
+# The seconds of processor time of each proof from nothing, in the order in which they ended.
 TAKEN = OUT / "proof_seconds"
-# The most memory that the proof of a crate has been seen to take, in bytes.
+# The most memory that the proof of a crate takes, as measured, in bytes.
 MOST = 3_000_000_000
-# What the third level of x86-64 asks of a processor.
+# The features of a processor of the third level of x86-64.
 THIRD_LEVEL = {"avx", "avx2", "bmi1", "bmi2", "f16c", "fma", "abm", "movbe"}
 
 
 def sources(name="*"):
-    """What a crate, or else all, is made and proved from."""
+    """The files and folders that a crate is made of; without a name, those of all crates."""
     return [TOP / "crates.txt", *(it for part in PARTS for it in TOP.glob(f"crates/{name}/{part}"))]
 
 
 def level():
-    """The level of x86-64 that the program is compiled for: the third, where this processor has what that asks for,
-    and else the first. It has the same proofs at each."""
+    """The level of x86-64 for the program: the third if this processor has it, else the first, with the same proofs."""
     rows = [row for row in Path("/proc/cpuinfo").read_text().splitlines() if row.startswith("flags")]
     return "x86-64-v3" if rows and THIRD_LEVEL <= set(rows[0].split()) else "x86-64"
 
 
 def places():
-    """How many crates are proved at a time: one for each processor, as far as memory goes."""
+    """How many crates are proved at a time: one for each processor, unless memory allows fewer."""
     rows = dict(row.split(":", 1) for row in Path("/proc/meminfo").read_text().splitlines())
     free = int(rows["MemAvailable"].split()[0]) * 1024
     return max(1, min(len(os.sched_getaffinity(0)), free // MOST))
 
 
 def home(name):
-    """Where rt and its users find what was made of a crate."""
+    """The folder in which rt and its users find what was made of a crate."""
     return TOP / "crates" / name / "out"
 
 
 def kept_of(crates):
-    """The libraries that an earlier run made and that are as new as their sources and the libraries below them."""
+    """The libraries from an earlier run that are as new as their sources and as the libraries below them."""
     kept = set()
     for name, below in crates.items():
         if kept.issuperset(below) and is_as_new(home(name) / "rlib/stamp", sources(name)):
@@ -65,7 +65,7 @@ def kept_of(crates):
 
 
 def link_or_copy(source, target):
-    """Gives a file a second name, or copies it where the disk has no second names."""
+    """Links a file, or copies it if the file system has no links."""
     try:
         os.link(source, target)
     except OSError:
@@ -86,11 +86,11 @@ class Lane:
                     shutil.copytree(TOP / "crates" / name / part, self.top / "crates" / name / part)
 
     def out(self, name):
-        """Where the lane has what was made of a crate."""
+        """The folder in which the lane has what was made of a crate."""
         return self.top / "crates" / name / "out"
 
     def take(self, name, below):
-        """Gets the libraries that a crate stands on, and what earlier checks kept of the crate itself."""
+        """Fetches the libraries below a crate, and what earlier checks kept of the crate itself."""
         for it in below:
             if not self.out(it).is_dir():
                 shutil.copytree(home(it) / "rlib", self.out(it) / "rlib", copy_function=link_or_copy)
@@ -98,14 +98,14 @@ class Lane:
             os.rename(home(name), self.out(name))
 
     def give_back(self, name):
-        """Brings what was made of a crate to the crate's own folder."""
+        """Moves what was made of a crate to the crate's own folder."""
         if self.out(name).is_dir():
             shutil.rmtree(home(name), ignore_errors=True)
             os.rename(self.out(name), home(name))
 
 
 def clear_lanes():
-    """Removes all lanes. What a run that was killed left in one of a crate goes back to the crate."""
+    """Removes all lanes. If a run was killed, what it left of a crate in a lane is moved back first."""
     for out in LANES.glob("*/crates/*/out"):
         if not home(out.parent.name).is_dir():
             os.rename(out, home(out.parent.name))
@@ -113,7 +113,7 @@ def clear_lanes():
 
 
 class Proof:
-    """A crate that is being proved. The program is proved and built in its own folder, when nothing else is left."""
+    """A crate that is being proved. The program is proved and built in its own folder, after all other crates."""
 
     def __init__(self, name, lane, crates):
         self.name, self.lane, self.began = name, lane, time.monotonic()
@@ -127,11 +127,11 @@ class Proof:
         self.command = start(words, self.log, cwd=folder)
 
     def clock(self):
-        """For how many seconds this has run."""
+        """The seconds that this has run so far."""
         return time.monotonic() - self.began
 
     def end(self):
-        """Ends the command if it still runs, and brings what was made to its place."""
+        """Ends the command if it still runs, and moves what was made to its place."""
         if self.command.returncode is None:
             self.command.terminate()
             self.command.wait()
@@ -139,14 +139,13 @@ class Proof:
             self.lane.give_back(self.name)
 
     def is_from_nothing(self):
-        """Whether all of the crate was proved just now, over nothing that an earlier check kept, here or elsewhere."""
+        """Whether the whole crate was proved in this run, without anything that an earlier check kept."""
         said = self.log.read_text(errors="replace")
         return self.is_first and "logic=proved" in said and "begins with what a check kept" not in said
 
 
 def first_ended(proofs, patience):
-    """The proof that ends first, whether it ended well, and its seconds of processor time; or nothing where none ends
-    within so many seconds."""
+    """The first proof to end within so many seconds, whether it succeeded, and its processor time, or nothing."""
     until = time.monotonic() + patience
     while time.monotonic() < until:
         pid, status, used = os.wait4(-1, os.WNOHANG)
@@ -169,28 +168,28 @@ class Run:
         self.lanes = [Lane(number, crates) for number in range(places())]
 
     def begin(self):
-        """Begins as many proofs as there are lanes, and crates that can be proved."""
+        """Begins proofs as long as there are free lanes, and crates that can be proved."""
         while self.lanes and (name := self.plan.next(self.waiting, self.standing)):
             self.waiting.remove(name)
             self.proofs.append(Proof(name, self.lanes.pop(), self.crates))
 
     def left(self):
-        """The seconds until all crates stand."""
+        """The seconds until all crates are proved."""
         clocks = {it.name: it.clock() for it in self.proofs}
         lasts = self.pace.lasts(clocks)
         running = {name: max(lasts[name] - clock, lasts[name] / 10) for name, clock in clocks.items()}
         return self.plan.left(lasts, running, self.standing, len(self.lanes) + len(self.proofs))
 
     def say_how_far(self):
-        """Says how many crates stand, and how long it has taken and will take."""
+        """Prints how many crates are proved, and the minutes so far and left."""
         so_far, names = time.monotonic() - self.began, ", ".join(it.name for it in self.proofs)
         say(
-            f"{len(self.standing)} of {len(self.crates)} crates stand, {so_far / 60:.0f} min so far,"
+            f"{len(self.standing)} of {len(self.crates)} crates are proved, {so_far / 60:.0f} min so far,"
             f" about {math.ceil(self.left() / 60)} min left; proving {names}"
         )
 
     def take(self, proof, is_proved, seconds):
-        """Takes in how a proof ended, and gives whether to go on."""
+        """Handles the end of a proof, and returns whether to go on."""
         self.proofs.remove(proof)
         proof.end()
         self.lanes.append(proof.lane)
@@ -199,7 +198,7 @@ class Run:
             say(f"{proof.name} is not proved")
             return False
         if newest(sources()) != self.newest:
-            say("a source was changed meanwhile: run this once more")
+            say("a source changed during the proofs: run this once more")
             return False
         if proof.is_from_nothing():
             self.pace.take(proof.name, proof.clock())
@@ -209,7 +208,7 @@ class Run:
         return True
 
     def prove(self):
-        """Proves all, and gives whether all is proved."""
+        """Proves all crates, and returns whether all are proved."""
         try:
             while self.waiting or self.proofs:
                 self.begin()
@@ -224,8 +223,8 @@ class Run:
 
 
 def prove_program():
-    """Proves and builds the program, and gives whether it stands."""
-    # The time that it gets: a source that is changed meanwhile is newer.
+    """Proves and builds the program, and returns whether it is proved."""
+    # The time that the program gets: a source that changes during the proofs is newer.
     began = max(time.time_ns(), newest(sources()))
     clear_lanes()
     try:
@@ -238,14 +237,14 @@ def prove_program():
 
 
 def record():
-    """Writes tools/shares anew."""
+    """Writes tools/shares."""
     taken = read_seconds(TAKEN) if TAKEN.is_file() else {}
     write_shares(needed(read_crates(), TARGET), taken)
-    say(f"tools/shares has {len(taken)} crates as they were proved here")
+    say(f"tools/shares has the seconds of {len(taken)} crates as proved here")
 
 
 def main(words):
-    """Proves the program, unless another process has just done so, or writes the shares."""
+    """Proves the program, unless another process has done so, or writes the shares."""
     if words == ["--record"]:
         record()
         return 0
