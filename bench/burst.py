@@ -4,10 +4,10 @@
     python3 bench/burst.py ROWS QUERIES [TIMES] > burst
     time ./cjoin < burst
 
-The time of the queries alone is that of the script less that of the same script with 0 queries. A load differs by a
-tenth of a second from run to run: where that matters the same burst is asked more TIMES, one behind the other. All
-numbers are drawn by one linear congruence, so the same arguments write the same bytes. Python's standard library is all
-it needs.
+The time of the queries alone is the time of this script less that of the same script with 0 queries. A load varies by
+a tenth of a second from run to run. Where that matters, the script asks the same burst several TIMES, each after the
+one before it. All numbers are drawn by one linear congruence, so the same arguments write the same bytes. Python's
+standard library is all that this needs.
 """
 
 import sys
@@ -21,9 +21,21 @@ fact sales (store_id int references store, product_id int references product, \
 customer_id int references customer, day_id int references day, promo_id int references promo, units int, price int)
 """
 
+# The five forms of a query, with places for its numbers.
+FORMS = (
+    "select region, count(*), sum(units) from sales, store where store_id = store.id and size < {} group by region",
+    "select brand, sum(price), max(units) from sales, product where product_id = product.id"
+    " and cost between 100 and {} group by brand",
+    "select month, count(*) from sales, day, customer where day_id = day.id"
+    " and customer_id = customer.id and age >= {} group by month",
+    "select count(*), sum(units), min(price) from sales where units > {}",
+    "select channel, region, sum(price) from sales, promo, store where promo_id = promo.id"
+    " and store_id = store.id and channel in ('P0','P{}') and price <= {} group by channel, region",
+)
+
 
 class Draws:
-    """A linear congruence modulo 2^31, of which the lowest 16 bits are dropped."""
+    """A linear congruence modulo 2^31, without its lowest 16 bits."""
 
     def __init__(self, seed):
         self.state = seed
@@ -51,38 +63,38 @@ def sale(draws):
     return (*keys, 1 + draws.pick(20), 1 + draws.pick(1000))
 
 
-def query(form, draws):
-    """A query of one of five forms, from 0 to 4."""
-    pick = draws.pick
+def numbers(form, draws):
+    """The numbers of a query of one of the five forms, from 0 to 4."""
     if form == 0:
-        return ("select region, count(*), sum(units) from sales, store where store_id = store.id"
-                f" and size < {pick(1000)} group by region")
+        return (draws.pick(1000),)
     if form == 1:
-        return ("select brand, sum(price), max(units) from sales, product where product_id = product.id"
-                f" and cost between 100 and {100 + pick(400)} group by brand")
+        return (100 + draws.pick(400),)
     if form == 2:
-        return ("select month, count(*) from sales, day, customer where day_id = day.id"
-                f" and customer_id = customer.id and age >= {18 + pick(70)} group by month")
+        return (18 + draws.pick(70),)
     if form == 3:
-        return f"select count(*), sum(units), min(price) from sales where units > {pick(20)}"
-    return ("select channel, region, sum(price) from sales, promo, store where promo_id = promo.id"
-            f" and store_id = store.id and channel in ('P0','P{pick(4)}') and price <= {1 + pick(1000)}"
-            " group by channel, region")
+        return (draws.pick(20),)
+    return draws.pick(4), 1 + draws.pick(1000)
 
 
 def load(name, rows):
-    """A load of these rows."""
+    """A load of some rows."""
     lines = "".join(",".join(map(str, row)) + "\n" for row in rows)
     return f"load {name}\n{lines}.\n"
 
 
-def queries_of(count):
-    """The queries of a burst."""
+def drawn_queries(count):
+    """The queries of a burst, each as its form and its numbers."""
     draws = Draws(1000010)
-    return [query(number % 5, draws) for number in range(count)]
+    return [(place % len(FORMS), numbers(place % len(FORMS), draws)) for place in range(count)]
+
+
+def queries_of(count):
+    """The queries of a burst, as statements."""
+    return [FORMS[form].format(*drawn) for form, drawn in drawn_queries(count)]
 
 
 def main():
+    """Writes the script."""
     if len(sys.argv) not in (3, 4):
         sys.exit("usage: burst.py ROWS QUERIES [TIMES]")
     rows, queries, times = map(int, (*sys.argv[1:], "1")[:3])

@@ -1,17 +1,17 @@
 #!/usr/bin/env python3
-"""Draws cases of `crates/star_cases` by chance: a script of each, and its replies by sqlite3 over the same rows.
+"""Draws random cases for `crates/star_cases`: scripts, and their replies as sqlite3 computes them over the same rows.
 
-    python3 bench/draw_cases.py                        writes all of them into crates/star_cases/data
-    python3 bench/draw_cases.py NAME ..                those with these names
-    python3 bench/draw_cases.py --check                tells which are not what stands there, and writes nothing
-    python3 bench/draw_cases.py --seed 1 --folder DIR  writes other ones of the same sorts to a folder
+    python3 bench/draw_cases.py                        writes all cases into crates/star_cases/data
+    python3 bench/draw_cases.py NAME ..                writes the cases with these names
+    python3 bench/draw_cases.py --check                prints the files there that differ, and writes nothing
+    python3 bench/draw_cases.py --seed 1 --folder DIR  writes other cases of the same sorts into a folder
 
-What is drawn is tables, conditions, groups and items, so that many queries share a lap whose rows are of many kinds: for the
-slots that get them, and the values by which these group. A query of the language is one of SQL, to which joins and `order by`
-are added here. Where sqlite3 gives up over a sum that leaves 64 bits, be it on the way, whole sums are made of Python's
-integers, and one that has no 64 bits makes the reply `overflow`. All numbers are drawn by one linear congruence, so the
-same arguments write the same bytes. A case that is added here needs its line in crates/star_cases/stdout too. Python's
-standard library is all it needs.
+Tables, conditions, groups and items are drawn, so that many queries share a lap whose rows differ in the slots that
+get them, and in the values by which these slots group. A query of the language becomes a query in SQL by adding joins
+and `order by`. sqlite3 gives up if a sum leaves 64 bits, even on the way. Then the sums are computed with Python's
+integers, and the reply is `overflow` if one has no 64 bits in the end. All numbers are drawn by one linear
+congruence, so the same arguments write the same bytes. A new case needs its line in crates/star_cases/stdout, too.
+Python's standard library is all that this needs.
 """
 
 import argparse
@@ -29,7 +29,7 @@ IN_QUOTES = re.compile("'(?:[^']|'')*'")
 
 
 class WholeSum:
-    """The exact sum of a group, as a text, since sqlite3 has no integer of more than 64 bits."""
+    """The exact sum of a group, as a text, because sqlite3 has no integer of more than 64 bits."""
 
     def __init__(self):
         self.sum, self.is_some = 0, False
@@ -42,11 +42,11 @@ class WholeSum:
 
 
 class Overflow(Exception):
-    """Some sum of some group is no integer of 64 bits."""
+    """The sum of a group has more than 64 bits."""
 
 
 def in_64_bits(text):
-    """The integer that a text of a whole sum is."""
+    """The integer of a text that WholeSum wrote."""
     if text is None or LEAST <= int(text) <= GREATEST:
         return text if text is None else int(text)
     raise Overflow
@@ -66,7 +66,7 @@ def field(value):
 
 
 class Case:
-    """A script and its replies, as they grow, and its tables in sqlite3."""
+    """A script and its replies, as they are drawn, and its tables in sqlite3."""
 
     def __init__(self, comment, seed):
         self.draws = Draws(seed)
@@ -84,7 +84,7 @@ class Case:
         return members[self.pick(len(members))]
 
     def some_of(self, members, count):
-        """So many members, each at most once, in an order that is drawn."""
+        """So many members, each at most once, in a drawn order."""
         left = list(members)
         return [left.pop(self.pick(len(left))) for _ in range(min(count, len(left)))]
 
@@ -103,7 +103,7 @@ class Case:
         self.replies.append(reply)
 
     def declare(self, sort, name, columns):
-        """Declares a table by its columns, each a name, a kind, and for a foreign key the dimension."""
+        """Declares a table by its columns: each is a name, a kind, and for a foreign key the dimension."""
         own, in_sql = [], []
         for place, (column, kind, *target) in enumerate(columns):
             is_key = sort == "dimension" and place == 0
@@ -147,7 +147,7 @@ class Case:
         self.say("wait", "waited")
 
     def ask(self, items, conditions=(), groups=()):
-        """A query over the fact table, joined with each dimension that it names."""
+        """A query over the fact table, joined with each dimension whose columns it names."""
         asked = IN_QUOTES.sub("", " ".join([*items, *conditions, *groups]))
         named = {self.table_of[word] for word in re.findall(r"\w+", asked) if word in self.table_of}
         fact = next(reversed(self.table_of.values()))
@@ -165,7 +165,7 @@ class Case:
         self.replies += [",".join(map(literal, row)) for row in rows]
 
     def rows_of(self, query, items):
-        """The rows of an answer, in which no sum leaves 64 bits."""
+        """The rows of an answer whose sums all have 64 bits in the end."""
         try:
             return self.base.execute(query).fetchall()
         except sqlite3.OperationalError as error:
@@ -178,7 +178,7 @@ class Case:
     # Conditions.
 
     def test(self, column):
-        """A test of a column with values that it has, mostly a range of some of them."""
+        """A test of a column with some of its values, mostly a range."""
         values = self.values[column]
         low, high = sorted((self.pick(len(values)), self.pick(len(values))))
         low, high, form = literal(values[low]), literal(values[high]), self.pick(10)
@@ -194,7 +194,7 @@ class Case:
         return f"{column} in ({members})" if form == 8 else f"{column} not in ({members})"
 
     def conjunct(self, columns):
-        """A condition about the table of one of these columns."""
+        """A condition on the table of one of these columns."""
         first = self.one_of(columns)
         second = self.one_of([column for column in columns if self.table_of[column] == self.table_of[first]])
         form = self.pick(6)
@@ -205,7 +205,7 @@ class Case:
         return self.test(first)
 
     def conjuncts(self, columns, most=2):
-        """Up to so many of them."""
+        """Up to so many conditions."""
         return [self.conjunct(columns) for _ in range(self.pick(most + 1))]
 
     def share_of(self, column, percent):
@@ -223,22 +223,22 @@ class Case:
 
 # Texts.
 
-FRONT = "Llanfairpwllgwyngyllgogerychwyrndrobwllllantysiliogogogoch, "
+PLACE = "Llanfairpwllgwyngyllgogerychwyrndrobwllllantysiliogogogoch, "
 SIGNS = "abcdefghijklmnopqrstuvwxyzABCDEFGHIJ0123456789 .'-"
 
 
 def of_length(length):
-    """A text of so many bytes, of which a longer one goes on."""
-    return (FRONT * 5)[:length]
+    """A text of so many bytes. Each is a prefix of the longer ones."""
+    return (PLACE * 5)[:length]
 
 
 def ending(number):
-    """A few bytes that tell numbers apart."""
+    """A few bytes that differ from number to number."""
     return SIGNS[number % len(SIGNS)] + (ending(number // len(SIGNS)) if number >= len(SIGNS) else "")
 
 
 def short_text(number):
-    """The text with a number, of 0 to 15 bytes, some of which have no letter of ASCII in them."""
+    """The text with a number, of 0 to 15 bytes. Some have a letter outside ASCII."""
     if number == 0:
         return ""
     text = ("é" if number % 7 == 3 else "") + ending(number)
@@ -246,7 +246,7 @@ def short_text(number):
 
 
 def alike(number):
-    """The text with a number, of which all have the same first 16 bytes."""
+    """The text with a number. All of these have the same first 16 bytes."""
     return of_length(16) + (ending(number - 1) if number else "")
 
 
@@ -265,7 +265,7 @@ CASES = {}
 
 
 def named(case):
-    """Keeps a case by its name. A seed other than 0 draws another one of the sort."""
+    """Keeps a case by its name. A seed other than 0 draws another case of the same sort."""
     CASES[case.__name__] = case
     return case
 
@@ -297,7 +297,8 @@ def groups_by_short_texts_and_by_pairs(seed):
     case.ask(["count(*)", "to_shop"], [], ["to_shop"])
     for groups in (["sixteen"], ["one", "hundred"], ["to_shop"], ["sixteen"], ["one", "hundred"]):
         few = [] if groups == ["sixteen"] else [case.share_of("id_shop", 30)]
-        case.ask(case.mixed(groups, case.one_of((["count(*)"], ["sum(units)"]))), case.conjuncts(["units"], 1) + few, groups)
+        items = case.mixed(groups, case.one_of((["count(*)"], ["sum(units)"])))
+        case.ask(items, case.conjuncts(["units"], 1) + few, groups)
     return case
 
 
@@ -318,7 +319,8 @@ def groups_by_texts_of_the_same_16_bytes(seed):
 
 @named
 def least_and_greatest_near_the_ends_of_64_bits(seed):
-    case = Case("integers at and near both ends of 63 and of 64 bits, as keys, groups, bounds, least and greatest.", 14 + seed)
+    what = "integers at and near both ends of 63 and of 64 bits, as keys, groups, bounds, least and greatest."
+    case = Case(what, 14 + seed)
     case.dimension("shop", ("id_shop", "int"), ("town", "text"), ("size", "int"))
     case.fact("sales", ("to_shop", "int", "shop"), ("sort", "int"), ("units", "int"), ("price", "int"))
     keys = sorted({near_ends(case) for _ in range(20)})
@@ -336,7 +338,8 @@ def least_and_greatest_near_the_ends_of_64_bits(seed):
 
 @named
 def least_and_greatest_of_texts_at_once(seed):
-    case = Case("least and greatest texts, short, long and of the same first bytes, beside sums and least integers.", 15 + seed)
+    what = "least and greatest texts, short, long and of the same first bytes, beside sums and least integers."
+    case = Case(what, 15 + seed)
     case.dimension("shop", ("id_shop", "int"), ("town", "text"), ("owner", "text"))
     case.fact("sales", ("to_shop", "int", "shop"), ("code", "text"), ("units", "int"))
     texts = [short_text(number) for number in range(12)] + [alike(number) for number in range(12)]
@@ -348,18 +351,20 @@ def least_and_greatest_of_texts_at_once(seed):
              ["max(owner)", "sum(units)"])
     for number in range(14):
         groups = (["town"], [], ["town", "owner"])[number // 4 % 3]
-        conditions = case.conjuncts(["units", "town", "code"]) + ([case.share_of("id_shop", 40)] if len(groups) > 1 else [])
+        conditions = case.conjuncts(["units", "town", "code"])
+        conditions += [case.share_of("id_shop", 40)] if len(groups) > 1 else []
         case.ask(case.mixed(groups, asked[number // 2 % 2 + number // 4]), conditions, groups)
     return case
 
 
 @named
 def sums_that_overflow_in_some_groups(seed):
-    case = Case("groups whose sums are past 64 bits and groups whose are not, in queries that see parts of both.", 16 + seed)
+    what = "groups whose sums are past 64 bits and groups whose are not, in queries that see parts of both."
+    case = Case(what, 16 + seed)
     case.dimension("shop", ("id_shop", "int"), ("town", "text"), ("size", "int"))
     case.fact("sales", ("to_shop", "int", "shop"), ("day", "int"), ("units", "int"), ("price", "int"))
     case.load("shop", [(key, f"T{key % 9}", key * 3 % 10) for key in range(27)])
-    # Two sales of the town T0 are past 64 bits, two of T1 are or make up for one another, and none of the others are.
+    # The sum of two sales of the town T0 has no 64 bits. Of T1 it has none, or the two cancel. All others have 64 bits.
     rows = []
     for _ in range(80):
         key, much = case.pick(27), 2**62 + case.pick(30000)
@@ -391,7 +396,8 @@ def sums_that_leave_64_bits_on_the_way(seed):
     kinds = (["bank"], [], ["bank", "to_fund"], ["pair"])
     for number in range(14):
         groups = kinds[number % len(kinds)]
-        items = case.mixed(groups, case.one_of((["sum(amount)"], ["sum(amount)", "count(*)"], ["sum(amount)", "sum(pair)"])))
+        sums = case.one_of((["sum(amount)"], ["sum(amount)", "count(*)"], ["sum(amount)", "sum(pair)"]))
+        items = case.mixed(groups, sums)
         conditions = [case.share_of("pair", 30 + case.pick(70))]
         conditions += [case.test("to_fund")] if case.pick(2) else []
         conditions += [case.test("amount")] if number % 5 == 4 else []
@@ -408,7 +414,7 @@ def more_kinds_of_rows_than_can_wait(seed):
     case.load("shop", [(key, f"T{key}", case.pick(100)) for key in range(60)])
     case.load("item", [(key, f"B{key}", case.pick(100)) for key in range(20)])
     rows = [(case.pick(60), case.pick(20), case.pick(1000), case.pick(1000)) for _ in range(270)]
-    # Some kinds come again behind those that are too many.
+    # Some kinds return after the table of kinds is full.
     case.load("sales", rows + case.some_of(rows, 40))
     pairs = [(one, other) for one in ("town", "brand", "to_shop") for other in ("units", "price")]
     pairs += [(other, one) for one, other in pairs]
@@ -423,7 +429,7 @@ def more_kinds_of_rows_than_can_wait(seed):
 
 
 def shops_and_items(case):
-    """Two dimensions and a fact table without any rows."""
+    """Declares two dimensions and a fact table, without rows."""
     case.dimension("shop", ("id_shop", "int"), ("town", "text"), ("size", "int"))
     case.dimension("item", ("id_item", "text"), ("brand", "text"), ("cost", "int"))
     case.fact("sales", ("to_shop", "int", "shop"), ("to_item", "text", "item"), ("units", "int"), ("price", "int"))
@@ -446,8 +452,9 @@ def more_sales(case, count):
     case.load("sales", [row() for _ in range(count)])
 
 
-ITEMS = (["count(*)"], ["count(*)", "sum(units)"], ["sum(price)"], ["sum(units)", "sum(price)"], ["min(price)", "max(units)"],
-         ["max(cost)", "sum(units)"], ["max(brand)"], ["count(*)", "min(town)", "sum(size)"])
+ITEMS = (["count(*)"], ["count(*)", "sum(units)"], ["sum(price)"], ["sum(units)", "sum(price)"],
+         ["min(price)", "max(units)"], ["max(cost)", "sum(units)"], ["max(brand)"],
+         ["count(*)", "min(town)", "sum(size)"])
 TESTED = ["size", "units", "price", "cost", "brand", "town", "to_shop"]
 
 
@@ -481,7 +488,8 @@ def loads_and_deletes_among_queries_that_share(seed):
 
 @named
 def dimensions_that_grow_between_queries(seed):
-    case = Case("each load brings rows of a dimension, or sales of the newest, and queries of both stand between.", 21 + seed)
+    what = "each load brings rows of a dimension, or sales of the newest, and queries of both stand between."
+    case = Case(what, 21 + seed)
     shops_and_items(case)
     case.ask(["town", "count(*)"], [], ["town"])
     case.ask(["count(*)", "sum(price)", "min(brand)"])
@@ -498,7 +506,8 @@ def dimensions_that_grow_between_queries(seed):
 
 @named
 def more_than_four_items_or_two_group_columns(seed):
-    case = Case("queries of one to nine sums, least and greatest values, by one to four of the same columns.", 22 + seed)
+    what = "queries of one to nine sums, least and greatest values, by one to four of the same columns."
+    case = Case(what, 22 + seed)
     case.dimension("shop", ("id_shop", "int"), ("town", "text"), ("size", "int"))
     case.fact("sales", ("to_shop", "int", "shop"), ("sort", "int"), *((f"m{number}", "int") for number in range(6)))
     case.load("shop", [(key, f"T{key % 6}", case.pick(4)) for key in range(20)])
@@ -517,11 +526,12 @@ def more_than_four_items_or_two_group_columns(seed):
 
 
 def main():
-    reader = argparse.ArgumentParser(description="Draws cases of crates/star_cases.")
-    reader.add_argument("names", nargs="*", metavar="NAME", help="the cases, or all")
+    """Writes or compares the cases."""
+    reader = argparse.ArgumentParser(description=__doc__, formatter_class=argparse.RawDescriptionHelpFormatter)
+    reader.add_argument("names", nargs="*", metavar="NAME", help="the cases (all)")
     reader.add_argument("--check", action="store_true", help="compare, and write nothing")
-    reader.add_argument("--folder", type=Path, default=DATA, help="where they stand")
-    reader.add_argument("--seed", type=int, default=0, help="draw other ones of the same sorts")
+    reader.add_argument("--folder", type=Path, default=DATA, help="the folder of the files (crates/star_cases/data)")
+    reader.add_argument("--seed", type=int, default=0, help="draw other cases of the same sorts")
     words = reader.parse_args()
     others = 0
     for name in words.names or CASES:
@@ -532,7 +542,7 @@ def main():
                 file.write_bytes(made)
             elif not file.exists() or file.read_bytes() != made:
                 others += 1
-                print(f"{file.name} is not what is drawn")
+                print(f"{file.name} differs from the drawn case")
     sys.exit(1 if others else 0)
 
 

@@ -1,35 +1,31 @@
 #!/usr/bin/env python3
-"""Scripts that mean harm: each limit at its border and one past it, and what is long, deep, cut up or without an end.
+"""Runs malicious scripts: at each limit and one past it, and scripts that are long, deep, cut up or endless.
 
-    python3 bench/malicious.py                     ./cjoin: limits, a small stack, and sizes of 1, 4 and 16 MiB
-    python3 bench/malicious.py --sizes 1,8,64      other sizes, in MiB
-    python3 bench/malicious.py --program FILE ..   the same of another program
+    python3 bench/malicious.py                     ./cjoin: the limits, a small stack, and sizes of 1, 4 and 16 MiB
+    python3 bench/malicious.py --sizes 4,16,64     other sizes, in MiB
+    python3 bench/malicious.py --program FILE ..   another program
 
-First each limit: what stands at it is accepted, and one more is refused, in the words of docs/LANGUAGE.md. Then the same with a
-stack of a quarter of a megabyte, and every other script with it, too. Then scripts of growing sizes, of one kind each: the replies
-have to be those that are due, and the table tells the processor time and, above 20 MB, the greatest resident memory. A kind is
-WRONG where a byte takes more than three times as long at the greatest size as at the least. In the rows `in pieces of one byte` each call of `read` and
-`write` moves one byte (`cc` compiles a library for that). Python's standard library and `cc` are all this needs.
+First come the limits. A script at each limit is accepted, and a script one past it is refused in the words of
+docs/LANGUAGE.md, in the modes `run` and `alone` and with two workers. Then the same runs with a stack of 256 KiB,
+which all further scripts have, too. These are of growing sizes and of one kind each. Their replies have to be the
+right ones, and a row of the table has the processor time of each size in seconds, and the greatest resident memory of
+the last. A kind is WRONG if a byte takes more than three times as long in the largest script as in the smallest. In
+the rows `in pieces of one byte` each call of `read` and `write` moves one byte. Python's standard library and `cc`
+are all that this needs.
 """
 
 import argparse
-import os
-import resource
-import subprocess
 import sys
-import tempfile
-from pathlib import Path
 
-TOP = Path(__file__).resolve().parent.parent
+from launch import Launcher
+from program import CJOIN, chosen
+
 MIB = 1 << 20
 SCRIPT, LINE, NAME, TEXT, OPEN, NOTS, LITERALS = 64 * MIB, 65_536, 63, 255, 64, 64, 256
 DIMENSIONS, COLUMNS, ITEMS, GROUPS = 8, 16, 64, 16
 KEYS, FACTS = 262_144, 1_048_576
 GREATEST = 2**63 - 1
 STACK = 256 * 1024
-
-# What Python itself has resident, in megabytes, is part of what is measured.
-LEAST = 20
 
 PIECES = r"""
 #include <sys/syscall.h>
@@ -56,106 +52,109 @@ LIMIT = "refused 12 limit"
 BAD = "refused 9 bad record"
 
 
-def measure(stack, library, program, words):
-    """Runs a program from a process that has little memory itself, and tells what it took on the standard error."""
-    if stack:
-        resource.setrlimit(resource.RLIMIT_STACK, (stack, stack))
-    env = {**os.environ, "LD_PRELOAD": library} if library else None
-    run = subprocess.Popen([program, *words], stderr=subprocess.DEVNULL, env=env)
-    _, status, used = os.wait4(run.pid, 0)
-    print(os.waitstatus_to_exitcode(status), used.ru_utime + used.ru_stime, used.ru_maxrss // 1024, file=sys.stderr)
-
-
-class Ran:
-    """What came of a run: its status, its replies, its processor time and its greatest resident memory, in megabytes."""
-
-    def __init__(self, program, words, script, stack=0, library=""):
-        with tempfile.TemporaryFile() as source, tempfile.TemporaryFile() as sink:
-            self.bytes = source.write(script())
-            source.seek(0)
-            told = subprocess.run([sys.executable, "-S", __file__, "--measure", str(stack), library, program, *words], stdin=source,
-                                  stdout=sink, stderr=subprocess.PIPE, check=True).stderr.split()
-            sink.seek(0)
-            self.replies = sink.read()
-        self.status, self.seconds, self.megabytes = int(told[0]), float(told[1]), int(told[2])
-
-
 def listed(form, count):
+    """A list of so many forms, each with its number."""
     return ", ".join(form.format(number) for number in range(count))
 
 
 def block(table, records):
+    """A load of some records."""
     return f"load {table}\n" + "".join(record + "\n" for record in records) + ".\n"
 
 
 def tables_of(columns):
+    """The declaration of a dimension of so many columns."""
     return "dimension t (" + ", ".join(["id int key", *(f"c{number} int" for number in range(1, columns))]) + ")\n"
 
 
 def over_fact(columns, text):
+    """The declaration of a fact table of so many columns, and a statement."""
     return "fact f (" + listed("c{} int", columns) + ")\n" + text + "\n"
 
 
-def limits():
-    """For each limit a name, a script at it and its replies, and a script one past it and its replies."""
-    one = ["answer 2 rows 1", "2"]
-    count = "select count(*) from sales where "
-    yield ("bytes of a line", BASE + (count + "units = 1").ljust(LINE) + "\n", [*LOADED, "answer 2 rows 1", "1"],
-           BASE + (count + "units = 1").ljust(LINE + 1) + "\n", [*LOADED, LIMIT])
+def limits_of_lines():
+    """For each limit of a line its name, a script at the limit with its replies, and one past it with its replies."""
+    count, one = BASE + "select count(*) from sales where ", [*LOADED, "answer 2 rows 1", "2"]
+    refused = [*LOADED, LIMIT]
+    query = "select count(*) from sales where units = 1"
+    yield ("bytes of a line", BASE + query.ljust(LINE) + "\n", [*LOADED, "answer 2 rows 1", "1"],
+           BASE + query.ljust(LINE + 1) + "\n", refused)
     yield ("bytes of a name", f"dimension {'n' * NAME} (id int key)\n", [f"table {'n' * NAME}"],
            f"dimension {'n' * (NAME + 1)} (id int key)\n", [LIMIT])
-    yield ("bytes of a text in a line", BASE + count + f"units >= 0 and store_id = 1 and store_id <> 2 or units in ({5})\n",
-           [*LOADED, "answer 2 rows 1", "1"], BASE + f"select count(*) from store where city = '{'x' * (TEXT + 1)}'\n", [*LOADED, LIMIT])
-    yield ("bytes of a text of a record", TABLES + block("store", ["1," + "x" * TEXT]), [*MADE, "commit 1 rows 1"],
-           TABLES + block("store", ["1," + "x" * (TEXT + 1)]), [*MADE, BAD])
-    yield ("open parentheses", BASE + count + "(" * OPEN + "units > 0" + ")" * OPEN + "\n", [*LOADED, *one],
-           BASE + count + "(" * (OPEN + 1) + "units > 0" + ")" * (OPEN + 1) + "\n", [*LOADED, LIMIT])
-    yield ("words `not`", BASE + count + "not " * NOTS + "units > 0\n", [*LOADED, *one],
-           BASE + count + "not " * (NOTS + 1) + "units > 0\n", [*LOADED, LIMIT])
-    yield ("both, each in the other", BASE + count + "not (" * OPEN + "units > 0" + ")" * OPEN + "\n", [*LOADED, *one],
-           BASE + count + "not (" * (OPEN + 1) + "units > 0" + ")" * (OPEN + 1) + "\n", [*LOADED, LIMIT])
-    yield ("literals of a list", BASE + count + f"units in ({listed('{}', LITERALS)})\n", [*LOADED, *one],
-           BASE + count + f"units in ({listed('{}', LITERALS + 1)})\n", [*LOADED, LIMIT])
+    city = BASE + "select count(*) from sales, store where store_id = id and city = '{}'\n"
+    yield ("bytes of a text in a line", city.format("x" * TEXT), [*LOADED, "answer 2 rows 1", "0"],
+           city.format("x" * (TEXT + 1)), refused)
+    nested = {
+        "open parentheses": lambda depth: "(" * depth + "units > 0" + ")" * depth,
+        "words `not`": lambda depth: "not " * depth + "units > 0",
+        "open parentheses and words `not` together": lambda depth: "not (" * depth + "units > 0" + ")" * depth,
+        "literals of a list": lambda length: f"units in ({listed('{}', length)})",
+    }
+    for name, most in zip(nested, (OPEN, NOTS, OPEN, LITERALS)):
+        yield name, count + nested[name](most) + "\n", one, count + nested[name](most + 1) + "\n", refused
+    yield ("an integer of a line", over_fact(1, f"select count(*) from f where c0 in ({GREATEST}, {-GREATEST - 1})"),
+           ["table f", "answer 0 rows 1", "0"],
+           over_fact(1, f"select count(*) from f where c0 = {GREATEST + 1}"), ["table f", None])
+
+
+def limits_of_schemas():
+    """The same for the limits of declarations and of select lists."""
     dimensions = "".join(f"dimension d{number} (id int key)\n" for number in range(DIMENSIONS))
     tables = [f"table d{number}" for number in range(DIMENSIONS)]
-    yield ("dimensions", dimensions, tables, dimensions + "dimension d8 (id int key)\n", [*tables, LIMIT])
-    yield ("columns", tables_of(COLUMNS), ["table t"], tables_of(COLUMNS + 1), [LIMIT])
-    nulls = ",".join(["null"] * ITEMS)
-    yield ("items of a select", over_fact(1, f"select {listed('sum(c0)', ITEMS)} from f"), ["table f", "answer 0 rows 1", nulls],
-           over_fact(1, f"select {listed('sum(c0)', ITEMS + 1)} from f"), ["table f", LIMIT])
-    yield ("columns of a group", over_fact(16, f"select count(*) from f group by {listed('c{}', GROUPS)}"), ["table f", "answer 0 rows 0"],
-           over_fact(16, f"select count(*) from f group by {listed('c{}', GROUPS)}, c0"), ["table f", LIMIT])
-    keys = [f"{key},x" for key in range(KEYS)]
-    yield ("rows of a dimension", TABLES + block("store", keys), [*MADE, f"commit 1 rows {KEYS}"],
-           TABLES + block("store", keys) + block("store", ["-1,x"]), [*MADE, f"commit 1 rows {KEYS}", LIMIT])
-    facts = ["table f", f"commit 1 rows {FACTS}"]
-    yield ("rows of the fact table", over_fact(1, "") + block("f", ["1"] * FACTS), facts,
-           over_fact(1, "") + block("f", ["1"] * FACTS) + block("f", ["1"]), [*facts, LIMIT])
-    yield ("an integer of a record", over_fact(2, "") + block("f", [f"{GREATEST},{-GREATEST - 1}"]), ["table f", "commit 1 rows 1"],
-           over_fact(2, "") + block("f", [f"{GREATEST + 1},0"]) + block("f", [f"0,{-GREATEST - 2}"]), ["table f", BAD, BAD])
-    yield ("an integer of a line", over_fact(1, f"select count(*) from f where c0 in ({GREATEST}, {-GREATEST - 1})"),
-           ["table f", "answer 0 rows 1", "0"], over_fact(1, f"select count(*) from f where c0 = {GREATEST + 1}"), ["table f", None])
+    yield "dimensions", dimensions, tables, dimensions + "dimension d8 (id int key)\n", [*tables, LIMIT]
+    yield "columns", tables_of(COLUMNS), ["table t"], tables_of(COLUMNS + 1), [LIMIT]
+    select, answer = "select {} from f", ["answer 0 rows 1", ",".join(["null"] * ITEMS)]
+    yield ("items of a select", over_fact(1, select.format(listed("sum(c0)", ITEMS))), ["table f", *answer],
+           over_fact(1, select.format(listed("sum(c0)", ITEMS + 1))), ["table f", LIMIT])
+    select = f"select count(*) from f group by {listed('c{}', GROUPS)}"
+    yield ("columns of a group", over_fact(16, select), ["table f", "answer 0 rows 0"],
+           over_fact(16, select + ", c0"), ["table f", LIMIT])
+
+
+def limits_of_tables():
+    """The same for the limits of tables and records."""
+    yield ("bytes of a text of a record", TABLES + block("store", ["1," + "x" * TEXT]), [*MADE, "commit 1 rows 1"],
+           TABLES + block("store", ["1," + "x" * (TEXT + 1)]), [*MADE, BAD])
+    store, stores = TABLES + block("store", [f"{key},x" for key in range(KEYS)]), [*MADE, f"commit 1 rows {KEYS}"]
+    yield "rows of a dimension", store, stores, store + block("store", ["-1,x"]), [*stores, LIMIT]
+    fact, facts = over_fact(1, "") + block("f", ["1"] * FACTS), ["table f", f"commit 1 rows {FACTS}"]
+    yield "rows of the fact table", fact, facts, fact + block("f", ["1"]), [*facts, LIMIT]
+    deleted, less = fact + "delete from f\n", [*facts, f"commit 2 rows {FACTS}"]
+    yield ("rows of the fact table, all deleted", deleted + block("f", []), [*less, "commit 3 rows 0"],
+           deleted + block("f", ["1"]), [*less, LIMIT])
+    yield ("an integer of a record", over_fact(2, "") + block("f", [f"{GREATEST},{-GREATEST - 1}"]),
+           ["table f", "commit 1 rows 1"],
+           over_fact(2, "") + block("f", [f"{GREATEST + 1},0"]) + block("f", [f"0,{-GREATEST - 2}"]),
+           ["table f", BAD, BAD])
 
 
 def is_due(line, want):
+    """Whether a line of replies is the wanted one, or any refusal where none is named."""
     return line.startswith("refused ") if want is None else line == want
 
 
-def check_limits(program, stack):
-    """Each limit at its border and one past it. Answers how many are wrong."""
+def fault_at_limit(ran, due):
+    """What is wrong with a run at a limit, or nothing."""
+    lines = ran.replies.decode().splitlines()
+    same = len(lines) == len(due) and all(map(is_due, lines, due))
+    refused = any(line.startswith("refused ") for line in lines)
+    if same and ran.status == refused:
+        return None
+    return f"status {ran.status}, {lines[-1:]} in place of {due[-1:]}"
+
+
+def check_limits(launcher, program, stack):
+    """Checks each limit at its border and one past it, and returns how many runs are wrong."""
     wrong = 0
-    for name, at, due_at, past, due_past in limits():
+    for name, at, due_at, past, due_past in [*limits_of_lines(), *limits_of_schemas(), *limits_of_tables()]:
         for script, due in ((at, due_at), (past, due_past)):
             for words in ([], ["--mode", "alone"], ["--workers", "2"]):
-                ran = Ran(program, words, script.encode, stack)
-                lines = ran.replies.decode().splitlines()
-                same = len(lines) == len(due) and all(map(is_due, lines, due))
-                refused = any(line.startswith("refused ") for line in lines)
-                if not same or ran.status != refused:
+                fault = fault_at_limit(launcher.run(program, words, [script.encode()], stack), due)
+                if fault:
                     wrong += 1
-                    print(f"WRONG {name} {' '.join(words)}: status {ran.status}, {lines[-1:]} in place of {due[-1:]}")
+                    print(f"WRONG {name} {' '.join(words)}: {fault}")
     for more, status in ((0, 0), (1, 6)):
-        ran = Ran(program, [], lambda: b"\n" * (SCRIPT + more), stack)
+        ran = launcher.run(program, [], [b"\n" * (SCRIPT + more)], stack)
         if ran.status != status or ran.replies:
             wrong += 1
             print(f"WRONG bytes of a script, {more} more: status {ran.status}")
@@ -164,100 +163,111 @@ def check_limits(program, stack):
     return wrong
 
 
-def filled(front, unit, size):
-    """A front, and a unit again and again up to a size."""
-    return front + unit * ((size - len(front)) // len(unit))
+def filled(first, unit, size):
+    """Some first bytes, and then a unit again and again, up to a size."""
+    return first + unit * ((size - len(first)) // len(unit))
+
+
+def in_block(table, first, unit, size):
+    """A load of a table whose block begins with some bytes and goes on with a unit, up to a size."""
+    return filled(f"{TABLES}load {table}\n{first}".encode(), unit, size - 3) + b"\n.\n"
 
 
 def nested(size):
+    """Selects with 64 nested words `not`."""
     line = b"select count(*) from sales where " + b"not (" * 64 + b"units > 0" + b")" * 64 + b"\n"
     return filled(TABLES.encode(), line, size)
 
 
 def wide(size):
+    """Selects with 5,000 tests."""
     line = b"select count(*) from sales where units = 1" + b" or units = 1" * 5000 + b"\n"
     return filled(TABLES.encode(), line, size)
 
 
-def cut(size):
-    """Lines of which each opens what it does not close."""
-    return filled(b"", b"(" * 64 + b"\n", size)
-
-
+OPEN_LOAD = TABLES.encode() + b"load sales\n"
+SYNTAX = "refused 1 syntax at "
+UNKNOWN = "refused 2 unknown name"
+# Each kind of script by its name: the script of a size, and how each reply begins, or nothing where there is none.
 KINDS = {
-    "one line without an end": (lambda size: b"x" * size, LIMIT),
-    "one line of `load ` and more": (lambda size: filled(b"load ", b"x", size), LIMIT),
-    "one comment without an end": (lambda size: filled(b"--", b"x", size), None),
-    "blanks without an end": (lambda size: b" " * size, None),
-    "a block without an end": (lambda size: filled(TABLES.encode() + b"load sales\n", b"1,5\n", size), "refused 1 syntax at 10"),
-    "the same, of dots with a blank": (lambda size: filled(TABLES.encode() + b"load sales\n", b". \n", size), "refused 1 syntax at 10"),
-    "the same, of one line": (lambda size: filled(TABLES.encode() + b"load sales\n", b"1", size), "refused 1 syntax at 10"),
-    "the same, of no table": (lambda size: filled(b"load\n", b"select\n", size), "refused 1 syntax at 4"),
-    "a quote that is not closed in a block": (lambda size: filled(TABLES.encode() + b'load store\n1,"', b"x\n", size - 3) + b"\n.\n", BAD),
-    "quotes alone in a block": (lambda size: filled(TABLES.encode() + b"load store\n1,", b'"', size - 3) + b"\n.\n", BAD),
-    "a record of commas": (lambda size: filled(TABLES.encode() + b"load store\n", b",", size - 3) + b"\n.\n", BAD),
-    "blocks without a record": (lambda size: filled(TABLES.encode(), b"load sales\n.\n", size), "commit"),
-    "blocks of no table": (lambda size: filled(TABLES.encode(), b"load nothing\n.\n", size), "refused 2 unknown name"),
-    "lines of one byte": (lambda size: filled(b"", b"x\n", size), "refused 1 syntax at 0"),
-    "lines of one byte that is no text": (lambda size: filled(b"", b"\xff\n", size), "refused 14 not UTF-8"),
-    "64 parentheses a line, not closed": (cut, "refused 1 syntax at 0"),
-    "64 `not (` a line": (nested, "answer"),
-    "5,000 tests a line": (wide, "answer"),
-    "lines of 65,536 zeros": (lambda size: filled(b"", b"0" * LINE + b"\n", size), "refused 1 syntax at 0"),
+    "one line without a line feed": (lambda size: b"x" * size, LIMIT),
+    "one `load` line without a line feed": (lambda size: filled(b"load ", b"x", size), LIMIT),
+    "one comment without a line feed": (lambda size: filled(b"--", b"x", size), None),
+    "blanks without a line feed": (lambda size: b" " * size, None),
+    "a block without its dot line": (lambda size: filled(OPEN_LOAD, b"1,5\n", size), SYNTAX + "10"),
+    "the same, of lines with a dot and a blank": (lambda size: filled(OPEN_LOAD, b". \n", size), SYNTAX + "10"),
+    "the same, of one line": (lambda size: filled(OPEN_LOAD, b"1", size), SYNTAX + "10"),
+    "the same, after a `load` without a table": (lambda size: filled(b"load\n", b"select\n", size), SYNTAX + "4"),
+    "a block with a quote that is not closed": (lambda size: in_block("store", '1,"', b"x\n", size), BAD),
+    "a block of quotes": (lambda size: in_block("store", "1,", b'"', size), BAD),
+    "a block of commas": (lambda size: in_block("store", "", b",", size), BAD),
+    "blocks without records": (lambda size: filled(TABLES.encode(), b"load sales\n.\n", size), "commit"),
+    "blocks of an unknown table": (lambda size: filled(TABLES.encode(), b"load nothing\n.\n", size), UNKNOWN),
+    "lines of one byte": (lambda size: filled(b"", b"x\n", size), SYNTAX + "0"),
+    "lines of the byte 0xFF": (lambda size: filled(b"", b"\xff\n", size), "refused 14 not UTF-8"),
+    "lines of 64 open parentheses": (lambda size: filled(b"", b"(" * 64 + b"\n", size), SYNTAX + "0"),
+    "selects with 64 nested `not (`": (nested, "answer"),
+    "selects with 5,000 tests": (wide, "answer"),
+    "lines of 65,536 zeros": (lambda size: filled(b"", b"0" * LINE + b"\n", size), SYNTAX + "0"),
     "names of 65,536 bytes": (lambda size: filled(b"", b"n" * LINE + b"\n", size), LIMIT),
     "waits": (lambda size: filled(b"", b"wait\n", size), "waited"),
 }
+IN_PIECES = ("a block without its dot line", "lines of one byte", "selects with 5,000 tests")
 
 
 def fault_of(ran, due):
-    """What is wrong with a run whose replies, but for those to declarations and the rows of answers, are all to begin so."""
-    lines = [line for line in ran.replies.splitlines() if line not in (b"0", b"table store", b"table sales")]
-    status = 1 if due and (due.startswith("refused")) else 0
-    if ran.status != status or (due is None) != (not lines) or any(not line.startswith(due.encode()) for line in lines):
-        return f"status {ran.status}, {lines[:1]}"
-    return None
+    """What is wrong with a run, or nothing. All replies but those to declarations, and rows of answers, begin alike."""
+    lines = [line for line in ran.replies.splitlines() if line != b"0" and not line.startswith(b"table ")]
+    status = 1 if due and due.startswith("refused") else 0
+    right = all(line.startswith(due.encode()) for line in lines) if due else not lines
+    if ran.status == status and right and (not due or lines):
+        return None
+    return f"status {ran.status}, {lines[:1]}"
 
 
-def check_kind(program, name, sizes, library="", at=None):
-    """A kind of script at growing sizes. Answers how many are wrong."""
+def check_kind(launcher, program, name, sizes, library="", told=None):
+    """Runs scripts of a kind and of growing sizes, prints their row, and returns how many are wrong."""
     make, due = KINDS[name]
     each, wrong = [], []
     for size in sizes:
-        ran = Ran(program, [], lambda: make(size), STACK, library)
+        script = make(size)
+        ran = launcher.run(program, [], [script], STACK, library)
         fault = fault_of(ran, due)
         if fault:
             wrong.append(fault)
-        each.append((ran.bytes, ran.seconds, ran.megabytes))
+        each.append((len(script), ran.seconds, ran.megabytes))
     if each[-1][1] / each[-1][0] > 3 * max(each[0][1], 0.01) / each[0][0]:
         wrong.append("not linear")
-    told = " | ".join(f"{seconds:.2f}" for _, seconds, _ in each)
-    memory = f"{each[-1][2]} MB" if each[-1][2] > LEAST else f"at most {LEAST} MB"
-    print(f"| {at or name} | {told} | {memory} |" + "".join(f" WRONG: {it}" for it in wrong), flush=True)
+    cells = " | ".join(f"{seconds:.2f}" for _, seconds, _ in each)
+    faults = "".join(f" WRONG: {it}" for it in wrong)
+    print(f"| {told or name} | {cells} | {each[-1][2]:.0f} MB |{faults}", flush=True)
     return len(wrong)
 
 
+def check_kinds(launcher, program, sizes):
+    """Runs scripts of all kinds, prints the table, and returns how many are wrong."""
+    print("\n| script | " + " | ".join(f"{size / MIB:g} MiB" for size in sizes) + " | memory |")
+    print("|" + "---|" * (len(sizes) + 2))
+    wrong = sum(check_kind(launcher, program, name, sizes) for name in KINDS)
+    library = launcher.library("pieces", PIECES)
+    for name in IN_PIECES:
+        told = f"{name}, in pieces of one byte, a quarter of each size"
+        wrong += check_kind(launcher, program, name, [size // 4 for size in sizes], library, told)
+    return wrong
+
+
 def main():
-    if sys.argv[1:2] == ["--measure"]:
-        measure(int(sys.argv[2]), sys.argv[3], sys.argv[4], sys.argv[5:])
-        return 0
-    parser = argparse.ArgumentParser()
-    parser.add_argument("--program", default=str(TOP / "cjoin"))
-    parser.add_argument("--sizes", default="1,4,16")
-    options = parser.parse_args()
-    program = os.path.abspath(options.program)
-    sizes = [int(size) * MIB for size in options.sizes.split(",")]
-    wrong = check_limits(program, 0) + check_limits(program, STACK)
-    print("| script | " + " | ".join(f"{size // MIB} MiB" for size in sizes) + " | memory |")
-    for name in KINDS:
-        wrong += check_kind(program, name, sizes)
-    with tempfile.TemporaryDirectory() as folder:
-        library, code = os.path.join(folder, "pieces.so"), os.path.join(folder, "pieces.c")
-        Path(code).write_text(PIECES)
-        subprocess.run(["cc", "-O2", "-shared", "-fPIC", "-o", library, code], check=True)
-        for name in ("a block without an end", "lines of one byte", "5,000 tests a line"):
-            small = [size // 4 for size in sizes]
-            wrong += check_kind(program, name, small, library, f"{name}, in pieces of one byte, a quarter of the sizes")
-    print("all are right" if not wrong else f"{wrong} are wrong")
+    """Reads the words, and runs all scripts."""
+    parser = argparse.ArgumentParser(description=__doc__, formatter_class=argparse.RawDescriptionHelpFormatter)
+    parser.add_argument("--program", default=str(CJOIN), help="the program to run (./cjoin)")
+    parser.add_argument("--sizes", default="1,4,16", help="the sizes of scripts in MiB (1,4,16)")
+    words = parser.parse_args()
+    program = chosen(words.program)
+    sizes = [int(float(size) * MIB) for size in words.sizes.split(",")]
+    with Launcher() as launcher:
+        wrong = sum(check_limits(launcher, program, stack) for stack in (0, STACK))
+        wrong += check_kinds(launcher, program, sizes)
+    print("\nall are right" if not wrong else f"\n{wrong} are wrong")
     return 1 if wrong else 0
 
 

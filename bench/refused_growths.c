@@ -1,10 +1,10 @@
-/* An allocator that refuses one growth, or all from one on. It stands before the C library's by LD_PRELOAD.
+/* An allocator that refuses one call for memory, or all from one on. LD_PRELOAD puts it before the allocator of the C library.
 
-   REFUSE_AT=K      the K-th call of malloc or realloc that asks for memory answers null; 0 or nothing: none does
-   REFUSE_REST=1    so do all behind it
-   REFUSED_FD=N     a byte is written to this file at each refusal
+   REFUSE_AT=K      the K-th call of malloc or realloc that asks for memory returns null; if this is 0 or missing, none does
+   REFUSE_REST=1    all later calls return null, too
+   REFUSED_FD=N     at each refusal a byte is written to this file
 
-   What the C library takes for itself, as the stack of a thread, is not counted. */
+   Calls that the C library makes for itself, such as for the stack of a thread, are not counted. */
 
 #include <errno.h>
 #include <stdatomic.h>

@@ -1,31 +1,34 @@
 #!/usr/bin/env python3
-"""Refuses each growth of a run's memory in turn, and checks what the program then replies.
+"""Refuses the calls for memory of a run, one in each run, and checks the replies.
 
-    python3 bench/refused_growths.py                   ./cjoin, each mode, without workers and with two
-    python3 bench/refused_growths.py --program FILE    the same of another program
-    python3 bench/refused_growths.py --rest            from the K-th growth on all are refused, and not the K-th alone
+    python3 bench/refused_growths.py                   ./cjoin, in each mode, without workers and with two
+    python3 bench/refused_growths.py --rest            refuses all calls from the K-th on, in place of the K-th alone
+    python3 bench/refused_growths.py --program FILE    another program
 
-Of a script, which has each form of a statement, and of the first example, a run is made for each K from 1, in which the K-th
-call for memory answers that there is none (`refused_growths.c`, which `cc` compiles), until a run comes to its end without such
-a call. Each has to end within ten seconds with status 0, 1 or 5. At 0 and 1 there is a reply to each statement. Those that are
-`memory` tell which statements changed nothing: the other replies have to be those of the program to a script without these
-statements, and the status is 1 where some reply is `memory` or a refusal. At 5 the bytes written have to be a front of such
-replies. In the mode `make` the line has to tell as many `memory` replies as the status asks for, and at 5 there is none. Python's
-standard library and `cc` are all this needs.
+The scripts are the first example, and one that has each form of a statement. For each K from 1 on there is a run in
+which the K-th call for memory fails (`refused_growths.c`, compiled by `cc`), until a run ends before such a call.
+Each run has to end within ten seconds with status 0, 1 or 5. At 0 and 1 there is a reply to each statement. The
+statements whose reply is `memory` changed nothing: the other replies have to be those of the program to a script
+without these statements, and the status is 1 if a reply is `memory` or a refusal. At 5 the bytes written have to be a
+prefix of such replies. In the mode `make` the line has to report as many `memory` replies as the status asks for, and
+at 5 there is no line. Each row of the table is a script and the words of the command line: the calls that were
+refused, how many runs ended with each status, how many replies were `memory`, and how many runs were wrong. Python's
+standard library and `cc` are all that this needs.
 """
 
 import argparse
 import collections
+import functools
 import os
 import re
 import subprocess
 import sys
 import tempfile
-import time
-from pathlib import Path
 
-TOP = Path(__file__).resolve().parent.parent
+from program import CJOIN, TOP, chosen
+
 SECONDS = 10
+ENDS = (0, 1, 5)
 
 FORMS = """-- each form of a statement
 dimension store (id int key, city text)
@@ -94,7 +97,7 @@ def statements_of(script):
 
 
 def replies_of(text):
-    """The replies of which a text is made, the last one perhaps cut off."""
+    """The replies that make up a text, of which the last may be cut off."""
     found, lines, at = [], text.splitlines(keepends=True), 0
     while at < len(lines):
         rows = re.fullmatch(r"answer \d+ rows (\d+)\n", lines[at])
@@ -105,44 +108,47 @@ def replies_of(text):
 
 
 class Run:
-    """A program that runs scripts, whose growths may be refused."""
+    """A program whose calls for memory may be refused."""
 
     def __init__(self, program, library, rest):
         self.program, self.library, self.rest = program, library, rest
         self.known = {}
 
     def plain(self, statements):
-        """The replies to statements where nothing is refused, each query by itself."""
+        """The replies to statements if no call is refused, each query alone."""
         script = "".join(statements)
         if script not in self.known:
-            done = subprocess.run([self.program, "--mode", "alone"], input=script.encode(), stdout=subprocess.PIPE, check=False)
+            words = [self.program, "--mode", "alone"]
+            done = subprocess.run(words, input=script.encode(), stdout=subprocess.PIPE, check=False)
             self.known[script] = replies_of(done.stdout.decode())
         return self.known[script]
 
     def refused(self, words, script, at):
-        """A run of which this growth is refused: its status, what it wrote, and how many were refused."""
+        """A run in which a call is refused: its status, what it wrote, and how many calls were refused."""
         with tempfile.TemporaryFile() as told:
             more = {"LD_PRELOAD": self.library, "REFUSE_AT": str(at), "REFUSED_FD": str(told.fileno())}
             if self.rest:
                 more["REFUSE_REST"] = "1"
-            done = subprocess.run([self.program, *words], input=script.encode(), stdout=subprocess.PIPE, stderr=subprocess.DEVNULL,
-                                  env={**os.environ, **more}, pass_fds=[told.fileno()], timeout=SECONDS)
+            done = subprocess.run(
+                [self.program, *words], input=script.encode(), stdout=subprocess.PIPE, stderr=subprocess.DEVNULL,
+                env={**os.environ, **more}, pass_fds=[told.fileno()], timeout=SECONDS, check=False,
+            )
             return done.returncode, done.stdout.decode(), os.fstat(told.fileno()).st_size
 
     def wanted(self, statements, places):
-        """The replies that are due where memory was wanted at these places."""
+        """The right replies if the statements at these places ran out of memory."""
         others = iter(self.plain([s for place, s in enumerate(statements) if place not in places]))
         return ["memory\n" if place in places else next(others) for place in range(len(statements))]
 
     def fault(self, statements, status, text):
         """What is wrong with what a run wrote, or nothing."""
-        if status not in (0, 1, 5):
+        if status not in ENDS:
             return f"status {status}"
         replies = replies_of(text)
         places = {place for place, reply in enumerate(replies) if reply == "memory\n"}
         wanted = "".join(self.wanted(statements, places))
         if status == 5:
-            return None if wanted.startswith(text) else "no front of the replies"
+            return None if wanted.startswith(text) else "no prefix of the replies"
         if text != wanted:
             return "other replies"
         some = any(reply == "memory\n" or reply.startswith("refused ") for reply in replies)
@@ -150,7 +156,7 @@ class Run:
 
 
 def made_fault(status, text):
-    """What is wrong with the line of the made workload, or nothing."""
+    """What is wrong with the line of the mode `make`, or nothing."""
     if status == 5:
         return None if text == "" else "a line at 5"
     numbers = r"commits \d+ answers \d+ rows \d+ overflows 0 refused (\d+) memory (\d+) bytes \d+ sum \d+"
@@ -161,8 +167,8 @@ def made_fault(status, text):
 
 
 def refuse_each(run, name, words, script, check):
-    """Refuses each growth of a run in turn. Answers how many there were, and with which statuses they ended."""
-    began, statuses, memory, at, faults = time.monotonic(), collections.Counter(), 0, 1, []
+    """Refuses each call for memory of a run in turn, prints a row, and returns what was refused and what is wrong."""
+    statuses, memory, at, faults = collections.Counter(), 0, 1, []
     while True:
         try:
             status, text, refused = run.refused(words, script, at)
@@ -178,33 +184,46 @@ def refuse_each(run, name, words, script, check):
         statuses[status] += 1
         memory += text.count("memory\n")
         at += 1
-    told = ", ".join(f"{count} with {status}" for status, count in sorted(statuses.items()))
-    seconds = time.monotonic() - began
-    print(f"{name} {' '.join(words)}: {at - 1} growths refused, {told}, {memory} replies are memory, {seconds:.0f} s", flush=True)
-    for at, fault in faults[:20]:
-        print(f"  WRONG where the growth {at} is refused: {fault}", flush=True)
-    return len(faults)
+    ends = [f"{statuses[status]:,}" for status in ENDS]
+    cells = [name, f"`{' '.join(words)}`", f"{at - 1:,}", *ends, f"{memory:,}", str(len(faults))]
+    print(f"| {' | '.join(cells)} |", flush=True)
+    for place, fault in faults[:20]:
+        told = f"WRONG where call {place} of {name} {' '.join(words)} is refused: {fault}"
+        print(told, file=sys.stderr, flush=True)
+    return at - 1, len(faults)
+
+
+def tries(run):
+    """What is run: a name, the words, the script, and how a run is checked."""
+    example = (TOP / "examples" / "stores.cjoin").read_text()
+    for name, script in {"`examples/stores.cjoin`": example, "each form of a statement": FORMS}.items():
+        check = functools.partial(run.fault, statements_of(script))
+        for words in (["--workers", "0"], ["--workers", "0", "--slots", "1", "--batch", "1"], ["--workers", "2"],
+                      ["--workers", "2", "--slots", "2", "--batch", "1"], ["--mode", "alone"]):
+            yield name, words, script, check
+    for words in (["--mode", "make", "--rows", "0"], ["--mode", "make", "--rows", "0", "--workers", "2"]):
+        yield "none", words, "", made_fault
 
 
 def main():
-    parser = argparse.ArgumentParser()
-    parser.add_argument("--program", default=str(TOP / "cjoin"))
-    parser.add_argument("--rest", action="store_true")
+    """Reads the words, and prints the table."""
+    parser = argparse.ArgumentParser(description=__doc__, formatter_class=argparse.RawDescriptionHelpFormatter)
+    parser.add_argument("--program", default=str(CJOIN), help="the program to run (./cjoin)")
+    parser.add_argument("--rest", action="store_true", help="refuse all calls from the K-th on")
     options = parser.parse_args()
-    scripts = {"stores": (TOP / "examples" / "stores.cjoin").read_text(), "forms": FORMS}
+    calls, wrong = 0, 0
+    ends = [f"ended with {status}" for status in ENDS]
+    head = ["script", "words", "calls refused", *ends, "`memory` replies", "wrong"]
+    print(f"| {' | '.join(head)} |\n" + "|---" * len(head) + "|")
     with tempfile.TemporaryDirectory() as folder:
         library = os.path.join(folder, "refused_growths.so")
-        subprocess.run(["cc", "-O2", "-shared", "-fPIC", "-o", library, TOP / "bench" / "refused_growths.c"], check=True)
-        run = Run(os.path.abspath(options.program), library, options.rest)
-        wrong = 0
-        for name, script in scripts.items():
-            statements = statements_of(script)
-            for words in (["--workers", "0"], ["--workers", "0", "--slots", "1", "--batch", "1"], ["--workers", "2"],
-                          ["--workers", "2", "--slots", "2", "--batch", "1"], ["--mode", "alone"]):
-                wrong += refuse_each(run, name, words, script, lambda status, text: run.fault(statements, status, text))
-        for words in (["--mode", "make", "--rows", "0"], ["--mode", "make", "--rows", "0", "--workers", "2"]):
-            wrong += refuse_each(run, "made", words, "", made_fault)
-    print("all are right" if not wrong else f"{wrong} are wrong")
+        source = TOP / "bench" / "refused_growths.c"
+        subprocess.run(["cc", "-O2", "-shared", "-fPIC", "-o", library, source], check=True)
+        run = Run(chosen(options.program), library, options.rest)
+        for it in tries(run):
+            refused, faults = refuse_each(run, *it)
+            calls, wrong = calls + refused, wrong + faults
+    print(f"| all | | {calls:,} |" + " |" * (len(ENDS) + 1) + f" {wrong} |")
     return 1 if wrong else 0
 
 

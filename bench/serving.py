@@ -1,7 +1,7 @@
-"""A server of the program that runs for a while, and connections to it, for the programs of `bench/` that measure the mode `serve`.
+"""A server of the program that runs for a while, and connections to it, for the scripts of `bench/`.
 
-A reply that does not come in time, a connection that is closed before its replies came, and a server that has ended are each a
-`Fault`. Python's standard library and a Linux with /proc are all this needs.
+A reply that does not come in time, a connection that is closed before its replies came, and a server that has ended
+are each a `Fault`. Python's standard library and a Linux with /proc are all that this needs.
 """
 
 import contextlib
@@ -19,17 +19,24 @@ TICKS = os.sysconf("SC_CLK_TCK")
 
 
 class Fault(Exception):
-    """Something is wrong with a reply, or it does not come."""
+    """A reply is wrong, or does not come."""
 
 
 def insist(holds, *words):
-    """Ends with these words where something does not hold."""
+    """Raises a fault with these words if a condition does not hold."""
     if not holds:
         raise Fault(" ".join(str(word) for word in words))
 
 
+def print_table(head, *rows):
+    """Prints a table of Markdown."""
+    lines = [f"| {' | '.join(cells)} |" for cells in (head, *rows)]
+    lines.insert(1, "|---" * len(list(head)) + "|")
+    print("\n".join(lines), flush=True)
+
+
 def status_of(pid, word):
-    """A figure of /proc in MB."""
+    """A figure of the status of a process in MB."""
     for line in Path(f"/proc/{pid}/status").read_text().splitlines():
         if line.startswith(word + ":"):
             return int(line.split()[1]) / 1024
@@ -37,14 +44,14 @@ def status_of(pid, word):
 
 
 def free_port():
-    """A port of this machine that nobody listens at."""
+    """A port of this machine at which no program listens."""
     with socket.socket() as probe:
         probe.bind(("127.0.0.1", 0))
         return probe.getsockname()[1]
 
 
 class Replies:
-    """Cuts what comes over a connection into replies: the words of the first line, and the rows of an answer."""
+    """Cuts the bytes of a connection into replies: the words of the first line, and the rows of an answer."""
 
     def __init__(self):
         self.tail, self.words, self.rows, self.left = b"", [], [], 0
@@ -66,36 +73,42 @@ class Replies:
 def told(reply, word):
     """The number and the count of a reply that has to begin with this word, and its rows."""
     words, rows = reply
-    insist(words[0] == word and len(words) == 4, b" ".join(words).decode(), "came where", word.decode(), "was to come")
+    insist(words[0] == word and len(words) == 4, b" ".join(words).decode(), "came in place of", word.decode())
     return int(words[1]), int(words[3]), rows
 
 
 def told_rows(reply, rows):
     """The number of a reply that has to be an answer of these rows."""
     number, _, came = told(reply, b"answer")
-    insist(came == rows, "the answer at", number, "is", came[:9], "and was to be", rows[:9])
+    insist(came == rows, "the answer at", number, "is", came[:9], "in place of", rows[:9])
     return number
 
 
 class Link:
-    """A connection, and the replies that came over it. A quick one acknowledges at once what comes: without that the system takes
-    40 ms where a server writes two replies, one after the other, to one piece."""
+    """A connection, and the replies that came over it.
+
+    A quick one acknowledges each piece at once. Otherwise the system takes 40 ms if a server writes two replies, one
+    after the other, to one piece.
+    """
 
     def __init__(self, server, *options, quick=False):
-        self.socket, self.replies, self.ready, self.quick = socket.socket(), Replies(), deque(), quick
+        self.socket, self.quick = socket.socket(), quick
+        self.replies, self.ready = Replies(), deque()
         for option in ((socket.IPPROTO_TCP, socket.TCP_NODELAY, 1), *options):
             self.socket.setsockopt(*option)
         self.socket.settimeout(server.patience)
         self.socket.connect(("127.0.0.1", server.port))
 
     def fileno(self):
+        """The number of the socket, for selectors."""
         return self.socket.fileno()
 
     def send(self, text):
+        """Sends some text."""
         self.socket.sendall(text.encode())
 
     def receive(self):
-        """Takes what came. Whether anything will come later."""
+        """Takes what came, and returns whether more may come."""
         if self.quick:
             self.socket.setsockopt(socket.IPPROTO_TCP, socket.TCP_QUICKACK, 1)
         try:
@@ -112,16 +125,16 @@ class Link:
         return self.ready.popleft()
 
     def ask(self, text):
-        """Sends one statement. Its reply."""
+        """Sends one statement, and returns its reply."""
         self.send(text)
         return self.reply()
 
     def end(self):
-        """Says that no more will be sent."""
+        """Ends the sending side."""
         self.socket.shutdown(socket.SHUT_WR)
 
     def rest(self):
-        """Ends, and takes all replies that are left."""
+        """Ends the sending side, and returns all replies that are left."""
         self.end()
         while self.receive():
             pass
@@ -129,10 +142,11 @@ class Link:
         return list(self.ready)
 
     def close(self):
+        """Closes the connection."""
         self.socket.close()
 
     def reset(self):
-        """Breaks off, so that neither side has anything more of the other."""
+        """Breaks the connection off, so that neither side gets anything more."""
         self.socket.setsockopt(socket.SOL_SOCKET, socket.SO_LINGER, struct.pack("ii", 1, 0))
         self.socket.close()
 
@@ -161,7 +175,7 @@ class Server:
         return replies
 
     def begin(self, script, count):
-        """Plays the declarations and loads with which all begins. None of so many is refused."""
+        """Plays the declarations and loads of the beginning, which are so many. None is refused."""
         words = [words[0] for words, _ in self.play(script)]
         insist(len(words) == count and set(words) == {b"table", b"commit"}, "the tables were not loaded:", words)
 
@@ -185,7 +199,7 @@ class Server:
 
 @contextlib.contextmanager
 def serving(program, *words, patience=PATIENCE):
-    """A server of the program at a port of its own, which is killed in the end."""
+    """A server of the program at a port of its own. It is killed at the end."""
     quiet = {"stdout": subprocess.DEVNULL, "stderr": subprocess.DEVNULL}
     # The first run of ./cjoin builds the program.
     subprocess.run([program], stdin=subprocess.DEVNULL, check=True, **quiet)

@@ -1,17 +1,18 @@
 #!/usr/bin/env python3
-"""Writes the Star Schema Benchmark at a scale as a script, with its thirteen queries, and compares and measures the answers.
+"""Writes the Star Schema Benchmark at a scale as a script with its thirteen queries, or measures and compares them.
 
-    python3 bench/ssb.py 0.1 > benchmark               600,000 rows, and the thirteen queries behind one `wait`
-    python3 bench/ssb.py 0.1 --measure                 ./cjoin, sqlite3 and PostgreSQL: each query alone, and all together
-    python3 bench/ssb.py 0.1 --measure --program FILE  the same of another program
+    python3 bench/ssb.py 0.1 > benchmark               600,000 rows, and the thirteen queries after one `wait`
+    python3 bench/ssb.py 0.1 --measure                 ./cjoin, sqlite3 and PostgreSQL: each query, and all at once
+    python3 bench/ssb.py 0.1 --measure --program FILE  another program
 
 The schema, the domains of the columns and the queries are those of O'Neil, O'Neil, Chen and Revilak, "The Star Schema
-Benchmark and Augmented Fact Table Indexing" (TPCTC 2009), with fewer rows: a scale of 1 has 6,000,000 of them, and a table
-of facts here has at most 1,048,576, which is a scale of 0.174. What a query here cannot say is made into a column: a sum is
-over one column, so `lo_discounted` is the price times the discount, and `lo_profit` is the revenue less the cost. Answers
-are sorted by the columns of `group by`, so `order by` is left out, and they are compared as sets. All numbers are drawn by
-one linear congruence, so the same scale writes the same bytes. Python's standard library is all it needs; a peer is
-measured where it is installed.
+Benchmark and Augmented Fact Table Indexing" (TPCTC 2009), with fewer rows. A scale of 1 has 6,000,000 rows, and a
+fact table here has at most 1,048,576, which is a scale of 0.174. If a query needs more than this language has, a
+column holds it: a sum is over one column, so `lo_discounted` is the price times the discount, and `lo_profit` is the
+revenue less the cost. Answers are sorted by the columns of `group by`, so `order by` is left out, and they are
+compared as sets. All numbers are drawn by one linear congruence, so the same scale writes the same bytes. The figures
+are seconds of processor time, measured as by `bench/run.py`. Python's standard library is all that this needs; a peer
+is measured if it is installed.
 """
 
 import argparse
@@ -22,7 +23,7 @@ import sys
 import run
 from burst import Draws, load
 
-MOST = 1048576  # the most rows of a table of facts
+MOST = 1048576  # the most rows of the fact table
 ORDERED = datetime.date(1998, 8, 2)  # the last day of an order
 DAYS = [datetime.date(1992, 1, 1) + datetime.timedelta(days=day) for day in range(2557)]
 
@@ -49,12 +50,14 @@ NATIONS = [(nation, region) for region, nations in REGIONS.items() for nation in
 SEGMENTS = ("AUTOMOBILE", "BUILDING", "FURNITURE", "HOUSEHOLD", "MACHINERY")
 COLORS = ("almond", "azure", "beige", "blue", "coral", "cream", "green", "ivory", "lemon", "olive", "plum", "red")
 SHIPMODES = ("AIR", "FOB", "MAIL", "RAIL", "REG AIR", "SHIP", "TRUCK")
-SEASONS = ("Winter", "Winter", "Spring", "Spring", "Spring", "Summer", "Summer", "Summer", "Fall", "Fall", "Fall", "Christmas")
+# The season of each month.
+SEASONS = ("Winter",) * 2 + ("Spring",) * 3 + ("Summer",) * 3 + ("Fall",) * 3 + ("Christmas",)
 
-# Each query by its number: the columns of its groups, what it sums, and its condition beside the joins.
+# Each query by its number: the columns of its groups, the column that it sums, and its condition without the joins.
 QUERIES = {
     "1.1": ("", "lo_discounted", "d_year = 1993 and lo_discount between 1 and 3 and lo_quantity < 25"),
-    "1.2": ("", "lo_discounted", "d_yearmonthnum = 199401 and lo_discount between 4 and 6 and lo_quantity between 26 and 35"),
+    "1.2": ("", "lo_discounted", "d_yearmonthnum = 199401 and lo_discount between 4 and 6"
+            " and lo_quantity between 26 and 35"),
     "1.3": ("", "lo_discounted", "d_weeknuminyear = 6 and d_year = 1994 and lo_discount between 5 and 7"
             " and lo_quantity between 26 and 35"),
     "2.1": ("d_year, p_brand1", "lo_revenue", "p_category = 'MFGR#12' and s_region = 'AMERICA'"),
@@ -75,16 +78,16 @@ QUERIES = {
     "4.3": ("d_year, s_city, p_brand1", "lo_profit", "c_region = 'AMERICA' and s_nation = 'UNITED STATES'"
             " and d_year in (1997, 1998) and p_category = 'MFGR#14'"),
 }
-# The dimensions of a query, by what the names of their columns begin with, and how the table of facts joins them.
+# The dimensions of a query, by the beginning of the names of their columns, and how the fact table joins them.
 JOINS = {"d_": ("dates", "lo_orderdate = d_datekey"), "c_": ("customer", "lo_custkey = c_custkey"),
          "s_": ("supplier", "lo_suppkey = s_suppkey"), "p_": ("part", "lo_partkey = p_partkey")}
 
 
 def query(number):
-    """A query in the language of this program, which is SQL too."""
+    """A query in the language of this program, which is SQL, too."""
     groups, measure, condition = QUERIES[number]
     words = f"{groups} {condition}".replace("(", " ").split()
-    joined = [join for front, join in JOINS.items() if any(word.startswith(front) for word in words)]
+    joined = [join for prefix, join in JOINS.items() if any(word.startswith(prefix) for word in words)]
     select = f"{groups}, sum({measure})" if groups else f"sum({measure})"
     tables = ", ".join(["lineorder", *(name for name, _ in joined)])
     where = " and ".join([*(test for _, test in joined), condition])
@@ -97,7 +100,7 @@ def wide(draws, bound):
 
 
 def date_row(day):
-    """A row of the dates."""
+    """A row of the dimension of dates."""
     name = day.strftime("%b")
     return (int(day.strftime("%Y%m%d")), day.strftime("%B %d %Y"), day.strftime("%A"), day.strftime("%B"), day.year,
             day.year * 100 + day.month, f"{name}{day.year}", (day.weekday() + 1) % 7 + 1, day.day,
@@ -105,13 +108,13 @@ def date_row(day):
 
 
 def place(draws):
-    """A city with its nation and its region: ten cities of a nation have the first nine bytes of its name."""
+    """A city with its nation and its region. A city has the first nine bytes of its nation's name, and a digit."""
     nation, region = NATIONS[draws.pick(len(NATIONS))]
     return f"{nation[:9]:<9}{draws.pick(10)}", nation, region
 
 
 def part_row(key, draws):
-    """A row of the parts: a maker has five categories, and a category has forty brands."""
+    """A row of the dimension of parts: a maker has five categories, and a category has forty brands."""
     maker = f"MFGR#{1 + draws.pick(5)}"
     category = f"{maker}{1 + draws.pick(5)}"
     color = COLORS[draws.pick(len(COLORS))]
@@ -125,7 +128,7 @@ def price_of(part):
 
 
 def lines(count, sizes, draws):
-    """The rows of the table of facts: an order has one to seven lines of one customer and one day."""
+    """The rows of the fact table: an order has one to seven lines, all of one customer and one day."""
     days = [int(day.strftime("%Y%m%d")) for day in DAYS if day <= ORDERED]
     order = 0
     while count > 0:
@@ -144,10 +147,10 @@ def lines(count, sizes, draws):
 
 @functools.lru_cache(maxsize=1)
 def tables_at(scale):
-    """The rows of each table at a scale by its name, in the order in which they are loaded."""
+    """The rows of each table at a scale by its name, in the order of their loads."""
     count = round(6000000 * scale)
     if not 0 < count <= MOST:
-        sys.exit(f"there are 1 to {MOST} rows of facts, so a scale is at most 0.174")
+        sys.exit(f"the fact table has 1 to {MOST} rows, so a scale is at most 0.174")
     sizes = {"customer": max(1, round(30000 * scale)), "supplier": max(1, round(2000 * scale)),
              "part": max(1, round(200000 * scale))}
     draws, keys = Draws(7), {name: range(1, size + 1) for name, size in sizes.items()}
@@ -168,29 +171,31 @@ def loads_at(scale):
 
 
 class Benchmark:
-    """The benchmark at a scale, of which these queries are asked."""
+    """The benchmark at a scale, with some of its queries."""
 
     def __init__(self, scale, numbers):
         self.scale, self.numbers, self.rows = scale, numbers, round(6000000 * scale)
 
     def tables(self):
+        """The rows of each table by its name, in the order of their loads."""
         return tables_at(self.scale)
 
     @staticmethod
     def declarations():
+        """The declarations of the tables."""
         return HEAD
 
     def queries(self, count):
-        """The first queries, which are SQL too."""
+        """The first few queries, which are SQL, too."""
         return [query(number) for number in self.numbers[:count]]
 
     def script(self, queries, times):
-        """The script that loads the tables, and asks the first queries so many times."""
+        """The script that loads the tables, and asks the first few queries so many times."""
         return loads_at(self.scale) + ("".join(text + "\n" for text in self.queries(queries)) + "wait\n") * times
 
 
 def measure(scale, program):
-    """Writes a table of the seconds of each query, and of all together. The answers of all parties are compared."""
+    """Prints a table of the seconds of each query, and of all at once. The answers of all parties are compared."""
     asked = run.parties(program, peers=True)
     loads = [party.loading(Benchmark(scale, []), 3) for party in asked]
     print("| query | " + " | ".join(party.name for party in asked) + " |")
@@ -199,15 +204,16 @@ def measure(scale, program):
         benchmark, wanted, cells = Benchmark(scale, numbers), None, []
         for party, loaded in zip(asked, loads):
             seconds, wanted = run.measured(party, benchmark, len(numbers), 1, wanted, loaded)
-            cells.append(f"{seconds:.4f}")
+            cells.append(f"{seconds:.3f}")
         print(f"| {name} | " + " | ".join(cells) + " |", flush=True)
 
 
 def main():
-    reader = argparse.ArgumentParser(description="The Star Schema Benchmark, as a script.")
-    reader.add_argument("scale", type=float, help="6,000,000 rows of facts times this, at most 0.174")
-    reader.add_argument("--measure", action="store_true", help="compare and measure, in place of writing the script")
-    reader.add_argument("--program", default=run.PROGRAM, help="what is measured")
+    """Writes the script, or prints the table."""
+    reader = argparse.ArgumentParser(description=__doc__, formatter_class=argparse.RawDescriptionHelpFormatter)
+    reader.add_argument("scale", type=float, help="the rows of the fact table are 6,000,000 times this, at most 0.174")
+    reader.add_argument("--measure", action="store_true", help="measure and compare, in place of writing the script")
+    reader.add_argument("--program", default=run.PROGRAM, help="the program to measure (./cjoin)")
     words = reader.parse_args()
     if words.measure:
         measure(words.scale, words.program)

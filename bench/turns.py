@@ -1,12 +1,12 @@
 #!/usr/bin/env python3
-"""Measures an entry of `board_lock` and its leave while nobody waits.
+"""Measures one turn of `board_lock`, an entry and a leave, while no other seat waits.
 
-    python3 bench/turns.py             nanoseconds of processor time for one entry and leave, of 20,000,000
-    python3 bench/turns.py 1000000     of so many
+    python3 bench/turns.py             nanoseconds of processor time for a turn, from 20,000,000 of them
+    python3 bench/turns.py 1000000     from so many
 
-It makes a repository of its own in a new folder, with the lock and a program over its small board, which `rt` proves
-and builds. Each figure is the least of five runs, less the least of five runs that take no turn. Python's standard
-library and the toolchain are all this needs.
+A new folder gets a repository with the lock and a program over its small board, which `rt` proves and builds in a few
+minutes. The figure is the least of five runs, less the least of five runs without a turn, divided by the number of
+turns. Python's standard library and the Rattle kit are all that this needs.
 """
 
 import resource
@@ -73,7 +73,7 @@ invariant-lines g l = IsOf l.lock l.seat × IsOutside l.seat
 
 
 def lay(top):
-    """Writes the repository."""
+    """Writes the repository, and returns the folder of the crate of the program."""
     all_lines = (TOP / "crates.txt").read_text().splitlines()
     lines = [line for line in all_lines if line.split(":")[0] in LIBRARIES]
     (top / "crates.txt").write_text("\n".join(lines + ["turns: " + " ".join(LIBRARIES)]) + "\n")
@@ -101,13 +101,15 @@ def seconds(program, turns):
 
 
 def main():
+    """Builds the program, and prints the table."""
     turns = int(sys.argv[1]) if len(sys.argv) > 1 else 20000000
     with tempfile.TemporaryDirectory() as folder:
         crate = lay(Path(folder))
         subprocess.run(["rt", "run", "--jobs", "1"], cwd=crate, input=b"0\n", stdout=subprocess.DEVNULL, check=True)
         program = crate / "out" / "turns"
         least = {count: min(seconds(program, count) for _ in range(5)) for count in (0, turns)}
-    print(f"{(least[turns] - least[0]) / turns * 1e9:.0f} ns for one entry and its leave, of {turns:,}")
+    print("| turns | nanoseconds of processor time for one |\n|---|---|")
+    print(f"| {turns:,} | {(least[turns] - least[0]) / turns * 1e9:.0f} |")
 
 
 if __name__ == "__main__":

@@ -1,13 +1,13 @@
 #!/usr/bin/env python3
-"""Runs the cases of `star_cases` with workers, again and again. What workers bring is measured by `bench/run.py --workers`.
+"""Runs the cases of `star_cases` with workers, again and again. `bench/run.py --workers` measures what workers bring.
 
-    python3 bench/workers.py                        every case with 1, 2, 4 and 16 workers and batches of one row, a hundred times
-    python3 bench/workers.py --times 3              three times
-    python3 bench/workers.py --program FILE ..      the same of another program than ./cjoin
+    python3 bench/workers.py                     each case with 1, 2, 4 and 16 workers and batches of one row, 100 times
+    python3 bench/workers.py --times 3           3 times
+    python3 bench/workers.py --program FILE ..   another program than ./cjoin
 
-Each case has to give its replies, byte for byte, and the status that they ask for, within a minute; the first that does not
-ends the whole with its name and words. In turn, the cases are run in as many processes at once as there are processors, so that
-threads are held up at all places. Python's standard library is all this needs.
+Each case has to give its replies, byte for byte, and the status that follows from them, within a minute. The first
+case that does not ends the run with its name and words. As many processes run at once as there are processors, so
+that threads are interrupted at all places. Python's standard library is all that this needs.
 """
 
 import argparse
@@ -23,6 +23,7 @@ WORKERS = (1, 2, 4, 16)
 
 
 def wanted_status(replies):
+    """The status that follows from some replies."""
     lines = replies.split(b"\n")
     refused = any(line.startswith(b"refused ") or line == b"memory" for line in lines)
     return 1 if refused else 0
@@ -33,17 +34,18 @@ def fault_of(program, words, case):
     script = case.read_bytes()
     replies = case.with_suffix(".replies").read_bytes()
     try:
-        done = subprocess.run([program, *words], input=script, stdout=subprocess.PIPE, stderr=subprocess.PIPE, timeout=60)
+        done = subprocess.run([program, *words], input=script, capture_output=True, timeout=60, check=False)
     except subprocess.TimeoutExpired:
-        return f"{case.stem} {' '.join(words)}: no end within a minute"
+        return f"{case.stem} {' '.join(words)}: it did not end within a minute"
     if done.stdout != replies:
-        return f"{case.stem} {' '.join(words)}: {len(done.stdout)} bytes, and {len(replies)} were to come"
+        return f"{case.stem} {' '.join(words)}: other replies, of {len(done.stdout)} bytes in place of {len(replies)}"
     if done.returncode != wanted_status(replies):
         return f"{case.stem} {' '.join(words)}: status {done.returncode}"
     return None
 
 
 def run_cases(program, times):
+    """Runs all cases so many times, and ends the process at the first fault."""
     cases = sorted(CASES.glob("*.cjoin"))
     ways = [["--workers", str(n), "--batch", "1"] for n in WORKERS]
     jobs = [(words, case) for _ in range(times) for words in ways for case in cases]
@@ -56,11 +58,13 @@ def run_cases(program, times):
 
 
 def main():
-    parser = argparse.ArgumentParser(description=__doc__.splitlines()[0])
-    parser.add_argument("--program", default=str(TOP / "cjoin"))
-    parser.add_argument("--times", type=int, default=100)
+    """Reads the words, and runs the cases."""
+    parser = argparse.ArgumentParser(description=__doc__, formatter_class=argparse.RawDescriptionHelpFormatter)
+    parser.add_argument("--program", default=str(TOP / "cjoin"), help="the program to run (./cjoin)")
+    parser.add_argument("--times", type=int, default=100, help="how often each case is run (100)")
     given = parser.parse_args()
     run_cases(os.path.abspath(given.program), given.times)
 
 
-main()
+if __name__ == "__main__":
+    main()
