@@ -74,6 +74,11 @@ def tell(text):
     print(text, flush=True)
 
 
+def counted(count, noun):
+    """How many of some things there are, in words."""
+    return f"{count:,} {noun}" if count == 1 else f"{count:,} {noun}s"
+
+
 # Blocks.
 
 
@@ -259,7 +264,7 @@ class Finder:
         referring = [it for it in self.columns if it.dimension]
         if not referring:
             return [], "which columns reference a dimension is not known; --columns says so"
-        return self.without_keys(referring, block), "all keys are known; was each file of --keys loaded?"
+        return self.without_keys(referring, block), "none of them was found; are --columns and --keys right?"
 
     def without_keys(self, referring, block):
         """The records whose keys in some columns are not known to be in their dimension."""
@@ -275,7 +280,7 @@ class Finder:
         keys = self.keys_of_file(file_name, column) if file_name else self.keys_of_rows(column)
         why = f"is not in {file_name}" if file_name else "is in no row of the table, and so may be missing"
         found, seen = [], set()
-        for number, line, record in block.numbered():
+        for number, line, record in block.numbered() if keys is not None else ():
             field = next(iter(fields_of(record)[place : place + 1]), None)
             key = None if field is None else key_of(field, column.kind)
             if key is not None and key not in keys and key not in seen:
@@ -293,10 +298,13 @@ class Finder:
         return self.listed_keys[file_name]
 
     def keys_of_rows(self, column):
-        """The keys that rows of the table have in a column, and which are in the dimension therefore."""
+        """The keys that rows of the table have in a column, and so the dimension, or None if the server refuses."""
         query = f"select {column.name}, count(*) from {self.given.table} group by {column.name}\n"
         head, *rows = self.server.ask(query.encode())
-        keys = [row.rpartition(b",")[0] for row in rows if head.startswith(b"answer")]
+        if not head.startswith(b"answer"):
+            say(f"to {query.strip()!r} the server replies {head.decode()!r}")
+            return None
+        keys = [row.rpartition(b",")[0] for row in rows]
         return {it[1:-1].replace(b"''", b"'") if column.kind == "text" else int(it) for it in keys}
 
 
@@ -378,7 +386,7 @@ class Loading:
         is_live = sys.stderr.isatty() and not sys.stdout.isatty()
         if is_end or is_live or now - self.last_said > 5:
             self.last_said = now
-            text = f"{self.records:,} records, {self.bytes:,} bytes, {now - self.began:.1f} s"
+            text = f"{counted(self.records, 'record')}, {self.bytes:,} bytes, {now - self.began:.1f} s"
             print(f"load_csv: {text}", file=sys.stderr, end="\r" if is_live and not is_end else "\n", flush=True)
 
     def sum_up(self):
@@ -387,8 +395,7 @@ class Loading:
         if self.last_commit is None:
             say("no record is committed")
         else:
-            blocks = "1 block is" if self.blocks == 1 else f"{self.blocks:,} blocks are"
-            say(f"{blocks} committed, the last one as commit {self.last_commit}")
+            say(f"committed in {counted(self.blocks, 'block')}, the last one as commit {self.last_commit}")
         if self.in_flight:
             say(f"{self.in_flight.name()} may be committed or not: the reply did not come")
 
@@ -423,7 +430,8 @@ def check(given, width, records):
         count, faults = count + len(block), faults + len(found)
     if faults > MOST_CHECKED:
         tell(f"  and {faults - MOST_CHECKED:,} more")
-    say(f"{faults:,} faults in {count:,} records" + ("" if finder.columns else "; --columns would tell their kinds"))
+    hint = "" if finder.columns else "; --columns would tell their kinds"
+    say(f"{counted(faults, 'fault')} in {counted(count, 'record')}{hint}")
     return REFUSED if faults else ALL_WELL
 
 
