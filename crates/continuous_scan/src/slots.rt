@@ -1,11 +1,12 @@
 //! What runs in the slots of a scan. Which positions that gives is in `scan`.
 ghost use Rattle.std.specs.Prelude.{◌≡◌, ◌<◌, ◌≤◌, ◌-◌, ◌++◌, length, map, replicate, slice_set, None, Some, IfOk};
+ghost use Rattle.bit_words.specs.declared.slots.TheConstants.{MAX_SLOTS};
 ghost use Rattle.continuous_scan.specs.Range.{some_run, cut_slot};
 ghost use Rattle.continuous_scan.specs.Stamped.{roster_of};
 ghost use Rattle.continuous_scan.specs.Inside.{RunBelow, AreUsed};
 
 use crate::runner::Runner;
-use bit_words::Bits;
+use batch_flow::SlotBits;
 use star_values::{ListOf, NoMemory};
 use std::alloc::Global;
 use std::marker::Model;
@@ -80,8 +81,8 @@ impl Slots {
     }
 
     /// The slots in which a query runs.
-    pub(crate) fn roster(&self) -> Bits<1>
-        requires { length self.now ≤ 64 }
+    pub(crate) fn roster(&self) -> SlotBits
+        requires { length self.now ≤ MAX_SLOTS }
         ensures { result ≡ roster_of self.now }
     {
         roster_of(self.in_use())
@@ -174,11 +175,11 @@ fn used_below(running: &[Option<Runner>], end: usize) -> usize
 }
 
 /// The slots in which a query runs.
-pub(crate) fn roster_of(running: &[Option<Runner>]) -> Bits<1>
-    requires { length running.now ≤ 64 }
+pub(crate) fn roster_of(running: &[Option<Runner>]) -> SlotBits
+    requires { length running.now ≤ MAX_SLOTS }
     ensures { result ≡ roster_of running.now }
 {
-    let mut roster = Bits::empty();
+    let mut roster = SlotBits::empty();
     for slot in 0..running.len() {
         roster = roster.with_if(slot as u32, running[slot].is_some());
     }

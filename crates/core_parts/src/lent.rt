@@ -5,8 +5,7 @@ ghost use Rattle.core_parts.specs.Seen.{seen_of, written};
 
 use crate::hand::Hand;
 use crate::version_numbers::VersionNumbers;
-use batch_flow::Batch;
-use bit_words::Bits;
+use batch_flow::{Batch, SlotBits};
 use continuous_scan::{Blank, Scan};
 use fact_versions::FactVersions;
 use filter_order::Versions;
@@ -21,7 +20,7 @@ use std::snapshot::Snapshot;
 pub(crate) struct Lent {
     worker: u32,
     number: u64,
-    roster: Bits<1>,
+    roster: SlotBits,
     version_numbers: VersionNumbers,
     batch: Seen,
     versions: Snapshot<Versions>,
@@ -116,7 +115,7 @@ impl Lent {
         self.number
     }
 
-    pub(crate) fn roster(&self) -> Bits<1>
+    pub(crate) fn roster(&self) -> SlotBits
         ensures { result ≡ self.now.batch.roster }
     {
         self.roster

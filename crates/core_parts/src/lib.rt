@@ -23,7 +23,7 @@ pub use crossing::{
 pub use filter_order::{
     DropTallies, FilterVersion, Filters, MAX_FILTERS, References, Spares, Versions,
 };
-pub use flight::{Flight, MAX_SLOTS};
+pub use flight::Flight;
 pub use flights::Flights;
 pub use hand::Hand;
 pub use next_flights::{is_through, is_wanting, next_finish, next_through, next_wanting};

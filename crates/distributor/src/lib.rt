@@ -24,4 +24,3 @@ mod ways;
 pub use crossing::distributors_may_be_sent;
 pub use distributor::{Distributor, Spoils};
 pub use laws::{batches_may_be_folded_in_parts, rows_go_where_their_bits_say};
-pub use row_kind::SLOTS;

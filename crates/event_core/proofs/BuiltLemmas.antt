@@ -1,4 +1,5 @@
 -- A filter of a core is built for a query.
+use Rattle.bit_words.specs.declared.slots.TheConstants.{MAX_SLOTS}
 use Rattle.event_core.proofs.Words.{◌∙◌, Accepted, accepted_as, accepted_at, after_build, All, ap, arith, asked_at, AskedQuery, Becomes, Build, built, CanAdd, CanBuild, CanSpoil, changes_of, Filter, filter_with, FilterVersion, find-holds, FitByKinds, Has, Held, holds-slot, is_begun, IsCore, IsSome, IsSoundQuery, IsTrue, kinds_in, last_after, Lives, next_number, Numbers, option_map_or, Parts, query_of, rows_in, Selection, selection_fits, selection_in, slot_at, slot_of, slot_of-begun, State, state_of, Store, subst, sym, tables_of, version_at, versions_in_hands, with_new, with_slot}
 use Rattle.std.specs.Prelude.{◌≡◌, ℕ, ◌<◌, ◌≤◌, false, eqb, length, Option, Some, option_map, refl}
 use Rattle.pipeline_manager.specs.Changes.{after_built, with_dimension}
@@ -66,7 +67,7 @@ build-may settles fit parts query dimension slot asked old core can place found 
   fits = build-fits settles fit parts query dimension asked core found;
 }
   where
-    few : length parts.lives.slots ≤ 64
+    few : length parts.lives.slots ≤ MAX_SLOTS
     few = core.sound.slots.lives.few
 
     held : (built : ℕ) × (slot < length parts.lives.slots) × (slot_at parts.lives slot ≡ Held query built)

@@ -1,4 +1,5 @@
 -- A filter of a core is cleared of a slot.
+use Rattle.bit_words.specs.declared.slots.TheConstants.{MAX_SLOTS}
 use Rattle.event_core.proofs.Words.{◌∙◌, after_clear, ap, arith, Becomes, CanClear, Clear, cleared, Clearing, filter_without, FilterVersion, Free, Has, Held, IsCore, IsSome, last_after, Lives, next_number, Numbers, Parts, slot_at, SlotState, state_of, subst, sym, version_at, versions_in_hands, with_new}
 use Rattle.std.specs.Prelude.{◌≡◌, ℕ, ◌<◌, length, Some, refl}
 use Rattle.std.proofs.lemmas.List.Elements.{All-get_or}
@@ -29,7 +30,7 @@ to-clear lives slot dimension sound can = by_state (slot_at lives slot) refl can
         (there, bits dimension can)
 
 pub clearing-there : (parts : Parts) (slot dimension : ℕ) → IsCore parts → CanClear slot dimension parts.lives
-    → (slot < 64) × (dimension < 8) × IsSome (version_at parts.filters.versions dimension)
+    → (slot < MAX_SLOTS) × (dimension < 8) × IsSome (version_at parts.filters.versions dimension)
 clearing-there parts slot dimension core can =
     let there = to-clear parts.lives slot dimension core.sound.slots.lives can in
     let few = core.sound.slots.lives.few in

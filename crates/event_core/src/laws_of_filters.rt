@@ -1,6 +1,7 @@
 //! What becomes of the parts of a core is what becomes of its state: filters.
 ghost use Rattle.std.specs.Prelude.{◌≡◌, ◌<◌, ℕ, Some, None, IsSome};
 ghost use Rattle.star_plan.specs.Test.{query_of};
+ghost use Rattle.bit_words.specs.declared.slots.TheConstants.{MAX_SLOTS};
 ghost use Rattle.query_meaning.specs.Store.{rows_in};
 ghost use Rattle.pipeline_manager.specs.Conditions.{CanBuild, CanClear};
 ghost use Rattle.pipeline_manager.specs.Lives.{slot_of};
@@ -65,7 +66,7 @@ pub(crate) fn builds_follow_the_core()
 pub(crate) fn clearings_follow_the_core()
     ensures there { (parts : Parts) (slot dimension : ℕ) → IsCore parts →
         CanClear slot dimension parts.lives →
-        (slot < 64) × (dimension < 8) × IsSome (version_at parts.filters.versions dimension) }
+        (slot < MAX_SLOTS) × (dimension < 8) × IsSome (version_at parts.filters.versions dimension) }
     ensures done { (parts : Parts) (slot dimension : ℕ) (old version : FilterVersion) →
         IsCore parts → CanClear slot dimension parts.lives →
         version_at parts.filters.versions dimension ≡ Some old →

@@ -2,6 +2,7 @@
 //! for the rows of a batch.
 ghost use Rattle.std.specs.Prelude.{◌≡◌, ◌==◌, if◌then◌else◌, ◌<◌, fold, length, All, None};
 ghost use Rattle.std.specs.Int.{bit_at};
+ghost use Rattle.bit_words.specs.declared.slots.TheConstants.{MAX_SLOTS};
 ghost use Rattle.pipeline_manager.specs.Changes.{after_spoil};
 ghost use Rattle.pipeline_manager.specs.Conditions.{CanSpoil};
 ghost use Rattle.pipeline_manager.specs.Lives.{slot_at};
@@ -10,9 +11,9 @@ ghost use Rattle.core_state.specs.Found.{holder_of};
 ghost use Rattle.core_state.specs.Scanned.{stopped_for};
 ghost use Rattle.event_core.specs.Core.{AreHolders, holders_in};
 
-use bit_words::Bits;
+use batch_flow::SlotBits;
 use continuous_scan::Scan;
-use core_parts::MAX_SLOTS;
+use bit_words::MAX_SLOTS;
 use pipeline_manager::{Manager, SlotState};
 
 /// The query that holds a slot, if one does.
@@ -40,9 +41,9 @@ pub(crate) fn holders_of(manager: &Manager) -> [u64; MAX_SLOTS]
 }
 
 /// The query that holds a slot of a set, if one does.
-fn query_in(manager: &Manager, slots: Bits<1>, slot: u32) -> Option<u64>
+fn query_in(manager: &Manager, slots: SlotBits, slot: u32) -> Option<u64>
     requires there { slot < length manager.now.slots }
-    requires few { slot < 64 }
+    requires few { slot < MAX_SLOTS }
     ensures query { result
         ≡ if bit_at slots slot == 1 then holder_of (slot_at manager.now slot) else None }
     ensures sound { AreSoundLives manager.now }
@@ -53,7 +54,7 @@ fn query_in(manager: &Manager, slots: Bits<1>, slot: u32) -> Option<u64>
 
 /// Spoils the queries that hold the slots of a set, which all have begun and may still be answered,
 /// and ends what runs there. Only the slots in use are gone over.
-pub(crate) fn spoil_holders(manager: &mut Manager, scan: &mut Scan, slots: Bits<1>)
+pub(crate) fn spoil_holders(manager: &mut Manager, scan: &mut Scan, slots: SlotBits)
     requires begun { All (λ query. CanSpoil query manager.old) (holders_in manager.old slots) }
     requires slots { length manager.old.slots ≡ length scan.old.running }
     ensures lives { manager.new

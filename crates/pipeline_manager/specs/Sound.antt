@@ -3,6 +3,7 @@ use Rattle.std.specs.Prelude.{ℕ, ◌≤◌, ◌<◌, List, Option, length, All
 use Rattle.std.specs.List.{AllPairs}
 use Rattle.std.specs.Option.{option_map_or}
 use Rattle.bit_words.specs.Sets.{Has}
+use Rattle.bit_words.specs.declared.slots.TheConstants.{MAX_SLOTS}
 use Rattle.pipeline_manager.specs.declared.life.Life.{Life}
 use Rattle.pipeline_manager.specs.declared.life.Life.TheVariants.{Waiting, Building, Running, Ending, Answered, Spoiled, Abandoned}
 use Rattle.pipeline_manager.specs.declared.life.SlotState.{SlotState}
@@ -55,7 +56,7 @@ IsOfFilters filters (Clearing left) = (dimension : ℕ) → Has left dimension �
 pub record AreSoundLives (lives : Lives) : Type 0 where
   pub rising : AreRising lives.queries
   pub some : 1 ≤ length lives.slots
-  pub few : length lives.slots ≤ 64
+  pub few : length lives.slots ≤ MAX_SLOTS
   pub held : (query : ℕ) → FitsSlots (life_in lives.queries query) (slots_held query lives.slots)
   pub left : All (λ entry. IsLeft entry.extent entry.life) lives.queries
   pub of_filters : All (IsOfFilters lives.filters) lives.slots

@@ -1,5 +1,6 @@
 //! Which query holds which slot, and how far it is. What becomes of them is in `life`.
 ghost use Rattle.std.specs.Prelude.{◌≡◌, ℕ, ◌<◌, ◌≤◌, ◌↔◌, [], length, replicate, All, Any, IsTrue, IfOk, OnOk, OnErr, IfSome, option_map};
+ghost use Rattle.bit_words.specs.declared.slots.TheConstants.{MAX_SLOTS};
 ghost use Rattle.pipeline_manager.specs.declared.life.SlotState.TheVariants.{Free};
 ghost use Rattle.pipeline_manager.specs.Lives.{life_of, extent_in, oldest_waiting, free_slot, slot_at, slot_of};
 ghost use Rattle.pipeline_manager.specs.Conditions.{IsRunning, IsNew, CanReserve, CanBuild, CanRun, CanCutRange, CanEnd, CanClear, CanFree, CanSpoil, CanAbandon};
@@ -55,7 +56,7 @@ impl Manager {
     /// dimension j is a filter.
     pub fn new(alloc: Global, slots: u32, filters: u8) -> Result<Manager, NoMemory>
         requires some { 1 ≤ slots }
-        requires few { slots ≤ 64 }
+        requires few { slots ≤ MAX_SLOTS }
         ensures { IfOk result (λ manager. manager ≡ record {
           queries = [];
           slots = replicate slots Free;
@@ -143,7 +144,7 @@ impl Manager {
     /// How many slots there are.
     pub fn slots(&self) -> u32
         ensures count { result ≡ length self.now.slots }
-        ensures few { length self.now.slots ≤ 64 }
+        ensures few { length self.now.slots ≤ MAX_SLOTS }
     {
         self.slots.as_slice().len() as u32
     }

@@ -3,6 +3,7 @@ use Rattle.std.specs.Prelude.{◌≡◌, ◌≢◌, ℕ, ◌<◌, ◌≤◌, ◌
 use Rattle.std.specs.Int.{bit_at}
 use Rattle.std.specs.List.{range_with_len}
 use Rattle.bit_words.specs.Sets.{Has}
+use Rattle.bit_words.specs.declared.slots.TheConstants.{MAX_SLOTS}
 use Rattle.aggregations.specs.Grouped.{Grouped}
 use Rattle.shared_distributor.specs.declared.seats.LentGroups.{LentGroups}
 use Rattle.shared_distributor.specs.declared.seats.SeatGroups.{SeatGroups}
@@ -53,7 +54,7 @@ IsSeat home (Away lent) = IsOut home lent
 -- what holds of a shared distributor
 pub record AreShared (home : List (Option Grouped)) (all : List SeatGroups) : Type 0 where
   pub some : 1 ≤ length home
-  pub few : length home ≤ 64
+  pub few : length home ≤ MAX_SLOTS
   pub slots : (slot : ℕ) → IsSlot (at_slot slot home) (owns_at slot all)
   pub seats : All (IsSeat home) all
 

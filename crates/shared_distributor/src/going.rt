@@ -1,13 +1,15 @@
 //! How groups of a seat's own go out with it.
 ghost use Rattle.std.specs.Prelude.{◌≡◌, ℕ, ◌<◌, ◌≤◌, List, [], Option, IfSome, IsSome, None, Some, OnOk, length, slice_index};
 ghost use Rattle.bit_words.specs.Sets.{Has};
+ghost use Rattle.bit_words.specs.declared.slots.TheConstants.{MAX_SLOTS};
 ghost use Rattle.aggregations.specs.Grouped.{Grouped};
 ghost use Rattle.shared_distributor.specs.Apart.{HasMoved, IsPair, IsLentAsWanted, LeavesOthers, at_slot, count_in};
 ghost use Rattle.shared_distributor.specs.Seats.{FitsHome, GoesOutWith, HaveMoved, IsSeat, MayGoOut, lending_in, own_in};
 
 use crate::seats::{LentGroups, SeatGroups, put_seat, take_back};
-use bit_words::Bits;
-use distributor::{Distributor, SLOTS};
+use batch_flow::SlotBits;
+use bit_words::MAX_SLOTS;
+use distributor::Distributor;
 use star_values::NoMemory;
 use std::alloc::Global;
 use std::hash::RandomState;
@@ -54,7 +56,7 @@ fn prepare(
     hash_keys: RandomState,
     home: &mut Distributor,
     own: &mut Distributor,
-    slots: &Bits<1>,
+    slots: &SlotBits,
 ) -> Result<(), NoMemory>
     requires long { length own.old ≡ length home.old }
     requires pairs { (slot : ℕ) → IsPair (at_slot slot home.old) (at_slot slot own.old) }
@@ -71,11 +73,11 @@ fn prepare(
 }
 
 /// How many groups there are at each slot.
-fn counts_of(own: &Distributor) -> [usize; SLOTS]
+fn counts_of(own: &Distributor) -> [usize; MAX_SLOTS]
     ensures { (slot : ℕ) → slot < length own.now →
         slice_index result slot ≡ count_in (at_slot slot own.now) }
 {
-    let mut counts = [0; SLOTS];
+    let mut counts = [0; MAX_SLOTS];
     for slot in 0..own.slots() {
         counts[slot as usize] = own.count_at(slot);
     }
@@ -85,7 +87,7 @@ fn counts_of(own: &Distributor) -> [usize; SLOTS]
 /// The groups of a seat that is not out, or such for which there are none yet.
 fn own_of(alloc: Global, slots: u32, seat: SeatGroups) -> Option<Distributor>
     requires some { 1 ≤ slots }
-    requires few { slots ≤ 64 }
+    requires few { slots ≤ MAX_SLOTS }
     requires home { lending_in seat ≡ None }
     ensures own { IfSome result
         (λ own. (slot : ℕ) → at_slot slot own ≡ at_slot slot (own_in seat)) }
@@ -106,7 +108,7 @@ pub(crate) fn lend_to_seat(
     hash_keys: RandomState,
     home: &mut Distributor,
     seat: &mut SeatGroups,
-    slots: Bits<1>,
+    slots: SlotBits,
 ) -> Option<Distributor>
     requires some { 1 ≤ length home.old }
     requires may { MayGoOut home.old seat.old }

@@ -3,6 +3,7 @@ ghost use Rattle.std.specs.Prelude.{◌≡◌, ◌+◌, ◌^◌, ℕ, ◌<◌, �
 ghost use Rattle.std.specs.Int.{bit_at};
 ghost use Rattle.star_values.specs.declared.value.Value as cell;
 ghost use Rattle.star_plan.specs.declared.place.Place.{Place};
+ghost use Rattle.bit_words.specs.declared.slots.TheConstants.{MAX_SLOTS};
 ghost use Rattle.aggregations.specs.Absorbing.{with_all, without_rows};
 ghost use Rattle.shared_distributor.specs.declared.seats.LentGroups.{LentGroups};
 ghost use Rattle.shared_distributor.specs.Apart.{HasLanded, HasSettled, LeavesOthers, MayLand, at_slot};
@@ -10,7 +11,7 @@ ghost use Rattle.shared_distributor.specs.Seats.{FitsHome, HaveLanded, MayComeHo
 
 use crate::laws::rows_fold_apart;
 use crate::seats::{LentGroups, SeatGroups, put_seat};
-use bit_words::Bits;
+use batch_flow::SlotBits;
 use distributor::Distributor;
 use star_values::NoMemory;
 use std::mem;
@@ -77,11 +78,11 @@ fn spoils_slot(
 fn take_home(
     home: &mut Distributor,
     own: &mut Distributor,
-    lost: &Bits<1>,
+    lost: &SlotBits,
     lent: &LentGroups,
-) -> Bits<1>
+) -> SlotBits
     requires long { length own.old ≡ length home.old }
-    requires few { length home.old ≤ 64 }
+    requires few { length home.old ≤ MAX_SLOTS }
     requires may { (slot : ℕ) → slot < length home.old →
         MayLand (bit_at lost.now slot == 1) (slice_index lent.now.counts slot)
         (at_slot slot home.old) (at_slot slot lent.now.groups.value) (at_slot slot own.old) }
@@ -89,7 +90,7 @@ fn take_home(
         home.old lent.now.groups.value own.old home.new own.new }
     ensures long { (length home.new ≡ length home.old) × (length own.new ≡ length own.old) }
 {
-    let mut spoiled = Bits::empty();
+    let mut spoiled = SlotBits::empty();
     for slot in 0..home.slots() {
         let from = lent.counts[slot as usize];
         let spoils = spoils_slot(home, own, slot, lost.has(slot), from, &lent.groups);
@@ -103,9 +104,9 @@ pub(crate) fn land_at_seat(
     home: &mut Distributor,
     seat: &mut SeatGroups,
     own: Distributor,
-    lost: &Bits<1>,
-) -> Bits<1>
-    requires few { length home.old ≤ 64 }
+    lost: &SlotBits,
+) -> SlotBits
+    requires few { length home.old ≤ MAX_SLOTS }
     requires may { MayComeHome lost.now own home.old seat.old }
     ensures landed { HaveLanded lost.now result
         home.old (own_in seat.old) own home.new (own_in seat.new) }
@@ -113,7 +114,7 @@ pub(crate) fn land_at_seat(
     ensures home { lending_in seat.new ≡ None }
 {
     let SeatGroups::Away(lent) = mem::replace(seat, SeatGroups::NotYet) else {
-        return Bits::empty();
+        return SlotBits::empty();
     };
     let mut own = own;
     let spoiled = take_home(home, &mut own, lost, &lent);

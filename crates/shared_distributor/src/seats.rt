@@ -7,8 +7,9 @@ ghost use Rattle.shared_distributor.specs.Seats.{AreShared, AreSharedWith, IsSea
 ghost use Rattle.shared_distributor.specs.Shared.{IsAllIn};
 
 use crate::laws::rows_fold_apart;
-use bit_words::Bits;
-use distributor::{Distributor, SLOTS};
+use batch_flow::SlotBits;
+use bit_words::MAX_SLOTS;
+use distributor::Distributor;
 use std::snapshot::Snapshot;
 
 /// What a seat has.
@@ -26,8 +27,8 @@ pub(crate) enum SeatGroups {
 /// at each, all of which are at home too. Contracts go on seeing what went out.
 #[derive(Drop)]
 pub(crate) struct LentGroups {
-    pub(crate) slots: Bits<1>,
-    pub(crate) counts: [usize; SLOTS],
+    pub(crate) slots: SlotBits,
+    pub(crate) counts: [usize; MAX_SLOTS],
     pub(crate) groups: Snapshot<Distributor>,
 }
 

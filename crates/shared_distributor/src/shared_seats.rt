@@ -13,8 +13,7 @@ use crate::going::lend_to_seat;
 use crate::landing::land_at_seat;
 use crate::laws::rows_fold_apart;
 use crate::seats::SeatGroups;
-use batch_flow::Batch;
-use bit_words::Bits;
+use batch_flow::{Batch, SlotBits};
 use distributor::{Distributor, Spoils};
 use star_values::{ListOf, NoMemory};
 use std::alloc::Global;
@@ -60,7 +59,7 @@ pub(crate) fn lend_to(
     home: &mut Distributor,
     seats: &mut [SeatGroups],
     seat: u32,
-    slots: Bits<1>,
+    slots: SlotBits,
 ) -> Option<Distributor>
     requires shared { AreShared home.old seats.old }
     requires home { slice_get (map lending_in seats.old) seat ≡ Some None }
@@ -84,7 +83,7 @@ pub(crate) fn land_at(
     seats: &mut [SeatGroups],
     seat: u32,
     own: Distributor,
-    lost: Bits<1>,
+    lost: SlotBits,
     batch: &Batch,
 ) -> Spoils
     requires shared { AreShared home.old seats.old }
