@@ -5,7 +5,7 @@ use Rattle.std.proofs.lemmas.Bool.Decides.{same_from_decides, Decides-eqb}
 use Rattle.std.specs.Cmp.Lexicographic.{pointwise, bytes_decides}
 use Rattle.std.proofs.lemmas.List.{get_or_past, get_or-set_same, get_or-set_other}
 use Rattle.std.proofs.lemmas.Nat.{div-add-mod', mod_below, and_le_l, or_lt, shr-shr, shr_high, mod_low, mod-pow-add, ones_cat, pow_pos, shr_le}
-use Rattle.std.proofs.lemmas.Nat.Bits.{bit_at_cat_low, bit_at_cat_high, bit_at-zero, same_from_bits, bit_at_and, bit_at_or, bit_at_not, bit_at-lt, bit_at_set_same, bit_at_set_other, bit_at_clear_same, bit_at_clear_other, bit_at-trailing_zeros}
+use Rattle.std.proofs.lemmas.Nat.Bits.{bit_at_cat_low, bit_at_cat_high, bit_at-zero, same_from_bits, bit_at_and, bit_at_or, bit_at_not, bit_at-lt, bit_at_ones, bit_at_set_same, bit_at_set_other, bit_at_clear_same, bit_at_clear_other, bit_at-trailing_zeros}
 use Rattle.std.specs.Int.{bit_at, trailing_zeros}
 use Rattle.bit_words.specs.Sets.{without, IsLeast}
 use Rattle.bit_words.specs.Words.{set_of, words_of, AreWords, words_of-set_of, IsFirstWord}
@@ -76,6 +76,51 @@ set_of-both n both a b len_both len_a in_both in_a in_b each x y of_a of_b =
           let least = and_le_l (get_or a k 0) (get_or b k 0) in
           omega arith
     ]
+
+-- words that are each the OR of two
+pub set_of-either : (n : ℕ) (either a b : List ℕ) → length either ≡ n → length a ≡ n → length b ≡ n
+    → AreWords either → AreWords a → AreWords b
+    → ((k : ℕ) → k < n → get_or either k 0 ≡ bit_or (get_or a k 0) (get_or b k 0))
+    → (x y : ℕ) → set_of a ≡ x → set_of b ≡ y → set_of either ≡ bit_or x y
+set_of-either n either a b len_either len_a len_b in_either in_a in_b each x y of_a of_b =
+    set_from_words either _ in_either (λ k j low.
+    let left = bit_at-set_of a k j in_a low in
+    let right = bit_at-set_of b k j in_b low in
+    let joined = bit_at_or (set_of a) (set_of b) (k * 64 + j) in
+    let here = bit_at_or (get_or a k 0) (get_or b k 0) j in
+    ap (λ w. bit_at w j) (everywhere k) ∙ omega arith)
+    ∙ ap (λ s. bit_or s (set_of b)) of_a ∙ ap (bit_or x) of_b
+  where
+    everywhere : (k : ℕ) → get_or either k 0 ≡ bit_or (get_or a k 0) (get_or b k 0)
+    everywhere k = elim (cases_lt k n) [
+      | inl within ↦ each k within
+      | inr past ↦
+          get_or_past either k 0 (omega arith)
+          ∙ sym (ap (λ w. bit_or w (get_or b k 0)) (get_or_past a k 0 (omega arith))
+          ∙ ap (bit_or 0) (get_or_past b k 0 (omega arith)))
+    ]
+
+-- a word of ones, so many times
+abbrev ones_word : ℕ
+ones_word = 18446744073709551615
+
+full_words : (n k : ℕ) → k < n → get_or (replicate n ones_word) k 0 ≡ ones_word
+full_words zero k within = absurd (omega arith)
+full_words (suc n) zero within = refl
+full_words (suc n) (suc k) within = full_words n k (omega arith)
+
+-- words of ones have 64 bits
+pub AreWords-full : (n : ℕ) → AreWords (replicate n ones_word)
+AreWords-full zero k = lit< tt
+AreWords-full (suc n) zero = lit< tt
+AreWords-full (suc n) (suc k) = AreWords-full n k
+
+-- words of ones hold every number that they have room for
+pub Has-full : (n i : ℕ) → i < 64 * n → bit_at (set_of (replicate n ones_word)) i ≡ 1
+Has-full n i within =
+    bit_at-word _ i (AreWords-full n)
+    ∙ ap (λ w. bit_at w (i % 64)) (full_words n (i / 64) (omega arith))
+    ∙ bit_at_ones 64 (i % 64) (mod_below i 64 (omega arith))
 
 -- words that are each the AND of one and the complement of another
 pub set_of-rest : (n : ℕ) (rest a b : List ℕ) → length rest ≡ n → length a ≡ n → AreWords rest → AreWords a → AreWords b

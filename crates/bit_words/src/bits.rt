@@ -1,5 +1,5 @@
 //! A set of numbers in W words. What rows of words do with such a set is in `rows`.
-ghost use Rattle.std.specs.Prelude.{◌≡◌, ◌≢◌, ℕ, ◌+◌, ◌*◌, ◌^◌, ◌<◌, ◌↔◌, ◌⊎◌, IsTrue, MatchOption, length, bit_and, slice_index, if◌then◌else◌};
+ghost use Rattle.std.specs.Prelude.{◌≡◌, ◌≢◌, ℕ, ◌+◌, ◌*◌, ◌^◌, ◌<◌, ◌↔◌, ◌⊎◌, IsTrue, MatchOption, length, bit_and, bit_or, slice_index, if◌then◌else◌};
 ghost use Rattle.bit_words.specs.Words.{IsFirstWord};
 ghost use Rattle.bit_words.specs.Sets.{Has, with_number, without, IsLeast, members_below};
 
@@ -36,6 +36,15 @@ impl<const W: usize> Bits<W> {
         ensures { result ≡ 0 }
     {
         Bits { words: [0; W] }
+    }
+
+    /// The set of all numbers that it has room for.
+    pub fn full() -> Bits<W>
+        ensures { (i : ℕ) → i < 64 * W → Has result i }
+    {
+        Bits {
+            words: [u64::MAX; W],
+        }
     }
 
     /// Puts a number in.
@@ -85,6 +94,18 @@ impl<const W: usize> Bits<W> {
             both.words[k] &= other.words[k];
         }
         both
+    }
+
+    /// The numbers that are in one of the two at least.
+    pub fn or(&self, other: &Bits<W>) -> Bits<W>
+        ensures value { result ≡ bit_or self.now other.now }
+        ensures members { (j : ℕ) → Has result j ↔ (Has self.now j ⊎ Has other.now j) }
+    {
+        let mut either = *self;
+        'words: for k in 0..W {
+            either.words[k] |= other.words[k];
+        }
+        either
     }
 
     /// The numbers that are in this set and not in the other.
