@@ -9,7 +9,6 @@ mod ending;
 mod finding;
 mod flat_cell;
 mod groups;
-mod kept_groups;
 mod keys;
 mod laws;
 mod making;
