@@ -13,10 +13,9 @@ use Rattle.make_load.specs.declared.made.MadeEnd.TheVariants as made_end
 use Rattle.star_main.specs.Complete.{EndsMade, EndsScript, IsComplete, ReadFailed, WriteFailed}
 use Rattle.star_main.specs.Headline.{Headline, HasCause, status_of}
 use Rattle.star_main.specs.Made.{MadeHeadline, made_status_of}
-use Rattle.star_main.specs.Modes.{HasScript, IsMade, RunsSource, Works, run_settings_of}
+use Rattle.star_main.specs.Modes.{HasScript, IsMade, RunsSource}
 use Rattle.star_main.specs.declared.settings.Mode.TheVariants.{Make, Serve}
 use Rattle.star_main.specs.declared.settings.Settings.{Settings}
-use Rattle.star_main.proofs.WorkLemmas.{works-apart}
 
 script-ends : (end : RunEnd) (status : ℕ) (from from' : ReadingSide) (to to' : WritingSide) → status ≡ status_of end
     → AnswersScript end from from' to to' → HasCause status from from' to to' → ¬ ReadFailed from from' → ¬ WriteFailed to to'
@@ -59,21 +58,6 @@ complete-made settings size core status from from' to to' DoorFailed is headline
   made = λ _. made-ends (size.workers ≡ 0) size settings.seed settings.rows core headline.end status from from' to to' headline.told
       headline.answers causes;
   served = λ serves. let wrong : Make ≡ Serve = sym is ∙ serves in cc;
-}
-
--- workers ran a script or made the workload
-pub complete-works : {A : Type 0} (settings : Settings) (core : Option Parts) (status : ℕ) (from from' : ReadingSide)
-    (to to' : WritingSide) (DoorFailed : Type 0) → Works settings
-    → (HasScript settings → Headline (run_settings_of settings) core status from from' to to')
-    → (IsMade settings → A × MadeHeadline (run_settings_of settings) settings.seed settings.rows core status to to')
-    → HasCause status from from' to to' → IsComplete settings status from from' to to' DoorFailed
-complete-works settings core status from from' to to' DoorFailed works scripted workload causes = record {
-  script = λ has. let headline = scripted has in
-      script-ends headline.end status from from' to to' headline.told headline.answers.0 causes;
-  made = λ is. let headline = (workload is).1 in
-      made-ends (settings.workers ≡ 0) (run_settings_of settings) settings.seed settings.rows core headline.end status from from' to to'
-      headline.told headline.answers causes;
-  served = λ serves. absurd (works-apart settings works serves);
 }
 
 -- no memory was left for the words, whatever settings they name

@@ -47,42 +47,11 @@ module _ (from from' : ReadingSide) (to to' : WritingSide) where
     answers = subst (λ c. AnswersShared (settings.workers ≡ 0) settings c end from from' to to') (sym no_core) (run, tt);
   }
 
--- where no memory is left to read the words nothing is read or written, whatever settings they name
-pub headline_unread : (from : ReadingSide) (to : WritingSide) (named : Option Settings) (core : Option Parts) (status : ℕ) → core ≡ None
-    → status ≡ 5
-    → IfSome named (λ settings. HasScript settings → Headline (run_settings_of settings) core status from from to to)
-headline_unread from to None core status no_core same_status = tt
-headline_unread from to (Some settings) core status no_core same_status = λ _. record {
-  end = NoMemory;
-  told = same_status;
-  answers = subst (λ c. AnswersShared (settings.workers ≡ 0) (run_settings_of settings) c NoMemory from from to to) (sym no_core)
-      (none-shared from to, tt);
-}
-
--- where the words name these settings, and the source and the sink were as before the call when the run began
-pub headline_named : (named : Option Settings) (settings : Settings) (core : Option Parts) (status : ℕ) (from0 from from' : ReadingSide)
-    (to0 to to' : WritingSide)
-    → named ≡ Some settings → from ≡ from0 → to ≡ to0
-    → (HasScript settings → Headline (run_settings_of settings) core status from from' to to')
-    → IfSome named (λ s. HasScript s → Headline (run_settings_of s) core status from0 from' to0 to')
-headline_named named settings core status from0 from from' to0 to to' is same_from same_to run =
-    subst (λ n. IfSome n (λ s. HasScript s → Headline (run_settings_of s) core status from0 from' to0 to')) (sym is) (λ has.
-    subst (λ f. Headline (run_settings_of settings) core status f from' to0 to') same_from
-    (subst (λ t. Headline (run_settings_of settings) core status from from' t to') same_to (run has)))
-
--- the same for the causes
+-- the source and the sink were as before the call when the run began
 pub causes_named : (status : ℕ) (from0 from from' : ReadingSide) (to0 to to' : WritingSide) → from ≡ from0 → to ≡ to0
     → HasCause status from from' to to' → HasCause status from0 from' to0 to'
 causes_named status from0 from from' to0 to to' same_from same_to causes =
     subst (λ f. HasCause status f from' to0 to') same_from (subst (λ t. HasCause status from from' t to') same_to causes)
-
--- steps that lead to a core lead to it where there are no workers, too
-pub run-weaker : (named : Option Settings) (core : Option Parts)
-    → IfSome core (λ parts. IfSome named (λ s. IsRun (empty_core (run_settings_of s)) (state_of parts)))
-    → IfSome core (λ parts. IfSome named (λ s. s.workers ≡ 0 → IsRun (empty_core (run_settings_of s)) (state_of parts)))
-run-weaker named None run = tt
-run-weaker None (Some parts) run = tt
-run-weaker (Some settings) (Some parts) run = λ none. run
 
 -- the status of a run has the causes of its end
 pub causes_of : (end : RunEnd) (from from' : ReadingSide) (to to' : WritingSide) → CountsFaults end from from' to to'

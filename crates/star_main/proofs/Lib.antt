@@ -21,5 +21,5 @@ mod HelpLemmas
 mod HeadlineLemmas
 mod CompleteLemmas
 mod MadeLemmas
-mod ServeLemmas
 mod WorkLemmas
+mod ByModeLemmas

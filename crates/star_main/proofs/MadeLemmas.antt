@@ -33,33 +33,6 @@ made_headline Alone settings settings' seed rows core core' end status to to' sa
       (made-alone Alone (settings'.workers ≡ 0) settings seed rows core end to to' alone run));
 }
 
--- where no memory is left to read the words nothing is written, whatever settings they name
-pub made_unread : {X : Type 0} (source : X) (named : Option Settings) (core : Option Parts) (status : ℕ) (to : WritingSide)
-    → core ≡ None → status ≡ 5
-    → IfSome named (λ settings. IsMade settings →
-    (source ≡ source) × MadeHeadline (run_settings_of settings) settings.seed settings.rows core status to to)
-made_unread source None core status to no_core same_status = tt
-made_unread source (Some settings) core status to no_core same_status = λ made.
-    let size = run_settings_of settings in (
-      refl,
-      made_headline (settings.workers ≡ 0) size size settings.seed settings.rows None core NoMemory status to to refl no_core same_status
-          (λ none. none) (without_memory (settings.workers ≡ 0) size settings.seed settings.rows to),
-    )
-
--- where the words name these settings, and the source and the sink were as before the call when the run began
-pub made_named : {X : Type 0} (named : Option Settings) (settings : Settings) (core : Option Parts) (status : ℕ)
-    (source0 source source' : X) (to0 to to' : WritingSide)
-    → named ≡ Some settings → source ≡ source0 → to ≡ to0
-    → (IsMade settings → (source' ≡ source) × MadeHeadline (run_settings_of settings) settings.seed settings.rows core status to to')
-    → IfSome named (λ s. IsMade s → (source' ≡ source0) × MadeHeadline (run_settings_of s) s.seed s.rows core status to0 to')
-made_named named settings core status source0 source source' to0 to to' is same_source same_to run =
-    subst (λ n. IfSome n (λ s. IsMade s → (source' ≡ source0) × MadeHeadline (run_settings_of s) s.seed s.rows core status to0 to'))
-    (sym is) (λ made.
-    let told = run made in (
-      told.0 ∙ same_source,
-      subst (λ t. MadeHeadline (run_settings_of settings) settings.seed settings.rows core status t to') same_to told.1,
-    ))
-
 -- the status of a run of the workload has the causes of its end, whatever the source, which is not read
 pub causes_made : (end : MadeEnd) (source : ReadingSide) (to to' : WritingSide) → CountsMade end to to'
     → HasCause (made_status_of end) source source to to'

@@ -12,6 +12,7 @@ pub mod Complete
 pub mod Made
 pub mod Serving
 pub mod Modes
+pub mod HandedBack
 pub mod ByMode
 pub mod Fault
 pub mod WordsOutcome

@@ -1,5 +1,5 @@
 -- What the modes make of settings.
-use Rattle.std.specs.Prelude.{◌≡◌, ◌+◌, Bool, true, false, ◌&&◌, nat_lt}
+use Rattle.std.specs.Prelude.{◌≡◌, ◌+◌, ◌<◌, ◌⊎◌}
 use Rattle.core_state.specs.declared.settings.RunSettings.{RunSettings}
 use Rattle.star_main.specs.declared.settings.Settings.{Settings}
 use Rattle.star_main.specs.declared.settings.Mode.{Mode}
@@ -27,6 +27,10 @@ serve_settings_of settings =
       seats = settings.workers + 65;
     }
 
+-- the settings say that the queries of a script share the scan of one core
+abbrev pub IsShared : Settings → Type 0
+IsShared settings = settings.mode ≡ Run
+
 -- the settings say that each query is answered by itself
 abbrev pub IsAlone : Settings → Type 0
 IsAlone settings = settings.mode ≡ Alone
@@ -50,17 +54,10 @@ RunsSource Serve = ⊥
 abbrev pub HasScript : Settings → Type 0
 HasScript settings = RunsSource settings.mode
 
--- whether one core runs a script in this mode
-abbrev pub shares_core : Mode → Bool
-shares_core Run = true
-shares_core Alone = false
-shares_core Make = true
-shares_core Serve = false
-
--- whether the settings say that workers run a script
-abbrev pub has_workers : Settings → Bool
-has_workers settings = shares_core settings.mode && nat_lt 0 settings.workers
-
--- they say so
+-- there are workers
 abbrev pub Works : Settings → Type 0
-Works settings = has_workers settings ≡ true
+Works settings = 0 < settings.workers
+
+-- what the settings say may wait: there are workers that share a core, or connections are served
+abbrev pub MayWait : Settings → Type 0
+MayWait settings = Serves settings ⊎ (Works settings × (IsShared settings ⊎ IsMade settings))

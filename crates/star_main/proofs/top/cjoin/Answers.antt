@@ -1,55 +1,34 @@
-use Rattle.std.proofs.Common.{ap}
-use Rattle.star_main.proofs.CompleteLemmas.{complete-named, complete-works}
-use Rattle.star_main.proofs.HeadlineLemmas.{causes_named, headline_named, run-weaker}
-use Rattle.star_main.proofs.MadeLemmas.{made_named}
-use Rattle.star_main.proofs.ServeLemmas.{serve_unread}
-use Rattle.star_main.proofs.WorkLemmas.{core-named, named-some, run-named, served-apart}
+use Rattle.std.proofs.Common.{ap, refl, subst, sym}
+use Rattle.star_main.specs.HandedBack.{core_in}
+use Rattle.star_main.specs.Modes.{RunsSource, run_settings_of}
+use Rattle.star_main.proofs.ByModeLemmas.{answers-doorless, headline-answers}
+use Rattle.star_main.proofs.CompleteLemmas.{complete-made, complete-named, complete-script}
 use Rattle.star_main.proofs.top.cjoin.Goals as goal
 
-pub returns-in-Ran-clause-served : goal.returns-in-Ran-clause-served
-returns-in-Ran-clause-served g c = serve_unread _ _ _ c.in-Ran.ensures.ran
+pub returns-in-Ran-clause-headline : goal.returns-in-Ran-clause-headline
+returns-in-Ran-clause-headline g c =
+    headline-answers _ c.in-Ran.done _ _ _ (c.in-Ran.ensures.answers (g.D.Door.accepting c.args.door.now))
 
-pub returns-in-Ran-clause-run : goal.returns-in-Ran-clause-run
-returns-in-Ran-clause-run g c = run-weaker _ c.in-Ran.done.core c.in-Ran.ensures.run
+pub returns-in-Ran-clause-answers : goal.returns-in-Ran-clause-answers
+returns-in-Ran-clause-answers g c =
+    answers-doorless _ _ _ refl _ c.in-Ran.done _ _ (c.in-Ran.ensures.answers (g.D.Door.accepting c.args.door.now))
 
-pub returns-in-Work-clause-settings : goal.returns-in-Work-clause-settings
-returns-in-Work-clause-settings g c is = absurd (c.run_by_workers.ensures.known is)
+pub returns-in-RunWithWorkers-clause-complete : goal.returns-in-RunWithWorkers-clause-complete
+returns-in-RunWithWorkers-clause-complete g c =
+    let settings = c.in-RunWithWorkers.settings in
+    let left = c.in-RunWithWorkers.ensures.left in
+    let done = c.run_with_workers.result in
+    complete-named _ settings done.status _ _ _ _ _ _ _ left.0.0 (ap (λ s. g.S.Source.reading s) left.0.2)
+    (ap (λ s. g.K.Sink.writing s) left.0.3)
+    (complete-script settings (run_settings_of settings) (core_in done.handed) done.status _ _ _ _ _ (subst RunsSource (sym left.1.0) tt)
+    c.run_with_workers.ensures.answers.headline c.run_with_workers.ensures.causes)
 
-pub returns-in-Work-clause-untouched : goal.returns-in-Work-clause-untouched
-returns-in-Work-clause-untouched g c none = absurd (named-some _ c.in-Work.settings c.in-Work.ensures.work.0 none)
-
-pub returns-in-Work-clause-headline : goal.returns-in-Work-clause-headline
-returns-in-Work-clause-headline g c =
-    headline_named _ c.in-Work.settings c.run_by_workers.result.core c.run_by_workers.result.status _ _ _ _ _ _ c.in-Work.ensures.work.0
-    (ap (λ s. g.S.Source.reading s) c.in-Work.ensures.work.2)
-    (ap (λ s. g.K.Sink.writing s) c.in-Work.ensures.work.3) c.run_by_workers.ensures.answers.headline
-
-pub returns-in-Work-clause-made : goal.returns-in-Work-clause-made
-returns-in-Work-clause-made g c =
-    made_named _ c.in-Work.settings c.run_by_workers.result.core c.run_by_workers.result.status _ _ _ _ _ _ c.in-Work.ensures.work.0
-    c.in-Work.ensures.work.2 (ap (λ s. g.K.Sink.writing s) c.in-Work.ensures.work.3) c.run_by_workers.ensures.answers.made
-
-pub returns-in-Work-clause-served : goal.returns-in-Work-clause-served
-returns-in-Work-clause-served g c = served-apart _ _ c.in-Work.settings c.in-Work.ensures.work.0 c.in-Work.ensures.work.1.0
-
-pub returns-in-Work-clause-causes : goal.returns-in-Work-clause-causes
-returns-in-Work-clause-causes g c =
-    causes_named c.run_by_workers.result.status _ _ _ _ _ _ (ap (λ s. g.S.Source.reading s) c.in-Work.ensures.work.2)
-    (ap (λ s. g.K.Sink.writing s) c.in-Work.ensures.work.3) c.run_by_workers.ensures.causes
-
-pub returns-in-Work-clause-complete : goal.returns-in-Work-clause-complete
-returns-in-Work-clause-complete g c =
-    complete-named _ c.in-Work.settings c.run_by_workers.result.status _ _ _ _ _ _ _ c.in-Work.ensures.work.0
-    (ap (λ s. g.S.Source.reading s) c.in-Work.ensures.work.2) (ap (λ s. g.K.Sink.writing s) c.in-Work.ensures.work.3)
-    (complete-works c.in-Work.settings c.run_by_workers.result.core c.run_by_workers.result.status _ _ _ _ _ c.in-Work.ensures.work.1.0
-    c.run_by_workers.ensures.answers.headline c.run_by_workers.ensures.answers.made c.run_by_workers.ensures.causes)
-
-pub returns-in-Work-clause-core : goal.returns-in-Work-clause-core
-returns-in-Work-clause-core g c =
-    core-named _ c.in-Work.settings c.run_by_workers.result.core c.run_by_workers.result.status c.in-Work.ensures.work.0
-    c.in-Work.ensures.work.1.0
-    c.run_by_workers.ensures.core
-
-pub returns-in-Work-clause-run : goal.returns-in-Work-clause-run
-returns-in-Work-clause-run g c =
-    run-named _ c.in-Work.settings c.run_by_workers.result.core c.in-Work.ensures.work.0 c.in-Work.ensures.work.1.0
+pub returns-in-MakeWithWorkers-clause-complete : goal.returns-in-MakeWithWorkers-clause-complete
+returns-in-MakeWithWorkers-clause-complete g c =
+    let settings = c.in-MakeWithWorkers.settings in
+    let left = c.in-MakeWithWorkers.ensures.left in
+    let done = c.make_with_workers.result in
+    complete-named _ settings done.status _ _ _ _ _ _ _ left.0.0 (ap (λ s. g.S.Source.reading s) left.0.2)
+    (ap (λ s. g.K.Sink.writing s) left.0.3)
+    (complete-made settings (run_settings_of settings) (core_in done.handed) done.status _ _ _ _ _ left.1.0
+    c.make_with_workers.ensures.answers.made (c.make_with_workers.ensures.causes _))
