@@ -9,7 +9,7 @@ use Rattle.aggregations.proofs.groups.Groups.TheSendSync as groups
 use Rattle.continuous_scan.proofs.CrossingLemmas.{option_send, query_send, query_sync}
 use Rattle.core_parts.proofs.home.Home.TheSendSync as home
 use Rattle.core_parts.proofs.version_numbers.VersionNumbers.TheSendSync as numbers
-use Rattle.core_parts.proofs.submitted.Submitted.TheSendSync as submitted
+use Rattle.reply_text.proofs.reply.Reply.TheSendSync as reply
 use Rattle.core_parts.specs.contracts.accepted_query.AcceptedQuery as asked
 use Rattle.core_parts.specs.contracts.accepted_query.AcceptedQuery.TheInside as inside_asked
 use Rattle.core_parts.specs.contracts.flight.Flight as flight
@@ -24,6 +24,10 @@ use Rattle.core_parts.specs.contracts.queries.Queries as queries
 use Rattle.core_parts.specs.contracts.queries.Queries.TheInside as inside_queries
 use Rattle.core_parts.specs.contracts.seat.Seat as seat
 use Rattle.core_parts.specs.contracts.seat.Seat.TheInside as inside_seat
+use Rattle.core_parts.specs.contracts.submitted.Standing as standing
+use Rattle.core_parts.specs.contracts.submitted.Submitted as submitted
+use Rattle.core_parts.specs.contracts.submitted.TakenReply as taken
+use Rattle.core_parts.specs.contracts.submitted.TakenReply.TheInside as inside_taken
 
 -- what stands for a batch that is lent
 lent_send : IsSend lent.the_row
@@ -63,10 +67,23 @@ flights_send =
     let fields = declared_send inside_flights.the_type (Vec-send _ flight_send, (Vec-send _ passing_send, tt)) in
     view_send inside_flights.the_row _ _ _ _ fields
 
+-- what is seen of a reply that was taken
+taken_send : IsSend taken.the_row
+taken_send =
+    view_send inside_taken.the_row _ _ _ _ (declared_send inside_taken.the_type (search (sendable, crosses) depth 10, tt))
+
+-- what became of a statement
+standing_send : IsSend standing.the_row
+standing_send = variants_send standing.enum ((reply.the_send, tt), (tt, ((taken_send, tt), (tt, (tt, tt)))))
+
+-- a statement
+submitted_send : IsSend submitted.the_row
+submitted_send = declared_send submitted.the_type (search sendable, (standing_send, tt))
+
 -- a seat may be sent
 pub seat_send : IsSend seat.the_row
 seat_send =
-    view_send inside_seat.the_row _ _ _ _ (declared_send inside_seat.the_type (fading_send _ submitted.the_send, (search sendable, tt)))
+    view_send inside_seat.the_row _ _ _ _ (declared_send inside_seat.the_type (fading_send _ submitted_send, (search sendable, tt)))
 
 -- an accepted query
 asked_send : IsSend asked.the_row

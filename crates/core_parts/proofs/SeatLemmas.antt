@@ -1,14 +1,12 @@
 -- What becomes of a seat where one of its statements stands otherwise.
 use Rattle.std.proofs.Common.{◌≡◌, ℕ, zero, suc, ◌<◌, Bool, true, false, ◌&&◌, cond, List, [], ◌∷◌, ◌++◌, length, get_or, set, take, drop, map, slice_get, find, Option, Some, None, option_map, option_and_then, refl, ap, sym, subst, ◌∙◌, arith}
 use Rattle.std.specs.List.{filter_map, cons_option}
-use Rattle.std.specs.Option.{option_map_or}
-use Rattle.reply_text.specs.declared.reply.Reply.TheVariants.{Memory}
-use Rattle.core_parts.specs.Seated.{Asked, Pending, Replied, Seat, Taken}
-use Rattle.core_parts.specs.Seated.{asked_by, taken_by, with_taken}
+use Rattle.core_parts.specs.Seated.{Pending, Replied, Seat, Taken}
+use Rattle.core_parts.specs.Seated.{taken_by, with_taken}
 use Rattle.core_parts.specs.declared.submitted.Standing.{Standing}
 use Rattle.core_parts.specs.declared.submitted.Standing.TheVariants.{Waits, IsAsked, IsTaken, IsAnswered, IsAbandoned}
 use Rattle.core_parts.specs.declared.submitted.Submitted.{Submitted}
-use Rattle.core_parts.specs.Known.{Known, known_at}
+use Rattle.core_parts.specs.Known.{Known}
 use Rattle.core_parts.specs.Seats.{asked_as, is_taken, is_waited, pending_as, seat_as, standing_as, took_as, when_taken, AreInTurn, NoneIsTaken, NoneIsWaited}
 
 -- a statement whose reply a seat took, if it took it
@@ -34,13 +32,13 @@ pending_as-none known number rest other = refl
 -- what was not taken is none of what was taken
 pub taken_as-none : (known : List Known) (number : ℕ) (standing : Standing) → is_taken standing ≡ false
     → taken_as known (record { number = number; standing = standing }) ≡ None
-taken_as-none known number IsTaken other = cc
+taken_as-none known number (IsTaken reply) other = cc
 taken_as-none known number IsAnswered other = cc
 taken_as-none known number rest other = refl
 
 -- what is waited for was not taken
 pub waited-is_taken : (standing : Standing) → is_waited standing ≡ true → is_taken standing ≡ false
-waited-is_taken IsTaken waited = cc
+waited-is_taken (IsTaken reply) waited = cc
 waited-is_taken IsAnswered waited = cc
 waited-is_taken other waited = refl
 
@@ -55,25 +53,13 @@ pub record IsPendingAs (known : List Known) (number : ℕ) (standing : Standing)
   pub statement : pending.statement ≡ number
   pub taken : taken_as known (record { number = number; standing = when_taken standing }) ≡ Some (taken_by pending)
 
--- the reply to an asked query is one that is asked, where the query is known
-asked_by-asked_as : (known : List Known) (number : ℕ)
-    → option_map (λ entry. (entry.query, entry.snapshot)) (known_at known number) ≡ asked_by (asked_as known number)
-asked_by-asked_as known number = by_entry (known_at known number)
-  where
-    by_entry : (o : Option Known)
-        → option_map (λ entry. (entry.query, entry.snapshot)) o ≡ asked_by (option_map_or (λ entry. Asked entry.query entry.snapshot) o (Replied Memory))
-    by_entry None = refl
-    by_entry (Some entry) = refl
-
 pub pending-waited : (known : List Known) (number : ℕ) (standing : Standing) → is_waited standing ≡ true
     → (pending : Pending) × IsPendingAs known number standing pending
 pending-waited known number (Waits answer) waited =
     (record { statement = number; awaited = Replied answer }, record { is = refl; statement = refl; taken = refl })
-pending-waited known number IsAsked waited = (
-  record { statement = number; awaited = asked_as known number },
-  record { is = refl; statement = refl; taken = ap (λ query. Some (record { statement = number; query = query })) (asked_by-asked_as known number) },
-)
-pending-waited known number IsTaken waited = cc
+pending-waited known number IsAsked waited =
+    (record { statement = number; awaited = asked_as known number }, record { is = refl; statement = refl; taken = refl })
+pending-waited known number (IsTaken reply) waited = cc
 pending-waited known number IsAnswered waited = cc
 pending-waited known number IsAbandoned waited = cc
 

@@ -13,10 +13,10 @@ pub record Pending : Type 0 where
   pub statement : ℕ
   pub awaited : Awaited
 
--- a statement whose reply was taken; a query with its snapshot
+-- a statement whose reply was taken, and what was waited for
 pub record Taken : Type 0 where
   pub statement : ℕ
-  pub query : Option (Query × ℕ)
+  pub told : Awaited
 
 -- what a seat submitted, what it waits for, and what it took, each in the order of its statements
 pub record Seat : Type 0 where
@@ -33,14 +33,14 @@ abbrev pub without_pending : (statement : ℕ) → Seat → Seat
 without_pending statement seat =
     record seat { pending = filter (λ pending. not (pending.statement == statement)) seat.pending }
 
--- the query of a statement with its snapshot, where it is one
+-- the query with its snapshot, where a query is waited for
 abbrev pub asked_by : Awaited → Option (Query × ℕ)
 asked_by (Replied reply) = None
 asked_by (Asked query snapshot) = Some (query, snapshot)
 
 -- a statement whose reply is taken
 abbrev pub taken_by : Pending → Taken
-taken_by pending = record { statement = pending.statement; query = asked_by pending.awaited }
+taken_by pending = record { statement = pending.statement; told = pending.awaited }
 
 -- a seat that has taken the reply to the first statement that it waits for
 abbrev pub with_taken : Seat → Seat

@@ -28,14 +28,12 @@ pending_as known submitted =
     option_map (λ awaited. record { statement = submitted.number; awaited = awaited })
     (awaited_as known submitted.number submitted.standing)
 
--- a statement whose reply a seat took, if it took it
+-- a statement whose reply a seat took, if it took it, and what it waited for
 abbrev pub took_as : List Known → (number : ℕ) → Standing → Option Taken
-took_as known number IsTaken = Some (record { statement = number; query = None })
+took_as known number (IsTaken reply) =
+    Some (record { statement = number; told = Replied reply })
 took_as known number IsAnswered =
-    Some (record {
-      statement = number;
-      query = option_map (λ entry. (entry.query, entry.snapshot)) (known_at known number);
-    })
+    Some (record { statement = number; told = asked_as known number })
 took_as known number other = None
 
 -- a seat
@@ -54,17 +52,15 @@ is_waited other = false
 
 -- whether the reply to a statement was taken
 abbrev pub is_taken : Standing → Bool
-is_taken IsTaken = true
+is_taken (IsTaken reply) = true
 is_taken IsAnswered = true
 is_taken other = false
 
--- how a statement stands whose reply is taken
+-- how a statement stands whose reply is taken; where nobody waits for it there is none to take
 abbrev pub when_taken : Standing → Standing
-when_taken (Waits answer) = IsTaken
+when_taken (Waits answer) = IsTaken answer
 when_taken IsAsked = IsAnswered
-when_taken IsTaken = IsTaken
-when_taken IsAnswered = IsAnswered
-when_taken IsAbandoned = IsAbandoned
+when_taken other = IsAbandoned
 
 -- a statement that stands otherwise
 abbrev pub standing_as : Standing → Submitted → Submitted

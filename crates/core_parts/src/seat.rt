@@ -11,7 +11,7 @@ ghost use Rattle.core_parts.specs.Seats.{seat_as, pending_as, is_waited, when_ta
 ghost use Rattle.core_parts.specs.declared.submitted.Submitted.{Submitted};
 ghost use Rattle.core_parts.specs.declared.submitted.Standing.TheVariants.{IsAbandoned};
 
-use crate::submitted::{Standing, Submitted};
+use crate::submitted::{Standing, Submitted, TakenReply};
 use pipeline_manager::{Life, Manager};
 use star_values::{Fading, NoMemory};
 use std::alloc::Global;
@@ -165,16 +165,17 @@ fn is_waited(standing: &Standing) -> bool
     matches!(standing, Standing::Waits(_) | Standing::IsAsked)
 }
 
-/// How a statement stands whose reply is taken.
+/// How a statement stands whose reply is taken. Where nobody waits for the reply, there is
+/// none to take.
 fn when_taken(standing: &Standing) -> Standing
     ensures { result ≡ when_taken standing.now }
 {
     match standing {
-        Standing::Waits(_) => Standing::IsTaken,
+        Standing::Waits(reply) => Standing::IsTaken(TakenReply::of(reply)),
         Standing::IsAsked => Standing::IsAnswered,
-        Standing::IsTaken => Standing::IsTaken,
-        Standing::IsAnswered => Standing::IsAnswered,
-        Standing::IsAbandoned => Standing::IsAbandoned,
+        Standing::IsTaken(_) | Standing::IsAnswered | Standing::IsAbandoned => {
+            Standing::IsAbandoned
+        }
     }
 }
 

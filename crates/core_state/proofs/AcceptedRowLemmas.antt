@@ -98,14 +98,14 @@ has-asked accepted number query snapshot has = by_found (accepted_at accepted nu
         ∙ ap (λ q. asked number q a.snapshot) found.0 ∙ ap (asked number query) found.1
 
 -- a statement whose reply was taken is the query of its number, if it is one
-asked-taken : (accepted : List Accepted) (queries : List QueryLife) (taken : Taken) → IsTaken accepted queries taken.statement taken.query
+asked-taken : (accepted : List Accepted) (queries : List QueryLife) (taken : Taken) → IsTaken accepted queries taken.statement taken.told
     → query_by taken ≡ asked_at accepted taken.statement
-asked-taken accepted queries taken is = by_query taken.query is
+asked-taken accepted queries taken is = by_told taken.told is
   where
-    by_query : (query : Option (Query × ℕ)) → IsTaken accepted queries taken.statement query
-        → query_by (record { statement = taken.statement; query = query }) ≡ asked_at accepted taken.statement
-    by_query None none = sym (ap (option_map accepted_by) none)
-    by_query (Some asked) has = sym (has-asked accepted taken.statement asked.0 asked.1 has.0)
+    by_told : (told : Awaited) → IsTaken accepted queries taken.statement told
+        → query_by (record { statement = taken.statement; told = told }) ≡ asked_at accepted taken.statement
+    by_told (Replied reply) none = sym (ap (option_map accepted_by) none)
+    by_told (Asked query snapshot) has = sym (has-asked accepted taken.statement query snapshot has.0)
 
 -- so is one that is waited for
 asked-awaited : (accepted : List Accepted) (queries : List QueryLife) (pending : Pending)
@@ -119,14 +119,14 @@ asked-awaited accepted queries pending is = by_awaited pending.awaited is
 
 -- the queries among statements whose replies were taken are those of their numbers
 among-taken : (accepted : List Accepted) (queries : List QueryLife) (taken : List Taken)
-    → All (λ t. IsTaken accepted queries t.statement t.query) taken
+    → All (λ t. IsTaken accepted queries t.statement t.told) taken
     → queries_among taken ≡ filter_map (asked_at accepted) (map (λ t. t.statement) taken)
 among-taken accepted queries [] all = refl
 among-taken accepted queries (first ∷ taken) all =
     ap (λ o. cons_option o (queries_among taken))
-    (asked-taken accepted queries first (All-head (λ t. IsTaken accepted queries t.statement t.query) first taken all))
+    (asked-taken accepted queries first (All-head (λ t. IsTaken accepted queries t.statement t.told) first taken all))
     ∙ ap (cons_option (asked_at accepted first.statement))
-    (among-taken accepted queries taken (All-tail (λ t. IsTaken accepted queries t.statement t.query) first taken all))
+    (among-taken accepted queries taken (All-tail (λ t. IsTaken accepted queries t.statement t.told) first taken all))
 
 -- and so are those among statements that are waited for
 among-awaited : (accepted : List Accepted) (queries : List QueryLife) (pending : List Pending)
@@ -141,7 +141,7 @@ among-awaited accepted queries (first ∷ pending) all =
 
 -- and those among what a seat took and waits for
 among-given : (accepted : List Accepted) (queries : List QueryLife) (seat : Seat)
-    → All (λ t. IsTaken accepted queries t.statement t.query) seat.taken
+    → All (λ t. IsTaken accepted queries t.statement t.told) seat.taken
     → All (λ p. IsAwaited accepted queries p.statement p.awaited) seat.pending
     → queries_among (given_in seat) ≡ filter_map (asked_at accepted) (numbers_of seat)
 among-given accepted queries seat taken awaited =

@@ -183,9 +183,9 @@ seat-waits last later accepted others queries next seat waits above stays in_ord
   in_order = in_order;
   submitted = submitted;
   taken = λ k d inside. let taken = get_or seat.taken k d in
-      by_asked taken.statement
+      by_told taken.statement
       (taken-there (λ n. n ≤ last) seat.taken (map (λ pending. pending.statement) waits) low k d inside)
-      taken.query (old.taken k d inside);
+      taken.told (old.taken k d inside);
   awaited = λ k d inside. let pending = get_or waits k d in
       let given = awaited-there (λ n. n ≤ last) (map (λ taken. taken.statement) seat.taken) waits low k d inside in
       by_awaited pending.statement given pending.awaited (wanted k d inside given) (awaited k d inside);
@@ -196,11 +196,11 @@ seat-waits last later accepted others queries next seat waits above stays in_ord
     low = All-weaker (Contains seat.submitted) (λ n. n ≤ last) (λ n has. All-contains (λ s. s ≤ last) seat.submitted n old.given has)
         (numbers_of (record seat { pending = waits })) submitted
 
-    by_asked : (statement : ℕ) → statement ≤ last → (asked : Option (Query × ℕ)) → IsTaken accepted queries statement asked
-        → IsTaken others next statement asked
-    by_asked statement given None is = let so = stays statement given in so.none is
-    by_asked statement given (Some asked) is =
-        let so = stays statement given in (so.has asked.0 asked.1 is.0, so.told is.1)
+    by_told : (statement : ℕ) → statement ≤ last → (told : Awaited) → IsTaken accepted queries statement told
+        → IsTaken others next statement told
+    by_told statement given (Replied reply) is = let so = stays statement given in so.none is
+    by_told statement given (Asked query snapshot) is =
+        let so = stays statement given in (so.has query snapshot is.0, so.told is.1)
 
     by_awaited : (statement : ℕ) → statement ≤ last → (awaited : Awaited)
         → (IfSome (life_in queries statement) Wanted → IfSome (life_in next statement) Wanted)

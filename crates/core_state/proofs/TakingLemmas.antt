@@ -1,7 +1,6 @@
 -- A reply that is taken keeps a core sound.
 use Rattle.core_state.proofs.Words.{◌++◌, ◌<◌, ◌∙◌, ◌∷◌, ◌≡◌, ◌≢◌, ◌⊎◌, [], Accepted, after_taking, All, All-contains, All-head, All-push, All-tail, All-weaker, AllPairs, ap, append_assoc, AreSoundQueries, Asked, Awaited, cases_eq, cond, Contains, Contains-append_left, Contains-push, drop, empty_seat, eq-eqb, false, forgotten, get_or, get_or-set_other, get_or-set_same, HasTaken, IfSome, inl, inr, is_open, IsAccountedFor, IsAwaited, IsKept, IsSome, IsSound, IsSoundQuery, IsSoundSeat, IsTaken, length, length-set, Life, life_in, List, map, map-append, map_push, ne_eqb, next_ready, None, Option, option_and_then, Pending, query_in, QueryLife, ready_by, ready_to, refl, Replied, Seat, seat_at, set, slice_get, Some, State, subst, sym, tables_of, take, Taken, taken_by, true, without_groups, ℕ, ⊎_elim}
 use Rattle.pipeline_manager.specs.declared.life.Life.TheVariants as life
-use Rattle.core_state.specs.Submitting.{asked_by}
 use Rattle.core_state.proofs.AcceptedLemmas.{none-lives}
 use Rattle.core_state.proofs.AnewLemmas.{by-change, forgets, kept_anew, queries-anew, sound-anew}
 use Rattle.core_state.proofs.FoundLemmas.{life-found, some-at, some-by}
@@ -40,7 +39,7 @@ seat-taken state first rest seat told old = record {
   given = old.given;
   in_order = subst (AllPairs (λ statement later. statement < later)) (sym same) old.in_order;
   submitted = subst (All (Contains seat.submitted)) (sym same) old.submitted;
-  taken = All-push (λ taken. IsTaken state.accepted state.lives.queries taken.statement taken.query) seat.taken (taken_by first) old.taken
+  taken = All-push (λ taken. IsTaken state.accepted state.lives.queries taken.statement taken.told) seat.taken (taken_by first) old.taken
       (by_awaited first.awaited (All-head (λ pending. IsAwaited state.accepted state.lives.queries pending.statement pending.awaited) first rest old.awaited));
   awaited = All-tail (λ pending. IsAwaited state.accepted state.lives.queries pending.statement pending.awaited) first rest old.awaited;
   whole = All-weaker (IsAccountedFor state.lives.queries (record seat { pending = first ∷ rest }))
@@ -54,7 +53,7 @@ seat-taken state first rest seat told old = record {
         (map-append (λ (taken : Taken). taken.statement) seat.taken (taken_by first ∷ []))
         ∙ append_assoc (map (λ taken. taken.statement) seat.taken) (first.statement ∷ []) (map (λ pending. pending.statement) rest)
 
-    by_awaited : (awaited : Awaited) → IsAwaited state.accepted state.lives.queries first.statement awaited → IsTaken state.accepted state.lives.queries first.statement (asked_by awaited)
+    by_awaited : (awaited : Awaited) → IsAwaited state.accepted state.lives.queries first.statement awaited → IsTaken state.accepted state.lives.queries first.statement awaited
     by_awaited (Replied reply) none = none
     by_awaited (Asked query snapshot) is = (is.0, told)
 

@@ -2,7 +2,7 @@
 use Rattle.std.specs.Prelude.{ℕ, List, ◌++◌, filter_map, map, Option, option_map}
 use Rattle.star_plan.specs.Test.{Query}
 use Rattle.core_state.specs.State.{Accepted, Seat, Taken}
-use Rattle.core_state.specs.Submitting.{taken_by}
+use Rattle.core_state.specs.Submitting.{asked_by, taken_by}
 
 -- what a seat took and waits for, in the order of its statements
 abbrev pub given_in : Seat → List Taken
@@ -10,7 +10,7 @@ given_in seat = seat.taken ++ map taken_by seat.pending
 
 -- a statement that is a query: its number, and the query with its snapshot
 abbrev pub query_by : Taken → Option (ℕ × (Query × ℕ))
-query_by taken = option_map (λ asked. (taken.statement, asked)) taken.query
+query_by taken = option_map (λ asked. (taken.statement, asked)) (asked_by taken.told)
 
 -- the queries among statements, in their order
 abbrev pub queries_among : List Taken → List (ℕ × (Query × ℕ))

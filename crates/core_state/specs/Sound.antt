@@ -1,5 +1,5 @@
 -- What holds of every core, whatever events made it: a record for each subject.
-use Rattle.std.specs.Prelude.{◌≡◌, ◌≢◌, ℕ, ◌+◌, ◌<◌, ◌≤◌, ◌↔◌, ◌⊎◌, ◌==◌, nat_lt, List, [], ◌++◌, length, map, filter, filter_map, find, flat_map, slice_get, slice_index_or, replicate, All, AllPairs, Contains, Option, Some, None, option_map, IfSome, IsSomeAnd, IsTrue}
+use Rattle.std.specs.Prelude.{◌≡◌, ◌≢◌, ℕ, ◌+◌, ◌<◌, ◌≤◌, ◌↔◌, ◌⊎◌, ◌==◌, nat_lt, List, [], ◌++◌, length, map, filter, filter_map, find, flat_map, slice_get, slice_index_or, replicate, All, AllPairs, Contains, Some, None, option_map, IfSome, IsSomeAnd, IsTrue}
 use Rattle.std.specs.List.{range_with_len}
 use Rattle.std.specs.List.Sorted.{IsPermutation}
 use Rattle.std.specs.Option.{option_map_or}
@@ -233,10 +233,10 @@ IsAwaited accepted queries statement (Asked query snapshot) =
 
 -- a statement whose reply a seat took: a query is one of the core with its query and its snapshot,
 -- and was answered or replied that it found no memory; what is no query has no number of one
-abbrev pub IsTaken : List Accepted → List QueryLife → (statement : ℕ) → Option (Query × ℕ) → Type 0
-IsTaken accepted queries statement None = accepted_at accepted statement ≡ None
-IsTaken accepted queries statement (Some asked) =
-    HasAccepted accepted statement asked.0 asked.1
+abbrev pub IsTaken : List Accepted → List QueryLife → (statement : ℕ) → Awaited → Type 0
+IsTaken accepted queries statement (Replied reply) = accepted_at accepted statement ≡ None
+IsTaken accepted queries statement (Asked query snapshot) =
+    HasAccepted accepted statement query snapshot
     × IfSome (life_in queries statement) (λ now. (now ≡ life.Answered) ⊎ (now ≡ life.Spoiled))
 
 -- a seat: the numbers that it submitted rise, those that it took and waits for are among them, in
@@ -249,7 +249,7 @@ pub record IsSoundSeat (last : ℕ) (accepted : List Accepted) (queries : List Q
       (map (λ taken. taken.statement) seat.taken ++ map (λ pending. pending.statement) seat.pending)
   pub submitted : All (Contains seat.submitted)
       (map (λ taken. taken.statement) seat.taken ++ map (λ pending. pending.statement) seat.pending)
-  pub taken : All (λ taken. IsTaken accepted queries taken.statement taken.query) seat.taken
+  pub taken : All (λ taken. IsTaken accepted queries taken.statement taken.told) seat.taken
   pub awaited : All (λ pending. IsAwaited accepted queries pending.statement pending.awaited)
       seat.pending
   pub whole : All (IsAccountedFor queries seat) seat.submitted

@@ -42,7 +42,7 @@ not-taken lives number IsAsked may = (refl, by_test (option_map_or is_open (life
     by_test : (t : Bool) → not t ≡ false → t ≡ true
     by_test true e = refl
     by_test false e = absurd (let both : true ≡ false = e in cc)
-not-taken lives number IsTaken may = absurd (let both : true ≡ false = may in cc)
+not-taken lives number (IsTaken reply) may = absurd (let both : true ≡ false = may in cc)
 not-taken lives number IsAnswered may = absurd (let both : true ≡ false = may in cc)
 not-taken lives number IsAbandoned may = absurd (let both : true ≡ false = may in cc)
 

@@ -58,7 +58,7 @@ awaited-same known more number other same = refl
 took-same : (known more : List Known) (number : ℕ) (standing : Standing) → known_at more number ≡ known_at known number
     → took_as more number standing ≡ took_as known number standing
 took-same known more number IsAnswered same =
-    ap (λ o. Some (record { statement = number; query = option_map (λ (entry : Known). (entry.query, entry.snapshot)) o })) same
+    ap (λ o. Some (record { statement = number; told = option_map_or (λ (entry : Known). Asked entry.query entry.snapshot) o (Replied reply.Memory) })) same
 took-same known more number other same = refl
 
 -- a seat of which nothing else is known

@@ -7,6 +7,7 @@ use Rattle.std.proofs.lemmas.Option.{IfSome_then}
 use Rattle.core_state.specs.Fronts.{IsDue, Passes}
 use Rattle.core_state.specs.Rows.{Sight, sight_of}
 use Rattle.core_state.specs.Sent.{AreRepliesTo, Given, IsGiven, IsReplyTo, Lost, Sent, pending_behind, pendings_of, statement_in, statements_in, taken_of}
+use Rattle.core_state.specs.Submitting.{asked_by}
 use Rattle.core_state.proofs.FrontLemmas.{goes-passes, goes-then}
 use Rattle.script_run.specs.Answered.{AreAnswered, IsAnswered, StayAnswered}
 use Rattle.std.proofs.lemmas.List.Elements.{filter_map-append}
@@ -92,7 +93,7 @@ halts-left Left left = (([], refl), inr left)
 -- what was taken is answered in a later core
 answered-if : (old new : Lives) (taken : Option Taken) (reply : Reply) → StayAnswered old new → IsAnswered old taken reply → IsAnswered new taken reply
 answered-if old new taken reply stay is = ⊎_elim (λ wants. inl wants)
-    (λ answered. inr (IfSome_then taken answered (λ one asks. IfSome_then one.query asks (λ asked was. stay one.statement was)))) is
+    (λ answered. inr (IfSome_then taken answered (λ one asks. IfSome_then (asked_by one.told) asks (λ asked was. stay one.statement was)))) is
 
 answered-one : (old new : Lives) (entries more : List Entry) (one : Sent) (reply : Reply) → StayAnswered old new → IsReplyTo entries one reply
     → IsAnswered old (taken_of entries one) reply → IsAnswered new (taken_of (entries ++ more) one) reply

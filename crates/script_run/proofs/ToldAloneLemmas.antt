@@ -1,6 +1,6 @@
 -- What a core tells of what one seat sent to it, where nobody else made an entry: the replies, the history and the queries are those of its
 -- statements, where memory was wanted at some places.
-use Rattle.script_run.proofs.Words.{◌++◌, ◌∙◌, ◌∷◌, ◌≡◌, ◌≢◌, ◌⊎◌, [], Accepted, accepted_by, All, All-cons, All-head, All-nil, All-tail, alone, answer_reply, Answered, ap, append-nil, append_assoc, awaited_by, BeginAnswered, Bool, Change, changes_of, cond, Entry, eq-eqb, eqb, false, find, history_after, IfSome, inl, inr, length, life_of, List, Lives, map, map-append, MayBegin, Memory, None, Option, option_map, option_to_list, outcome_of, queries_among, Query, QueryLife, refl, replies_after, Reply, reply_to, Some, Statement, store_of, subst, suc, sym, tables_by, take, taken_by, Taken, Told, true, ℕ, ⊎_elim}
+use Rattle.script_run.proofs.Words.{◌++◌, ◌∙◌, ◌∷◌, ◌≡◌, ◌≢◌, ◌⊎◌, [], Accepted, accepted_by, All, All-cons, All-head, All-nil, All-tail, alone, answer_reply, Answered, ap, append-nil, append_assoc, Awaited, awaited_by, BeginAnswered, Bool, Change, changes_of, cond, Entry, eq-eqb, eqb, false, find, history_after, IfSome, inl, inr, length, life_of, List, Lives, map, map-append, MayBegin, Memory, None, Option, option_map, option_to_list, outcome_of, queries_among, Query, QueryLife, refl, replies_after, Reply, reply_to, Some, Statement, store_of, subst, suc, sym, tables_by, take, taken_by, Taken, Told, true, ℕ, ⊎_elim}
 use Rattle.std.proofs.Math.Seq.{take-append_seam}
 use Rattle.star_store.specs.Outcome as outcome
 use Rattle.core_state.specs.Sent.{AnswersTold, AreEntriesOf, AreOfOthers, AreRepliesTo, Given, IsReplyBehind, Lost, Sent, entry_made, numbers_in, pending_behind, statements_in, takens_of}
@@ -35,8 +35,8 @@ first-asked (first ∷ rest) asked others same = record {
 }
 
 -- the queries among statements by that of the first
-abbrev among_by : (statement : ℕ) → Option (Query × ℕ) → List Taken → List (ℕ × (Query × ℕ))
-among_by statement query rest = queries_among (record { statement = statement; query = query } ∷ rest)
+abbrev among_by : (statement : ℕ) → Awaited → List Taken → List (ℕ × (Query × ℕ))
+among_by statement told rest = queries_among (record { statement = statement; told = told } ∷ rest)
 
 -- where memory was wanted the core may have no query of a statement
 may-none : (told : Told) (A : List Accepted → Type 0) (accepted : List Accepted) → A accepted → MayBegin told A accepted
@@ -81,7 +81,7 @@ told-given : (lives : Lives) (place number : ℕ) (history : List Change) (state
     (replies : List Reply) (after : List Change) (takens : List Taken) (accepted : List Accepted)
     → AnswersTold (store_of history) (outcome_of (store_of history) statement).told reply
     → IsAnswered lives (Some (taken_by (record { statement = number; awaited = awaited_by (outcome_of (store_of history) statement).told }))) reply
-    → map accepted_by accepted ≡ among_by number (asked_by (awaited_by (outcome_of (store_of history) statement).told)) takens
+    → map accepted_by accepted ≡ among_by number (awaited_by (outcome_of (store_of history) statement).told) takens
     → TellOthers lives (suc place) (history_after history statement) statements replies after takens
     → AreTold lives place history (statement ∷ statements) (reply ∷ replies) after accepted
 told-given lives place number history statement statements reply replies after takens accepted right answered asked tell =
@@ -135,7 +135,7 @@ told-given lives place number history statement statements reply replies after t
 
     by_told : (t : Told) → told ≡ t → AnswersTold (store_of history) t reply
         → IsAnswered lives (Some (taken_by (record { statement = number; awaited = awaited_by t }))) reply
-        → map accepted_by accepted ≡ among_by number (asked_by (awaited_by t)) takens
+        → map accepted_by accepted ≡ among_by number (awaited_by t) takens
         → AreTold lives place history (statement ∷ statements) (reply ∷ replies) after accepted
     by_told (outcome.Replied given) tells is life those =
         effective accepted (is ∙ ap (reply_to (store_of history)) (sym tells)) those
@@ -166,7 +166,7 @@ told-sent lives seat place before (Given number point statement ∷ sent) since 
     told-given lives place number (changes_of before) statement (statements_in sent) reply replies (changes_of entries) (takens_of entries sent) accepted
     (subst (λ list. IsReplyBehind list statement reply) front are.0.1)
     (subst (λ list. IsAnswered lives (Some (taken_by (pending_behind number list statement))) reply) front answered.0)
-    (asked ∙ ap (λ list. among_by number (asked_by (pending_behind number list statement).awaited) (takens_of entries sent)) front)
+    (asked ∙ ap (λ list. among_by number (pending_behind number list statement).awaited (takens_of entries sent)) front)
     (λ behind those.
     subst (λ history. AreTold lives (suc place) history (statements_in sent) replies (changes_of entries) behind) (history-made seat number before statement)
     (told-sent lives seat (suc place) (before ++ made) sent after entries replies behind rest_of (all-right (λ (e : Entry). e.seat ≡ seat) made after own_made)

@@ -6,6 +6,7 @@ use Rattle.pipeline_manager.specs.Lives.{Lives, life_of}
 use Rattle.pipeline_manager.specs.declared.life.Life.TheVariants.{Answered}
 use Rattle.core_state.specs.Sent.{Sent, taken_of}
 use Rattle.core_state.specs.State.{Entry, Taken}
+use Rattle.core_state.specs.Submitting.{asked_by}
 
 -- a query that was answered stays so
 abbrev pub StayAnswered : (old new : Lives) → Type 0
@@ -16,7 +17,8 @@ StayAnswered old new =
 abbrev pub IsAnswered : Lives → Option Taken → Reply → Type 0
 IsAnswered lives taken reply =
     (reply ≡ Memory)
-    ⊎ IfSome taken (λ one. IfSome one.query (λ asked. life_of lives one.statement ≡ Some Answered))
+    ⊎ IfSome taken (λ one.
+    IfSome (asked_by one.told) (λ asked. life_of lives one.statement ≡ Some Answered))
 
 -- so it is with each of what was sent to a core with these entries, and its reply
 abbrev pub AreAnswered : Lives → List Entry → List Sent → List Reply → Type 0

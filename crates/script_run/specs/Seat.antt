@@ -7,10 +7,10 @@ use Rattle.core_state.specs.Sent.{AreEntriesOf, AreRepliesTo, Sent, numbers_in, 
 use Rattle.core_state.specs.State.{Entry, Taken}
 
 -- From one sight of a seat to another it was given these statements. The first it sent and took
--- these replies to; those behind them it sent, and nobody reads their replies; the last it did not
+-- these replies to; those after them it sent, and nobody reads their replies; the last it did not
 -- send. The entries that came are those of what it sent, each at its point, and others of other
--- seats. What it submitted has the numbers of what it sent, and what it took is what it has replied
--- to, each query with its snapshot, and something of what was sent behind.
+-- seats. What it submitted has the numbers of what it sent. What it took is what it has replied to,
+-- each with what was told of it at its point, and then something of what was sent after that.
 pub record TellsSeat (seat : ℕ) (old new : Sight) (statements : List Statement)
     (replies : List Reply) : Type 0 where
   pub said : List Sent
