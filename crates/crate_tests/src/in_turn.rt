@@ -1,5 +1,5 @@
-//! Sessions through `serve`, each begun once the link of the one before was let go: what the
-//! earlier ones committed the later ones see, also behind one whose link fails.
+//! Sessions through `serve`, each begun after the link of the last was dropped. Each sees what the
+//! earlier ones committed. After a session whose link failed, a load is still taken.
 use crate::served::{NEVER, host_of, link_of};
 use crate::workers::{MOST_LOOKS, REPLIES, SCRIPT};
 use core_state::RunSettings;
@@ -23,11 +23,11 @@ const SETTINGS: RunSettings = RunSettings {
     seats: 4,
 };
 
-/// The first session makes the tables, loads them and asks, as a run does. The second loads one
-/// sale more, and asks how many there are.
+/// The first session makes the tables, loads them and asks, as a run does. The second and the
+/// fourth load one sale more, and ask how many there are.
 const MORE: &str = "load sales\n1,7\n.\nselect count(*) from sales\n";
 
-/// The third and the fourth ask this alone.
+/// The third only asks.
 const QUERY: &str = "select count(*) from sales\n";
 
 /// The number of the session whose link may fail.
@@ -44,7 +44,8 @@ fn replies_of(session: u64) -> &'static str {
     match session {
         0 => REPLIES,
         1 => "commit 3 rows 1\nanswer 3 rows 1\n5\n",
-        _ => "answer 3 rows 1\n5\n",
+        THIRD => "answer 3 rows 1\n5\n",
+        _ => "commit 4 rows 1\nanswer 4 rows 1\n6\n",
     }
 }
 
@@ -245,7 +246,7 @@ fn add_links(
     links.push(link_of(alloc, SCRIPT, NEVER, NEVER)?)?;
     links.push(link_of(alloc, MORE, NEVER, NEVER)?)?;
     links.push(link_of(alloc, QUERY, read_fault, write_fault)?)?;
-    links.push(link_of(alloc, QUERY, NEVER, NEVER)?)?;
+    links.push(link_of(alloc, MORE, NEVER, NEVER)?)?;
     Ok(())
 }
 

@@ -1,5 +1,6 @@
-//! A batch that is out with a worker, and written and folded there, while the slot of a query that
-//! is over is cleared and another query takes it.
+//! A batch is out with a worker, and is written and folded there, while the slot of a query that is
+//! over is cleared and another query takes it. Meanwhile a load has to wait. Once the tables are
+//! returned, a load is taken.
 ghost use Rattle.std.specs.Prelude.{◌≡◌, ◌<◌, None};
 ghost use Rattle.core_state.specs.Found.{held_by};
 ghost use Rattle.core_state.specs.Rows.{IsMindful};
@@ -34,8 +35,10 @@ const SETTINGS: RunSettings = RunSettings {
     seats: 2,
 };
 
-/// Two batches of rows, each with a row of each city. The queries have the numbers 5, 6 and 7. The
-/// load behind the second one is refused, since the tables are lent.
+/// Two batches of rows, each with a row of each city. The queries have the numbers 5, 6 and 8.
+///
+/// The first load of a third store comes while the tables are lent, and has to wait. Each of the
+/// three loads after it comes after the tables could have gone out, and is taken.
 const SCRIPT: &str = "dimension store (id int key, city text)
 fact sales (store_id int references store, units int)
 load store
@@ -53,7 +56,16 @@ select count(*) from sales, store where store_id = id and city = 'Oslo'
 load store
 3,Rome
 .
+load store
+3,Bern
+.
 select count(*) from sales, store where store_id = id and city = 'Rome'
+load store
+4,Bonn
+.
+load store
+5,Cork
+.
 ";
 
 /// The replies to it.
@@ -65,8 +77,11 @@ answer 2 rows 1
 4
 answer 2 rows 1
 2
-answer 2 rows 1
+commit 3 rows 1
+answer 3 rows 1
 2
+commit 4 rows 1
+commit 5 rows 1
 ";
 
 /// What comes to the core while a batch is out.
@@ -321,7 +336,8 @@ fn enter_in_mid_table(core: &mut Core, script: &mut ScriptReader) -> bool
     all & go_on(core, script, 0, &[EventKind::Cut])
 }
 
-/// The second batch is of both. Only behind it is the first query over.
+/// The second batch is of both. Only after it is the first query over. A load is taken once the
+/// tables that its rows were folded with are returned.
 fn finish_the_first(core: &mut Core, script: &mut ScriptReader) -> bool
     requires seat { 1 < (state_of core.old).settings.seats }
     requires empty { held_by (state_of core.old).scan.flights 1 ≡ None }
@@ -330,11 +346,11 @@ fn finish_the_first(core: &mut Core, script: &mut ScriptReader) -> bool
 {
     let mut all = !go_on(core, script, 0, &[EventKind::Finish]);
     all &= pass(core, script, Meanwhile::HasToWait, &[3, 1]);
-    all & go_on(core, script, 0, &[EventKind::Finish])
+    all & go_on(core, script, 1, &[EventKind::Finish])
 }
 
 /// The third batch is of the second query, and is out while a third takes the slot of the first:
-/// only then its rows are written.
+/// only then are its rows written. A load is taken once the tables are returned.
 fn finish_the_second(core: &mut Core, script: &mut ScriptReader) -> bool
     requires seat { 1 < (state_of core.old).settings.seats }
     requires empty { held_by (state_of core.old).scan.flights 1 ≡ None }
@@ -342,18 +358,21 @@ fn finish_the_second(core: &mut Core, script: &mut ScriptReader) -> bool
     ensures empty { held_by (state_of core.new).scan.flights 1 ≡ None }
 {
     let mut all = cut_and_pass(core, script, Meanwhile::TakesTheSlot, &[2, 0]);
-    all &= enters_at_two(core, 7);
-    all & go_on(core, script, 0, &[EventKind::Finish, EventKind::Cut])
+    all &= enters_at_two(core, 8);
+    all & go_on(core, script, 1, &[EventKind::Finish, EventKind::Cut])
 }
 
-/// Two batches more are of the third. The core is marked waiting, so that they are folded at home.
+/// Two batches more are of the third. The core is marked waiting, so they are folded at home. No
+/// groups go out as the second of them is cut: it is cut alone, and a load is taken.
 fn finish_the_third(core: &mut Core, script: &mut ScriptReader) -> bool
     requires seat { 1 < (state_of core.old).settings.seats }
     requires empty { held_by (state_of core.old).scan.flights 1 ≡ None }
 {
     core.mark_waiting(true);
     let mut all = pass(core, script, Meanwhile::Nothing, &[0, 1]);
-    all &= go_on(core, script, 0, &[EventKind::Distribute, EventKind::Cut]);
+    all &= go_on(core, script, 0, &[EventKind::Distribute]);
+    all &= !cut_and_pass(core, script, Meanwhile::Nothing, &[0, 1]);
+    all &= go_on(core, script, 1, &[]);
     all &= pass(core, script, Meanwhile::Nothing, &[0, 1]);
     all & go_on(core, script, 0, &[EventKind::Distribute, EventKind::Finish])
 }

@@ -11,7 +11,6 @@ mod printing;
 mod ran;
 mod reading;
 mod script;
-mod text_source;
 mod totals;
 
 pub use laws::made_scripts_are_within_the_limit;

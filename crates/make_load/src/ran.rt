@@ -5,17 +5,16 @@ ghost use Rattle.script_reader.specs.declared.reader.TheConstants.{SCRIPT_LIMIT}
 ghost use Rattle.core_state.specs.Settings.{AreWithin};
 ghost use Rattle.make_load.specs.Made.{EndsText, HandsBack, RunsText};
 
-use crate::text_source::TextSource;
 use core_state::RunSettings;
 use event_core::Core;
 use script_run::{Host, run_on_one_thread, run_script};
-use star_io::{ListSink, RunEnd};
+use star_io::{ListSink, RunEnd, SureSource};
 use std::sync::Wait;
 use std::thread::Threads;
 use worker_gate::Gate;
 
-/// How the run of a script ended, the core that ran it, and the replies. There is no core where no
-/// memory was left for the run.
+/// How the run of a script ended, the core that ran it, and the replies. There is no core if the run
+/// was out of memory.
 #[derive(Drop)]
 pub(crate) struct Ran {
     pub(crate) end: RunEnd,
@@ -23,7 +22,7 @@ pub(crate) struct Ran {
     pub(crate) replies: ListSink,
 }
 
-/// Runs a script that stands in memory, and keeps its replies there.
+/// Runs a script from memory, of which no read fails, and keeps its replies in memory.
 pub(crate) fn run_text<R: Threads + Wait + Sync, G: Gate + Sync>(
     host: Host<&R>,
     settings: RunSettings,
@@ -38,7 +37,7 @@ pub(crate) fn run_text<R: Threads + Wait + Sync, G: Gate + Sync>(
     ensures back { HandsBack (settings.workers ≡ 0) settings
         result.core (result.end ≡ end.NoMemory) }
 {
-    let mut source = TextSource::new(script);
+    let mut source = SureSource::new(script);
     let mut sink = ListSink::new(host.alloc, usize::MAX, Vec::new(host.alloc));
     let done = run_script(host, settings, &mut source, &mut sink, gate);
     Ran {
@@ -48,7 +47,7 @@ pub(crate) fn run_text<R: Threads + Wait + Sync, G: Gate + Sync>(
     }
 }
 
-/// The same on one thread but for the threads of a turn, so that it comes to its end where they do.
+/// The same on one thread, except for the threads of a turn, so that it returns if they do.
 pub(crate) fn run_text_on_one_thread<R: Threads + Sync>(
     host: Host<&R>,
     settings: RunSettings,
@@ -60,7 +59,7 @@ pub(crate) fn run_text_on_one_thread<R: Threads + Sync>(
     ensures ends { EndsText result.end }
     ensures back { HandsBack (Unit {0}) settings result.core (result.end ≡ end.NoMemory) }
 {
-    let mut source = TextSource::new(script);
+    let mut source = SureSource::new(script);
     let mut sink = ListSink::new(host.alloc, usize::MAX, Vec::new(host.alloc));
     let done = run_on_one_thread(host, settings, &mut source, &mut sink);
     Ran {

@@ -6,6 +6,7 @@ pub mod Source
 pub mod Sink
 pub mod Door
 pub mod PieceSource
+pub mod SureSource
 pub mod ListSink
 pub mod StdStreams
 pub mod PairLink

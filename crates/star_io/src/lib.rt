@@ -18,6 +18,7 @@ mod serve_end;
 mod sink;
 mod source;
 mod std_streams;
+mod sure_source;
 mod tcp_door;
 mod tcp_link;
 
@@ -34,5 +35,6 @@ pub use serve_end::ServeEnd;
 pub use sink::{Sink, write_all};
 pub use source::Source;
 pub use std_streams::{StdSink, StdSource};
+pub use sure_source::SureSource;
 pub use tcp_door::TcpDoor;
 pub use tcp_link::TcpLink;
