@@ -62,8 +62,8 @@ TellsMade Alone settings wanted script core =
     × TellsFront Alone settings run_end.Clean true wanted script core
 
 -- The sink took these bytes, and they are what the end says of the made script. Memory ran out for
--- its statements at the places `wanted`, which are those of `memory` in the text of the replies that
--- the line sums up (`IsRan`). The line itself tells how many they are. A core that is handed back
+-- its statements at the places `wanted`. They are those of `memory` in the text of the replies that
+-- the line sums up (`IsRan`), and the line tells how many they are. A core that is handed back
 -- tells of the same script and of the same places; `Alone` is what is known if nobody else had it.
 pub record AnswersMade (Alone : Type 0) (settings : RunSettings) (seed rows : ℕ)
     (core : Option Parts) (end : MadeEnd)

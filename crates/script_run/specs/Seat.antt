@@ -6,11 +6,11 @@ use Rattle.core_state.specs.Rows.{Sight}
 use Rattle.core_state.specs.Sent.{AreEntriesOf, AreRepliesTo, Sent, numbers_in, statements_in, takens_of}
 use Rattle.core_state.specs.State.{Entry, Taken}
 
--- From one sight of a seat to another it was given these statements. The first ones, `said`, it sent
--- and took these replies to. The next ones, `others`, it sent, and nobody reads their replies. The
--- last ones, `rest`, it did not send. The entries that came are those of what it sent, each at its
--- point, and others of other seats. What it submitted has the numbers of what it sent. What it took
--- is what it has replied to, each query with its snapshot, and `later`.
+-- From one sight of a seat to another it was given these statements. The first ones, `said`, it
+-- sent and took these replies to. The next ones, `others`, it sent, and nobody reads their replies.
+-- The last ones, `rest`, it did not send. The entries that came are those of what it sent, each at
+-- its point, and others of other seats. What it submitted has the numbers of what it sent. What it
+-- took is what it has replied to, each query with its snapshot, and `later`.
 --
 -- What `others` and `later` are depends on the end. If all replies were written, both are empty
 -- (`IsAllReplied`): at the ends `Clean`, `SomeRefused`, `ReadFault` and `ScriptLimit` of a run. At
