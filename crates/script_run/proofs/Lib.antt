@@ -13,6 +13,7 @@ mod FrontRunLemmas
 pub mod OnLemmas
 mod TakenLemmas
 mod LapRowLemmas
+mod LapPieceLemmas
 mod LapEventLemmas
 mod LapLemmas
 mod LapSubmitLemmas
