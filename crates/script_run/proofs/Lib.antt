@@ -39,6 +39,7 @@ pub mod SeatFrontLemmas
 mod SeatReadLemmas
 mod SeatManyLemmas
 mod SeatPlaysLemmas
+mod SeatWholeLemmas
 mod SeatRestLemmas
 mod SeatRunLemmas
 mod SeatEndLemmas
