@@ -61,9 +61,10 @@ TellsMade Alone settings wanted script core =
     (Alone → TellsOf wanted (whole_of script) settings.slots core)
     × TellsFront Alone settings run_end.Clean true wanted script core
 
--- the sink took these bytes, and they are what the end says of the made script, where memory was
--- wanted for its statements at some places. A core that is handed back tells of the same script and
--- of the same places; `Alone` is what is known where nobody else had it
+-- The sink took these bytes, and they are what the end says of the made script. Memory ran out for
+-- its statements at the places `wanted`. They are those of `memory` in the text of the replies that
+-- the line sums up (`IsRan`), and the line tells how many they are. A core that is handed back
+-- tells of the same script and of the same places; `Alone` is what is known if nobody else had it.
 pub record AnswersMade (Alone : Type 0) (settings : RunSettings) (seed rows : ℕ)
     (core : Option Parts) (end : MadeEnd)
     (to to' : WritingSide) : Type 0 where
@@ -85,13 +86,15 @@ end_behind (Ok done) false = Clean
 end_behind (Ok done) true = SomeRefused
 end_behind (Err failed) refused = WriteFault
 
--- these are the replies to all of a script, where memory was wanted for its
--- statements at some places
+-- This is the text of the replies to all of a script, and memory ran out for its statements at the
+-- places `wanted`. The text determines these places, for a script within the limit:
+-- `the_text_tells_where_memory_was_wanted` of `star_store`.
 abbrev pub IsTextOf : (replies script : List ℕ) → Type 0
 IsTextOf replies script = (wanted : List ℕ) × (replies ≡ script_text wanted true script)
 
--- a script was run to its end, and some reply was a refusal or none was: these are the replies, and
--- a core that there is tells of it
+-- A script was run to its end, and some reply was a refusal or none was. This is the text of the
+-- replies, which determines the places `wanted` as it does in `IsTextOf`, and a core that there is
+-- tells of the script.
 pub record IsRan (Alone : Type 0) (settings : RunSettings) (script replies : List ℕ)
     (refused : Bool) (core : Option Parts) : Type 0 where
   pub wanted : List ℕ

@@ -13,6 +13,7 @@ mod FrontRunLemmas
 pub mod OnLemmas
 mod TakenLemmas
 mod LapRowLemmas
+mod LapPieceLemmas
 mod LapEventLemmas
 mod LapLemmas
 mod LapSubmitLemmas
@@ -38,6 +39,7 @@ pub mod SeatFrontLemmas
 mod SeatReadLemmas
 mod SeatManyLemmas
 mod SeatPlaysLemmas
+mod SeatWholeLemmas
 mod SeatRestLemmas
 mod SeatRunLemmas
 mod SeatEndLemmas

@@ -99,8 +99,11 @@ TellsRefused WriteFault refused = Unit {0}
 TellsRefused NoMemory refused = Unit {0}
 TellsRefused ScriptLimit refused = Unit {0}
 
--- a run answered a script, where memory was wanted for the statements at some
--- places, which the replies tell
+-- A run answered a script, and memory ran out for the statements at the places `wanted`. Nobody
+-- chooses these places, since the text that was written determines them. If all replies were
+-- written, the well-formed replies that are read back from `written` are those to the script with
+-- `memory` at the places where they are `memory`: `the_text_tells_where_memory_was_wanted` of
+-- `star_store`. If a prefix of the text was written, nothing is said of the places after it.
 pub record AnswersScript (end : RunEnd) (from from' : ReadingSide)
     (to to' : WritingSide) : Type 0 where
   pub given : List ℕ

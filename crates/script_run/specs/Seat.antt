@@ -6,11 +6,18 @@ use Rattle.core_state.specs.Rows.{Sight}
 use Rattle.core_state.specs.Sent.{AreEntriesOf, AreRepliesTo, Sent, numbers_in, statements_in, takens_of}
 use Rattle.core_state.specs.State.{Entry, Taken}
 
--- From one sight of a seat to another it was given these statements. The first it sent and took
--- these replies to; those after them it sent, and nobody reads their replies; the last it did not
--- send. The entries that came are those of what it sent, each at its point, and others of other
--- seats. What it submitted has the numbers of what it sent. What it took is what it has replied to,
--- each with what was told of it at its point, and then something of what was sent after that.
+-- From one sight of a seat to another it was given these statements. The first ones, `said`, it
+-- sent and took these replies to. The next ones, `others`, it sent, and nobody reads their replies.
+-- The last ones, `rest`, it did not send. The entries that came are those of what it sent, each at
+-- its point, and others of other seats. What it submitted has the numbers of what it sent. What it
+-- took is what it has replied to, each with what was told of it at its point, and then `later`.
+--
+-- What `others` and `later` are depends on the end. If all replies were written, both are empty
+-- (`IsAllReplied`): at the ends `Clean`, `SomeRefused`, `ReadFault` and `ScriptLimit` of a run. At
+-- `WriteFault` and `NoMemory` the replies halted. Then `others` are the statements whose replies
+-- were still to come, and `later` is any list: no clause says which of these replies were taken. A
+-- session that is let go takes and drops those that are there (`LetsGo`), and a run takes none
+-- (`Leaves`).
 pub record TellsSeat (seat : ℕ) (old new : Sight) (statements : List Statement)
     (replies : List Reply) : Type 0 where
   pub said : List Sent

@@ -96,3 +96,15 @@ SeatPlaysWhole result seat old waits new waits' taken taken' =
     (due : List Sent) → IsDue seat old due
     → (reads : SeatReads (halt_of result) seat old due waits new waits' taken taken')
     × IfOk result (λ refused. refused ≡ list_any is_refusal reads.on.replies)
+
+-- The statements that are whole were read and given to the core by turns of a seat, which may take
+-- another turn. The reader was fed with nothing. One write failed if that is why the replies
+-- halted, and else none.
+pub record PlaysWholeAt (board : BoardLock Parts) (result : Result Bool Halt)
+    (old new : BoardSeat Parts) (waits waits' : Reading)
+    (to to' : WritingSide) : Type 0 where
+  pub seat : StaysReady board old new
+  pub plays : SeatPlaysWhole result (view_of old).number
+      (sight_in (view_of old)) waits (sight_in (view_of new)) waits' to.taken to'.taken
+  pub stays : StaysFed waits waits'
+  pub faults : CountsHalt result to to'

@@ -244,9 +244,9 @@ fn one_if_waiting(life: Option<Life>) -> u32
     }
 }
 
-/// Gives a statement to a core as that of the front, where no batch is in a hand. Where no memory
-/// was left for it, nothing has changed.
-fn submit(core: &mut Core, statement: Statement) -> Result<(), StepFault>
+/// Gives a statement to a core as that of the front, which is seat 0 and there in every core. No
+/// batch is in a hand. If no memory is left for it, nothing has changed.
+fn submit(core: &mut Core, statement: Statement) -> Result<(), NoMemory>
     requires { AreIdle (state_of core.old) }
     ensures gives { OnOk result (GivesStatement statement (state_of core.old) (state_of core.new)) }
     ensures err { OnErr result (core.new ≡ core.old) }
@@ -254,7 +254,11 @@ fn submit(core: &mut Core, statement: Statement) -> Result<(), StepFault>
     // Both are called for what they ensure.
     every_core_is_sound(core);
     idle_cores_lend_nothing(core);
-    core.step(Event::Submit { seat: 0, statement })
+    match core.step(Event::Submit { seat: 0, statement }) {
+        Ok(()) => Ok(()),
+        Err(StepFault::Memory) => Err(NoMemory),
+        Err(StepFault::NotEnabled) => unreachable!(),
+    }
 }
 
 /// Lets every query come to its end, where each waits and they are no more than there are slots.

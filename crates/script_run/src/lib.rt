@@ -25,7 +25,7 @@ pub use board_run::{Crew, open_crew};
 pub use board_seats::work_beside;
 pub use halt::Halt;
 pub use host::Host;
-pub use laws::a_seat_alone_is_a_run;
+pub use laws::{a_seat_alone_is_a_run, laps_add_up_over_pieces};
 pub use piece::{Piece, read_piece};
 pub use run::{PIECE_BYTES, run_alone};
 pub use seat_front::SeatFront;

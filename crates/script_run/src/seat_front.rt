@@ -3,13 +3,11 @@
 //! turn is in `seat_run`.
 ghost use Rattle.std.specs.Prelude.{◌≡◌, ◌≢◌, ◌<◌, ℕ, [], ◌∷◌, IsTrue, None, false, OnOk};
 ghost use Rattle.board_lock.specs.Seats.{view_of};
-ghost use Rattle.script_reader.specs.Reading.{StaysFed};
 ghost use Rattle.script_reader.specs.declared.statement.Statement.{Statement};
 ghost use Rattle.core_state.specs.Rows.{Sight};
 ghost use Rattle.worker_gate.specs.Looks.{HasLooked};
 ghost use Rattle.worker_gate.specs.Turns.{IsReady, own_row, sight_in};
-ghost use Rattle.script_run.specs.Answer.{CountsHalt};
-ghost use Rattle.script_run.specs.SeatFront.{HasTurned, PlaysAt, SeatPlaysWhole};
+ghost use Rattle.script_run.specs.SeatFront.{HasTurned, PlaysAt, PlaysWholeAt};
 ghost use Rattle.script_run.specs.SeatFront.{TellsTurned, TellsWaited};
 ghost use Rattle.script_run.specs.SeatTurns.{StaysOut, StaysReady, TellsAsked};
 ghost use Rattle.script_run.specs.Waiting.{is_wait as means_to_wait};
@@ -211,13 +209,8 @@ impl SeatFront {
         sink: &mut K,
     ) -> Result<bool, Halt>
         requires { IsReady board.now None self.old.seat }
-        ensures seat { StaysReady board.now self.old.seat self.new.seat }
-        ensures plays { SeatPlaysWhole result (view_of self.old.seat).number
-            (sight_in (view_of self.old.seat)) reader.old
-            (sight_in (view_of self.new.seat)) reader.new
-            (K.writing sink.old).taken (K.writing sink.new).taken }
-        ensures stays { StaysFed reader.old reader.new }
-        ensures faults { CountsHalt result (K.writing sink.old) (K.writing sink.new) }
+        ensures plays { PlaysWholeAt board.now result self.old.seat self.new.seat
+            reader.old reader.new (K.writing sink.old) (K.writing sink.new) }
         ensures apart { K.reading_side sink.new ≡ K.reading_side sink.old }
     {
         let mut refused = false;

@@ -1,6 +1,6 @@
 //! Statements that are there at once. They are given to the core in one turn, so that no worker
 //! begins between them, and their queries begin their laps at one place.
-ghost use Rattle.std.specs.Prelude.{◌≡◌, ◌≤◌, ◌∷◌, ◌++◌, [], IsTrue, None, drop, false, length, take};
+ghost use Rattle.std.specs.Prelude.{◌≡◌, ◌<◌, ◌≤◌, ◌∷◌, ◌++◌, [], IsTrue, None, drop, false, length, take};
 ghost use Rattle.board_lock.specs.Seats.{view_of};
 ghost use Rattle.core_state.specs.Rows.{sight_of};
 ghost use Rattle.event_core.specs.Seen.{state_of};
@@ -270,9 +270,10 @@ fn submit_all_turn<R: Wait>(
     given
 }
 
-/// Gives statements to a core as those of a seat, up to the first that is not taken. Tells how many
-/// were taken.
+/// Gives statements to a core as those of a seat, which the core has, up to the first that is not
+/// taken. Tells how many were taken.
 fn submit_all(core: &mut Core, seat: u32, statements: &[Statement]) -> usize
+    requires { seat < (state_of core.old).settings.seats }
     ensures keeps { KeepsHand seat core.old core.new }
     ensures count { result ≤ length statements.now }
     ensures submits { SendsAll seat (take result statements.now)
@@ -288,9 +289,10 @@ fn submit_all(core: &mut Core, seat: u32, statements: &[Statement]) -> usize
     given
 }
 
-/// Gives a statement to a core as that of a seat. Tells whether it was taken, and else nothing has
-/// changed.
+/// Gives a statement to a core as that of a seat, which the core has. Tells whether it was taken,
+/// and else nothing has changed.
 fn submit_unread(core: &mut Core, seat: u32, statement: &Statement) -> bool
+    requires { seat < (state_of core.old).settings.seats }
     ensures keeps { KeepsHand seat core.old core.new }
     ensures submits { IsTrue result → SendsOne seat statement.now
         (sight_of (state_of core.old) seat) (sight_of (state_of core.new) seat) }

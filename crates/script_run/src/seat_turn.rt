@@ -124,19 +124,22 @@ fn try_turn<R: Wait>(
     given
 }
 
-/// Gives a statement to a core as that of a seat.
+/// Gives a statement to a core as that of a seat, which the core has.
 pub(crate) fn submit(core: &mut Core, seat: u32, statement: &mut ReadStatement<'_>) -> Given
+    requires { seat < (state_of core.old).settings.seats }
     ensures keeps { KeepsHand seat core.old core.new }
     ensures tells { TellsGiven result seat statement.old
         (sight_of (state_of core.old) seat) (sight_of (state_of core.new) seat) }
     ensures statement { statement.new ≡ statement.old }
 {
-    // It is called for what it ensures.
+    // Both are called for what they ensure.
+    every_core_is_sound(core);
     what_is_beside_stays_lent();
     match core.submit_read(seat, statement) {
         Ok(()) => Given::Taken,
         Err(SubmitFault::Busy) => Given::Waits,
-        Err(_) => Given::Lost,
+        Err(SubmitFault::Memory) => Given::Lost,
+        Err(SubmitFault::NotEnabled) => unreachable!(),
     }
 }
 

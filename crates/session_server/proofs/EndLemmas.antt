@@ -17,12 +17,13 @@ use Rattle.script_run.specs.Home.{LetsGo}
 use Rattle.script_run.specs.Run.{HasEnded, MetNoEnd, ReadsBytes, Writes, is_refusal, within_limit}
 use Rattle.script_run.specs.SeatFront.{SeatReads}
 use Rattle.script_run.specs.declared.halt.Halt.{Halt}
+use Rattle.script_run.specs.Shared.{EndsWhole, statements_by}
 use Rattle.script_run.specs.declared.halt.Halt.TheVariants.{NoMemory, WriteFault}
 use Rattle.script_run.proofs.RunLemmas.{at_end, came, finished, within_all, within_more}
 use Rattle.script_run.proofs.SeatFrontLemmas.{seat-left}
 use Rattle.script_run.proofs.SeatTellsLemmas.{tells-lets, tells-plays, tells-whole}
 use Rattle.script_run.proofs.SharedReadLemmas.{reads-all, reads-then}
-use Rattle.session_server.specs.Session.{AnswersSession, CountsSessionFaults, EndsSessionWhole, IsSessionComplete, end_of_halt, run_end_of, statements_by}
+use Rattle.session_server.specs.Session.{AnswersSession, CountsSessionFaults, IsSessionComplete, end_of_halt, run_end_of}
 use Rattle.session_server.specs.declared.session_end.SessionEnd.{SessionEnd}
 use Rattle.session_server.specs.declared.session_end.SessionEnd.TheVariants as end
 use Rattle.session_server.proofs.SessionLemmas.{IsServing, few-given, none-left, serving-err, serving-ok}
@@ -59,7 +60,7 @@ reads-ended given waits behind statements more first fed second =
 answers-whole : (ends : SessionEnd) (seat : ℕ) (old new : Sight) (from from' : ReadingSide) (to to' : WritingSide) (given : List ℕ)
     (statements left : List Statement) → Consumes from.left from'.left given → ReadsBytes (run_end_of ends) (length given)
     → (on : PlaysOn None seat old [] statements ⊥ new to.taken to'.taken) → on.still ≡ []
-    → statements_by ends from'.ended given ≡ statements ++ left → left ≡ []
+    → statements_by (run_end_of ends) from'.ended given ≡ statements ++ left → left ≡ []
     → Writes (λ ended bytes. text_of_all on.replies) (run_end_of ends) from' given on.written → ends ≢ end.Memory
     → AnswersSession ends seat old new from from' to to'
 answers-whole ends seat old new from from' to to' given statements left gave count on still is nothing writes none = record {
@@ -69,8 +70,8 @@ answers-whole ends seat old new from from' to to' given statements left gave cou
   gave = gave;
   took = on.took;
   reads = count;
-  tells = tells-plays None seat old new statements (statements_by ends from'.ended given) left ⊥ to.taken to'.taken on is;
-  whole = λ ended. tells-whole seat old new statements (statements_by ends from'.ended given) left ⊥ to.taken to'.taken on is still nothing;
+  tells = tells-plays None seat old new statements (statements_by (run_end_of ends) from'.ended given) left ⊥ to.taken to'.taken on is;
+  whole = λ ended. tells-whole seat old new statements (statements_by (run_end_of ends) from'.ended given) left ⊥ to.taken to'.taken on is still nothing;
   writes = writes;
   memory = λ same. absurd (none same);
 }
@@ -217,7 +218,7 @@ ended-ends halt seat old now new waits waits' from from' left to taken to' piece
     (λ some. inl (some reads.stays.1))
 
 -- what was open was let go where the session was cut short
-pub lets-end : (ends : SessionEnd) (seat : ℕ) (old mid new : Sight) (from from' : ReadingSide) (to to' : WritingSide) → (EndsSessionWhole ends → ⊥)
+pub lets-end : (ends : SessionEnd) (seat : ℕ) (old mid new : Sight) (from from' : ReadingSide) (to to' : WritingSide) → (EndsWhole (run_end_of ends) → ⊥)
     → mid.row.made ≡ made_by seat mid.seen → AnswersSession ends seat old mid from from' to to' → LetsGo seat mid new
     → AnswersSession ends seat old new from from' to to'
 lets-end ends seat old mid new from from' to to' cut made answers goes = record {
@@ -227,7 +228,7 @@ lets-end ends seat old mid new from from' to to' cut made answers goes = record 
   gave = answers.gave;
   took = answers.took;
   reads = answers.reads;
-  tells = tells-lets seat old mid new (statements_by ends from'.ended answers.given) answers.replies made answers.tells goes;
+  tells = tells-lets seat old mid new (statements_by (run_end_of ends) from'.ended answers.given) answers.replies made answers.tells goes;
   whole = λ ended. absurd (cut ended);
   writes = answers.writes;
   memory = answers.memory;

@@ -6,8 +6,6 @@ use Rattle.star_io.specs.Link.{ReadingSide, WritingSide}
 use Rattle.star_io.specs.declared.run_end.RunEnd.{RunEnd}
 use Rattle.star_io.specs.declared.run_end.RunEnd.TheVariants as run_end
 use Rattle.script_reader.specs.Reading.{Reading}
-use Rattle.script_reader.specs.Script.{statements_of}
-use Rattle.script_reader.specs.declared.statement.Statement.{Statement}
 use Rattle.reply_text.specs.Text.{text_of_all}
 use Rattle.reply_text.specs.declared.reply.Reply.{Reply}
 use Rattle.core_state.specs.Rows.{Sight}
@@ -18,8 +16,9 @@ use Rattle.event_core.specs.Parts.{Parts}
 use Rattle.worker_gate.specs.Turns.{IsReady}
 use Rattle.script_run.specs.Home.{IsAtRest}
 use Rattle.script_run.specs.Pieces.{CountsPieceFault, FindsEnd, TakesPiece}
-use Rattle.script_run.specs.Run.{IsProperFront, MetNoEnd, ReadsBytes, Writes, within_limit}
+use Rattle.script_run.specs.Run.{IsProperFront, MetNoEnd, ReadsBytes, Writes}
 use Rattle.script_run.specs.Seat.{LeavesUnreplied, IsAllReplied, TellsSeat}
+use Rattle.script_run.specs.Shared.{EndsWhole, statements_by}
 use Rattle.script_run.specs.declared.halt.Halt.{Halt}
 use Rattle.script_run.specs.declared.halt.Halt.TheVariants as halt
 use Rattle.script_run.specs.declared.piece.Piece.{Piece}
@@ -76,25 +75,8 @@ IsSessionComplete end from from' to to' =
     → ¬ FailedOnce to.faults to'.faults to'.failed
     → EndsUnfailed end
 
--- the statements of a session by its end: all that its link gave, those that were whole before a
--- read failed or within the limit, and where the replies halted, those that came until then
-abbrev pub statements_by : SessionEnd → (ended : Bool) → (given : List ℕ) → List Statement
-statements_by Done ended given = statements_of true given
-statements_by ReadFault ended given = statements_of false given
-statements_by WriteFault ended given = statements_of ended (within_limit given)
-statements_by Limit ended given = statements_of false (within_limit given)
-statements_by Memory ended given = statements_of ended (within_limit given)
-
--- every whole statement was replied to
-abbrev pub EndsSessionWhole : SessionEnd → Type 0
-EndsSessionWhole Done = Unit {0}
-EndsSessionWhole ReadFault = Unit {0}
-EndsSessionWhole WriteFault = ⊥
-EndsSessionWhole Limit = Unit {0}
-EndsSessionWhole Memory = ⊥
-
--- a session has its seat still, which may take a turn, and is at rest where every whole statement
--- was replied to
+-- A session has its seat still, which may take a turn. If every whole statement was replied to, the
+-- seat is at rest.
 pub record LeavesSeat (board : BoardLock Parts) (Whole : Type 0) (old new : BoardSeat Parts)
     : Type 0 where
   pub ready : IsReady board None new
@@ -113,8 +95,8 @@ pub record AnswersSession (end : SessionEnd) (seat : ℕ) (old new : Sight) (fro
   pub gave : Consumes from.left from'.left given
   pub took : Appends to.taken to'.taken written
   pub reads : ReadsBytes (run_end_of end) (length given)
-  pub tells : TellsSeat seat old new (statements_by end from'.ended given) replies
-  pub whole : EndsSessionWhole end → IsAllReplied tells
+  pub tells : TellsSeat seat old new (statements_by (run_end_of end) from'.ended given) replies
+  pub whole : EndsWhole (run_end_of end) → IsAllReplied tells
   pub writes : Writes (λ ended bytes. text_of_all replies) (run_end_of end) from' given written
   pub memory : end ≡ Memory
       → IsProperFront written (text_of_all replies)

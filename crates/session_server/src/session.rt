@@ -7,8 +7,9 @@ ghost use Rattle.script_reader.specs.declared.reader.TheConstants.{SCRIPT_LIMIT}
 ghost use Rattle.worker_gate.specs.Turns.{IsReady, sight_in};
 ghost use Rattle.script_run.specs.Answer.{CountsHalt};
 ghost use Rattle.script_run.specs.Home.{IsAtRest, LetsGo, RepliesWhole};
-ghost use Rattle.session_server.specs.Session.{AnswersSession, CountsSessionFaults, EndsSessionWhole, IsSessionComplete};
-ghost use Rattle.session_server.specs.Session.{LeavesSeat, ReadsLink};
+ghost use Rattle.script_run.specs.Shared.{EndsWhole};
+ghost use Rattle.session_server.specs.Session.{AnswersSession, CountsSessionFaults, IsSessionComplete};
+ghost use Rattle.session_server.specs.Session.{LeavesSeat, ReadsLink, run_end_of};
 
 use crate::session_end::{SessionEnd, end_of_halt};
 use board_lock::BoardLock;
@@ -81,7 +82,8 @@ fn play_session<R: Wait, K: Link, G: Gate>(
 ) -> SessionEnd
     requires rest { IsAtRest board.now front.old.seat }
     requires unfed { reader.old ≡ no_reading }
-    ensures seat { LeavesSeat board.now (EndsSessionWhole result) front.old.seat front.new.seat }
+    ensures seat { LeavesSeat board.now (EndsWhole (run_end_of result))
+        front.old.seat front.new.seat }
     ensures answers { AnswersSession result (view_of front.old.seat).number
         (sight_in (view_of front.old.seat)) (sight_in (view_of front.new.seat))
         (K.reading link.old) (K.reading link.new) (K.writing link.old) (K.writing link.new) }

@@ -113,3 +113,17 @@ pub fn texts_tell_their_replies()
     replies_have_one_spelling();
     replies_tell_where_memory_was_wanted();
 }
+
+/// The places at which memory ran out are a function of the text that was written. Read the text
+/// of the replies to a script within the limit back into well-formed replies, in any way: these are
+/// the replies to the script if memory runs out at the places at which they are `memory`.
+pub fn the_text_tells_where_memory_was_wanted()
+    ensures { (wanted : List ℕ) (ended : Bool) (script : List ℕ) (replies : List Reply) →
+        length script ≤ SCRIPT_LIMIT → All IsWellFormed replies →
+        text_of_all replies ≡ text_of_all (replies_of wanted (statements_of ended script)) →
+        replies ≡ replies_of (memory_places replies) (statements_of ended script) }
+{
+    replies_are_well_formed();
+    replies_tell_where_memory_was_wanted();
+    texts_tell_their_replies();
+}

@@ -35,6 +35,7 @@ pub use laws_of_queries::selects_are_answered_by_the_rows_where_their_where_hold
 pub use laws_of_scripts::{
     histories_of_scripts_are_accepted, replies_are_well_formed,
     replies_tell_where_memory_was_wanted, tables_of_scripts_are_settled, texts_tell_their_replies,
+    the_text_tells_where_memory_was_wanted,
 };
 pub use laws_of_statements::{
     outcomes_fit_the_tables, replies_agree_with_the_tables, replies_follow_from_the_tables,

@@ -1,5 +1,5 @@
 -- One statement behind another, up to the first that is not taken.
-use Rattle.script_run.proofs.Words.{◌+◌, ◌<◌, ◌∙◌, ap, arith, get_or, length, refl, state_of, subst, sym, take}
+use Rattle.script_run.proofs.Words.{◌+◌, ◌<◌, ◌∙◌, ap, arith, get_or, length, refl, RunSettings, state_of, subst, sym, take}
 use Rattle.std.proofs.lemmas.List.{take_more}
 use Rattle.core_state.specs.Rows.{sight_of}
 use Rattle.script_run.specs.SeatTurns.{SendsOne, SendsAll}
@@ -14,6 +14,10 @@ statements-init c = record {
   count = omega arith;
   submits = many-none c.args.seat _ _ (stays-none c.args.seat (sight_of (state_of c.args.core.now) c.args.seat));
 }
+
+pub submit_unread-requires : goal.submit_unread-requires
+submit_unread-requires c =
+    subst (λ (settings : RunSettings). c.args.seat < settings.seats) (sym c.statements.invariant.keeps.mindful.settings) c.requires
 
 pub statements-preserved : goal.statements-preserved
 statements-preserved c =

@@ -3,11 +3,16 @@ use Rattle.script_run.proofs.Words.{state_of, subst, sym, take}
 use Rattle.board_lock.specs.Seats.{view_of}
 use Rattle.core_state.specs.Rows.{sight_of}
 use Rattle.core_state.specs.State.{State}
-use Rattle.worker_gate.proofs.TurnLemmas.{view-left}
+use Rattle.worker_gate.proofs.TurnLemmas.{seated-found, view-left}
 use Rattle.script_run.specs.SeatTurns.{SendsAll}
 use Rattle.script_run.proofs.SeatManyLemmas.{many-behind}
 use Rattle.script_run.proofs.SeatTurnLemmas.{keeps-marked, turn-keeps-hand, turn-stays-ready, turn-tells}
 use Rattle.script_run.proofs.seat_run.submit_all_turn.Goals as goal
+
+pub submit_all-given-requires : goal.submit_all-given-requires
+submit_all-given-requires g c =
+    seated-found (view_of c.args.seat.now) c.enter-core.result c.number-own.result c.requires.seated c.enter-core.ensures.finds
+    c.number-own.ensures
 
 pub leave-requires-clause-keeps : goal.leave-requires-clause-keeps
 leave-requires-clause-keeps g c =

@@ -3,10 +3,15 @@ use Rattle.script_run.proofs.Words.{state_of, subst, sym}
 use Rattle.board_lock.specs.Seats.{view_of}
 use Rattle.core_state.specs.Rows.{sight_of}
 use Rattle.core_state.specs.State.{State}
-use Rattle.worker_gate.proofs.TurnLemmas.{view-left}
+use Rattle.worker_gate.proofs.TurnLemmas.{seated-found, view-left}
 use Rattle.script_run.specs.SeatTurns.{LeftUnmarked, TellsGiven}
 use Rattle.script_run.proofs.SeatTurnLemmas.{given-behind, keeps-marked, turn-keeps-hand, turn-stays-ready, turn-tells}
 use Rattle.script_run.proofs.seat_turn.try_turn.Goals as goal
+
+pub submit-given-requires : goal.submit-given-requires
+submit-given-requires g c =
+    seated-found (view_of c.args.seat.now) c.enter-core.result c.number-own.result c.requires.seated c.enter-core.ensures.finds
+    c.number-own.ensures
 
 pub leave-requires-clause-keeps : goal.leave-requires-clause-keeps
 leave-requires-clause-keeps g c =

@@ -14,9 +14,9 @@ returns-in_err-play_whole-clause-replies g c =
     let failed = err_from_is_err_and c.from_residual.result c.from_residual.ensures.1 in
     rw (failed.1, failed.2) (stopped-at c.args.board.now _ c.args.self.now.seat c.play_whole.new.self.seat c.args.reader.now c.play_whole.new.reader
     (g.K.Sink.writing c.args.sink.now) (g.K.Sink.writing c.args.sink.now) (g.K.Sink.writing c.play_whole.new.sink)
-    c.play_whole.ensures.seat.out c.play_whole.ensures.seat.same
+    c.play_whole.ensures.plays.seat.out c.play_whole.ensures.plays.seat.same
     (replies-halted _ old.number (sight_in old) (sight_in (view_of c.play_whole.new.self.seat)) c.args.reader.now
-    c.play_whole.new.reader _ _ c.requires.due c.in_err-play_whole.ensures.plays) refl c.in_err-play_whole.ensures.faults)
+    c.play_whole.new.reader _ _ c.requires.due c.in_err-play_whole.ensures.plays.plays) refl c.in_err-play_whole.ensures.plays.faults)
 
 pub returns-in_err-write_replies-clause-replies : goal.returns-in_err-write_replies-clause-replies
 returns-in_err-write_replies-clause-replies g c =
@@ -26,25 +26,25 @@ returns-in_err-write_replies-clause-replies g c =
     rw (failed.1, failed.2) (stopped-at c.args.board.now _ c.args.self.now.seat c.write_replies.new.self.seat c.args.reader.now
     c.play_whole.new.reader (g.K.Sink.writing c.args.sink.now) (g.K.Sink.writing c.play_whole.new.sink)
     (g.K.Sink.writing c.write_replies.new.sink) c.write_replies.ensures.plays.seat.out
-    (same-then c.args.self.now.seat c.play_whole.new.self.seat c.write_replies.new.self.seat c.play_whole.ensures.seat.same
+    (same-then c.args.self.now.seat c.play_whole.new.self.seat c.write_replies.new.self.seat c.play_whole.ensures.plays.seat.same
     c.write_replies.ensures.plays.seat.same)
     (replies-stopped _ _ old.number mid.number (sight_in old) (sight_in mid)
     (sight_in (view_of c.write_replies.new.self.seat)) c.args.reader.now c.play_whole.new.reader _ _ _
-    (same-number c.args.self.now.seat c.play_whole.new.self.seat c.play_whole.ensures.seat.same) c.requires.due
-    c.in_ok-play_whole.ensures.plays c.in_err-write_replies.ensures.plays.plays)
-    c.in_ok-play_whole.ensures.faults c.in_err-write_replies.ensures.plays.faults)
+    (same-number c.args.self.now.seat c.play_whole.new.self.seat c.play_whole.ensures.plays.seat.same) c.requires.due
+    c.in_ok-play_whole.ensures.plays.plays c.in_err-write_replies.ensures.plays.plays)
+    c.in_ok-play_whole.ensures.plays.faults c.in_err-write_replies.ensures.plays.faults)
 
 pub returns-clause-replies : goal.returns-clause-replies
 returns-clause-replies g c =
     let old = view_of c.args.self.now.seat in
     let mid = view_of c.play_whole.new.self.seat in
     let new = view_of c.write_replies.new.self.seat in
-    let same = same-then c.args.self.now.seat c.play_whole.new.self.seat c.write_replies.new.self.seat c.play_whole.ensures.seat.same
+    let same = same-then c.args.self.now.seat c.play_whole.new.self.seat c.write_replies.new.self.seat c.play_whole.ensures.plays.seat.same
     c.write_replies.ensures.plays.seat.same in
     let replies = replies-whole _ _ old.number mid.number (sight_in old) (sight_in mid) (sight_in new)
     c.args.reader.now c.play_whole.new.reader _ _ _
-    (same-number c.args.self.now.seat c.play_whole.new.self.seat c.play_whole.ensures.seat.same) c.requires.due
-    c.in_ok-play_whole.ensures.plays c.in_ok-write_replies.ensures.plays.plays (c.in_ok-write_replies.ensures.all refl) in
+    (same-number c.args.self.now.seat c.play_whole.new.self.seat c.play_whole.ensures.plays.seat.same) c.requires.due
+    c.in_ok-play_whole.ensures.plays.plays c.in_ok-write_replies.ensures.plays.plays (c.in_ok-write_replies.ensures.all refl) in
     record {
       ready = c.write_replies.ensures.plays.seat.out;
       same = same;
@@ -55,5 +55,5 @@ returns-clause-replies g c =
             (sym (same-number c.args.self.now.seat c.write_replies.new.self.seat same))
             (replied-due old.number (sight_in old) (sight_in new) c.args.reader.now c.play_whole.new.reader _ _ replies);
       };
-      faults = c.in_ok-write_replies.ensures.plays.faults ∙ c.in_ok-play_whole.ensures.faults;
+      faults = c.in_ok-write_replies.ensures.plays.faults ∙ c.in_ok-play_whole.ensures.plays.faults;
     }
