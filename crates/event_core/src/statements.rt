@@ -1,5 +1,5 @@
 //! How a statement is submitted.
-ghost use Rattle.std.specs.Prelude.{◌≡◌, ◌≢◌, ◌<◌, ◌≤◌, [], ◌∷◌, ◌++◌, All, length, map, slice_index_or, slice_set, None, Some, true, IfOk, IsErrOf, IsSome, IsTrue, OnOk, OnErr};
+ghost use Rattle.std.specs.Prelude.{◌≡◌, ◌<◌, ◌≤◌, [], ◌∷◌, ◌++◌, All, length, map, slice_index_or, slice_set, None, Some, true, IfOk, IsErrOf, IsSome, IsTrue, OnOk, OnErr};
 ghost use Rattle.std.specs.List.{range_with_len};
 ghost use Rattle.script_reader.specs.declared.statement.Statement.{Statement};
 ghost use Rattle.query_meaning.specs.History.{Change};
@@ -61,7 +61,8 @@ impl Core {
         ensures ok { OnOk result
             (state_of self.new ≡ after_submitting seat statement.old (state_of self.old)) }
         ensures err { OnErr result (self.new ≡ self.old) }
-        ensures busy { IsErrOf result ApplyFault.Busy → ((beside_of self.old).lent ≢ [])
+        ensures busy { IsErrOf result ApplyFault.Busy →
+            (¬ (All (λ lending. lending ≡ None) (beside_of self.old).out))
             × IsTrue (may_change_tables (meaning_of statement.old)) }
         ensures beside { beside_of self.new ≡ beside_of self.old }
         ensures statement { statement.new ≡ statement.old }

@@ -8,7 +8,7 @@ use Rattle.event_core.proofs.LetGoLemmas.{finished-on, on-same, on-submitted}
 use Rattle.event_core.proofs.SparedLemmas.{spare-changed, spare-ready}
 use Rattle.star_store.specs.declared.applied.ApplyFault.{ApplyFault}
 use Rattle.star_store.specs.declared.applied.ApplyFault.TheVariants.{Busy}
-use Rattle.event_core.proofs.SubmitBesideLemmas.{beside-stays, changed-stays, lent-somewhere}
+use Rattle.event_core.proofs.SubmitBesideLemmas.{beside-stays, changed-stays, out-somewhere}
 use Rattle.event_core.specs.Parts.{AreBacked, beside_of}
 use Rattle.event_core.proofs.machine.Core.submit.Goals as goal
 
@@ -435,7 +435,7 @@ returns-in_err-reply-clause-busy c = λ busy.
     let failed = err_from_is_err_and c.from_residual-in_err-reply.result c.from_residual-in_err-reply.ensures.1 in
     let one : failed.0 ≡ Busy = cc (busy, failed.1) in
     let waits = c.apply_to.ensures.busy (c.in_err-reply.was ∙ ap Err (sym failed.2 ∙ one)) in (
-      lent-somewhere (the_view c.self.inside) c.args.self.now c.is_any_out-are_lent.result c.self.view_is c.self.invariant.4
+      out-somewhere (the_view c.self.inside) c.args.self.now c.is_any_out-are_lent.result c.self.view_is
           c.is_any_out-are_lent.ensures waits.0,
       waits.1,
     )
