@@ -5,6 +5,7 @@ use Rattle.std.specs.Result.{OnErr}
 use Rattle.std.proofs.Math.Seq.{map-set_same}
 use Rattle.star_store.specs.Outcome as outcome
 use Rattle.star_store.specs.declared.applied.ApplyFault.{ApplyFault}
+use Rattle.star_store.specs.declared.applied.Applied.{Applied}
 use Rattle.star_store.specs.declared.applied.Applied.TheVariants.{Replied, Accepted}
 use Rattle.star_store.specs.declared.applied.ChangeKind.TheVariants.{DeclaresFact}
 use Rattle.core_state.specs.State as state
@@ -173,47 +174,39 @@ AcceptedLaw = (parts : Parts) (seat : ℕ) (statement : Statement) (query : Star
     (after_submitting seat statement (state_of parts))
 
 -- a seat of the state is one of the parts
-pub seat-there : (parts : Parts) (seat : ℕ) → seat < length (state_of parts).seats → seat < length parts.seats
-seat-there parts seat there = let many = length-map parts.seats (seat_as (known_in parts.asked)) in omega arith
+pub seat-there : (parts now : Parts) (seat : ℕ) → parts ≡ now → seat < length (state_of now).seats → seat < length parts.seats
+seat-there parts now seat is there =
+    let many = length-map parts.seats (seat_as (known_in parts.asked)) in
+    let same = ap (λ (p : Parts). length (state_of p).seats) is in omega arith
 
--- a statement that is told a reply
+-- what follows of an answer, where the answer is this one
+pub follows-as : (old new : KeyedStore) (statement : Statement) (applied one : Applied) → applied ≡ one
+    → Follows {E = ApplyFault} old new (Ok applied) (outcome_of (plain old) statement)
+    → Follows {E = ApplyFault} old new (Ok one) (outcome_of (plain old) statement)
+follows-as old new statement applied one is follows =
+    subst (λ (a : Applied). Follows {E = ApplyFault} old new (Ok a) (outcome_of (plain old) statement)) is follows
+
+-- a statement that gets a reply
 pub replies : RepliedLaw → (old : Parts) (seat number : ℕ) (statement : Statement) (reply : Reply) (tables : KeyedStore)
-    (log : List Logged) (before seats : List (List Submitted)) (asked : List AskedQuery)
-    → IsCore old → seat < length old.seats → number ≡ old.numbers.statement + 1
-    → log ≡ old.log → asked ≡ old.asked → before ≡ old.seats
+    (before seats : List (List Submitted))
+    → IsCore old → seat < length old.seats → number ≡ old.numbers.statement + 1 → before ≡ old.seats
     → seats ≡ with_stood seat (statement_of number (Waits reply)) before
     → Follows {E = ApplyFault} old.tables tables (Ok (Replied reply)) (outcome_of (plain old.tables) statement) → IsKeyed tables
-    → Becomes (record old {
-      tables = tables;
-      log = log;
-      seats = seats;
-      asked = asked;
-      numbers = record old.numbers { statement = number };
-    }) (after_submitting seat statement (state_of old))
-replies law old seat number statement reply tables log before seats asked core there counts same_log same_asked same_seats stands follows keyed =
-    stood (λ seats number. Becomes (with_seats log asked seats number) after) old.seats before seats seat (old.numbers.statement + 1) number
+    → Becomes (record old { tables = tables; seats = seats; numbers = record old.numbers { statement = number } })
+    (after_submitting seat statement (state_of old))
+replies law old seat number statement reply tables before seats core there counts same_seats stands follows keyed =
+    stood (λ seats number. Becomes (with_seats seats number) after) old.seats before seats seat (old.numbers.statement + 1) number
     (Waits reply) same_seats counts stands
-    (subst (λ log. Becomes (with_seats log asked now (old.numbers.statement + 1)) after) (sym same_log)
-    (subst (λ asked. Becomes (with_seats old.log asked now (old.numbers.statement + 1)) after) (sym same_asked)
     (with-tables (submitted seat (old.numbers.statement + 1)
     (statements_at old.seats seat ++ statement_of (old.numbers.statement + 1) (Waits reply) ∷ []) old) tables after
     (follows.2 ∙ ap (λ (change : Option Change). option_map_or (after_change (plain old.tables)) change (plain old.tables)) none) keyed
-    (law old seat statement reply core there tells))))
+    (law old seat statement reply core there tells))
   where
     after : State
     after = after_submitting seat statement (state_of old)
 
-    now : List (List Submitted)
-    now = with_stood seat (statement_of (old.numbers.statement + 1) (Waits reply)) old.seats
-
-    with_seats : List Logged → List AskedQuery → List (List Submitted) → ℕ → Parts
-    with_seats log asked seats number = record old {
-      tables = tables;
-      log = log;
-      seats = seats;
-      asked = asked;
-      numbers = record old.numbers { statement = number };
-    }
+    with_seats : List (List Submitted) → ℕ → Parts
+    with_seats seats number = record old { tables = tables; seats = seats; numbers = record old.numbers { statement = number } }
 
     found : Outcome
     found = outcome_of (plain old.tables) statement
@@ -227,11 +220,10 @@ replies law old seat number statement reply tables log before seats asked core t
 
 -- a statement that changes the tables
 pub changes : ChangedLaw → (old : Parts) (seat number : ℕ) (statement : Statement) (kind : ChangeKind) (reply : Reply) (tables : KeyedStore)
-    (schema : Schema) (lives : Lives) (filters : state.Filters) (version : ℕ)
-    (earlier log : List Logged) (before seats : List (List Submitted)) (asked : List AskedQuery)
+    (schema : Schema) (lives : Lives) (filters : state.Filters) (version : ℕ) (log : List Logged) (before seats : List (List Submitted))
     → IsCore old → seat < length old.seats → number ≡ old.numbers.statement + 1
-    → earlier ≡ old.log → log ≡ earlier ++ record { seat = seat; statement = number; kind = kind } ∷ []
-    → asked ≡ old.asked → before ≡ old.seats → seats ≡ with_stood seat (statement_of number (Waits reply)) before
+    → log ≡ old.log ++ record { seat = seat; statement = number; kind = kind } ∷ [] → before ≡ old.seats
+    → seats ≡ with_stood seat (statement_of number (Waits reply)) before
     → Follows {E = ApplyFault} old.tables tables (Ok (Changed kind reply)) (outcome_of (plain old.tables) statement) → IsKeyed tables
     → schema ≡ tables.schema
     → ((parts : Parts) → parts.tables.schema ≡ schema → parts.lives ≡ old.lives → parts.filters ≡ old.filters
@@ -241,24 +233,21 @@ pub changes : ChangedLaw → (old : Parts) (seat number : ℕ) (statement : Stat
       tables = tables;
       log = log;
       seats = seats;
-      asked = asked;
       lives = lives;
       filters = filters;
       numbers = record { statement = number; batch = old.numbers.batch; version = version };
     }) (after_submitting seat statement (state_of old))
-changes law old seat number statement kind reply tables schema lives filters version earlier log before seats asked core there counts
-    same_log grown same_asked same_seats stands follows keyed same_schema filtered =
-    subst (λ log. Becomes (with_seats log asked seats number) after) (sym grown)
-    (stood (λ seats number. Becomes (with_seats (earlier ++ entry number kind ∷ []) asked seats number) after) old.seats before seats seat
+changes law old seat number statement kind reply tables schema lives filters version log before seats core there counts grown same_seats stands
+    follows keyed same_schema filtered =
+    subst (λ log. Becomes (with_seats log seats number) after) (sym grown)
+    (stood (λ seats number. Becomes (with_seats (old.log ++ entry number kind ∷ []) seats number) after) old.seats before seats seat
     last number (Waits reply) same_seats counts stands
-    (subst (λ list. Becomes (with_seats (list ++ entry last kind ∷ []) asked now last) after) (sym same_log)
-    (subst (λ asked. Becomes (with_seats (old.log ++ entry last kind ∷ []) asked now last) after) (sym same_asked)
     (subst (λ parts. Becomes parts after)
     (filtered (logged (entry last kind) tables (submitted seat last (statements_at old.seats seat ++ statement_of last (Waits reply) ∷ []) old))
     (sym same_schema) refl refl refl)
     (subst (λ kind. Becomes (changed seat last (statements_at old.seats seat ++ statement_of last (Waits reply) ∷ []) kind tables old) after)
     (sym change.same)
-    (law old seat statement reply change.one tables core there tells makes keyed))))))
+    (law old seat statement reply change.one tables core there tells makes keyed))))
   where
     after : State
     after = after_submitting seat statement (state_of old)
@@ -266,18 +255,14 @@ changes law old seat number statement kind reply tables schema lives filters ver
     last : ℕ
     last = old.numbers.statement + 1
 
-    now : List (List Submitted)
-    now = with_stood seat (statement_of last (Waits reply)) old.seats
-
     entry : ℕ → ChangeKind → Logged
     entry number kind = record { seat = seat; statement = number; kind = kind }
 
-    with_seats : List Logged → List AskedQuery → List (List Submitted) → ℕ → Parts
-    with_seats log asked seats number = record old {
+    with_seats : List Logged → List (List Submitted) → ℕ → Parts
+    with_seats log seats number = record old {
       tables = tables;
       log = log;
       seats = seats;
-      asked = asked;
       lives = lives;
       filters = filters;
       numbers = record { statement = number; batch = old.numbers.batch; version = version };
@@ -297,83 +282,69 @@ changes law old seat number statement kind reply tables schema lives filters ver
     makes = follows.2 ∙ ap (λ (one : Option Change). option_map_or (after_change (plain old.tables)) one (plain old.tables)) change.is
         ∙ ap (λ store. after_change store change.one) core.tables.same
 
+-- parts whose tables and statements are as they were are the same parts
+pub same-parts : (parts : Parts) (tables : KeyedStore) (seats : List (List Submitted)) → tables ≡ parts.tables → seats ≡ parts.seats
+    → record parts { tables = tables; seats = seats } ≡ parts
+same-parts parts tables seats same_tables same_seats =
+    ap (λ tables. record parts { tables = tables; seats = seats }) same_tables ∙ ap (λ seats. record parts { seats = seats }) same_seats
+
+-- a statement asks a query, and as it was applied the parts stayed the same
+pub record IsAskedOf (parts : Parts) (tables : KeyedStore) (seats : List (List Submitted)) (statement : Statement) (query : StarQuery)
+    (snapshot : ℕ) : Type 0 where
+  pub same : record parts { tables = tables; seats = seats } ≡ parts
+  pub tells : outcome_of (tables_of (state_of parts)) statement ≡ outcome.only_tells (outcome.Accepted (query_of query) snapshot)
+
+-- so it is where it is answered that the query is accepted
+pub asked-of : (parts : Parts) (tables : KeyedStore) (seats : List (List Submitted)) (statement : Statement) (query : StarQuery) (snapshot : ℕ)
+    (applied : Applied) → IsCore parts → seats ≡ parts.seats → applied ≡ Accepted query snapshot
+    → Follows {E = ApplyFault} parts.tables tables (Ok applied) (outcome_of (plain parts.tables) statement)
+    → IsAskedOf parts tables seats statement query snapshot
+asked-of parts tables seats statement query snapshot applied core same_seats is follows = record {
+  same = same-parts parts tables seats accepts.3.1 same_seats;
+  tells = ap (λ store. outcome_of store statement) (sym core.tables.same)
+      ∙ outcome-is found None (outcome.Accepted (query_of query) snapshot) (no-change found.change accepts.1) accepts.0;
+}
+  where
+    found : Outcome
+    found = outcome_of (plain parts.tables) statement
+
+    accepts : Follows {E = ApplyFault} parts.tables tables (Ok (Accepted query snapshot)) found
+    accepts = follows-as parts.tables tables statement applied (Accepted query snapshot) is follows
+
 -- a query that is accepted
 pub accepts : AcceptedLaw → (old : Parts) (seat number : ℕ) (statement : Statement) (query : StarQuery) (snapshot extent : ℕ)
-    (tables : KeyedStore) (lives : Lives) (one : AskedQuery) (log : List Logged) (before seats : List (List Submitted)) (earlier asked : List AskedQuery)
-    → IsCore old → seat < length old.seats → number ≡ old.numbers.statement + 1
-    → log ≡ old.log → earlier ≡ old.asked → before ≡ old.seats
-    → one ≡ asked_first number seat query snapshot → asked ≡ earlier ++ one ∷ []
-    → extent ≡ length tables.versions → lives ≡ after_submit one.number extent old.lives
-    → seats ≡ with_stood seat (statement_of number IsAsked) before
-    → Follows {E = ApplyFault} old.tables tables (Ok (Accepted query snapshot)) (outcome_of (plain old.tables) statement)
-    → Becomes (record old {
-      tables = tables;
-      log = log;
-      seats = seats;
-      asked = asked;
-      lives = lives;
-      numbers = record old.numbers { statement = number };
-    }) (after_submitting seat statement (state_of old))
-accepts law old seat number statement query snapshot extent tables lives one log before seats earlier asked core there counts
-    same_log same_asked same_seats is_one grown reaches waits stands follows =
-    subst (λ lives. Becomes (with_seats tables log asked lives seats number) after) (sym lived)
-    (subst (λ asked. Becomes (with_seats tables log asked (lives_at number tables) seats number) after) (sym with_one)
-    (stood (λ seats number. Becomes (with_seats tables log (earlier ++ asked_at number ∷ []) (lives_at number tables) seats number) after)
-    old.seats before seats seat last number IsAsked same_seats counts stands
-    (subst (λ log. Becomes (with_seats tables log (earlier ++ asked_at last ∷ []) (lives_at last tables) now last) after) (sym same_log)
-    (subst (λ list. Becomes (with_seats tables old.log (list ++ asked_at last ∷ []) (lives_at last tables) now last) after) (sym same_asked)
-    (subst (λ tables. Becomes (with_seats tables old.log (old.asked ++ asked_at last ∷ []) (lives_at last tables) now last) after) (sym follows.3.1)
+    (one : AskedQuery) (seats : List (List Submitted)) (asked : List AskedQuery) (lives : Lives)
+    → IsCore old → seat < length old.seats → number ≡ old.numbers.statement + 1 → one ≡ asked_first number seat query snapshot
+    → extent ≡ length old.tables.versions → seats ≡ with_stood one.seat (statement_of one.number IsAsked) old.seats
+    → asked ≡ old.asked ++ one ∷ [] → lives ≡ after_submit one.number extent old.lives
+    → outcome_of (tables_of (state_of old)) statement ≡ outcome.only_tells (outcome.Accepted (query_of query) snapshot)
+    → Becomes (record old { seats = seats; asked = asked; lives = lives; numbers = record old.numbers { statement = number } })
+    (after_submitting seat statement (state_of old))
+accepts law old seat number statement query snapshot extent one seats asked lives core there counts is_one reaches stands grown waits tells =
+    subst (λ seats. Becomes (with_parts seats asked lives number) after) (sym stands)
+    (subst (λ asked. Becomes (with_parts (seats_by one) asked lives number) after) (sym grown)
+    (subst (λ lives. Becomes (with_parts (seats_by one) (old.asked ++ one ∷ []) lives number) after) (sym waits)
+    (subst (λ one. Becomes (with_one one extent number) after) (sym (is_one ∙ ap (λ n. asked_first n seat query snapshot) counts))
+    (subst (λ extent. Becomes (with_one first extent number) after) (sym reaches)
+    (subst (λ number. Becomes (with_one first (length old.tables.versions) number) after) (sym counts)
     (law old seat statement query snapshot core there tells))))))
   where
     after : State
     after = after_submitting seat statement (state_of old)
 
-    last : ℕ
-    last = old.numbers.statement + 1
+    first : AskedQuery
+    first = asked_first (old.numbers.statement + 1) seat query snapshot
 
-    now : List (List Submitted)
-    now = with_stood seat (statement_of last IsAsked) old.seats
+    seats_by : AskedQuery → List (List Submitted)
+    seats_by one = with_stood one.seat (statement_of one.number IsAsked) old.seats
 
-    asked_at : ℕ → AskedQuery
-    asked_at number = asked_first number seat query snapshot
+    with_parts : List (List Submitted) → List AskedQuery → Lives → ℕ → Parts
+    with_parts seats asked lives number =
+        record old { seats = seats; asked = asked; lives = lives; numbers = record old.numbers { statement = number } }
 
-    lives_at : ℕ → KeyedStore → Lives
-    lives_at number tables = after_submit number (length tables.versions) old.lives
-
-    with_seats : KeyedStore → List Logged → List AskedQuery → Lives → List (List Submitted) → ℕ → Parts
-    with_seats tables log asked lives seats number = record old {
-      tables = tables;
-      log = log;
-      seats = seats;
-      asked = asked;
-      lives = lives;
-      numbers = record old.numbers { statement = number };
-    }
-
-    lived : lives ≡ lives_at number tables
-    lived = waits ∙ ap (λ (one : AskedQuery). after_submit one.number extent old.lives) is_one
-        ∙ ap (λ n. after_submit number n old.lives) reaches
-
-    with_one : asked ≡ earlier ++ asked_at number ∷ []
-    with_one = grown ∙ ap (λ (one : AskedQuery). earlier ++ one ∷ []) is_one
-
-    found : Outcome
-    found = outcome_of (plain old.tables) statement
-
-    tells : outcome_of (tables_of (state_of old)) statement ≡ outcome.only_tells (outcome.Accepted (query_of query) snapshot)
-    tells = ap (λ store. outcome_of store statement) (sym core.tables.same)
-        ∙ outcome-is found None (outcome.Accepted (query_of query) snapshot) (no-change found.change follows.1) follows.0
-
--- parts whose tables, log, statements, queries and lives are as they were are the same parts
-pub same-parts : (parts : Parts) (tables : KeyedStore) (log : List Logged) (seats : List (List Submitted)) (asked : List AskedQuery)
-    (lives : Lives) → tables ≡ parts.tables → log ≡ parts.log → seats ≡ parts.seats → asked ≡ parts.asked → lives ≡ parts.lives
-    → record parts { tables = tables; log = log; seats = seats; asked = asked; lives = lives } ≡ parts
-same-parts parts tables log seats asked lives same_tables same_log same_seats same_asked same_lives =
-    ap (λ tables. record parts { tables = tables; log = log; seats = seats; asked = asked; lives = lives }) same_tables
-    ∙ ap (λ log. record parts { log = log; seats = seats; asked = asked; lives = lives }) same_log
-    ∙ ap (λ seats. record parts { seats = seats; asked = asked; lives = lives }) same_seats
-    ∙ ap (λ asked. record parts { asked = asked; lives = lives }) same_asked
-    ∙ ap (λ lives. record parts { lives = lives }) same_lives
+    with_one : AskedQuery → (extent number : ℕ) → Parts
+    with_one one extent number =
+        with_parts (seats_by one) (old.asked ++ one ∷ []) (after_submit one.number extent old.lives) number
 
 -- what holds anyhow holds of an error
 pub on-error : {T E P : Type 0} (result : Result T E) → P → OnErr result P

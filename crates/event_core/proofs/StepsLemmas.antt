@@ -1,7 +1,7 @@
 -- What a call leaves that takes the submission of a statement, if it may come.
 use Rattle.event_core.proofs.Words.{◌<◌, ◌≡◌, after_submitting, ap, length, Parts, refl, state_of, Statement, subst, sym}
 use Rattle.std.proofs.Common.{Bool, false, Err, Ok, inl, ℕ}
-use Rattle.std.specs.Prelude.{◌↔◌, ◌≢◌, [], IsTrue}
+use Rattle.std.specs.Prelude.{◌↔◌, All, IsTrue, None}
 use Rattle.star_store.specs.Text.{may_change_tables, meaning_of}
 use Rattle.core_state.specs.Events.{after_event}
 use Rattle.core_state.specs.Sound.{IsSound}
@@ -47,9 +47,10 @@ submits-wanting seat statement old new there same sound = record {
   sound = subst (λ (parts : Parts). IsSound (state_of parts)) (sym same) sound;
 }
 
--- batches are lent, and it may change the tables
+-- groups or tables are out, and it may change the tables
 pub submits-busy : (seat : ℕ) (statement : Statement) (old new : Parts) → seat < length (state_of old).seats → new ≡ old
-    → IsSound (state_of old) → ((beside_of old).lent ≢ []) × IsTrue (may_change_tables (meaning_of statement))
+    → IsSound (state_of old)
+    → (¬ (All (λ lending. lending ≡ None) (beside_of old).out)) × IsTrue (may_change_tables (meaning_of statement))
     → Submits seat statement old new (Err Busy)
 submits-busy seat statement old new there same sound waits = record {
   disabled = (λ refused. cc refused, λ never. absurd (never there));

@@ -1,5 +1,5 @@
 -- What is beside the state stays as it is where a statement is submitted: the tables and the filters change only where nothing is out.
-use Rattle.event_core.proofs.Words.{◌∙◌, ◌≡◌, after_change, All, ap, Bool, Change, Changed, ChangeKind, false, Follows, IsCore, KeyedStore, Lives, None, Ok, Option, option_map_or, outcome_of, Parts, plain, refl, Reply, Some, Statement, Store, sym, true, with_filters_for}
+use Rattle.event_core.proofs.Words.{◌∙◌, ◌≡◌, after_change, All, ap, Bool, Change, Changed, ChangeKind, false, Follows, IsCore, KeyedStore, Lives, None, Ok, Option, option_map_or, outcome_of, Parts, plain, refl, Reply, Some, Statement, Store, subst, sym, true, with_filters_for}
 use Rattle.std.specs.Prelude.{◌↔◌, ◌≢◌, [], IsTrue}
 use Rattle.star_store.specs.declared.applied.ApplyFault.{ApplyFault}
 use Rattle.star_store.specs.declared.applied.ChangeKind.TheVariants.{DeclaresFact}
@@ -25,12 +25,19 @@ beside-stays parts tables lives true tells stay =
     (ap (λ (tables : KeyedStore). fixed_by parts.out tables lives.filters) same.0
     ∙ ap (fixed_by parts.out parts.tables) same.1)
 
--- a statement waits for what is lent only where some batch is lent
-pub lent-somewhere : (parts now : Parts) (are_lent : Bool) → parts ≡ now → AreBacked (beside_of parts)
-    → (are_lent ≡ false) ↔ All (λ lending. lending ≡ None) parts.out → IsTrue are_lent → (beside_of now).lent ≢ []
-lent-somewhere parts now are_lent is backed tells lent none =
+-- a statement is told to wait only where something is out
+pub out-somewhere : (parts now : Parts) (are_lent : Bool) → parts ≡ now → (are_lent ≡ false) ↔ All (λ lending. lending ≡ None) parts.out
+    → IsTrue are_lent → ¬ (All (λ lending. lending ≡ None) (beside_of now).out)
+out-somewhere parts now are_lent is tells lent none =
     let home : are_lent ≡ false =
-    tells.1 (all-home parts backed (ap (λ (p : Parts). lent_to p.flights) is ∙ none)) in cc (lent, home)
+    tells.1 (subst (λ (p : Parts). All (λ lending. lending ≡ None) p.out) (sym is) none) in cc (lent, home)
+
+-- where no batch is lent nothing is out, so no statement is told to wait
+pub never-waits : (parts now : Parts) → parts ≡ now → AreBacked (beside_of parts) → lent_to now.flights ≡ []
+    → ¬ (All (λ lending. lending ≡ None) (beside_of now).out) → ⊥
+never-waits parts now is backed none out =
+    out (subst (λ (p : Parts). All (λ lending. lending ≡ None) p.out) is
+    (all-home parts backed (ap (λ (p : Parts). lent_to p.flights) is ∙ none)))
 
 -- a change that declares the fact table leaves it declared
 declares-fact : (store : Store) (change : Change) → kind_of_change change ≡ DeclaresFact → store.schema.fact ≡ None

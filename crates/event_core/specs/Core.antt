@@ -77,10 +77,10 @@ pub record CanCutNext (parts : Parts) : Type 0 where
       (end_in (length parts.tables.versions) parts.settings.batch parts.scan - 1) parts.lives
   pub few : length parts.flights < frames_of parts.settings
 
--- a query may be put behind the others that were accepted: room was made for it, it is whole, and
--- its number is new
-pub record CanAccept (query : AskedEntry) (asked : AskedQueries) (lives : Lives) : Type 0 where
-  pub room : 0 < asked.room
+-- a query may be put after the others that were accepted, and its statement after those of its seat,
+-- which is one of so many: it is whole, and its number is new
+pub record CanEnter (query : AskedEntry) (seats : ℕ) (lives : Lives) : Type 0 where
+  pub there : query.asked.seat < seats
   pub whole : query.whole ≡ true
   pub is_new : managed.IsNew query.asked.number lives
 

@@ -1,5 +1,5 @@
 -- What a core has become where it took an event.
-use Rattle.std.specs.Prelude.{◌≡◌, ◌≢◌, ◌↔◌, ◌⊎◌, List, [], ◌∷◌, ℕ, All, IsErrOf, IsSomeAnd, IsTrue, OnErr, OnOk, Option, None, Some, Result}
+use Rattle.std.specs.Prelude.{◌≡◌, ◌↔◌, ◌⊎◌, List, [], ◌∷◌, ℕ, All, IsErrOf, IsSomeAnd, IsTrue, OnErr, OnOk, Option, None, Some, Result}
 use Rattle.script_reader.specs.declared.statement.Statement.{Statement}
 use Rattle.star_store.specs.Text.{may_change_tables, meaning_of}
 use Rattle.core_state.specs.Cutting.{after_give}
@@ -89,9 +89,9 @@ pub record TakesEvent (event : Event) (old new : Parts)
   pub beside : beside_of new ≡ beside_of old
   pub sound : IsSound (state_of new)
 
--- what a call leaves that takes the submission of a statement, as far as it does so, and
--- what it tells. Where batches are lent it may tell a statement that may change the tables
--- to wait until they are home
+-- what a call leaves that takes the submission of a statement, as far as it does so, and what it
+-- reports. Where groups or tables are out it may tell a statement that may change the tables to
+-- wait until they are home
 pub record Submits (seat : ℕ) (statement : Statement) (old new : Parts)
     (result : Result (Unit {0}) SubmitFault) : Type 0 where
   pub disabled : IsErrOf result submit.NotEnabled
@@ -99,7 +99,8 @@ pub record Submits (seat : ℕ) (statement : Statement) (old new : Parts)
   pub taken : OnOk result (Took (Submit seat statement) (state_of old) (state_of new))
   pub err : OnErr result (new ≡ old)
   pub busy : IsErrOf result submit.Busy →
-      ((beside_of old).lent ≢ []) × IsTrue (may_change_tables (meaning_of statement))
+      (¬ (All (λ lending. lending ≡ None) (beside_of old).out))
+      × IsTrue (may_change_tables (meaning_of statement))
   pub beside : beside_of new ≡ beside_of old
   pub sound : IsSound (state_of new)
 

@@ -1,5 +1,6 @@
 //! One event after the other.
-ghost use Rattle.std.specs.Prelude.{◌≡◌, ◌<◌, All, [], length, slice_get, take, OnOk, OnErr, IfErr, IfSome};
+ghost use Rattle.std.specs.Prelude.{◌≡◌, ◌<◌, All, [], length, slice_get, take, OnOk, OnErr, IfErr, IfSome, IsTrue};
+ghost use Rattle.star_store.specs.Text.{may_change_tables, meaning_of};
 ghost use Rattle.core_state.specs.Events.{IsEnabled};
 ghost use Rattle.core_state.specs.Sound.{IsSound};
 ghost use Rattle.core_state.specs.Submitting.{after_submitting};
@@ -32,7 +33,8 @@ pub enum SubmitFault {
     /// It may not come now.
     NotEnabled,
 
-    /// It may change the tables, which are lent: it is to come again once all that is lent is home.
+    /// It may change the tables, and groups or tables are out. It is to come again once all that
+    /// is out is home.
     Busy,
 
     /// No memory was left for it.
@@ -59,14 +61,14 @@ pub struct EventsFault {
 }
 
 impl Core {
-    /// Takes an event, if it may come. A query that finds no memory as its filter is built, or as
-    /// its rows are folded, is spoiled. Where any other event finds none, nothing has changed. Only
-    /// a statement and a filter that is cleared may find none.
+    /// Takes an event, if it may come. A query that runs out of memory as its filter is built, or
+    /// as its rows are folded, is spoiled. Where any other event runs out of memory, nothing has
+    /// changed. Only a Submit and a Clear may.
     pub fn step(&mut self, event: Event) -> Result<(), StepFault>
         requires home { IsAtHome event (lent_to self.old.flights) }
         ensures { TakesEvent event self.old self.new result }
     {
-        // It is called for what it ensures, here and behind the event.
+        // It is called for what it ensures, here and after the event.
         every_core_is_sound(self);
         if !self.enabled(&event) {
             return Err(StepFault::NotEnabled);
@@ -104,23 +106,29 @@ impl Core {
         Ok(())
     }
 
-    /// Takes the submission of a statement that may come while no batch is lent.
+    /// Takes the submission of a statement that may come. Where the statement may change the
+    /// tables no batch is lent, so the tables are never busy.
     fn submit_at_home(&mut self, seat: u32, statement: &Statement) -> Result<(), NoMemory>
         requires seat { seat < length (state_of self.old).seats }
-        requires home { lent_to self.old.flights ≡ [] }
+        requires home { IsTrue (may_change_tables (meaning_of statement.now)) →
+            lent_to self.old.flights ≡ [] }
         ensures ok { OnOk result
             (state_of self.new ≡ after_submitting seat statement.now (state_of self.old)) }
         ensures err { OnErr result (self.new ≡ self.old) }
         ensures beside { beside_of self.new ≡ beside_of self.old }
     {
+        // This opens the core: what is out rests on batches that are lent, by its invariant.
+        let _ = &self.settings;
         match self.submit(seat, &mut ReadStatement::unread(statement)) {
             Ok(()) => Ok(()),
-            Err(_) => Err(NoMemory),
+            Err(ApplyFault::Memory) => Err(NoMemory),
+            Err(ApplyFault::Busy) => unreachable!(),
         }
     }
 
     /// Takes the submission of a statement, as `step` does, whose block may have been read before.
-    /// While batches are lent it takes a statement that leaves the tables as they are.
+    /// Where groups or tables are out it may tell a statement that may change the tables to wait
+    /// until they are home.
     pub fn submit_read(
         &mut self,
         seat: u32,
@@ -129,7 +137,7 @@ impl Core {
         ensures submits { Submits seat statement.old self.old self.new result }
         ensures statement { statement.new ≡ statement.old }
     {
-        // It is called for what it ensures, here and behind the change.
+        // It is called for what it ensures, here and after the change.
         every_core_is_sound(self);
         if !self.has_seat(seat) {
             return Err(SubmitFault::NotEnabled);
@@ -144,8 +152,8 @@ impl Core {
         }
     }
 
-    /// Takes events, one after the other, up to the first that is not taken,
-    /// and tells why that was not.
+    /// Takes events, one after the other, up to the first that is not taken, and reports why that
+    /// one was not.
     pub fn run_events(&mut self, events: Vec<Event>) -> Result<(), EventsFault>
         requires home { All (λ event. IsAtHome event (lent_to self.old.flights)) events.items }
         ensures all { OnOk result (TookAll events.items (state_of self.old) (state_of self.new)) }

@@ -9,7 +9,7 @@ use Rattle.event_core.specs.Lent.{IsAtHome}
 -- where there are no workers with batches, an event is at home
 home-of-none : (event : Event) → IsAtHome event []
 home-of-none (Give worker) = All-nil (λ (other : ℕ). other ≢ worker)
-home-of-none (Submit seat statement) = refl
+home-of-none (Submit seat statement) = λ _. refl
 home-of-none other = tt
 
 -- so it is where the workers with batches are none

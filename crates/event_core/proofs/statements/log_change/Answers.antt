@@ -1,6 +1,6 @@
 use Rattle.event_core.proofs.Words.{◌∙◌, ap, Lives, with_filters_for}
 use Rattle.event_core.proofs.EventsSubmitLemmas.{filters-first}
-use Rattle.event_core.proofs.statements.filter_for.Goals as goal
+use Rattle.event_core.proofs.statements.log_change.Goals as goal
 
 pub returns-in-DeclaresFact-clause-queries : goal.returns-in-DeclaresFact-clause-queries
 returns-in-DeclaresFact-clause-queries c = ap (λ (lives : Lives). lives.queries) c.set_filters.ensures
