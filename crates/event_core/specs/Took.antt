@@ -1,5 +1,5 @@
 -- What a core has become where it took an event.
-use Rattle.std.specs.Prelude.{◌≡◌, ◌↔◌, ◌⊎◌, List, [], ◌∷◌, ℕ, All, IsErrOf, IsSomeAnd, IsTrue, OnErr, OnOk, Option, None, Some, Result}
+use Rattle.std.specs.Prelude.{◌≡◌, ◌↔◌, ◌⊎◌, List, [], ◌∷◌, ℕ, All, IfSome, IsErrOf, IsSomeAnd, IsTrue, OnErr, OnOk, Option, None, Some, Result}
 use Rattle.script_reader.specs.declared.statement.Statement.{Statement}
 use Rattle.star_store.specs.Text.{may_change_tables, meaning_of}
 use Rattle.core_state.specs.Cutting.{after_give}
@@ -124,14 +124,16 @@ pub record TouchesOneSeat (seat : ℕ) (old new : Parts) : Type 0 where
   pub others : LeavesLoans seat old new
   pub sound : IsSound (state_of new)
 
--- a batch that came home was distributed where it was folded outside, and else nothing came of it
-abbrev pub Lands : Option Folding → (old new : State) → Type 0
-Lands None old new = new ≡ old
-Lands (Some folding) old new = (batch : ℕ) × Took (Distribute batch) old new
+-- the batch of this number was distributed, if it was folded outside, and else nothing changed
+abbrev pub Lands : Option Folding → (batch : ℕ) → (old new : State) → Type 0
+Lands None batch old new = new ≡ old
+Lands (Some folding) batch old new = Took (Distribute batch) old new
 
--- the batch of a worker was given back, and where it was folded outside it was distributed too
+-- a worker gave back the batch in its hand, and if that batch was folded outside, it was
+-- distributed, too
 pub record CameHome (worker : ℕ) (folding : Option Folding) (old new : State) : Type 0 where
   pub between : State
   pub gave : Took (Give worker) old between
   pub after : between ≡ after_give worker old
-  pub landed : Lands folding between new
+  pub landed : IfSome (held_by old.scan.flights worker)
+      (λ flight. Lands folding flight.rows.number between new)

@@ -1,6 +1,9 @@
 -- What a look tells, by what it found.
-use Rattle.std.proofs.Common.{◌≡◌, ℕ, ◌<◌, Bool, true, false, cond, length, Option, Some, None, refl, sym, ap, ◌∙◌, subst, arith, ⊎_elim}
-use Rattle.std.specs.Prelude.{IfSome, IsSome, IsSomeAnd, IsTrue}
+use Rattle.std.proofs.Common.{◌≡◌, ℕ, ◌<◌, Bool, true, false, cond, length, Option, Some, None, refl, sym, ap, ◌∙◌, subst, arith, eqb, ⊎_elim}
+use Rattle.std.proofs.lemmas.Bool.{false≢true}
+use Rattle.std.specs.Prelude.{◌↔◌, IfSome, IsSome, IsSomeAnd, IsTrue, is_some}
+use Rattle.std.proofs.lemmas.Option.{get_or_from_slice_get, slice_get_within}
+use Rattle.core_state.proofs.AcceptedLemmas.{find-holds}
 use Rattle.core_parts.specs.Asked.{known_in}
 use Rattle.core_parts.specs.Known.{reaches_in}
 use Rattle.core_parts.specs.Lent.{lent_to}
@@ -12,17 +15,21 @@ use Rattle.core_state.specs.Rows.{SeatRow, row_of}
 use Rattle.core_state.specs.Sound.{IsSound}
 use Rattle.core_state.specs.State.{Flight, Hand, State}
 use Rattle.core_state.specs.Tables.{tables_of}
+use Rattle.core_state.specs.declared.event.Event.{Event}
 use Rattle.core_state.specs.declared.event.Event.TheVariants.{Carry}
 use Rattle.event_core.specs.Board.{CoreRow, core_row}
+use Rattle.event_core.specs.Chosen.{NoneMayCome}
 use Rattle.event_core.specs.Lent.{IsNotLent, IsWorkOf}
 use Rattle.event_core.specs.Parts.{Beside, Parts, beside_of, loan_of}
 use Rattle.event_core.specs.Seen.{state_of}
 use Rattle.event_core.specs.Took.{Took}
+use Rattle.event_core.specs.declared.choosing.EventKind.{EventKind}
 use Rattle.event_core.specs.declared.marks.Marks.{Marks}
 use Rattle.event_core.specs.declared.work.Work.{Work}
 use Rattle.worker_gate.specs.Hands.{HasNothing, HasWork, Holds, IsCarriedOf}
 use Rattle.worker_gate.specs.Left.{LeavesAllLoans, LeavesRows}
 use Rattle.worker_gate.specs.Looks.{HasLooked, IsIdle, IsStuck, TakesWork, TellsLook}
+use Rattle.worker_gate.specs.Managed.{IsFirstOf, managed_kinds}
 use Rattle.worker_gate.specs.Turns.{LooksLast}
 use Rattle.worker_gate.specs.declared.carried.Carried.{Carried}
 use Rattle.worker_gate.specs.declared.carried.Carried.TheVariants as carried
@@ -128,3 +135,29 @@ last-looked look.Closed worker old new tells =
     subst (λ (parts : Parts). IsIdle (state_of parts) × (parts.marks.closing ≡ true)) (sym tells.0) tells.1
 last-looked look.Memory worker old new tells = subst (λ (parts : Parts). IsStuck (state_of parts)) (sym tells.0) tells.1
 last-looked other worker old new tells = tt
+
+-- Whether there is more to do.
+
+-- a batch that wants a filter is something to do
+pub wants-not_idle : (state : State) (batch : ℕ) → IsSomeAnd (flight_at state.scan.flights batch) (IsWanting state.filters)
+    → IsIdle state → ⊥
+wants-not_idle state batch wants idle = by_found (flight_at state.scan.flights batch) refl wants
+  where
+    by_found : (o : Option Flight) → flight_at state.scan.flights batch ≡ o → IsSomeAnd o (IsWanting state.filters) → ⊥
+    by_found None is never = never
+    by_found (Some flight) is some =
+        find-holds (λ one. IsWanting state.filters one → ⊥) (λ (one : Flight). eqb one.rows.number batch) state.scan.flights flight is
+        idle.wants some
+
+-- so is an event that may come
+pub first-not_idle : (state : State) (of_kind : EventKind) (event : Event) → IsFirstOf managed_kinds state of_kind event
+    → IsIdle state → ⊥
+first-not_idle state of_kind event first idle =
+    subst (λ each. NoneMayCome each state) (get_or_from_slice_get managed_kinds first.place of_kind of_kind first.stands)
+    (idle.left first.place of_kind (slice_get_within managed_kinds first.place of_kind first.stands)) event first.is_of first.enabled
+
+-- what is found is something to do, and if nothing is found, there is nothing
+pub more-by : {X : Type 0} (P : X → Type 0) (state : State) (found : Option X) (test : Bool) → ((x : X) → P x → IsIdle state → ⊥)
+    → IfSome found P → (found ≡ None → IsIdle state) → test ≡ is_some found → IsTrue test ↔ (IsIdle state → ⊥)
+more-by P state None test busy some none is = ((λ yes. absurd (false≢true (sym is ∙ yes))), (λ more. absurd (more (none refl))))
+more-by P state (Some x) test busy some none is = ((λ yes. busy x some), (λ more. is))

@@ -3,4 +3,5 @@ pub mod Hands
 pub mod Left
 pub mod Managed
 pub mod Looks
+pub mod Signals
 pub mod Turns

@@ -80,8 +80,8 @@ counted_home is_folded marks = if is_folded then counted_by kind.Distribute mark
 abbrev pub is_sixteenth_home : (is_folded : Bool) → Marks → Bool
 is_sixteenth_home is_folded marks = is_folded && is_sixteenth kind.Distribute marks
 
--- the batch of a worker came home, and where it was folded outside, so that it was distributed too,
--- this was counted, and the filters were ordered behind each sixteenth
+-- the batch of a worker came home, and if it was folded outside, it was distributed, too: this was
+-- counted, and the filters were ordered after each sixteenth
 pub record BringsHome (worker : ℕ) (folding : Option Folding) (old new : Parts) : Type 0 where
   pub between : State
   pub came : CameHome worker folding (state_of old) between

@@ -1,12 +1,12 @@
 //! What a worker looks for while it has the lock.
-ghost use Rattle.std.specs.Prelude.{◌≡◌, ◌<◌, if◌then◌else◌};
+ghost use Rattle.std.specs.Prelude.{◌≡◌, ◌↔◌, ◌<◌, IsTrue, if◌then◌else◌};
 ghost use Rattle.core_state.specs.declared.event.Event.TheVariants.{Cut};
 ghost use Rattle.event_core.specs.Board.{core_row};
 ghost use Rattle.event_core.specs.Parts.{LeavesLoans};
 ghost use Rattle.event_core.specs.Seen.{state_of};
 ghost use Rattle.worker_gate.specs.Hands.{HasNothing};
 ghost use Rattle.worker_gate.specs.Left.{MovesHand};
-ghost use Rattle.worker_gate.specs.Looks.{HasLooked, IsToManage, TellsLook};
+ghost use Rattle.worker_gate.specs.Looks.{HasLooked, IsIdle, IsToManage, TellsLook};
 ghost use Rattle.worker_gate.specs.Managed.{IsFirstOf, managed_kinds};
 
 use crate::carried::Carried;
@@ -109,8 +109,13 @@ fn cut_next(core: &mut Core, worker: u32) -> Look
 
 /// Whether a look would find something to do: a batch that wants a filter, or an event that may
 /// come.
-pub fn is_more_to_do(core: &Core) -> bool {
-    core.next_take().is_some() || next_managed(core).is_some()
+pub fn is_more_to_do(core: &Core) -> bool
+    ensures { IsTrue result ↔ ¬ (IsIdle (state_of core.now)) }
+{
+    match core.next_take() {
+        Some(_) => true,
+        None => next_managed(core).is_some(),
+    }
 }
 
 /// What a worker does without anything to do: it ends where the core is marked closing.
