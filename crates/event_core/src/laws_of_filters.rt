@@ -66,7 +66,8 @@ pub(crate) fn builds_follow_the_core()
 pub(crate) fn clearings_follow_the_core()
     ensures there { (parts : Parts) (slot dimension : ℕ) → IsCore parts →
         CanClear slot dimension parts.lives →
-        (slot < MAX_SLOTS) × (dimension < 8) × IsSome (version_at parts.filters.versions dimension) }
+        (slot < MAX_SLOTS) × (dimension < 8)
+        × IsSome (version_at parts.filters.versions dimension) }
     ensures done { (parts : Parts) (slot dimension : ℕ) (old version : FilterVersion) →
         IsCore parts → CanClear slot dimension parts.lives →
         version_at parts.filters.versions dimension ≡ Some old →

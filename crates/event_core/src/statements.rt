@@ -54,8 +54,8 @@ impl Core {
         block_form(self.alloc, self.tables.store(), statement)
     }
 
-    /// A seat submits a statement. If memory runs out, if no number is left for a statement more, or
-    /// if groups or tables are out and the statement may change the tables, nothing has changed.
+    /// A seat submits a statement. If memory runs out, if no number is left for one statement more,
+    /// or if groups or tables are out and the statement may change the tables, nothing has changed.
     pub(crate) fn submit(
         &mut self,
         seat: u32,

@@ -101,9 +101,9 @@ fn make_fronts(
     Ok(fronts)
 }
 
-/// Starts a thread for each front, which serves the connections that come to it, and calls `receive`
-/// with the number of threads that began. Where no thread can be made any more, the fronts that are
-/// left serve nothing. It ends when `receive` and all threads have ended.
+/// Starts a thread for each front, which serves the connections that come to it, and calls
+/// `receive` with the number of threads that began. If no more thread can be made, the fronts that
+/// are left serve nothing. It ends when `receive` and all threads have ended.
 pub(crate) fn serve_beside<
     R: Threads + Wait + Sync,
     L: Link + Send + Drop,

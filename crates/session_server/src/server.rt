@@ -121,7 +121,8 @@ fn listen<R: Threads + Wait + Sync, D: Door, G: Gate + Sync>(
 ) -> ServeEnd
     requires server { CanServe server }
     ensures served { result ≢ ServeEnd.NoMemory }
-    ensures serves { ServesPort asked.port asked.accept result (D.accepting door.old) (D.accepting door.new) }
+    ensures serves { ServesPort asked.port asked.accept result
+        (D.accepting door.old) (D.accepting door.new) }
 {
     match door.listen(asked.port) {
         Err(Failed) => {

@@ -8,8 +8,8 @@ use crate::sink::Sink;
 use crate::source::Source;
 use std::io::{Read, Write};
 
-/// A source over a reader. A read that a signal interrupts is tried again. One that fails for another
-/// reason is a fault.
+/// A source over a reader. A read that a signal interrupts is tried again. One that fails for
+/// another reason is a fault.
 ///
 /// The count of faults stands still at the last value of a `u64`.
 #[derive(Drop)]
@@ -68,8 +68,8 @@ impl<R: Read> Source for StdSource<R> {
     }
 }
 
-/// A sink over a writer. A write that a signal interrupts is tried again. One that fails for another
-/// reason is a fault, and so is one that takes nothing.
+/// A sink over a writer. A write that a signal interrupts is tried again. One that fails for
+/// another reason is a fault, and so is one that takes nothing.
 ///
 /// It never flushes: over a writer with a buffer, what was taken may still stand in the buffer.
 /// The count of faults stands still at the last value of a `u64`.

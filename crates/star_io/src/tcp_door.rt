@@ -117,7 +117,8 @@ impl<N: Net<Listener = TcpListener, Stream = TcpStream> + Clock + Eprint> Door f
 /// Waits for the next connection, and tries again after each failure that passes. The tries end
 /// after 2^64 - 1 of them alone.
 fn accept_patiently<N: Clock>(system: &N, listener: &TcpListener) -> io::Result<TcpStream>
-    ensures { IfErr result (λ error. (may_pass (raw_os_error error) ≡ false) ⊎ (error_kind error ≡ ErrorKind.TimedOut)) }
+    ensures { IfErr result (λ error.
+        (may_pass (raw_os_error error) ≡ false) ⊎ (error_kind error ≡ ErrorKind.TimedOut)) }
 {
     let mut pause = FIRST_PAUSE;
     'tries: for _ in 0..u64::MAX {
