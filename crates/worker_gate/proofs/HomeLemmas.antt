@@ -11,7 +11,6 @@ use Rattle.event_core.specs.Board.{core_row}
 use Rattle.event_core.specs.Parts.{Parts, loan_of}
 use Rattle.event_core.specs.Seen.{state_of}
 use Rattle.event_core.specs.Took.{CameHome, Lands}
-use Rattle.event_core.specs.declared.choosing.EventKind.TheVariants as kind
 use Rattle.event_core.specs.declared.marks.Marks.{Marks}
 use Rattle.event_core.specs.declared.work.Folding.{Folding}
 use Rattle.worker_gate.specs.Hands.{HasNothing}
@@ -30,7 +29,7 @@ between-sound keep worker folding old new sound home = took-sound keep (Give wor
 leaves-landed : MovesOne → (folding : Option Folding) (old new : State) → IsSound old → Lands folding old new → LeavesRows old new
 leaves-landed law None old new sound same = leaves-same old new same
 leaves-landed law (Some folding) old new sound landed =
-    leaves-kind law (Distribute landed.0) kind.Distribute old new refl sound landed.1
+    leaves-kind law (Distribute landed.0) old new tt sound landed.1
 
 -- where it was folded outside it is one of a fact table
 fact-landed : (folding : Option Folding) (old new : State) → IsSound old → Lands folding old new → IsTrue (is_some folding)
