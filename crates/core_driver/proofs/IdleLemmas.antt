@@ -1,5 +1,5 @@
 -- No batch comes into a hand but by an event that takes one.
-use Rattle.core_driver.proofs.Words.{◌∙◌, ◌≡◌, All, All-filter, All-push, All-weaker, AreIdle, Build, Clear, Cut, cut_flight, Distribute, eqb, Event, EventKind, Finish, Flight, IsLed, IsOfKind, IsReorder, IsStill, IsThrough, None, not, refl, Release, Reserve, ScanState, Some, Start, State, StaysIdle, subst, sym, Took, ℕ, ⊎_elim}
+use Rattle.core_driver.proofs.Words.{◌∙◌, ◌≡◌, All, All-filter, All-push, All-weaker, AreIdle, Build, Clear, Cut, cut_flight, Distribute, eqb, Event, Finish, Flight, IsLed, IsManaged, IsReorder, IsStill, IsThrough, kind_of, None, not, refl, Release, Reserve, ScanState, Start, State, StaysIdle, subst, sym, Took, ℕ, ⊎_elim}
 use Rattle.core_state.specs.Events.{after_event}
 use Rattle.event_core.specs.Parts.{Parts}
 use Rattle.core_driver.proofs.LedLemmas.{led-holds}
@@ -28,21 +28,17 @@ idle-distributed batch old new took idle =
     subst (λ (scan : ScanState). All IsIdle scan.flights) (sym (distributes batch old new took).scan)
     (All-filter (λ (flight : Flight). not (eqb flight.rows.number batch)) IsIdle old.scan.flights idle)
 
--- an event of no kind
-no-kind : (kind : EventKind) → None ≡ Some kind → ⊥
-no-kind kind both = cc
-
--- an event of a kind brings no batch into a hand
-pub idle-taken : (kind : EventKind) (event : Event) (old new : State) → IsOfKind kind event → Took event old new → AreIdle old → AreIdle new
-idle-taken kind (Reserve query slot) old new is took idle = idle-still (Reserve query slot) old new tt took idle
-idle-taken kind (Build query dimension) old new is took idle = idle-still (Build query dimension) old new tt took idle
-idle-taken kind (Start query) old new is took idle = idle-still (Start query) old new tt took idle
-idle-taken kind Cut old new is took idle = idle-cut old new took idle
-idle-taken kind (Distribute batch) old new is took idle = idle-distributed batch old new took idle
-idle-taken kind (Finish slot) old new is took idle = idle-still (Finish slot) old new tt took idle
-idle-taken kind (Clear slot dimension) old new is took idle = idle-still (Clear slot dimension) old new tt took idle
-idle-taken kind (Release slot) old new is took idle = idle-still (Release slot) old new tt took idle
-idle-taken kind other old new is took idle = absurd (no-kind kind is)
+-- an event of a managed kind brings no batch into a hand
+pub idle-taken : (event : Event) (old new : State) → IsManaged (kind_of event) → Took event old new → AreIdle old → AreIdle new
+idle-taken (Reserve query slot) old new is took idle = idle-still (Reserve query slot) old new tt took idle
+idle-taken (Build query dimension) old new is took idle = idle-still (Build query dimension) old new tt took idle
+idle-taken (Start query) old new is took idle = idle-still (Start query) old new tt took idle
+idle-taken Cut old new is took idle = idle-cut old new took idle
+idle-taken (Distribute batch) old new is took idle = idle-distributed batch old new took idle
+idle-taken (Finish slot) old new is took idle = idle-still (Finish slot) old new tt took idle
+idle-taken (Clear slot dimension) old new is took idle = idle-still (Clear slot dimension) old new tt took idle
+idle-taken (Release slot) old new is took idle = idle-still (Release slot) old new tt took idle
+idle-taken other old new is took idle = absurd is
 
 -- batches that passed all filters are in no hand
 pub idle-through : (state : State) → All (IsThrough state.filters) state.scan.flights → AreIdle state

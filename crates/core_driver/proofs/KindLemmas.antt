@@ -1,5 +1,5 @@
 -- Which events the kinds that are asked for make.
-use Rattle.core_driver.proofs.Words.{◌↔◌, ◌∙◌, ◌∷◌, ◌≡◌, [], All, All-cons, All-nil, arith, Bool, Build, Clear, Event, EventKind, false, Finish, Give, IfSome, is_some, IsEnabled, IsLed, IsOfAdmission, IsOfKind, IsOfSome, IsStill, IsTrue, kind_of, List, None, NoneOfMayCome, Option, refl, Release, Reserve, Some, Start, State, Submit, subst, suc, sym, true, zero, ℕ}
+use Rattle.core_driver.proofs.Words.{◌↔◌, ◌∙◌, ◌∷◌, ◌≡◌, [], All, All-cons, All-nil, arith, Bool, Build, Clear, Cut, Distribute, Event, EventKind, false, Finish, Give, IfSome, is_some, IsEnabled, IsLed, IsManaged, IsOfAdmission, IsOfKind, IsOfSome, IsStill, IsTrue, kind_of, List, None, NoneOfMayCome, Option, refl, Release, Reserve, Some, Start, State, Submit, subst, suc, sym, true, zero, ℕ, ◌≢◌}
 use Rattle.event_core.specs.declared.choosing.EventKind.TheVariants as kind
 use Rattle.core_driver.proofs.LedLemmas.{led-wider}
 use Rattle.event_core.specs.Lent.{IsAtHome}
@@ -13,24 +13,23 @@ IsAdmissionKind other = ⊥
 
 -- a kind of events that move no batch
 abbrev pub IsStillKind : EventKind → Type 0
-IsStillKind kind.Cut = ⊥
-IsStillKind kind.Distribute = ⊥
-IsStillKind other = Unit {0}
-
--- there is a kind, which is one of these
-abbrev pub IsKindOf : (EventKind → Type 0) → Option EventKind → Type 0
-IsKindOf IsOne None = ⊥
-IsKindOf IsOne (Some kind) = IsOne kind
+IsStillKind kind.Reserve = Unit {0}
+IsStillKind kind.Build = Unit {0}
+IsStillKind kind.Start = Unit {0}
+IsStillKind kind.Finish = Unit {0}
+IsStillKind kind.Clear = Unit {0}
+IsStillKind kind.Release = Unit {0}
+IsStillKind other = ⊥
 
 -- an event of such a kind is of an admission
-admission-event : (event : Event) → IsKindOf IsAdmissionKind (kind_of event) → IsOfAdmission event
+admission-event : (event : Event) → IsAdmissionKind (kind_of event) → IsOfAdmission event
 admission-event (Reserve query slot) is = tt
 admission-event (Build query dimension) is = tt
 admission-event (Start query) is = tt
 admission-event other is = absurd is
 
 -- or moves no batch
-still-event : (event : Event) → IsKindOf IsStillKind (kind_of event) → IsStill event
+still-event : (event : Event) → IsStillKind (kind_of event) → IsStill event
 still-event (Reserve query slot) is = tt
 still-event (Build query dimension) is = tt
 still-event (Start query) is = tt
@@ -41,13 +40,13 @@ still-event other is = absurd is
 
 -- an event of some kinds is of one of them, which is one of these
 pub kind-of-some : (IsOne : EventKind → Type 0) (kinds : List EventKind) (event : Event) → All IsOne kinds → IsOfSome kinds event
-    → IsKindOf IsOne (kind_of event)
+    → IsOne (kind_of event)
 kind-of-some IsOne kinds event all some =
-    subst (IsKindOf IsOne) (sym some.4) (subst IsOne some.3 (all some.0 some.1 some.2))
+    subst IsOne (sym some.4) (subst IsOne some.3 (all some.0 some.1 some.2))
 
 -- no event of some kinds gives a batch back
-pub some-gives-none : (kinds : List EventKind) (worker : ℕ) → IsOfSome kinds (Give worker) → ⊥
-some-gives-none kinds worker some = let both : None ≡ Some some.1 = some.4 in cc
+pub some-gives-none : (kinds : List EventKind) (worker : ℕ) → All IsManaged kinds → IsOfSome kinds (Give worker) → ⊥
+some-gives-none kinds worker all some = kind-of-some IsManaged kinds (Give worker) all some
 
 -- an event of kinds of an admission
 pub admission-of-some : (kinds : List EventKind) (event : Event) → All IsAdmissionKind kinds → IsOfSome kinds event → IsOfAdmission event
@@ -96,7 +95,7 @@ next-told kinds state None told is one enabled none = (
 next-told kinds state (Some event) told is one enabled none = ((λ tells. (event, (one, enabled))), (λ may. is))
 
 -- an event of one of these kinds gives no batch back, and submits no statement, so that no batch has to be with the core
-pub some-home : (kinds : List EventKind) (event : Event) (lent : List ℕ) → IsOfSome kinds event → IsAtHome event lent
-some-home kinds (Give worker) lent some = absurd (some-gives-none kinds worker some)
-some-home kinds (Submit seat statement) lent some = absurd (let both : None ≡ Some some.1 = some.4 in cc)
-some-home kinds other lent some = tt
+pub some-home : (kinds : List EventKind) (event : Event) (lent : List ℕ) → All IsManaged kinds → IsOfSome kinds event → IsAtHome event lent
+some-home kinds (Give worker) lent all some = absurd (some-gives-none kinds worker all some)
+some-home kinds (Submit seat statement) lent all some = absurd (kind-of-some IsManaged kinds (Submit seat statement) all some)
+some-home kinds other lent all some = tt

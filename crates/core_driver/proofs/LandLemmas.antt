@@ -1,5 +1,5 @@
 -- Batches that passed all filters are distributed until none is in flight.
-use Rattle.core_driver.proofs.Words.{◌∙◌, ◌∷◌, ◌≡◌, [], All, All-filter, All-head, ap, Build, Clear, cond, Cut, Distribute, eq-eqb, eqb, Event, Finish, Flight, flight_at, IfSome, is_some, IsLed, IsOfKind, IsStill, IsThrough, List, None, NoneMayCome, not, Option, refl, Release, Reserve, ScanState, Some, Start, State, subst, sym, Took, ℕ}
+use Rattle.core_driver.proofs.Words.{◌∙◌, ◌∷◌, ◌≡◌, [], All, All-filter, All-head, ap, Build, Clear, cond, Cut, Distribute, eq-eqb, eqb, Event, EventKind, Finish, Flight, flight_at, IfSome, is_some, IsLed, IsOfKind, IsStill, IsThrough, kind_of, List, None, NoneMayCome, not, Option, refl, Release, Reserve, ScanState, Some, Start, State, subst, sym, Took, ℕ}
 use Rattle.core_state.specs.State.{Filters}
 use Rattle.event_core.specs.declared.choosing.EventKind.TheVariants as kind
 use Rattle.core_driver.proofs.LedLemmas.{led-holds}
@@ -17,17 +17,18 @@ through-distributed batch old new took through =
     (subst (λ (scan : ScanState). All (IsThrough old.filters) scan.flights) (sym after.scan)
     (All-filter (λ (flight : Flight). not (eqb flight.rows.number batch)) (IsThrough old.filters) old.scan.flights through))
 
+-- the kind of a distribution
+abbrev IsDistributeKind : EventKind → Type 0
+IsDistributeKind kind.Distribute = Unit {0}
+IsDistributeKind other = ⊥
+
 -- each distribution leaves the others through
+through-kind : (event : Event) (old new : State) → IsDistributeKind (kind_of event) → Took event old new → AreThrough old → AreThrough new
+through-kind (Distribute batch) old new is took through = through-distributed batch old new took through
+through-kind other old new is took through = absurd is
+
 through-one : (event : Event) (old new : State) → IsOfKind kind.Distribute event → Took event old new → AreThrough old → AreThrough new
-through-one (Reserve query slot) old new is took through = absurd (let both : Some kind.Reserve ≡ Some kind.Distribute = is in cc)
-through-one (Build query dimension) old new is took through = absurd (let both : Some kind.Build ≡ Some kind.Distribute = is in cc)
-through-one (Start query) old new is took through = absurd (let both : Some kind.Start ≡ Some kind.Distribute = is in cc)
-through-one Cut old new is took through = absurd (let both : Some kind.Cut ≡ Some kind.Distribute = is in cc)
-through-one (Distribute batch) old new is took through = through-distributed batch old new took through
-through-one (Finish slot) old new is took through = absurd (let both : Some kind.Finish ≡ Some kind.Distribute = is in cc)
-through-one (Clear slot dimension) old new is took through = absurd (let both : Some kind.Clear ≡ Some kind.Distribute = is in cc)
-through-one (Release slot) old new is took through = absurd (let both : Some kind.Release ≡ Some kind.Distribute = is in cc)
-through-one other old new is took through = absurd (let both : None ≡ Some kind.Distribute = is in cc)
+through-one event old new is = through-kind event old new (subst IsDistributeKind (sym is) tt)
 
 -- distributions leave the others through
 pub through-led : (old new : State) → IsLed (IsOfKind kind.Distribute) old new → AreThrough old → AreThrough new

@@ -2,7 +2,7 @@
 use Rattle.core_driver.proofs.Words.{◌∷◌, [], All, All-cons, All-nil, Clear, Distribute, Event, EventKind, Finish, Give, IsLed, IsOfLanding, IsOfSome, kind_of, List, Release, State, Take}
 use Rattle.event_core.specs.Chosen.{IsPassing}
 use Rattle.event_core.specs.declared.choosing.EventKind.TheVariants as kind
-use Rattle.core_driver.proofs.KindLemmas.{IsKindOf, kind-of-some}
+use Rattle.core_driver.proofs.KindLemmas.{kind-of-some}
 use Rattle.core_driver.proofs.LedLemmas.{led-wider}
 
 -- a kind of such events
@@ -14,7 +14,7 @@ IsLandingKind kind.Release = Unit {0}
 IsLandingKind other = ⊥
 
 -- an event of such a kind
-landing-event : (event : Event) → IsKindOf IsLandingKind (kind_of event) → IsOfLanding event
+landing-event : (event : Event) → IsLandingKind (kind_of event) → IsOfLanding event
 landing-event (Distribute batch) is = tt
 landing-event (Finish slot) is = tt
 landing-event (Clear slot dimension) is = tt

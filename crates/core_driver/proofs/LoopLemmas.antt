@@ -1,14 +1,14 @@
 -- What a loop that takes events of some kinds leaves.
-use Rattle.core_driver.proofs.Words.{◌<◌, ◌≡◌, [], All, arith, Event, EventKind, inr, IsLed, IsOfSome, IsSound, List, State, subst, Took, TookSome, work_in, ⊎_elim}
-use Rattle.core_driver.proofs.KindLemmas.{IsStillKind, still-of-some}
+use Rattle.core_driver.proofs.Words.{◌<◌, ◌≡◌, [], All, arith, Event, EventKind, inr, IsLed, IsManaged, IsOfSome, IsSound, List, State, subst, Took, TookSome, work_in, ⊎_elim}
+use Rattle.core_driver.proofs.KindLemmas.{IsStillKind, kind-of-some, still-of-some}
 use Rattle.core_driver.proofs.LandLemmas.{landed-stays}
 use Rattle.core_driver.proofs.LedLemmas.{led-holds}
 use Rattle.core_driver.proofs.WorkLemmas.{work-taken}
 
 -- an event of some kinds leaves less work
-pub work-of-some : (kinds : List EventKind) (event : Event) (old new : State) → IsSound old → IsOfSome kinds event → Took event old new
-    → work_in new < work_in old
-work-of-some kinds event old new sound some took = work-taken some.1 event old new sound some.4 took
+pub work-of-some : (kinds : List EventKind) (event : Event) (old new : State) → All IsManaged kinds → IsSound old → IsOfSome kinds event
+    → Took event old new → work_in new < work_in old
+work-of-some kinds event old new all sound some took = work-taken event old new sound (kind-of-some IsManaged kinds event all some) took
 
 -- where none is in flight, none is then
 pub landed-led-on : (kinds : List EventKind) → All IsStillKind kinds → (old new : State) → IsLed (IsOfSome kinds) old new

@@ -50,9 +50,9 @@ work-round keep old new led sound = led-keeps keep IsOfRound (λ state. work_in 
     (λ event before after one so_sound took so_far. let less = work-after event before after one so_sound took in omega arith)
     old new led sound (omega arith)
 
--- there is a kind, which is that of a cut
-abbrev IsCutKind : Option EventKind → Type 0
-IsCutKind (Some kind.Cut) = Unit {0}
+-- the kind of a cut
+abbrev IsCutKind : EventKind → Type 0
+IsCutKind kind.Cut = Unit {0}
 IsCutKind other = ⊥
 
 -- an event of that kind is a cut

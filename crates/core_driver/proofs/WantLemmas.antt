@@ -1,5 +1,5 @@
 -- Which events of the driver may find no memory: those that clear a filter of a slot, and no others.
-use Rattle.core_driver.proofs.Words.{◌↔◌, ◌∷◌, ◌≡◌, [], All, All-cons, All-nil, Clear, Event, EventKind, IsEnabled, IsOfSome, kind_of, List, None, Ok, Some, State, subst, Submit, sym}
+use Rattle.core_driver.proofs.Words.{◌↔◌, ◌∷◌, ◌≡◌, [], All, All-cons, All-nil, Clear, Event, EventKind, IsEnabled, IsManaged, IsOfSome, kind_of, List, Ok, State, subst, Submit, sym}
 use Rattle.std.proofs.Common.{Err, OnErr, OnOk, Result}
 use Rattle.std.specs.Prelude.{IsErrOf}
 use Rattle.event_core.specs.Took.{MayWantMemory}
@@ -7,7 +7,7 @@ use Rattle.event_core.specs.declared.choosing.EventKind.TheVariants as kind
 use Rattle.event_core.specs.declared.stepping.StepFault.{StepFault}
 use Rattle.event_core.specs.declared.stepping.StepFault.TheVariants.{NotEnabled, Memory}
 use Rattle.core_driver.specs.Driven.{MayClear, MayWantOne, NeverWants}
-use Rattle.core_driver.proofs.KindLemmas.{IsKindOf, kind-of-some}
+use Rattle.core_driver.proofs.KindLemmas.{kind-of-some}
 
 -- what holds at Ok holds, where what holds at Err never does
 pub surely : {T E P Q : Type 0} (result : Result T E) → (Q → ⊥) → OnOk result P → OnErr result Q → P
@@ -31,17 +31,17 @@ wants-one result fault kinds event old new failed same one enabled disabled memo
 pub never-wants : (kinds : List EventKind) (state : State) → All NeverWants kinds → MayWantOne kinds state → ⊥
 never-wants kinds state all one = by_event one.event one.wants (kind-of-some NeverWants kinds one.event all one.is_one)
   where
-    by_event : (event : Event) → MayWantMemory event → IsKindOf NeverWants (kind_of event) → ⊥
+    by_event : (event : Event) → MayWantMemory event → NeverWants (kind_of event) → ⊥
     by_event (Submit seat statement) wants never = never
     by_event (Clear slot dimension) wants never = never
     by_event other wants never = wants
 
 -- what may find no memory clears a filter of a slot
-pub wants-clear : (kinds : List EventKind) (state : State) → MayWantOne kinds state → MayClear state
-wants-clear kinds state one = by_event one.event one.is_one one.may one.wants
+pub wants-clear : (kinds : List EventKind) (state : State) → All IsManaged kinds → MayWantOne kinds state → MayClear state
+wants-clear kinds state all one = by_event one.event one.is_one one.may one.wants
   where
     by_event : (event : Event) → IsOfSome kinds event → IsEnabled state event → MayWantMemory event → MayClear state
-    by_event (Submit seat statement) some may wants = absurd (let both : None ≡ Some some.1 = some.4 in cc)
+    by_event (Submit seat statement) some may wants = absurd (kind-of-some IsManaged kinds (Submit seat statement) all some)
     by_event (Clear slot dimension) some may wants = (slot, dimension, may)
     by_event other some may wants = absurd wants
 

@@ -3,7 +3,7 @@ use Rattle.core_driver.proofs.Words.{◌<◌, ◌∷◌, ◌≡◌, ◌⊎◌, [
 use Rattle.std.specs.Prelude.{false, position, true}
 use Rattle.event_core.specs.declared.choosing.EventKind.TheVariants as kind
 use Rattle.core_driver.specs.Driven.{AdmitsOldest}
-use Rattle.core_driver.proofs.KindLemmas.{IsKindOf, kind-of-some}
+use Rattle.core_driver.proofs.KindLemmas.{kind-of-some}
 use Rattle.core_driver.proofs.LapBeginLemmas.{led-admitted}
 use Rattle.core_driver.proofs.LapStartLemmas.{free-is}
 use Rattle.core_driver.proofs.LedLemmas.{led-joined, led-sound, led-wider}
@@ -49,11 +49,11 @@ turn-rises keep old mid new sound admits rises may =
 
 -- a kind of events by which queries go on
 abbrev IsGoingKind : EventKind → Type 0
-IsGoingKind kind.Distribute = ⊥
-IsGoingKind kind.Finish = ⊥
-IsGoingKind kind.Clear = ⊥
-IsGoingKind kind.Release = ⊥
-IsGoingKind other = Unit {0}
+IsGoingKind kind.Reserve = Unit {0}
+IsGoingKind kind.Build = Unit {0}
+IsGoingKind kind.Start = Unit {0}
+IsGoingKind kind.Cut = Unit {0}
+IsGoingKind other = ⊥
 
 -- all that are asked for
 going-kinds : All IsGoingKind (kind.Reserve ∷ kind.Build ∷ kind.Start ∷ kind.Cut ∷ [])
@@ -64,7 +64,7 @@ going-kinds =
     (All-cons IsGoingKind kind.Cut [] tt (All-nil IsGoingKind))))
 
 -- an event of such a kind is of an admission, or a cut
-going-event : (event : Event) → IsKindOf IsGoingKind (kind_of event) → IsOfAdmission event ⊎ (event ≡ Cut)
+going-event : (event : Event) → IsGoingKind (kind_of event) → IsOfAdmission event ⊎ (event ≡ Cut)
 going-event (Reserve query slot) is = inl tt
 going-event (Build query dimension) is = inl tt
 going-event (Start query) is = inl tt

@@ -40,7 +40,7 @@ pub use Rattle.core_state.specs.State.{Accepted, Flight, ScanState, State}
 pub use Rattle.core_state.specs.Tables.{tables_by, tables_of, versions_in}
 pub use Rattle.core_state.specs.declared.event.Event.{Event}
 pub use Rattle.core_state.specs.declared.event.Event.TheVariants.{Abandon, Build, Carry, Clear, Cut, Distribute, Finish, Give, Release, Reorder, Reserve, Start, Submit, Take}
-pub use Rattle.event_core.specs.Chosen.{AreIdle, IsOfKind, kind_of, NoneMayCome}
+pub use Rattle.event_core.specs.Chosen.{AreIdle, IsManaged, IsOfKind, kind_of, NoneMayCome}
 pub use Rattle.event_core.specs.Seen.{state_of}
 pub use Rattle.event_core.specs.Took.{IsLed, IsSpoilt, Took, TookAll}
 pub use Rattle.event_core.specs.declared.choosing.EventKind.{EventKind}

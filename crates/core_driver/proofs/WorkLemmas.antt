@@ -1,5 +1,5 @@
 -- Each event that is taken by its kind leaves less work.
-use Rattle.core_driver.proofs.Words.{◌+◌, ◌<◌, ◌∙◌, ◌≡◌, after_spoil, All, All-map, all_to_cut, ap, arith, Build, Clear, Cut, Distribute, Event, EventKind, false, Finish, first_of, Flight, flight_at, fold, inl, inr, IsDriven, IsOfKind, IsSome, IsSound, IsStill, length, Lives, lives_by, None, Option, refl, Release, Reserve, ScanState, Some, Spoils, Start, State, steps_to_free, subst, sum_by, sym, tables_of, Took, true, versions_in, without_flight, work_in, ℕ, ⊎_elim}
+use Rattle.core_driver.proofs.Words.{◌+◌, ◌<◌, ◌∙◌, ◌≡◌, after_spoil, All, All-map, all_to_cut, ap, arith, Build, Clear, Cut, Distribute, Event, false, Finish, first_of, Flight, flight_at, fold, inl, inr, IsDriven, IsManaged, IsSome, IsSound, IsStill, kind_of, length, Lives, lives_by, None, Option, refl, Release, Reserve, ScanState, Some, Spoils, Start, State, steps_to_free, subst, sum_by, sym, tables_of, Took, true, versions_in, without_flight, work_in, ℕ, ⊎_elim}
 use Rattle.std.proofs.lemmas.List.Elements.{All-contains}
 use Rattle.core_state.specs.Events.{after_event}
 use Rattle.core_state.specs.State.{FilterVersion}
@@ -81,30 +81,26 @@ work-cut-taken old new sound took = ⊎_elim
     (λ never. absurd never)
     took.after
 
--- an event of a kind is of no other
-no-kind : (kind : EventKind) → None ≡ Some kind → ⊥
-no-kind kind both = cc
-
--- each event of a kind leaves less work
-pub work-taken : (kind : EventKind) (event : Event) (old new : State) → IsSound old → IsOfKind kind event → Took event old new
+-- each event of a managed kind leaves less work
+pub work-taken : (event : Event) (old new : State) → IsSound old → IsManaged (kind_of event) → Took event old new
     → work_in new < work_in old
-work-taken kind (Reserve query slot) old new sound is took =
+work-taken (Reserve query slot) old new sound is took =
     work-stepped (Reserve query slot) old new tt (inl tt) took
     (less-reserved slot query old.lives sound.slots.lives took.enabled.oldest took.enabled.there took.enabled.is_free) (λ now never. absurd never)
-work-taken kind (Build query dimension) old new sound is took =
+work-taken (Build query dimension) old new sound is took =
     work-stepped (Build query dimension) old new tt (inl tt) took
     (less-built query dimension old.lives sound.slots.lives (filters-below old sound) took.enabled)
     (λ now spoils. subst (HaveLess old.lives) (sym spoils) (less-spoiled query old.lives sound.slots.lives took.enabled.building))
-work-taken kind (Start query) old new sound is took =
+work-taken (Start query) old new sound is took =
     work-stepped (Start query) old new tt (inl tt) took
     (less-started query (first_of old.scan.position (versions_in old)) old.lives sound.slots.lives took.enabled) (λ now never. absurd never)
-work-taken kind Cut old new sound is took = work-cut-taken old new sound took
-work-taken kind (Distribute batch) old new sound is took = work-distributed batch old new sound took
-work-taken kind (Finish slot) old new sound is took =
+work-taken Cut old new sound is took = work-cut-taken old new sound took
+work-taken (Distribute batch) old new sound is took = work-distributed batch old new sound took
+work-taken (Finish slot) old new sound is took =
     work-stepped (Finish slot) old new tt (inr tt) took (less-ended slot old.lives took.enabled.over) (λ now never. absurd never)
-work-taken kind (Clear slot dimension) old new sound is took =
+work-taken (Clear slot dimension) old new sound is took =
     work-stepped (Clear slot dimension) old new tt (inr tt) took
     (less-cleared slot dimension old.lives sound.slots.lives (filters-below old sound) took.enabled) (λ now never. absurd never)
-work-taken kind (Release slot) old new sound is took =
+work-taken (Release slot) old new sound is took =
     work-stepped (Release slot) old new tt (inr tt) took (less-released slot old.lives took.enabled) (λ now never. absurd never)
-work-taken kind other old new sound is took = absurd (no-kind kind is)
+work-taken other old new sound is took = absurd is

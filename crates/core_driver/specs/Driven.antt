@@ -28,8 +28,9 @@ IsOfSome kinds event = Any (λ kind. IsOfKind kind event) kinds
 abbrev pub NoneOfMayCome : List EventKind → State → Type 0
 NoneOfMayCome kinds state = All (λ kind. NoneMayCome kind state) kinds
 
--- no event of this kind wants memory: it clears no filter of a slot
+-- no event of this kind allocates: it submits no statement, and clears no filter of a slot
 abbrev pub NeverWants : EventKind → Type 0
+NeverWants kind.Submit = ⊥
 NeverWants kind.Clear = ⊥
 NeverWants other = Unit {0}
 

@@ -3,7 +3,7 @@
 ghost use Rattle.std.specs.Prelude.{◌≡◌, ◌↔◌, ◌<◌, All, IfSome, IsTrue, OnErr, OnOk, false, true};
 ghost use Rattle.core_state.specs.Events.{IsEnabled};
 ghost use Rattle.core_state.specs.declared.event.Event.{Event};
-ghost use Rattle.event_core.specs.Chosen.{AreIdle};
+ghost use Rattle.event_core.specs.Chosen.{AreIdle, AreManaged};
 ghost use Rattle.event_core.specs.Parts.{beside_of};
 ghost use Rattle.event_core.specs.Seen.{state_of};
 ghost use Rattle.event_core.specs.Took.{IsLed, Took};
@@ -147,22 +147,23 @@ fn may_go_on(core: &Core) -> bool
     next_of(core, &GOING_ON).is_some()
 }
 
-/// Takes events of these kinds, none of which wants memory, as long as one of them may come.
+/// Takes events of these kinds, which are managed and never allocate, as long as one may come.
 fn take_all(core: &mut Core, kinds: &[EventKind])
-    requires { All NeverWants kinds.now }
+    requires managed { AreManaged kinds.now }
+    requires never { All NeverWants kinds.now }
     ensures led { IsLed (IsOfSome kinds.now) (state_of core.old) (state_of core.new) }
     ensures none { NoneOfMayCome kinds.now (state_of core.new) }
     ensures some { TookSome (state_of core.old) (state_of core.new) }
     ensures stays { StaysIdle core.old core.new }
 {
-    // An event that finds no memory would be left, and those behind it: of
-    // these kinds there is none.
+    // An event that runs out of memory would end the loop: of these kinds there is none.
     let _ = try_take_all(core, kinds);
 }
 
-/// Takes events of these kinds, as long as one of them may come. Where memory is wanted for one,
-/// those before it were taken.
+/// Takes events of these kinds, as long as one of them may come. If one runs out of memory, the
+/// events before it were taken.
 fn try_take_all(core: &mut Core, kinds: &[EventKind]) -> Result<(), NoMemory>
+    requires managed { AreManaged kinds.now }
     ensures led { IsLed (IsOfSome kinds.now) (state_of core.old) (state_of core.new) }
     ensures none { OnOk result (NoneOfMayCome kinds.now (state_of core.new)) }
     ensures some { TookSome (state_of core.old) (state_of core.new) }
@@ -173,9 +174,10 @@ fn try_take_all(core: &mut Core, kinds: &[EventKind]) -> Result<(), NoMemory>
     Ok(())
 }
 
-/// Takes an event of one of these kinds, and tells whether one might come. Where memory is wanted
-/// for it, it may still come.
+/// Takes an event of one of these kinds, and returns whether one could come. If it runs out of
+/// memory, it may still come.
 fn take_one(core: &mut Core, kinds: &[EventKind]) -> Result<bool, NoMemory>
+    requires managed { AreManaged kinds.now }
     ensures taken { result ≡ Ok true →
         (event : Event)
         × (IsOfSome kinds.now event × Took event (state_of core.old) (state_of core.new)) }
@@ -186,7 +188,7 @@ fn take_one(core: &mut Core, kinds: &[EventKind]) -> Result<bool, NoMemory>
     ensures memory { OnErr result (MayWantOne kinds.now (state_of core.new)) }
     ensures beside { beside_of core.new ≡ beside_of core.old }
 {
-    // It is called for what it ensures.
+    // It is called for its clause.
     every_core_is_sound(core);
     let Some(event) = next_of(core, kinds) else {
         return Ok(false);
@@ -197,8 +199,9 @@ fn take_one(core: &mut Core, kinds: &[EventKind]) -> Result<bool, NoMemory>
     }
 }
 
-/// An event of one of these kinds that may come, the first kinds first.
+/// An event that may come, of the first of these kinds that has one.
 fn next_of(core: &Core, kinds: &[EventKind]) -> Option<Event>
+    requires managed { AreManaged kinds.now }
     ensures kind { IfSome result (IsOfSome kinds.now) }
     ensures enabled { IfSome result (IsEnabled (state_of core.now)) }
     ensures none { result ≡ None → NoneOfMayCome kinds.now (state_of core.now) }

@@ -5,7 +5,7 @@ ghost use Rattle.std.specs.Prelude.{◌≡◌, ◌<◌, None};
 ghost use Rattle.core_state.specs.Found.{held_by};
 ghost use Rattle.core_state.specs.Rows.{IsMindful};
 ghost use Rattle.event_core.specs.Board.{core_row};
-ghost use Rattle.event_core.specs.Chosen.{IsOfKind};
+ghost use Rattle.event_core.specs.Chosen.{AreManaged, IsManaged, IsOfKind};
 ghost use Rattle.event_core.specs.Seen.{state_of};
 ghost use Rattle.worker_gate.specs.Hands.{HasWork};
 ghost use Rattle.worker_gate.specs.Left.{LeavesAllLoans, LeavesRows};
@@ -102,6 +102,7 @@ enum Meanwhile {
 /// Makes an event of a kind, and says whether it came.
 fn make(core: &mut Core, kind: EventKind, event: Event) -> bool
     requires kind { IsOfKind kind event }
+    requires managed { IsManaged kind }
     ensures leaves { LeavesRows (state_of core.old) (state_of core.new) }
     ensures loans { LeavesAllLoans core.old core.new }
 {
@@ -117,6 +118,7 @@ fn make(core: &mut Core, kind: EventKind, event: Event) -> bool
 
 /// Makes the event of a kind that may come now, and says whether there was one.
 fn make_one(core: &mut Core, kind: EventKind) -> bool
+    requires { IsManaged kind }
     ensures leaves { LeavesRows (state_of core.old) (state_of core.new) }
     ensures loans { LeavesAllLoans core.old core.new }
 {
@@ -128,6 +130,7 @@ fn make_one(core: &mut Core, kind: EventKind) -> bool
 
 /// Makes an event of each of these kinds, in turn, and says whether there was one of each.
 fn make_each(core: &mut Core, kinds: &[EventKind]) -> bool
+    requires { AreManaged kinds.now }
     ensures mindful { IsMindful 0 (state_of core.old) (state_of core.new) }
     ensures loans { LeavesAllLoans core.old core.new }
 {
@@ -301,6 +304,7 @@ fn cut_and_pass(
 /// Gives so many statements to the core, and then makes an event of each of these kinds. Says
 /// whether all came.
 fn go_on(core: &mut Core, script: &mut ScriptReader, count: u32, kinds: &[EventKind]) -> bool
+    requires managed { AreManaged kinds.now }
     requires seat { 1 < (state_of core.old).settings.seats }
     requires empty { held_by (state_of core.old).scan.flights 1 ≡ None }
     ensures seat { 1 < (state_of core.new).settings.seats }

@@ -43,6 +43,7 @@ pub mod MachineLemmas
 pub mod MadeLemmas
 pub mod NewCoreLemmas
 pub mod NextVersionLemmas
+pub mod OpenLemmas
 pub mod OutLemmas
 pub mod PassedAllLemmas
 pub mod PassedOnceLemmas

@@ -1,13 +1,15 @@
 //! Which events may come, and which comes next.
-ghost use Rattle.std.specs.Prelude.{◌≡◌, ◌↔◌, All, IfSome, IsSomeAnd, IsTrue};
+ghost use Rattle.std.specs.Prelude.{◌≡◌, ◌≢◌, ◌↔◌, All, IfSome, IsSome, IsSomeAnd, IsTrue, None, ℕ};
 ghost use Rattle.core_state.specs.Events.{IsEnabled, IsWanting, MayCarry, MayCut, MayDistribute, MayFinish, MayTake};
 ghost use Rattle.core_state.specs.Found.{flight_at};
+ghost use Rattle.core_state.specs.Tables.{tables_of};
 ghost use Rattle.core_state.specs.declared.event.Event.TheVariants.{Give};
 ghost use Rattle.event_core.specs.Chosen.{IsOfKind, NoneMayCome};
 ghost use Rattle.event_core.specs.Lent.{HasFreeHand};
 ghost use Rattle.event_core.specs.Seen.{state_of};
 
 use crate::machine::Core;
+use crate::next_parts::{next_idle, next_open};
 use core_parts::flights::{is_on_some_roster, place_held_by, place_of};
 use core_parts::{is_through, is_wanting, next_finish, next_through, next_wanting};
 use core_state::Event;
@@ -16,9 +18,12 @@ use pipeline_manager::{
     next_clear, next_release, next_reservation, next_start,
 };
 
-/// The kinds of events of which one that may come can be asked for.
+/// The kinds of events, in the order of `Event`.
 #[derive(Clone, Copy, Debug, PartialEq, Eq)]
 pub enum EventKind {
+    /// A seat submits a statement.
+    Submit,
+
     /// The query that waits the longest gets a free slot.
     Reserve,
 
@@ -31,6 +36,15 @@ pub enum EventKind {
     /// The scan cuts the next batch.
     Cut,
 
+    /// A worker takes a batch, with the present version of the filter that it meets next.
+    Take,
+
+    /// A worker takes a batch, with the present versions of all filters that it did not pass.
+    Carry,
+
+    /// A worker gives back the batch in its hand.
+    Give,
+
     /// The rows of a batch are folded into the groups of the queries that they have a bit of.
     Distribute,
 
@@ -42,6 +56,12 @@ pub enum EventKind {
 
     /// A slot of which no filter has a bit is free again.
     Release,
+
+    /// The filters are ordered by their drop rates.
+    Reorder,
+
+    /// Nobody wants the answer of a query any more.
+    Abandon,
 }
 
 impl Core {
@@ -62,7 +82,7 @@ impl Core {
             Event::Finish { slot } => self.may_finish(*slot),
             Event::Clear { slot, dimension } => may_clear(&self.manager, *slot, *dimension),
             Event::Release { slot } => may_release(&self.manager, *slot),
-            Event::Reorder => self.tables.store().schema().fact.is_some(),
+            Event::Reorder => self.may_reorder(),
             Event::Abandon { query } => may_abandon(&self.manager, *query),
         }
     }
@@ -128,26 +148,42 @@ impl Core {
         may_end(&self.manager, slot) && !is_on_some_roster(self.flights.as_slice(), slot)
     }
 
-    /// An event of a kind that may come now, or `None` where none may. No memory is taken.
+    /// Whether the fact table is declared, so that the filters may be ordered.
+    fn may_reorder(&self) -> bool
+        ensures { IsTrue result ↔ IsSome (tables_of (state_of self.now)).schema.fact }
+    {
+        self.tables.store().schema().fact.is_some()
+    }
+
+    /// An event of a kind that may come now, or `None` if none may. The statement of a Submit is
+    /// the seat's own, so no Submit is chosen. No memory is taken.
     pub fn next_event(&self, kind: EventKind) -> Option<Event>
         ensures kind { IfSome result (IsOfKind kind) }
         ensures enabled { IfSome result (IsEnabled (state_of self.now)) }
-        ensures none { result ≡ None → NoneMayCome kind (state_of self.now) }
+        ensures none { result ≡ None → kind ≢ EventKind.Submit →
+            NoneMayCome kind (state_of self.now) }
+        ensures submit { kind ≡ EventKind.Submit → result ≡ None }
     {
         match kind {
+            EventKind::Submit => None,
             EventKind::Reserve => self.next_reserve(),
             EventKind::Build => self.next_build(),
             EventKind::Start => self.next_start(),
             EventKind::Cut => self.next_cut(),
+            EventKind::Take => self.next_taking(),
+            EventKind::Carry => self.next_carry(),
+            EventKind::Give => self.next_give(),
             EventKind::Distribute => self.next_distribute(),
             EventKind::Finish => self.next_finish(),
             EventKind::Clear => self.next_clear(),
             EventKind::Release => self.next_release(),
+            EventKind::Reorder => self.next_reorder(),
+            EventKind::Abandon => self.next_abandon(),
         }
     }
 
     /// The number of a batch that is idle, has a bit left and did not pass every filter, or
-    /// `None` where there is none.
+    /// `None` if there is none.
     pub fn next_take(&self) -> Option<u64>
         ensures some { IfSome result (λ batch.
             IsSomeAnd (flight_at (state_of self.now).scan.flights batch)
@@ -208,6 +244,55 @@ impl Core {
         }
     }
 
+    /// A Take that may come, or `None`.
+    fn next_taking(&self) -> Option<Event>
+        ensures kind { IfSome result (IsOfKind EventKind.Take) }
+        ensures enabled { IfSome result (IsEnabled (state_of self.now)) }
+        ensures none { result ≡ None → NoneMayCome EventKind.Take (state_of self.now) }
+    {
+        let batch = self.next_take()?;
+        let worker = self.next_free_hand()?;
+        Some(Event::Take { worker, batch })
+    }
+
+    /// A Carry that may come, or `None`.
+    fn next_carry(&self) -> Option<Event>
+        ensures kind { IfSome result (IsOfKind EventKind.Carry) }
+        ensures enabled { IfSome result (IsEnabled (state_of self.now)) }
+        ensures none { result ≡ None → NoneMayCome EventKind.Carry (state_of self.now) }
+    {
+        let batch = next_idle(self.flights.as_slice())?;
+        let worker = self.next_free_hand()?;
+        Some(Event::Carry { worker, batch })
+    }
+
+    /// The first seat with an empty hand, or `None`.
+    fn next_free_hand(&self) -> Option<u32>
+        ensures some { IfSome result (λ worker. HasFreeHand worker (state_of self.now)) }
+        ensures none { result ≡ None → (worker : ℕ) → HasFreeHand worker (state_of self.now) → ⊥ }
+    {
+        for worker in 0..self.settings.seats {
+            if self.has_free_hand(worker) {
+                return Some(worker);
+            }
+        }
+        None
+    }
+
+    /// A Give that may come, or `None`: the first seat with a batch in its hand gives it back.
+    fn next_give(&self) -> Option<Event>
+        ensures kind { IfSome result (IsOfKind EventKind.Give) }
+        ensures enabled { IfSome result (IsEnabled (state_of self.now)) }
+        ensures none { result ≡ None → NoneMayCome EventKind.Give (state_of self.now) }
+    {
+        for worker in 0..self.settings.seats {
+            if self.may_give(worker) {
+                return Some(Event::Give { worker });
+            }
+        }
+        None
+    }
+
     /// A Distribute that may come, or `None`.
     fn next_distribute(&self) -> Option<Event>
         ensures kind { IfSome result (IsOfKind EventKind.Distribute) }
@@ -249,5 +334,28 @@ impl Core {
     {
         let slot = next_release(&self.manager)?;
         Some(Event::Release { slot })
+    }
+
+    /// A Reorder, if it may come.
+    fn next_reorder(&self) -> Option<Event>
+        ensures kind { IfSome result (IsOfKind EventKind.Reorder) }
+        ensures enabled { IfSome result (IsEnabled (state_of self.now)) }
+        ensures none { result ≡ None → NoneMayCome EventKind.Reorder (state_of self.now) }
+    {
+        if self.may_reorder() {
+            Some(Event::Reorder)
+        } else {
+            None
+        }
+    }
+
+    /// An Abandon that may come, or `None`.
+    fn next_abandon(&self) -> Option<Event>
+        ensures kind { IfSome result (IsOfKind EventKind.Abandon) }
+        ensures enabled { IfSome result (IsEnabled (state_of self.now)) }
+        ensures none { result ≡ None → NoneMayCome EventKind.Abandon (state_of self.now) }
+    {
+        let query = next_open(&self.manager)?;
+        Some(Event::Abandon { query })
     }
 }

@@ -21,6 +21,7 @@ mod laws_of_steps;
 mod logged;
 mod machine;
 mod marks;
+mod next_parts;
 mod replies;
 mod slots;
 mod spoiling;

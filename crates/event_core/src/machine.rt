@@ -27,6 +27,7 @@ use dimension_filter::DropTally;
 use frame_pool::Pool;
 use pipeline_manager::{Life, Manager, has};
 use shared_distributor::SharedDistributor;
+use star_plan::Schema;
 use star_store::{Store, Tables};
 use star_values::{ListOf, NoMemory, Trail};
 use std::alloc::Global;
@@ -248,6 +249,13 @@ impl Core {
         ensures { Some result ≡ tally_at (state_of self.now).filters dimension }
     {
         self.filters.tally(dimension)
+    }
+
+    /// The schema of the tables.
+    pub fn schema(&self) -> &Schema
+        ensures { result.now ≡ (tables_of (state_of self.now)).schema }
+    {
+        self.tables.store().schema()
     }
 
     /// How many commits there were.

@@ -30,7 +30,7 @@ pub first-cut : (state : State) (of_kind : EventKind) (event : Event) → of_kin
     → IsFirstOf managed_kinds state kind.Cut Cut
 first-cut state of_kind Cut is first = subst (λ one. IsFirstOf managed_kinds state one Cut) is first
 first-cut state of_kind other is first =
-    absurd (let both : kind_of other ≡ Some kind.Cut = first.is_of ∙ ap Some is in cc)
+    absurd (let both : kind_of other ≡ kind.Cut = first.is_of ∙ is in cc)
 
 -- a worker that is to make an event has a free hand
 pub free-hand : (worker : ℕ) (core : Parts) → IsSound (state_of core) → IsToManage worker core → HasFreeHand worker (state_of core)
@@ -44,7 +44,7 @@ pub moves-cut : MovesOne → StepsKeep → (worker : ℕ) (old new : State) → 
     → MovesHand worker old new
 moves-cut law keep worker old new sound cuts =
     moves-then worker old cuts.between new
-    (moves-none worker old cuts.between (leaves-kind law Cut kind.Cut old cuts.between refl sound cuts.cut))
+    (moves-none worker old cuts.between (leaves-kind law Cut old cuts.between tt sound cuts.cut))
     (moves-taken law (Carry worker cuts.batch) cuts.between new worker tt (took-sound keep Cut old cuts.between cuts.cut sound)
     cuts.carried refl)
 
@@ -72,7 +72,7 @@ cuts-for right blank worker old new manages first cuts is waiting marks sound = 
 -- It was cut alone.
 
 pub leaves-cut : MovesOne → (old new : State) → IsSound old → Took Cut old new → LeavesRows old new
-leaves-cut law old new sound took = leaves-kind law Cut kind.Cut old new refl sound took
+leaves-cut law old new sound took = leaves-kind law Cut old new tt sound took
 
 pub makes-cut : (worker : ℕ) (old new : Parts) → IsToManage worker old → IsFirstOf managed_kinds (state_of old) kind.Cut Cut
     → Took Cut (state_of old) (state_of new) → new.marks ≡ old.marks → MakesEvent kind.Cut old new

@@ -11,7 +11,6 @@ use Rattle.event_core.specs.Board.{core_row}
 use Rattle.event_core.specs.Parts.{Parts, loan_of}
 use Rattle.event_core.specs.Seen.{state_of}
 use Rattle.event_core.specs.Took.{CameHome, Lands}
-use Rattle.event_core.specs.declared.choosing.EventKind.TheVariants as kind
 use Rattle.event_core.specs.declared.marks.Marks.{Marks}
 use Rattle.event_core.specs.declared.work.Folding.{Folding}
 use Rattle.worker_gate.specs.Hands.{HasNothing}
@@ -41,7 +40,7 @@ leaves-landed : MovesOne → (folding : Option Folding) (batch : ℕ) (old new :
     → LeavesRows old new
 leaves-landed law None batch old new sound same = leaves-same old new same
 leaves-landed law (Some folding) batch old new sound landed =
-    leaves-kind law (Distribute batch) kind.Distribute old new refl sound landed
+    leaves-kind law (Distribute batch) old new tt sound landed
 
 -- so does one that came home
 leaves-home : MovesOne → StepsKeep → (worker : ℕ) (folding : Option Folding) (old new : State) → IsSound old

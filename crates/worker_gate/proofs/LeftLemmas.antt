@@ -1,7 +1,6 @@
 -- What events that were taken leave of what seats know.
-use Rattle.std.proofs.Common.{◌≡◌, ℕ, ◌+◌, List, [], get_or, Option, Some, refl, sym, ap, ◌∙◌, subst, arith, append-nil}
+use Rattle.std.proofs.Common.{◌≡◌, ℕ, ◌+◌, List, [], get_or, Option, refl, sym, ap, ◌∙◌, subst, arith, append-nil}
 use Rattle.std.proofs.lemmas.List.Elements.{All-nil}
-use Rattle.std.proofs.lemmas.Option.{none-some}
 use Rattle.std.specs.Prelude.{IfSome}
 use Rattle.core_state.specs.Events.{LeavesSeats}
 use Rattle.core_state.specs.Found.{held_by}
@@ -15,39 +14,38 @@ use Rattle.core_state.specs.declared.event.Event.{Event}
 use Rattle.core_state.specs.declared.event.Event.TheVariants.{Submit, Take, Carry, Give, Abandon}
 use Rattle.core_state.proofs.WholeFrameLemmas.{Frame}
 use Rattle.event_core.specs.Board.{CoreRow, core_row}
-use Rattle.event_core.specs.Chosen.{kind_of}
+use Rattle.event_core.specs.Chosen.{IsManaged, kind_of}
 use Rattle.event_core.specs.Lent.{IsAtHome}
 use Rattle.event_core.specs.Parts.{LeavesLoans, Loan, Parts, loan_of}
 use Rattle.event_core.specs.Seen.{state_of}
 use Rattle.event_core.specs.Took.{IsEventOf, Took}
-use Rattle.event_core.specs.declared.choosing.EventKind.{EventKind}
 use Rattle.event_core.proofs.MadeLemmas.{makes-taken}
 use Rattle.event_core.proofs.TakenStepLemmas.{StepFor, taken-step}
 use Rattle.worker_gate.specs.Left.{LeavesAllLoans, LeavesRows, MovesHand}
 
--- Events of kinds.
+-- Events of managed kinds.
 
--- an event of a kind leaves the seats
-pub kind-leaves : (event : Event) (kind : EventKind) → kind_of event ≡ Some kind → LeavesSeats event
-kind-leaves (Submit seat statement) kind is = absurd (none-some kind is)
-kind-leaves (Abandon query) kind is = absurd (none-some kind is)
-kind-leaves other kind is = tt
+-- an event of a managed kind leaves the seats
+pub kind-leaves : (event : Event) → IsManaged (kind_of event) → LeavesSeats event
+kind-leaves (Submit seat statement) managed = absurd managed
+kind-leaves (Abandon query) managed = absurd managed
+kind-leaves other managed = tt
 
 -- it passes no batch and submits no statement
-pub kind-home : (event : Event) (kind : EventKind) (lent : List ℕ) → kind_of event ≡ Some kind → IsAtHome event lent
-kind-home (Give worker) kind lent is = absurd (none-some kind is)
-kind-home (Submit seat statement) kind lent is = absurd (none-some kind is)
-kind-home other kind lent is = tt
+pub kind-home : (event : Event) (lent : List ℕ) → IsManaged (kind_of event) → IsAtHome event lent
+kind-home (Give worker) lent managed = absurd managed
+kind-home (Submit seat statement) lent managed = absurd managed
+kind-home other lent managed = tt
 
 -- and it is the step of every seat, since it moves no row
-kind-moves : (event : Event) (kind : EventKind) (state : State) (seat : ℕ) → kind_of event ≡ Some kind
+kind-moves : (event : Event) (state : State) (seat : ℕ) → IsManaged (kind_of event)
     → IfSome (mover_of_event state event) (λ mover. mover ≡ seat)
-kind-moves (Submit mover statement) kind state seat is = absurd (none-some kind is)
-kind-moves (Take worker batch) kind state seat is = absurd (none-some kind is)
-kind-moves (Carry worker batch) kind state seat is = absurd (none-some kind is)
-kind-moves (Give worker) kind state seat is = absurd (none-some kind is)
-kind-moves (Abandon query) kind state seat is = absurd (none-some kind is)
-kind-moves other kind state seat is = tt
+kind-moves (Submit mover statement) state seat managed = absurd managed
+kind-moves (Take worker batch) state seat managed = absurd managed
+kind-moves (Carry worker batch) state seat managed = absurd managed
+kind-moves (Give worker) state seat managed = absurd managed
+kind-moves (Abandon query) state seat managed = absurd managed
+kind-moves other state seat managed = tt
 
 -- Rows behind an event.
 
@@ -106,11 +104,11 @@ leaves-taken law event old new leaves sound took moves =
       settings = frame.settings;
     }
 
--- so does one of a kind
-pub leaves-kind : MovesOne → (event : Event) (kind : EventKind) (old new : State) → kind_of event ≡ Some kind → IsSound old
-    → Took event old new → LeavesRows old new
-leaves-kind law event kind old new is sound took =
-    leaves-taken law event old new (kind-leaves event kind is) sound took (λ seat. kind-moves event kind old seat is)
+-- so does one of a managed kind
+pub leaves-kind : MovesOne → (event : Event) (old new : State) → IsManaged (kind_of event) → IsSound old → Took event old new
+    → LeavesRows old new
+leaves-kind law event old new managed sound took =
+    leaves-taken law event old new (kind-leaves event managed) sound took (λ seat. kind-moves event old seat managed)
 
 -- it keeps a core sound
 abbrev pub StepsKeep : Type 0

@@ -2,7 +2,7 @@
 use Rattle.std.proofs.Common.{◌≡◌, ℕ, ◌+◌, ◌<◌, Bool, true, false, List, Option, Some, None, Result, Err, Ok, OnOk, refl, sym, ap, ◌∙◌, subst, arith, eq-eqb}
 use Rattle.std.proofs.lemmas.Bool.{ne_eqb}
 use Rattle.std.proofs.lemmas.List.{get_or-take, length-take}
-use Rattle.std.proofs.lemmas.Option.{none-some, same_Some}
+use Rattle.std.proofs.lemmas.Option.{get_or_from_slice_get, slice_get_within}
 use Rattle.std.specs.List.{AllWithin}
 use Rattle.std.specs.Prelude.{◌↔◌, ◌%◌, All, IsErrOf, IsSome, take}
 use Rattle.core_state.specs.Events.{IsEnabled}
@@ -12,7 +12,7 @@ use Rattle.core_state.specs.State.{Flight, State}
 use Rattle.core_state.specs.Tables.{tables_by, tables_of}
 use Rattle.core_state.specs.declared.event.Event.{Event}
 use Rattle.core_state.specs.declared.event.Event.TheVariants.{Clear, Distribute, Reorder, Submit}
-use Rattle.event_core.specs.Chosen.{IsOfKind, kind_of}
+use Rattle.event_core.specs.Chosen.{IsManaged, kind_of}
 use Rattle.event_core.specs.Parts.{Beside, Parts, beside_of, loan_of}
 use Rattle.event_core.specs.Seen.{state_of}
 use Rattle.event_core.specs.Took.{MayWantMemory, Took}
@@ -21,6 +21,7 @@ use Rattle.event_core.specs.declared.choosing.EventKind.TheVariants as kind
 use Rattle.event_core.specs.declared.marks.Marks.{Marks}
 use Rattle.event_core.specs.declared.stepping.StepFault.{StepFault}
 use Rattle.event_core.specs.declared.stepping.StepFault.TheVariants.{Memory, NotEnabled}
+use Rattle.event_core.proofs.ChoosingLemmas.{all-managed}
 use Rattle.event_core.proofs.MadeLemmas.{makes-taken}
 use Rattle.worker_gate.specs.Left.{LeavesAllLoans, LeavesRows}
 use Rattle.worker_gate.specs.Managed.{IsFirstOf, ClearsNext, Manages, OrdersIf, counted_by, is_sixteenth, managed_kinds}
@@ -53,15 +54,25 @@ all-before P kinds place within = λ k d low.
     let before : k < place = omega arith in
     subst P (sym (get_or-take place kinds k d before)) (within k d (omega arith) before)
 
+-- the kinds that a worker asks for are managed
+each-managed : All IsManaged managed_kinds
+each-managed = all-managed managed_kinds (tt, (tt, (tt, (tt, (tt, (tt, (tt, (tt, tt))))))))
+
+-- so is that of the first event that may come
+pub managed-first : (state : State) (of_kind : EventKind) (event : Event) → IsFirstOf managed_kinds state of_kind event
+    → IsManaged (kind_of event)
+managed-first state of_kind event first =
+    subst IsManaged (get_or_from_slice_get managed_kinds first.place of_kind of_kind first.stands ∙ sym first.is_of)
+    (each-managed first.place of_kind (slice_get_within managed_kinds first.place of_kind first.stands))
+
 -- the first event that may come, and that wants memory, clears a filter
 first-clears : (state : State) (of_kind : EventKind) (event : Event) → IsFirstOf managed_kinds state of_kind event → MayWantMemory event
     → ClearsNext state
-first-clears state of_kind (Submit seat statement) first wants = absurd (none-some of_kind first.is_of)
+first-clears state of_kind (Submit seat statement) first wants = absurd (managed-first state of_kind (Submit seat statement) first)
 first-clears state of_kind (Clear slot dimension) first wants =
-    let same : kind.Clear ≡ of_kind = same_Some kind.Clear of_kind first.is_of in
     record {
       event = Clear slot dimension;
-      first = subst (λ one. IsFirstOf managed_kinds state one (Clear slot dimension)) (sym same) first;
+      first = subst (λ one. IsFirstOf managed_kinds state one (Clear slot dimension)) (sym first.is_of) first;
     }
 first-clears state of_kind other first wants = absurd wants
 
@@ -85,12 +96,12 @@ fact-flown state batch sound there = some-by (tables_of state).schema.fact (λ n
     let both : false ≡ true = subst (λ (flights : List Flight). IsSome (flight_at flights batch)) (sound.quiet none).1 there in cc)
 
 -- so the filters may be ordered behind a Distribute
-pub fact-distributed : (event : Event) (old new : State) → kind_of event ≡ Some kind.Distribute → IsSound old → Took event old new
+pub fact-distributed : (event : Event) (old new : State) → kind_of event ≡ kind.Distribute → IsSound old → Took event old new
     → IsSome (tables_of new).schema.fact
 fact-distributed (Distribute batch) old new is sound took =
     subst (λ entries. IsSome (tables_by entries).schema.fact) (sym (makes-taken (Distribute batch) old new tt took).frame.entries)
     (fact-flown old batch sound took.enabled.there)
-fact-distributed other old new is sound took = absurd (let both : kind_of other ≡ Some kind.Distribute = is in cc)
+fact-distributed other old new is sound took = absurd (let both : kind_of other ≡ kind.Distribute = is in cc)
 
 -- an order leaves the rows
 pub leaves-ordered : MovesOne → (test : Bool) (old new : State) → IsSound old → OrdersIf test old new → LeavesRows old new
@@ -158,8 +169,8 @@ manages-by of_kind event old between new first took beside counted orders =
     }
 
 -- and it leaves the rows
-pub leaves-managed : MovesOne → (of_kind : EventKind) (event : Event) (marks : Marks) (old between new : State) → IsOfKind of_kind event
+pub leaves-managed : MovesOne → (of_kind : EventKind) (event : Event) (marks : Marks) (old between new : State) → IsManaged (kind_of event)
     → IsSound old → IsSound between → Took event old between → OrdersIf (is_sixteenth of_kind marks) between new → LeavesRows old new
-leaves-managed law of_kind event marks old between new is sound sound' took orders =
-    leaves-then old between new (leaves-kind law event of_kind old between is sound took)
+leaves-managed law of_kind event marks old between new managed sound sound' took orders =
+    leaves-then old between new (leaves-kind law event old between managed sound took)
     (leaves-ordered law (is_sixteenth of_kind marks) between new sound' orders)

@@ -1,7 +1,7 @@
 //! Which event a worker makes where no batch wants a filter.
 ghost use Rattle.std.specs.Prelude.{◌≡◌, All, IfSome, IsSome, IsTrue, None};
 ghost use Rattle.core_state.specs.Tables.{tables_of};
-ghost use Rattle.event_core.specs.Chosen.{NoneMayCome};
+ghost use Rattle.event_core.specs.Chosen.{AreManaged, NoneMayCome};
 ghost use Rattle.event_core.specs.Seen.{state_of};
 ghost use Rattle.worker_gate.specs.Left.{LeavesAllLoans, LeavesRows};
 ghost use Rattle.worker_gate.specs.Managed.{IsFirstOf, NoneIsLeft, OrdersIf, TellsManaged, counted_by, counted_home, is_sixteenth, is_sixteenth_home, managed_kinds};
@@ -68,6 +68,7 @@ pub(crate) fn next_managed(core: &Core) -> Option<NextEvent>
 
 /// An event of the first of these kinds of which one may come.
 fn next_of(core: &Core, kinds: &[EventKind]) -> Option<NextEvent>
+    requires { AreManaged kinds.now }
     ensures first { IfSome result (λ next.
         IsFirstOf kinds.now (state_of core.now) next.kind next.event) }
     ensures none { result ≡ None → All (λ each. NoneMayCome each (state_of core.now)) kinds.now }

@@ -7,7 +7,7 @@ use Rattle.core_driver.proofs.WantLemmas.{admission-never}
 use Rattle.core_driver.proofs.driver.admit.Goals as goal
 
 pub take_all-requires : goal.take_all-requires
-take_all-requires c = admission-never
+take_all-requires c = record { managed = (tt, (tt, (tt, tt))); never = admission-never }
 
 pub returns-clause-admits : goal.returns-clause-admits
 returns-clause-admits c =

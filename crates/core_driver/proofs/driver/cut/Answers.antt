@@ -7,7 +7,7 @@ use Rattle.core_driver.proofs.WantLemmas.{cut-never}
 use Rattle.core_driver.proofs.driver.cut.Goals as goal
 
 pub take_all-requires : goal.take_all-requires
-take_all-requires c = cut-never
+take_all-requires c = record { managed = (tt, tt); never = cut-never }
 
 pub returns-clause-all : goal.returns-clause-all
 returns-clause-all c = record {

@@ -2,6 +2,7 @@
 use Rattle.core_driver.proofs.Words.{◌∷◌, [], IsOfLanding, on_ok_weaker, state_of}
 use Rattle.std.proofs.lemmas.Result.{on_err_weaker}
 use Rattle.event_core.specs.declared.choosing.EventKind.TheVariants as kind
+use Rattle.event_core.proofs.ChoosingLemmas.{all-managed}
 use Rattle.core_driver.proofs.IdleLemmas.{idle-through, stays-then}
 use Rattle.core_driver.proofs.LapKindLemmas.{landing-distributes, landing-frees, landing-led, landing-passes}
 use Rattle.core_driver.proofs.LedLemmas.{led-joined, led-sound}
@@ -10,7 +11,10 @@ use Rattle.core_driver.proofs.WantLemmas.{distribute-never, wants-clear}
 use Rattle.core_driver.proofs.driver.land.Goals as goal
 
 pub take_all-requires : goal.take_all-requires
-take_all-requires g c = distribute-never
+take_all-requires g c = record { managed = (tt, tt); never = distribute-never }
+
+pub try_take_all-requires : goal.try_take_all-requires
+try_take_all-requires g c = record { managed = (tt, (tt, (tt, tt))) }
 
 pub returns-clause-led : goal.returns-clause-led
 returns-clause-led g c =
@@ -32,7 +36,8 @@ returns-clause-landed g c = on_ok_weaker c.try_take_all.result
 
 pub returns-clause-memory : goal.returns-clause-memory
 returns-clause-memory g c = on_err_weaker c.try_take_all.result
-    (wants-clear (kind.Finish ∷ kind.Clear ∷ kind.Release ∷ []) (state_of c.try_take_all.new.core))
+    (wants-clear (kind.Finish ∷ kind.Clear ∷ kind.Release ∷ []) (state_of c.try_take_all.new.core)
+    (all-managed (kind.Finish ∷ kind.Clear ∷ kind.Release ∷ []) (tt, (tt, (tt, tt)))))
     c.try_take_all.ensures.memory
 
 pub returns-clause-stays : goal.returns-clause-stays

@@ -5,5 +5,5 @@ use Rattle.core_driver.proofs.driver.take_all.Goals as goal
 
 pub returns-clause-none : goal.returns-clause-none
 returns-clause-none c =
-    surely c.try_take_all.result (never-wants c.args.kinds.now (state_of c.try_take_all.new.core) c.requires) c.try_take_all.ensures.none
+    surely c.try_take_all.result (never-wants c.args.kinds.now (state_of c.try_take_all.new.core) c.requires.never) c.try_take_all.ensures.none
     c.try_take_all.ensures.memory

@@ -1,7 +1,9 @@
 -- An event more of the kinds is taken, which leaves less work.
-use Rattle.core_driver.proofs.Words.{ap, IsOfSome, NoneOfMayCome, Ok, state_of, StaysIdle, subst, sym}
+use Rattle.core_driver.proofs.Words.{ap, IsManaged, IsOfSome, NoneOfMayCome, Ok, state_of, StaysIdle, subst, sym}
 use Rattle.event_core.specs.Parts.{Parts}
+use Rattle.event_core.proofs.ChoosingLemmas.{all-managed}
 use Rattle.core_driver.proofs.IdleLemmas.{idle-taken, stays-then}
+use Rattle.core_driver.proofs.KindLemmas.{kind-of-some}
 use Rattle.core_driver.proofs.LedLemmas.{led-more}
 use Rattle.core_driver.proofs.LoopLemmas.{some-more}
 use Rattle.core_driver.proofs.driver.try_take_all.Goals as goal
@@ -15,7 +17,9 @@ events-preserved c =
       some = some-more (state_of c.args.core.now) (state_of c.events.core) (state_of c.take_one.new.core) c.events.invariant.some
           (c.in_ok-take_one.ensures.less (ap Ok c.if-branch.true));
       stays = stays-then c.args.core.now c.events.core c.take_one.new.core c.events.invariant.stays (record {
-        idle = idle-taken took.1.0.1 took.0 (state_of c.events.core) (state_of c.take_one.new.core) took.1.0.4 took.1.1;
+        idle = idle-taken took.0 (state_of c.events.core) (state_of c.take_one.new.core)
+            (kind-of-some IsManaged c.args.kinds.now took.0
+            (all-managed c.args.kinds.now c.requires.managed) took.1.0) took.1.1;
         beside = c.take_one.ensures.beside;
       });
     }

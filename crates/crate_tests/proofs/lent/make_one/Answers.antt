@@ -5,7 +5,7 @@ use Rattle.worker_gate.proofs.LeftLemmas.{leaves-same, loans-same}
 use Rattle.crate_tests.proofs.lent.make_one.Goals as goal
 
 pub make-requires : goal.make-requires
-make-requires c = record { kind = c.in-Some.ensures.kind }
+make-requires c = record { kind = c.in-Some.ensures.kind; managed = c.requires }
 
 pub returns-in-None-clause-leaves : goal.returns-in-None-clause-leaves
 returns-in-None-clause-leaves c = leaves-same (state_of c.args.core.now) (state_of c.args.core.now) refl
