@@ -24,7 +24,7 @@ round-reorder event is = subst IsOfRound (sym is) tt
 
 -- an event of a round leaves no more work
 work-after : (event : Event) (old new : State) → IsOfRound event → IsSound old → Took event old new → work_in new ≤ work_in old
-work-after Cut old new one sound took = let less = work-taken kind.Cut Cut old new sound refl took in omega arith
+work-after Cut old new one sound took = let less = work-taken Cut old new sound tt took in omega arith
 work-after (Take worker batch) old new one sound took =
     let passes = took-hands (Take worker batch) old new tt took in
     let same = same-work old new passes.lives passes.entries passes.position passes.flights in
@@ -34,13 +34,13 @@ work-after (Give worker) old new one sound took =
     let same = same-work old new passes.lives passes.entries passes.position passes.flights in
     omega arith
 work-after (Distribute batch) old new one sound took =
-    let less = work-taken kind.Distribute (Distribute batch) old new sound refl took in omega arith
+    let less = work-taken (Distribute batch) old new sound tt took in omega arith
 work-after (Finish slot) old new one sound took =
-    let less = work-taken kind.Finish (Finish slot) old new sound refl took in omega arith
+    let less = work-taken (Finish slot) old new sound tt took in omega arith
 work-after (Clear slot dimension) old new one sound took =
-    let less = work-taken kind.Clear (Clear slot dimension) old new sound refl took in omega arith
+    let less = work-taken (Clear slot dimension) old new sound tt took in omega arith
 work-after (Release slot) old new one sound took =
-    let less = work-taken kind.Release (Release slot) old new sound refl took in omega arith
+    let less = work-taken (Release slot) old new sound tt took in omega arith
 work-after Reorder old new one sound took = let same = work-reordered old new took in omega arith
 work-after event old new one sound took = absurd one
 

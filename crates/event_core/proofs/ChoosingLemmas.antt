@@ -1,6 +1,9 @@
 -- No event of a kind may come where the parts of a core offer none, and one that they offer may.
-use Rattle.event_core.proofs.Words.{◌∙◌, ◌∷◌, ◌≡◌, ◌≢◌, [], All, All-cons, All-nil, All-head, All-map, All-tail, AllPairs, ap, arith, bit_at, Bool, Build, CanBuild, CanClear, CanEnd, CanFree, CanRun, Clear, cond, Cut, Distribute, eqb, false, find, Finish, Flight, flight_as, flight_at, flights_as, get_or, get_or-map, IfSome, IsCore, IsSome, IsSomeAnd, IsThrough, IsWanting, Known, known_in, length, length-map, List, list_any, MayCut, MayDistribute, MayFinish, MayReserve, None, NoneMayCome, not-true, Option, option_map, Parts, Reach, reaches_in, refl, Release, Reserve, Some, Start, State, state_of, subst, sym, Through, true, Wants, ℕ, Abandon, CanAbandon, Give, IsSound, held_by, MayTake, Reorder, Submit, Take, tables_of, is_some, Statement, none-some, find-passes, some-at, ◌<◌, Event, option_map_or, eqb-true}
+use Rattle.event_core.proofs.Words.{◌+◌, ◌∙◌, ◌∷◌, ◌≡◌, ◌≢◌, [], All, All-cons, All-nil, All-head, All-map, All-tail, AllPairs, ap, arith, bit_at, Bool, Build, CanBuild, CanClear, CanEnd, CanFree, CanRun, Clear, cond, Cut, Distribute, eqb, false, find, Finish, Flight, flight_as, flight_at, flights_as, get_or, get_or-map, IfSome, IsCore, IsSome, IsSomeAnd, IsThrough, IsWanting, Known, known_in, length, length-map, List, list_any, MayCut, MayDistribute, MayFinish, MayReserve, None, NoneMayCome, not-true, Option, option_map, Parts, Reach, reaches_in, refl, Release, Reserve, Some, Start, State, state_of, subst, sym, Through, true, Wants, ℕ, Abandon, CanAbandon, Give, IsSound, held_by, MayTake, Reorder, Submit, Take, tables_of, is_some, Statement, none-some, find-passes, some-at, ◌<◌, Event, option_map_or, eqb-true}
 use Rattle.std.proofs.lemmas.Bool.{not_from_false}
+use Rattle.std.proofs.lemmas.List.{get_or_default}
+use Rattle.std.proofs.lemmas.List.Elements.{AllWithin-more}
+use Rattle.std.specs.List.{AllWithin}
 use Rattle.core_state.specs.Events.{MayCarry}
 use Rattle.core_state.specs.Flown.{IsSoundHand}
 use Rattle.core_state.specs.Found as found
@@ -58,6 +61,16 @@ all-managed (first ∷ kinds) managed = All-cons IsManaged first kinds managed.0
 -- a managed kind is not that of a Submit
 pub managed-apart : (of : EventKind) → IsManaged of → of ≢ kind.Submit
 managed-apart of managed is = subst IsManaged is managed
+
+-- no event of one kind more may come, if none may of the kind that is asked for next
+pub none-more : (kinds : List EventKind) (state : State) (place : ℕ) (d : EventKind) → AreManaged kinds → place < length kinds
+    → AllWithin (λ of. NoneMayCome of state) kinds 0 place
+    → (get_or kinds place d ≢ kind.Submit → NoneMayCome (get_or kinds place d) state)
+    → AllWithin (λ of. NoneMayCome of state) kinds 0 (place + 1)
+none-more kinds state place d managed low before none =
+    AllWithin-more (λ of. NoneMayCome of state) kinds 0 place before
+    (λ other. subst (λ (of : EventKind). NoneMayCome of state) (get_or_default kinds place d other low)
+    (none (managed-apart (get_or kinds place d) (all-managed kinds managed place d low))))
 
 -- batches in flight have different numbers in the code, too
 pub numbers-apart : (parts : Parts) (flights : List Flight) → IsCore parts → flights ≡ parts.flights
