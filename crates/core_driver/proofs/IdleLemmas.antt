@@ -1,7 +1,7 @@
 -- No batch comes into a hand but by an event that takes one.
 use Rattle.core_driver.proofs.Words.{◌∙◌, ◌≡◌, All, All-filter, All-push, All-weaker, AreIdle, Build, Clear, Cut, cut_flight, Distribute, eqb, Event, Finish, Flight, IsLed, IsManaged, IsReorder, IsStill, IsThrough, kind_of, None, not, refl, Release, Reserve, ScanState, Start, State, StaysIdle, subst, sym, Took, ℕ, ⊎_elim}
 use Rattle.core_state.specs.Events.{after_event}
-use Rattle.event_core.specs.Parts.{Parts}
+use Rattle.event_core.specs.CoreParts.{CoreParts}
 use Rattle.core_driver.proofs.LedLemmas.{led-holds}
 use Rattle.core_driver.proofs.TakenLemmas.{distributes, still-leaves}
 
@@ -50,7 +50,7 @@ pub idle-reordered : (old new : State) → IsLed IsReorder old new → AreIdle o
 idle-reordered = led-holds IsReorder AreIdle (λ event old new is took idle. idle-still event old new (subst IsStill (sym is) tt) took idle)
 
 -- what stays so, and does then
-pub stays-then : (old mid new : Parts) → StaysIdle old mid → StaysIdle mid new → StaysIdle old new
+pub stays-then : (old mid new : CoreParts) → StaysIdle old mid → StaysIdle mid new → StaysIdle old new
 stays-then old mid new first second = record {
   idle = λ idle. second.idle (first.idle idle);
   beside = second.beside ∙ first.beside;

@@ -14,7 +14,7 @@ use Rattle.core_parts.specs.Filtered.{order_by}
 use Rattle.core_state.specs.declared.event.Event.{Event}
 use Rattle.core_state.specs.declared.event.Event.TheVariants.{Submit, Reserve, Build, Start, Cut, Carry, Clear, Reorder, Abandon}
 use Rattle.event_core.specs.Chosen.{AreIdle, IsOfKind, NoneMayCome}
-use Rattle.event_core.specs.Parts.{Parts, beside_of}
+use Rattle.event_core.specs.CoreParts.{CoreParts, beside_of}
 use Rattle.event_core.specs.Seen.{state_of}
 use Rattle.event_core.specs.Took.{IsLed, MayWantMemory}
 use Rattle.event_core.specs.declared.choosing.EventKind.{EventKind}
@@ -46,7 +46,7 @@ abbrev pub MayClear : State → Type 0
 MayClear state = (slot : ℕ) × (dimension : ℕ) × IsEnabled state (Clear slot dimension)
 
 -- where no batch was in a hand none is, and what is beside the state stays
-pub record StaysIdle (old new : Parts) : Type 0 where
+pub record StaysIdle (old new : CoreParts) : Type 0 where
   pub idle : AreIdle (state_of old) → AreIdle (state_of new)
   pub beside : beside_of new ≡ beside_of old
 

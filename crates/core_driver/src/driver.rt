@@ -4,7 +4,7 @@ ghost use Rattle.std.specs.Prelude.{◌≡◌, ◌↔◌, ◌<◌, All, IfSome, 
 ghost use Rattle.core_state.specs.Events.{IsEnabled};
 ghost use Rattle.core_state.specs.declared.event.Event.{Event};
 ghost use Rattle.event_core.specs.Chosen.{AreIdle, AreManaged};
-ghost use Rattle.event_core.specs.Parts.{beside_of};
+ghost use Rattle.event_core.specs.CoreParts.{beside_of};
 ghost use Rattle.event_core.specs.Seen.{state_of};
 ghost use Rattle.event_core.specs.Took.{IsLed, Took};
 ghost use Rattle.core_driver.specs.Driven.{Admits, CutsAll, FinishesAll, IsDriven, IsLanded, IsOfLanding, IsOfRound, IsOfSome, IsRound, IsTurn, IsWholeTurn, MayClear, MayGoOn, MayWantOne, NeverWants, NoneOfMayCome, OrdersFilters, StaysIdle};

@@ -1,5 +1,5 @@
 -- The parts of a core where nobody wants the answer of a query any more.
-use Rattle.event_core.proofs.Words.{◌<◌, ◌∙◌, ◌≡◌, [], abandoned, after_abandon, after_abandoning, after_stop, AllPairs, ap, arith, asked_at, AskedQuery, Becomes, CanAbandon, empty_seat, get_or, get_or-map, get_or-set_same, Grouped, IfSome, IsCore, Known, known_in, length, List, Lives, map, map-set, None, Option, option_map_or, Parts, refill, refill-all, Roomy, Scanning, Seat, seat_as, set, slot_of, Some, state_of, statements_at, Submitted, subst, sym, with_kept_at, without_pending, ℕ}
+use Rattle.event_core.proofs.Words.{◌<◌, ◌∙◌, ◌≡◌, [], abandoned, after_abandon, after_abandoning, after_stop, AllPairs, ap, arith, asked_at, AskedQuery, Becomes, CanAbandon, CoreParts, empty_seat, get_or, get_or-map, get_or-set_same, Grouped, IfSome, IsCore, Known, known_in, length, List, Lives, map, map-set, None, Option, option_map_or, refill, refill-all, Roomy, Scanning, Seat, seat_as, set, slot_of, Some, state_of, statements_at, Submitted, subst, sym, with_kept_at, without_pending, ℕ}
 use Rattle.std.proofs.Math.ListN as lists
 use Rattle.event_core.proofs.SlotEventLemmas.{attached-count}
 
@@ -54,26 +54,26 @@ seat-written seats members seat query d written lent there gives known =
 
 -- the seat of an accepted query is there
 abbrev pub AbandonsSeat : Type 0
-AbandonsSeat = (parts : Parts) (query : ℕ) (asked : AskedQuery) → IsCore parts →
+AbandonsSeat = (parts : CoreParts) (query : ℕ) (asked : AskedQuery) → IsCore parts →
     asked_at parts.asked query ≡ Some asked → asked.seat < length parts.seats
 
 -- what becomes of the parts
 abbrev pub AbandonsDone : Type 0
-AbandonsDone = (parts : Parts) (query : ℕ) (asked : AskedQuery) (statements : List Submitted) → IsCore parts →
+AbandonsDone = (parts : CoreParts) (query : ℕ) (asked : AskedQuery) (statements : List Submitted) → IsCore parts →
     CanAbandon query parts.lives → asked_at parts.asked query ≡ Some asked →
     seat_as (known_in parts.asked) statements
     ≡ without_pending query (seat_as (known_in parts.asked) (statements_at parts.seats asked.seat)) →
     Becomes (abandoned query asked.seat statements parts) (after_abandoning query (state_of parts))
 
 -- that is the seat of a query that is abandoned
-pub abandon-seat : AbandonsSeat → (parts : Parts) (query seat : ℕ) (asked : AskedQuery) (entries : List AskedQuery) → IsCore parts
+pub abandon-seat : AbandonsSeat → (parts : CoreParts) (query seat : ℕ) (asked : AskedQuery) (entries : List AskedQuery) → IsCore parts
     → entries ≡ parts.asked → asked_at entries query ≡ Some asked → seat ≡ asked.seat → seat < length parts.seats
 abandon-seat law parts query seat asked entries core seen found seat-is =
     subst (λ s. s < length parts.seats) (sym seat-is)
     (law parts query asked core (ap (λ list. asked_at list query) (sym seen) ∙ found))
 
 -- the numbers of the statements of a seat rise
-pub seat-rises : (parts : Parts) (seat : ℕ) → IsCore parts → seat < length parts.seats
+pub seat-rises : (parts : CoreParts) (seat : ℕ) → IsCore parts → seat < length parts.seats
     → AllPairs (λ statement later. statement < later) (map (λ (submitted : Submitted). submitted.number) (statements_at parts.seats seat))
 seat-rises parts seat core there =
     subst (λ (s : Seat). AllPairs (λ statement later. statement < later) s.submitted)
@@ -82,7 +82,7 @@ seat-rises parts seat core there =
     (let count = lists.length-map parts.seats (seat_as (known_in parts.asked)) in omega arith)).rising
 
 -- the slot that a query holds has a place for groups
-pub slot-attached : (parts : Parts) (slot : Option ℕ) → IsCore parts → IfSome slot (λ slot. slot < length parts.lives.slots)
+pub slot-attached : (parts : CoreParts) (slot : Option ℕ) → IsCore parts → IfSome slot (λ slot. slot < length parts.lives.slots)
     → IfSome slot (λ slot. slot < length parts.attached)
 slot-attached parts slot core within = by_slot slot within
   where
@@ -91,7 +91,7 @@ slot-attached parts slot core within = by_slot slot within
     by_slot (Some slot) low = let count = attached-count parts core in omega arith
 
 -- the parts where it is abandoned
-pub abandon-becomes : AbandonsDone → (parts now : Parts) (query seat : ℕ) (asked : AskedQuery) (entries left : List AskedQuery) (slot : Option ℕ)
+pub abandon-becomes : AbandonsDone → (parts now : CoreParts) (query seat : ℕ) (asked : AskedQuery) (entries left : List AskedQuery) (slot : Option ℕ)
     (seats : List (List Submitted)) (attached : List (Option Grouped)) (scan : Scanning) (lives : Lives) → parts ≡ now → IsCore parts
     → CanAbandon query (state_of now).lives → entries ≡ parts.asked → asked_at entries query ≡ Some asked → seat ≡ asked.seat
     → slot ≡ slot_of parts.lives query → GivesUp query (statements_at parts.seats seat) (statements_at seats seat)
@@ -108,7 +108,7 @@ abandon-becomes law parts now query seat asked entries left slot seats attached 
     (subst (λ s. seat_as (known_in parts.asked) (statements_at seats seat)
     ≡ without_pending query (seat_as (known_in parts.asked) (statements_at parts.seats s))) seat-is (gives (known_in parts.asked))))) can
   where
-    later : Parts
+    later : CoreParts
     later = record parts { seats = seats; asked = left; attached = attached; scan = scan; lives = lives }
 
     detaches : attached ≡ option_map_or (λ slot. set parts.attached slot None) (slot_of parts.lives query) parts.attached

@@ -1,5 +1,5 @@
 -- The parts of a core where a query is abandoned.
-use Rattle.event_core.proofs.Words.{◌<◌, ◌∙◌, ◌≡◌, [], Abandon, Abandoned, abandoned, Accepted, accepted_as, accepted_at, accepted_in, after_abandon, after_abandoning, ap, arith, asked_at, AskedQuery, attached_to, Becomes, CanAbandon, cases_lt, Contains, detached_for, Done, empty_seat, eqb, false, find-holds, forgotten, get_or, get_or_past, is_open, IsCore, IsScannedAs, IsSome, IsSound, IsTrue, Known, known_in, length, life-accepted, List, map, map-set, None, Option, option_map, option_map_or, Parts, query_in, QueryLife, reaches_in, refl, Scanning, Seat, seat_as, seat_at, set, Some, State, state_of, statements_at, stopped_for, Submitted, subst, sym, true, without_pending, ℕ, ⊎_elim}
+use Rattle.event_core.proofs.Words.{◌<◌, ◌∙◌, ◌≡◌, [], Abandon, Abandoned, abandoned, Accepted, accepted_as, accepted_at, accepted_in, after_abandon, after_abandoning, ap, arith, asked_at, AskedQuery, attached_to, Becomes, CanAbandon, cases_lt, Contains, CoreParts, detached_for, Done, empty_seat, eqb, false, find-holds, forgotten, get_or, get_or_past, is_open, IsCore, IsScannedAs, IsSome, IsSound, IsTrue, Known, known_in, length, life-accepted, List, map, map-set, None, Option, option_map, option_map_or, query_in, QueryLife, reaches_in, refl, Scanning, Seat, seat_as, seat_at, set, Some, State, state_of, statements_at, stopped_for, Submitted, subst, sym, true, without_pending, ℕ, ⊎_elim}
 use Rattle.std.proofs.Math.ListN as lists
 use Rattle.core_state.specs.Events.{after_event}
 use Rattle.core_state.specs.Submitting.{with_seat}
@@ -19,7 +19,7 @@ AbandonStops = (state : State) (scan : Scanning) (query : ℕ) → IsSound state
     → IsScannedAs state scan → IsScannedAs (after_abandoning query state) (stopped_for state.lives query scan)
 
 -- a query that may be abandoned is an accepted one
-pub abandon-there : (parts : Parts) (query : ℕ) → IsCore parts → CanAbandon query parts.lives → IsSome (asked_at parts.asked query)
+pub abandon-there : (parts : CoreParts) (query : ℕ) → IsCore parts → CanAbandon query parts.lives → IsSome (asked_at parts.asked query)
 abandon-there parts query core can =
     asked-there parts.lives parts.attached parts.asked query
     (life-accepted (state_of parts) query core.sound (by_life (query_in parts.lives.queries query) can))
@@ -41,7 +41,7 @@ seat-there seats seat number has = ⊎_elim (λ low. low)
     let less = none.1 in omega arith)) (cases_lt seat (length seats))
 
 -- the seat of an accepted query is there
-pub abandon-seat : (parts : Parts) (query : ℕ) (asked : AskedQuery) → IsCore parts → asked_at parts.asked query ≡ Some asked
+pub abandon-seat : (parts : CoreParts) (query : ℕ) (asked : AskedQuery) → IsCore parts → asked_at parts.asked query ≡ Some asked
     → asked.seat < length parts.seats
 abandon-seat parts query asked core found =
     let low = seat-there (state_of parts).seats asked.seat asked.number
@@ -77,7 +77,7 @@ seats-abandoned known seats seat query statements are =
     ∙ ap (set (map (seat_as known) seats) seat) (are ∙ ap (without_pending query) (sym (seat-seen known seats seat)))
 
 -- the parts stand for the core without the query
-pub abandon-becomes : KeepSound → AbandonDetaches → AbandonStops → (parts : Parts) (query : ℕ) (asked : AskedQuery) (statements : List Submitted)
+pub abandon-becomes : KeepSound → AbandonDetaches → AbandonStops → (parts : CoreParts) (query : ℕ) (asked : AskedQuery) (statements : List Submitted)
     → IsCore parts → CanAbandon query parts.lives → asked_at parts.asked query ≡ Some asked
     → seat_as (known_in parts.asked) statements ≡ without_pending query (seat_as (known_in parts.asked) (statements_at parts.seats asked.seat))
     → Becomes (abandoned query asked.seat statements parts) (after_abandoning query (state_of parts))
@@ -94,7 +94,7 @@ abandon-becomes keep detach stops parts query asked statements core can found ar
       words = core.words;
     }))
   where
-    later : Parts
+    later : CoreParts
     later = abandoned query asked.seat statements parts
 
     after : State

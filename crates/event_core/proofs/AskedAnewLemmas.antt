@@ -1,5 +1,5 @@
 -- A query that is accepted stands behind the others, and changes nothing of what is known of them.
-use Rattle.event_core.proofs.Words.{◌++◌, ◌+◌, ◌<◌, ◌∙◌, ◌∷◌, ◌≡◌, ◌≢◌, ◌≤◌, [], Accepted, accepted, accepted_as, accepted_in, after_outcome, after_submit, after_submitting, All, All-push, ap, arith, Asked, AskedQuery, attached_for, attached_or, Becomes, cond, false, flights_as, Free, get_or, Grouped, grouped_of, is_held_by, IsAsked, IsCore, IsNew, IsSome, Known, known_at, known_in, length, length-map, life_in, List, Lives, map, map_push, None, of-numbers, Option, option_and_then, option_map, option_map_or, Outcome, outcome_of, Parts, plain_version, position-Some, query_of, QueryLife, Reach, reach_at, reaches_in, refl, Replied, Seat, seat_as, slot_of, SlotState, Some, StarQuery, State, state_of, Statement, statements_at, Store, subst, sym, tables_of, Told, true, versions_in, ℕ}
+use Rattle.event_core.proofs.Words.{◌++◌, ◌+◌, ◌<◌, ◌∙◌, ◌∷◌, ◌≡◌, ◌≢◌, ◌≤◌, [], Accepted, accepted, accepted_as, accepted_in, after_outcome, after_submit, after_submitting, All, All-push, ap, arith, Asked, AskedQuery, attached_for, attached_or, Becomes, cond, CoreParts, false, flights_as, Free, get_or, Grouped, grouped_of, is_held_by, IsAsked, IsCore, IsNew, IsSome, Known, known_at, known_in, length, length-map, life_in, List, Lives, map, map_push, None, of-numbers, Option, option_and_then, option_map, option_map_or, Outcome, outcome_of, plain_version, position-Some, query_of, QueryLife, Reach, reach_at, reaches_in, refl, Replied, Seat, seat_as, slot_of, SlotState, Some, StarQuery, State, state_of, Statement, statements_at, Store, subst, sym, tables_of, Told, true, versions_in, ℕ}
 use Rattle.std.proofs.lemmas.List.Elements.{All-weaker}
 use Rattle.std.proofs.lemmas.List.Sums.{get_or-le-sum_by}
 use Rattle.reply_text.specs.declared.reply.Reply.TheVariants as reply
@@ -39,7 +39,7 @@ numbers-known lives attached [] = refl
 numbers-known lives attached (entry ∷ asked) = ap (λ rest. entry.number ∷ rest) (numbers-known lives attached asked)
 
 -- a statement that is a query, which is accepted
-pub becomes-accepted : Laws → (parts : Parts) (seat : ℕ) (statement : Statement) (query : StarQuery) (snapshot : ℕ) → IsCore parts
+pub becomes-accepted : Laws → (parts : CoreParts) (seat : ℕ) (statement : Statement) (query : StarQuery) (snapshot : ℕ) → IsCore parts
     → seat < length parts.seats
     → outcome_of (tables_of (state_of parts)) statement ≡ outcome.only_tells (outcome.Accepted (query_of query) snapshot)
     → Becomes (accepted seat (parts.numbers.statement + 1)
@@ -73,7 +73,7 @@ becomes-accepted laws parts seat statement query snapshot core there tells =
     one : Accepted
     one = record { number = number; seat = seat; query = query_of query; snapshot = snapshot; groups = Some (grouped_of (query_of query) []) }
 
-    new : Parts
+    new : CoreParts
     new = accepted seat number (statements_at parts.seats seat ++ statement_of number IsAsked ∷ []) entry parts
 
     extent : ℕ

@@ -1,5 +1,5 @@
 -- Accepted queries that are found by their numbers.
-use Rattle.event_core.proofs.Words.{◌∷◌, ◌≡◌, [], Accepted, accepted_as, accepted_at, accepted_in, asked_at, AskedQuery, Bool, cond, eqb, false, Grouped, IsCore, IsSome, Life, life-accepted, life_of, List, Lives, None, Option, option_map, Parts, query_in, QueryLife, refl, Some, state_of, subst, true, ℕ}
+use Rattle.event_core.proofs.Words.{◌∷◌, ◌≡◌, [], Accepted, accepted_as, accepted_at, accepted_in, asked_at, AskedQuery, Bool, cond, CoreParts, eqb, false, Grouped, IsCore, IsSome, Life, life-accepted, life_of, List, Lives, None, Option, option_map, query_in, QueryLife, refl, Some, state_of, subst, true, ℕ}
 
 -- the state has the accepted query of a number where the parts have it
 pub accepted-found : (lives : Lives) (attached : List (Option Grouped)) (asked : List AskedQuery) (number : ℕ)
@@ -15,7 +15,7 @@ accepted-found lives attached (entry ∷ asked) number =
     by_test false rest = rest
 
 -- a query with a life was accepted
-pub asked-there : (parts : Parts) (query : ℕ) (now : Life) → IsCore parts → life_of parts.lives query ≡ Some now
+pub asked-there : (parts : CoreParts) (query : ℕ) (now : Life) → IsCore parts → life_of parts.lives query ≡ Some now
     → IsSome (asked_at parts.asked query)
 asked-there parts query now core lives =
     by_asked (asked_at parts.asked query)

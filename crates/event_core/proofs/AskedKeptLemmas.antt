@@ -1,5 +1,5 @@
 -- Accepted queries of the parts and of the state that they stand for, and what is kept of them.
-use Rattle.event_core.proofs.Words.{◌<◌, ◌∙◌, ◌∷◌, ◌≡◌, ◌≢◌, [], Accepted, accepted_as, accepted_at, accepted_in, All, All-cons, All-head, All-map, All-nil, All-tail, ap, AreAskedRising, arith, asked_at, AskedQuery, attached_for, attached_or, Bool, cases_eq, cond, eq-eqb, eqb, eqb-true, false, find-passes, forgotten, get_or, get_or-map, Grouped, IsCore, IsSome, length, List, Lives, map, ne_eqb, None, Option, option_map, Parts, query_of, QueryLife, refl, Some, subst, suc, sym, true, with_kept, with_kept_at, ℕ, ⊎_elim}
+use Rattle.event_core.proofs.Words.{◌<◌, ◌∙◌, ◌∷◌, ◌≡◌, ◌≢◌, [], Accepted, accepted_as, accepted_at, accepted_in, All, All-cons, All-head, All-map, All-nil, All-tail, ap, AreAskedRising, arith, asked_at, AskedQuery, attached_for, attached_or, Bool, cases_eq, cond, CoreParts, eq-eqb, eqb, eqb-true, false, find-passes, forgotten, get_or, get_or-map, Grouped, IsCore, IsSome, length, List, Lives, map, ne_eqb, None, Option, option_map, query_of, QueryLife, refl, Some, subst, suc, sym, true, with_kept, with_kept_at, ℕ, ⊎_elim}
 use Rattle.std.proofs.Math.ListN as lists
 use Rattle.pipeline_manager.specs.Sound as managed
 use Rattle.pipeline_manager.specs.declared.life.Life.TheVariants as life
@@ -72,7 +72,7 @@ numbers-rise queries asked rising same j k d low within =
         ∙ get_or-map query_of_life queries place none d.number there
 
 -- the numbers of accepted queries rise
-pub asked-rise : (parts : Parts) → IsCore parts → AreAskedRising parts.asked
+pub asked-rise : (parts : CoreParts) → IsCore parts → AreAskedRising parts.asked
 asked-rise parts core =
     numbers-rise parts.lives.queries parts.asked core.sound.slots.lives.rising
     (sym (numbers-seen parts.lives parts.attached parts.asked) ∙ core.sound.queries.same)

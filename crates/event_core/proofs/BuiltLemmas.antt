@@ -1,6 +1,6 @@
 -- A filter of a core is built for a query.
 use Rattle.bit_words.specs.declared.slots.TheConstants.{MAX_SLOTS}
-use Rattle.event_core.proofs.Words.{◌∙◌, Accepted, accepted_as, accepted_at, after_build, All, ap, arith, asked_at, AskedQuery, Becomes, Build, built, CanAdd, CanBuild, CanSpoil, changes_of, Filter, filter_with, FilterVersion, find-holds, FitByKinds, Has, Held, holds-slot, is_begun, IsCore, IsSome, IsSoundQuery, IsTrue, kinds_in, last_after, Lives, next_number, Numbers, option_map_or, Parts, query_of, rows_in, Selection, selection_fits, selection_in, slot_at, slot_of, slot_of-begun, State, state_of, Store, subst, sym, tables_of, version_at, versions_in_hands, with_new, with_slot}
+use Rattle.event_core.proofs.Words.{◌∙◌, Accepted, accepted_as, accepted_at, after_build, All, ap, arith, asked_at, AskedQuery, Becomes, Build, built, CanAdd, CanBuild, CanSpoil, changes_of, CoreParts, Filter, filter_with, FilterVersion, find-holds, FitByKinds, Has, Held, holds-slot, is_begun, IsCore, IsSome, IsSoundQuery, IsTrue, kinds_in, last_after, Lives, next_number, Numbers, option_map_or, query_of, rows_in, Selection, selection_fits, selection_in, slot_at, slot_of, slot_of-begun, State, state_of, Store, subst, sym, tables_of, version_at, versions_in_hands, with_new, with_slot}
 use Rattle.std.specs.Prelude.{◌≡◌, ℕ, ◌<◌, ◌≤◌, false, eqb, length, Option, Some, option_map, refl}
 use Rattle.pipeline_manager.specs.Changes.{after_built, with_dimension}
 use Rattle.pipeline_manager.specs.declared.life.Life.TheVariants as life
@@ -21,7 +21,7 @@ begun : (lives : Lives) (query dimension : ℕ) → CanBuild query dimension liv
 begun lives query dimension can = ap (λ o. option_map_or is_begun o false) can.building
 
 -- it holds a slot, and was accepted, and the filter is there
-pub build-there : (parts : Parts) (query dimension : ℕ) → IsCore parts → CanBuild query dimension parts.lives
+pub build-there : (parts : CoreParts) (query dimension : ℕ) → IsCore parts → CanBuild query dimension parts.lives
     → (dimension < 8) × IsSome (slot_of parts.lives query) × IsSome (version_at parts.filters.versions dimension)
     × IsSome (asked_at parts.asked query)
 build-there parts query dimension core can =
@@ -33,13 +33,13 @@ build-there parts query dimension core can =
     )
 
 -- the accepted query as the state has it
-accepted-at : (parts : Parts) (query : ℕ) (asked : AskedQuery) → asked_at parts.asked query ≡ Some asked
+accepted-at : (parts : CoreParts) (query : ℕ) (asked : AskedQuery) → asked_at parts.asked query ≡ Some asked
     → accepted_at (state_of parts).accepted query ≡ Some (accepted_as parts.lives parts.attached asked)
 accepted-at parts query asked found =
     accepted-found parts.lives parts.attached parts.asked query ∙ ap (option_map (accepted_as parts.lives parts.attached)) found
 
 -- what it takes of a dimension may be asked of the rows
-build-fits : Settles → FitByKinds → (parts : Parts) (query dimension : ℕ) (asked : AskedQuery) → IsCore parts
+build-fits : Settles → FitByKinds → (parts : CoreParts) (query dimension : ℕ) (asked : AskedQuery) → IsCore parts
     → asked_at parts.asked query ≡ Some asked
     → All (λ entry. IsTrue (selection_fits (kinds_in entry.row) (selection_in (query_of asked.query) dimension)))
     (rows_in parts.tables.dimensions dimension)
@@ -54,7 +54,7 @@ build-fits settles fit parts query dimension asked core found =
         (accepted_as parts.lives parts.attached asked) (accepted-at parts query asked found) core.sound.queries.each
 
 -- the query may be added in its slot
-pub build-may : Settles → FitByKinds → (parts : Parts) (query dimension slot : ℕ) (asked : AskedQuery) (old : FilterVersion)
+pub build-may : Settles → FitByKinds → (parts : CoreParts) (query dimension slot : ℕ) (asked : AskedQuery) (old : FilterVersion)
     → IsCore parts → CanBuild query dimension parts.lives → slot_of parts.lives query ≡ Some slot
     → asked_at parts.asked query ≡ Some asked → version_at parts.filters.versions dimension ≡ Some old
     → CanAdd slot (selection_in (query_of asked.query) dimension) (rows_in parts.tables.dimensions dimension) old.filter
@@ -85,7 +85,7 @@ build-may settles fit parts query dimension slot asked old core can place found 
     clear = (subst (FitsSlot (state_of parts).accepted (tables_of (state_of parts)) old.filter slot) held.2 (present.sound.slots slot held.1)).1 not_built
 
 -- the same is attached for each query
-seen-built : (parts : Parts) (query dimension slot : ℕ) → slot_of parts.lives query ≡ Some slot
+seen-built : (parts : CoreParts) (query dimension slot : ℕ) → slot_of parts.lives query ≡ Some slot
     → IsSeenAs parts.lives (after_built query dimension parts.lives) parts.attached
 seen-built parts query dimension slot place =
     subst (λ o. IsSeenAs parts.lives
@@ -97,7 +97,7 @@ seen-built parts query dimension slot place =
     })
 
 -- the state with the next version
-state-built : (parts : Parts) (query dimension slot : ℕ) (asked : AskedQuery) (old version : FilterVersion) → IsCore parts
+state-built : (parts : CoreParts) (query dimension slot : ℕ) (asked : AskedQuery) (old version : FilterVersion) → IsCore parts
     → slot_of parts.lives query ≡ Some slot → asked_at parts.asked query ≡ Some asked
     → version_at parts.filters.versions dimension ≡ Some old
     → version.number ≡ next_number parts.numbers.version (versions_in_hands (state_of parts).scan.flights)
@@ -134,7 +134,7 @@ state-built parts query dimension slot asked old version core place found presen
         a state) o state) { lives = lives }
 
 -- the parts where a filter is built for a query
-pub becomes-built : QuietEventsLeave → (parts : Parts) (query dimension slot : ℕ) (asked : AskedQuery) (old version : FilterVersion)
+pub becomes-built : QuietEventsLeave → (parts : CoreParts) (query dimension slot : ℕ) (asked : AskedQuery) (old version : FilterVersion)
     → IsCore parts → CanBuild query dimension parts.lives → slot_of parts.lives query ≡ Some slot
     → asked_at parts.asked query ≡ Some asked → version_at parts.filters.versions dimension ≡ Some old
     → version.number ≡ next_number parts.numbers.version (versions_in_hands (state_of parts).scan.flights)

@@ -1,5 +1,5 @@
 -- A statement that changes the tables becomes the core's: its change is an entry more, and the fact table has its filters.
-use Rattle.event_core.proofs.Words.{◌++◌, ◌+◌, ◌<◌, ◌∙◌, ◌∷◌, ◌≡◌, ◌≤◌, [], Accepts, AcceptsAll, after_change, after_outcome, after_submitting, ap, arith, Becomes, Change, changed, changes_of, counted, empty_store, EndsAscending, entries_as, Entry, fact_columns, filter_dimensions, fold, IfSome, IsCore, IsKeyed, IsSettled, KeyedStore, kind_of_change, known_in, length, length-range_with_len, List, list_any, logged, Logged, map, Outcome, outcome_of, Parts, plain, range_with_len, references, refl, replicate, Reply, Schema, Seat, seat_as, Some, State, state_of, Statement, statements_at, Store, store_of, submitted, subst, sym, TableDef, tables_by, tables_of, Waits, with_first_filters, with_number, ℕ}
+use Rattle.event_core.proofs.Words.{◌++◌, ◌+◌, ◌<◌, ◌∙◌, ◌∷◌, ◌≡◌, ◌≤◌, [], Accepts, AcceptsAll, after_change, after_outcome, after_submitting, ap, arith, Becomes, Change, changed, changes_of, CoreParts, counted, empty_store, EndsAscending, entries_as, Entry, fact_columns, filter_dimensions, fold, IfSome, IsCore, IsKeyed, IsSettled, KeyedStore, kind_of_change, known_in, length, length-range_with_len, List, list_any, logged, Logged, map, Outcome, outcome_of, plain, range_with_len, references, refl, replicate, Reply, Schema, Seat, seat_as, Some, State, state_of, Statement, statements_at, Store, store_of, submitted, subst, sym, TableDef, tables_by, tables_of, Waits, with_first_filters, with_number, ℕ}
 use Rattle.std.proofs.lemmas.List.Sums.{count_by-le-length, length-filter}
 use Rattle.query_meaning.specs.History.{FactDeclared}
 use Rattle.query_meaning.proofs.LaterLemmas.{undeclared}
@@ -21,7 +21,7 @@ pub record TableLaws : Type 0 where
   pub settled : (history : List Change) → AcceptsAll empty_store history → IsSettled (store_of history)
 
 -- a statement of a seat is told a reply, and changes the tables to these
-pub record Changes (parts : Parts) (seat : ℕ) (statement : Statement) (reply : Reply) (change : Change) (tables : KeyedStore) : Type 0 where
+pub record Changes (parts : CoreParts) (seat : ℕ) (statement : Statement) (reply : Reply) (change : Change) (tables : KeyedStore) : Type 0 where
   pub core : IsCore parts
   pub there : seat < length parts.seats
   pub tells : outcome_of (tables_of (state_of parts)) statement ≡ record { change = Some change; told = outcome.Replied reply }
@@ -29,25 +29,25 @@ pub record Changes (parts : Parts) (seat : ℕ) (statement : Statement) (reply :
   pub keyed : IsKeyed tables
 
 -- the entry of the change
-abbrev entry_of : Parts → (seat : ℕ) → Change → Entry
+abbrev entry_of : CoreParts → (seat : ℕ) → Change → Entry
 entry_of parts seat change = record { seat = seat; statement = parts.numbers.statement + 1; change = change }
 
 -- what is logged of it
-abbrev logged_of : Parts → (seat : ℕ) → Change → Logged
+abbrev logged_of : CoreParts → (seat : ℕ) → Change → Logged
 logged_of parts seat change = record { seat = seat; statement = parts.numbers.statement + 1; kind = kind_of_change change }
 
 -- the parts with the change logged, before the filters that it asks for
-abbrev logged_now : Parts → (seat : ℕ) → Reply → Change → KeyedStore → Parts
+abbrev logged_now : CoreParts → (seat : ℕ) → Reply → Change → KeyedStore → CoreParts
 logged_now parts seat reply change tables = logged (logged_of parts seat change) tables
     (submitted seat (parts.numbers.statement + 1)
     (statements_at parts.seats seat ++ statement_of (parts.numbers.statement + 1) (Waits reply) ∷ []) parts)
 
 -- the seats after the statement
-abbrev seats_now : Parts → (seat : ℕ) → Reply → List Seat
+abbrev seats_now : CoreParts → (seat : ℕ) → Reply → List Seat
 seats_now parts seat reply = (after_outcome seat (outcome.only_tells (outcome.Replied reply)) (state_of parts)).seats
 
 -- the state with the change as an entry, before the filters that it asks for
-abbrev changed_now : Parts → (seat : ℕ) → Reply → Change → State
+abbrev changed_now : CoreParts → (seat : ℕ) → Reply → Change → State
 changed_now parts seat reply change = record (state_of parts) {
   entries = (state_of parts).entries ++ entry_of parts seat change ∷ [];
   seats = seats_now parts seat reply;
@@ -55,14 +55,14 @@ changed_now parts seat reply change = record (state_of parts) {
 }
 
 -- what follows of such a change
-record Followed (parts : Parts) (seat : ℕ) (change : Change) (tables : KeyedStore) : Type 0 where
+record Followed (parts : CoreParts) (seat : ℕ) (change : Change) (tables : KeyedStore) : Type 0 where
   takes : Accepts (tables_of (state_of parts)) change
   settled : IsSettled (tables_of (state_of parts))
   entries : entries_as (plain tables) (parts.log ++ logged_of parts seat change ∷ []) ≡ (state_of parts).entries ++ entry_of parts seat change ∷ []
   told : plain tables ≡ tables_by (entries_as (plain tables) (parts.log ++ logged_of parts seat change ∷ []))
 
 -- such a change follows from the laws
-followed : TableLaws → (parts : Parts) (seat : ℕ) (statement : Statement) (reply : Reply) (change : Change) (tables : KeyedStore)
+followed : TableLaws → (parts : CoreParts) (seat : ℕ) (statement : Statement) (reply : Reply) (change : Change) (tables : KeyedStore)
     → Changes parts seat statement reply change tables → Followed parts seat change tables
 followed says parts seat statement reply change tables is = record {
   takes = takes;
@@ -92,14 +92,14 @@ followed says parts seat statement reply change tables is = record {
         is.core.sound.store is.core.sound.ends takes ascending is.after
 
 -- the seats of the parts are those of the state
-seats-same : (parts : Parts) (seat : ℕ) (reply : Reply) (change : Change) (tables : KeyedStore) → seat < length parts.seats
+seats-same : (parts : CoreParts) (seat : ℕ) (reply : Reply) (change : Change) (tables : KeyedStore) → seat < length parts.seats
     → map (seat_as (known_in parts.asked)) (logged_now parts seat reply change tables).seats ≡ seats_now parts seat reply
 seats-same parts seat reply change tables there =
     seats-one (known_in parts.asked) (known_in parts.asked) parts.seats seat (parts.numbers.statement + 1) (Waits reply) (outcome.Replied reply)
     there refl refl refl
 
 -- a change that asks for no filters, and declares no fact table
-becomes-logged : Laws → TableLaws → (parts : Parts) (seat : ℕ) (statement : Statement) (reply : Reply) (change : Change) (tables : KeyedStore)
+becomes-logged : Laws → TableLaws → (parts : CoreParts) (seat : ℕ) (statement : Statement) (reply : Reply) (change : Change) (tables : KeyedStore)
     → Changes parts seat statement reply change tables
     → filters_by change (changed_now parts seat reply change) ≡ changed_now parts seat reply change
     → Becomes (logged_now parts seat reply change tables) (after_submitting seat statement (state_of parts))
@@ -129,7 +129,7 @@ few-filters schema =
     omega (arith, length-filter passes all, count_by-le-length passes all, length-range_with_len 0 (length schema.dimensions))
 
 -- the state with first filters of these dimensions
-abbrev filtered_now : Parts → (seat : ℕ) → Reply → Change → List Entry → List Seat → (dimensions : List ℕ) → (first count : ℕ) → State
+abbrev filtered_now : CoreParts → (seat : ℕ) → Reply → Change → List Entry → List Seat → (dimensions : List ℕ) → (first count : ℕ) → State
 filtered_now parts seat reply change entries seats dimensions first count = record (changed_now parts seat reply change) {
   entries = entries;
   seats = seats;
@@ -139,7 +139,7 @@ filtered_now parts seat reply change entries seats dimensions first count = reco
 }
 
 -- the declaration of the fact table
-becomes-declared : Laws → TableLaws → (parts : Parts) (seat : ℕ) (statement : Statement) (reply : Reply) (table : TableDef) (tables : KeyedStore)
+becomes-declared : Laws → TableLaws → (parts : CoreParts) (seat : ℕ) (statement : Statement) (reply : Reply) (table : TableDef) (tables : KeyedStore)
     → Changes parts seat statement reply (FactDeclared table) tables
     → Becomes (with_first_filters (filter_dimensions tables.schema) (logged_now parts seat reply (FactDeclared table) tables))
     (after_submitting seat statement (state_of parts))
@@ -198,7 +198,7 @@ becomes-declared laws says parts seat statement reply table tables is =
         omega arith
 
 -- whatever the change is
-pub becomes-changed : Laws → TableLaws → (parts : Parts) (seat : ℕ) (statement : Statement) (reply : Reply) (change : Change) (tables : KeyedStore)
+pub becomes-changed : Laws → TableLaws → (parts : CoreParts) (seat : ℕ) (statement : Statement) (reply : Reply) (change : Change) (tables : KeyedStore)
     → Changes parts seat statement reply change tables
     → Becomes (changed seat (parts.numbers.statement + 1)
     (statements_at parts.seats seat ++ statement_of (parts.numbers.statement + 1) (Waits reply) ∷ []) (kind_of_change change) tables parts)

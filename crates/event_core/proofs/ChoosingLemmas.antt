@@ -1,5 +1,5 @@
 -- No event of a kind may come where the parts of a core offer none, and one that they offer may.
-use Rattle.event_core.proofs.Words.{◌+◌, ◌∙◌, ◌∷◌, ◌≡◌, ◌≢◌, [], All, All-cons, All-nil, All-head, All-map, All-tail, AllPairs, ap, arith, bit_at, Bool, Build, CanBuild, CanClear, CanEnd, CanFree, CanRun, Clear, cond, Cut, Distribute, eqb, false, find, Finish, Flight, flight_as, flight_at, flights_as, get_or, get_or-map, IfSome, IsCore, IsSome, IsSomeAnd, IsThrough, IsWanting, Known, known_in, length, length-map, List, list_any, MayCut, MayDistribute, MayFinish, MayReserve, None, NoneMayCome, not-true, Option, option_map, Parts, Reach, reaches_in, refl, Release, Reserve, Some, Start, State, state_of, subst, sym, Through, true, Wants, ℕ, Abandon, CanAbandon, Give, IsSound, held_by, MayTake, Reorder, Submit, Take, tables_of, is_some, Statement, none-some, find-passes, some-at, ◌<◌, Event, option_map_or, eqb-true}
+use Rattle.event_core.proofs.Words.{◌+◌, ◌∙◌, ◌∷◌, ◌≡◌, ◌≢◌, [], All, All-cons, All-nil, All-head, All-map, All-tail, AllPairs, ap, arith, bit_at, Bool, Build, CanBuild, CanClear, CanEnd, CanFree, CanRun, Clear, cond, Cut, Distribute, eqb, false, find, Finish, Flight, flight_as, flight_at, flights_as, get_or, get_or-map, IfSome, IsCore, IsSome, IsSomeAnd, IsThrough, IsWanting, Known, known_in, length, length-map, List, list_any, MayCut, MayDistribute, MayFinish, MayReserve, None, NoneMayCome, not-true, Option, option_map, CoreParts, Reach, reaches_in, refl, Release, Reserve, Some, Start, State, state_of, subst, sym, Through, true, Wants, ℕ, Abandon, CanAbandon, Give, IsSound, held_by, MayTake, Reorder, Submit, Take, tables_of, is_some, Statement, none-some, find-passes, some-at, ◌<◌, Event, option_map_or, eqb-true}
 use Rattle.std.proofs.lemmas.Bool.{not_from_false}
 use Rattle.std.proofs.lemmas.List.{get_or_default}
 use Rattle.std.proofs.lemmas.List.Elements.{AllWithin-more}
@@ -73,7 +73,7 @@ none-more kinds state place d managed low before none =
     (none (managed-apart (get_or kinds place d) (all-managed kinds managed place d low))))
 
 -- batches in flight have different numbers in the code, too
-pub numbers-apart : (parts : Parts) (flights : List Flight) → IsCore parts → flights ≡ parts.flights
+pub numbers-apart : (parts : CoreParts) (flights : List Flight) → IsCore parts → flights ≡ parts.flights
     → AllPairs (λ flight other. flight.batch.number ≢ other.batch.number) flights
 numbers-apart parts flights core same =
     subst (λ list. AllPairs (λ (flight other : Flight). flight.batch.number ≢ other.batch.number) list) (sym same)
@@ -119,7 +119,7 @@ found-there P None holds = absurd holds
 found-there P (Some x) holds = (refl, holds)
 
 -- a batch that is through in the code may be distributed
-pub distribute-offered : (parts : Parts) (number : ℕ) (filters : state.Filters) (flights : List Flight)
+pub distribute-offered : (parts : CoreParts) (number : ℕ) (filters : state.Filters) (flights : List Flight)
     → filters ≡ parts.filters → flights ≡ parts.flights
     → IsSomeAnd (find (λ flight. eqb flight.batch.number number) flights) (Through filters) → MayDistribute number (state_of parts)
 distribute-offered parts number filters flights meant same found = record { there = both.0; through = both.1 }
@@ -134,7 +134,7 @@ distribute-offered parts number filters flights meant same found = record { ther
         (subst (λ of. IsSomeAnd (find (λ (flight : Flight). eqb flight.batch.number number) parts.flights) (Through of)) meant in_parts))
 
 -- where none is through, none may be
-pub none-distributed : (parts : Parts) (filters : state.Filters) (flights : List Flight) → filters ≡ parts.filters → flights ≡ parts.flights
+pub none-distributed : (parts : CoreParts) (filters : state.Filters) (flights : List Flight) → filters ≡ parts.filters → flights ≡ parts.flights
     → All (λ flight. Through filters flight → ⊥) flights → NoneMayCome kind.Distribute (state_of parts)
 none-distributed parts filters flights meant same none = none-come kind.Distribute (state_of parts) (λ number may.
     never-found (IsThrough parts.filters) (flight_at (state_of parts).scan.flights number)
@@ -147,7 +147,7 @@ none-distributed parts filters flights meant same none = none-come kind.Distribu
         (subst (λ of. Through of (get_or parts.flights k d)) (sym meant) (record { idle = is.idle; through = is.through })))
 
 -- a batch that wants a filter in the code does in the core
-pub take-offered : (parts : Parts) (found : Option ℕ) (filters : state.Filters) (flights : List Flight)
+pub take-offered : (parts : CoreParts) (found : Option ℕ) (filters : state.Filters) (flights : List Flight)
     → filters ≡ parts.filters → flights ≡ parts.flights
     → IfSome found (λ number. IsSomeAnd (find (λ flight. eqb flight.batch.number number) flights) (Wants filters))
     → IfSome found (λ number. IsSomeAnd (flight_at (state_of parts).scan.flights number) (IsWanting parts.filters))
@@ -161,7 +161,7 @@ take-offered parts (Some number) filters flights meant same wants =
     in_parts = subst (λ list. IsSomeAnd (find (λ (flight : Flight). eqb flight.batch.number number) list) (Wants filters)) same wants
 
 -- where none does in the code, none does
-pub none-wanting : (parts : Parts) (filters : state.Filters) (flights : List Flight) → filters ≡ parts.filters → flights ≡ parts.flights
+pub none-wanting : (parts : CoreParts) (filters : state.Filters) (flights : List Flight) → filters ≡ parts.filters → flights ≡ parts.flights
     → All (λ flight. Wants filters flight → ⊥) flights → All (λ flight. IsWanting parts.filters flight → ⊥) (state_of parts).scan.flights
 none-wanting parts filters flights meant same none =
     All-map (λ flight. IsWanting parts.filters flight → ⊥) (flight_as (known_in parts.asked) (reaches_in parts.lives.queries)) parts.flights
@@ -169,14 +169,14 @@ none-wanting parts filters flights meant same none =
     (subst (λ of. Wants of (get_or parts.flights k d)) (sym meant) (record { idle = is.idle; bits = is.bits; filter = is.filter })))
 
 -- a slot that is over, and on no roster, may be finished
-pub finish-offered : (parts : Parts) (slot : ℕ) (flights : List Flight) → IsCore parts → flights ≡ parts.flights
+pub finish-offered : (parts : CoreParts) (slot : ℕ) (flights : List Flight) → IsCore parts → flights ≡ parts.flights
     → CanEnd slot parts.lives × (list_any (λ flight. eqb (bit_at flight.batch.roster slot) 1) flights ≡ false) → MayFinish slot (state_of parts)
 finish-offered parts slot flights core same offered =
     (finished-landed parts slot flights (list_any (λ flight. eqb (bit_at flight.batch.roster slot) 1) flights) core same refl offered.0).0
     (not_from_false (list_any (λ flight. eqb (bit_at flight.batch.roster slot) 1) flights) offered.1)
 
 -- where none is, none may be
-pub none-finished : (parts : Parts) (flights : List Flight) → IsCore parts → flights ≡ parts.flights
+pub none-finished : (parts : CoreParts) (flights : List Flight) → IsCore parts → flights ≡ parts.flights
     → ((slot : ℕ) → CanEnd slot parts.lives × (list_any (λ flight. eqb (bit_at flight.batch.roster slot) 1) flights ≡ false) → ⊥)
     → NoneMayCome kind.Finish (state_of parts)
 none-finished parts flights core same none = none-come kind.Finish (state_of parts) (λ slot may. none slot (
@@ -206,7 +206,7 @@ pub none-takes : (state : State) → ((worker : ℕ) → HasFreeHand worker stat
 none-takes state none = none-come kind.Take state (λ worker batch may. none worker (may.seat, may.empty))
 
 -- a worker with a free hand may carry a batch that is idle in the code
-pub carry-offered : (parts : Parts) (worker batch : ℕ) (flights : List Flight) → flights ≡ parts.flights → HasFreeHand worker (state_of parts)
+pub carry-offered : (parts : CoreParts) (worker batch : ℕ) (flights : List Flight) → flights ≡ parts.flights → HasFreeHand worker (state_of parts)
     → IsSomeAnd (find (λ flight. eqb flight.batch.number batch) flights) (λ flight. flight.hand ≡ None)
     → MayCarry worker batch (state_of parts)
 carry-offered parts worker batch flights same free idle =
@@ -220,7 +220,7 @@ carry-offered parts worker batch flights same free idle =
         (subst (λ list. IsSomeAnd (find (λ (flight : Flight). eqb flight.batch.number batch) list) (λ flight. flight.hand ≡ None)) same idle))
 
 -- if no batch is idle, no worker may carry one
-pub none-carried : (parts : Parts) (flights : List Flight) → flights ≡ parts.flights → All (λ flight. flight.hand ≡ None → ⊥) flights
+pub none-carried : (parts : CoreParts) (flights : List Flight) → flights ≡ parts.flights → All (λ flight. flight.hand ≡ None → ⊥) flights
     → NoneMayCome kind.Carry (state_of parts)
 none-carried parts flights same none = none-come kind.Carry (state_of parts) (λ worker batch may.
     never-found (λ (flight : state.Flight). flight.hand ≡ None) (flight_at (state_of parts).scan.flights batch)

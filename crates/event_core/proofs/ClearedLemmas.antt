@@ -1,6 +1,6 @@
 -- A filter of a core is cleared of a slot.
 use Rattle.bit_words.specs.declared.slots.TheConstants.{MAX_SLOTS}
-use Rattle.event_core.proofs.Words.{◌∙◌, after_clear, ap, arith, Becomes, CanClear, Clear, cleared, Clearing, filter_without, FilterVersion, Free, Has, Held, IsCore, IsSome, last_after, Lives, next_number, Numbers, Parts, slot_at, SlotState, state_of, subst, sym, version_at, versions_in_hands, with_new}
+use Rattle.event_core.proofs.Words.{◌∙◌, after_clear, ap, arith, Becomes, CanClear, Clear, cleared, Clearing, CoreParts, filter_without, FilterVersion, Free, Has, Held, IsCore, IsSome, last_after, Lives, next_number, Numbers, slot_at, SlotState, state_of, subst, sym, version_at, versions_in_hands, with_new}
 use Rattle.std.specs.Prelude.{◌≡◌, ℕ, ◌<◌, length, Some, refl}
 use Rattle.std.proofs.lemmas.List.Elements.{All-get_or}
 use Rattle.pipeline_manager.specs.Changes.{after_cleared, without_dimension}
@@ -29,7 +29,7 @@ to-clear lives slot dimension sound can = by_state (slot_at lives slot) refl can
         subst (IsOfFilters lives.filters) is (All-get_or (IsOfFilters lives.filters) lives.slots slot Free there sound.of_filters) in
         (there, bits dimension can)
 
-pub clearing-there : (parts : Parts) (slot dimension : ℕ) → IsCore parts → CanClear slot dimension parts.lives
+pub clearing-there : (parts : CoreParts) (slot dimension : ℕ) → IsCore parts → CanClear slot dimension parts.lives
     → (slot < MAX_SLOTS) × (dimension < 8) × IsSome (version_at parts.filters.versions dimension)
 clearing-there parts slot dimension core can =
     let there = to-clear parts.lives slot dimension core.sound.slots.lives can in
@@ -38,7 +38,7 @@ clearing-there parts slot dimension core can =
     (omega arith, has-few (state_of parts) dimension core.sound there.1, subst IsSome (sym present.1.found) refl)
 
 -- the same is attached for each query
-seen-cleared : (parts : Parts) (slot dimension : ℕ) → IsSeenAs parts.lives (after_cleared slot dimension parts.lives) parts.attached
+seen-cleared : (parts : CoreParts) (slot dimension : ℕ) → IsSeenAs parts.lives (after_cleared slot dimension parts.lives) parts.attached
 seen-cleared parts slot dimension = record {
   attached = λ query. attached_for-written parts.lives parts.attached slot query (without_dimension dimension (slot_at parts.lives slot))
       (holder-without_dimension dimension (slot_at parts.lives slot) query);
@@ -46,7 +46,7 @@ seen-cleared parts slot dimension = record {
 }
 
 -- the parts where a filter is cleared of a slot
-pub becomes-cleared : QuietEventsLeave → (parts : Parts) (slot dimension : ℕ) (old version : FilterVersion) → IsCore parts
+pub becomes-cleared : QuietEventsLeave → (parts : CoreParts) (slot dimension : ℕ) (old version : FilterVersion) → IsCore parts
     → CanClear slot dimension parts.lives → version_at parts.filters.versions dimension ≡ Some old
     → version.number ≡ next_number parts.numbers.version (versions_in_hands (state_of parts).scan.flights)
     → version.filter ≡ filter_without slot old.filter

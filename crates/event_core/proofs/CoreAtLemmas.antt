@@ -1,5 +1,5 @@
 -- Parts whose state is known are those of a core where they fit that state.
-use Rattle.event_core.proofs.Words.{after_step, All, AreTablesOf, attached_for, attached_to, Becomes, frame_words, frames_of, IsCore, IsScannedAs, IsSome, IsSound, List, MayStep, Option, Parts, State, state_of, Step, subst, sym}
+use Rattle.event_core.proofs.Words.{after_step, All, AreTablesOf, attached_for, attached_to, Becomes, CoreParts, frame_words, frames_of, IsCore, IsScannedAs, IsSome, IsSound, List, MayStep, Option, State, state_of, Step, subst, sym}
 use Rattle.std.specs.Prelude.{◌≡◌, None}
 use Rattle.shared_distributor.specs.Shared.{Lending}
 
@@ -8,7 +8,7 @@ abbrev pub KeepSound : Type 0
 KeepSound = (step : Step) (state : State) → MayStep state step → IsSound state → IsSound (after_step step state)
 
 -- parts that fit a state
-pub record AreOf (parts : Parts) (state : State) : Type 0 where
+pub record AreOf (parts : CoreParts) (state : State) : Type 0 where
   pub sound : IsSound state
   pub tables : AreTablesOf state parts.tables
   pub scanned : IsScannedAs state parts.scan
@@ -18,7 +18,7 @@ pub record AreOf (parts : Parts) (state : State) : Type 0 where
   pub words : parts.pool.words ≡ frame_words state
 
 -- parts that fit the state that they stand for
-core-of : (parts : Parts) → AreOf parts (state_of parts) → IsCore parts
+core-of : (parts : CoreParts) → AreOf parts (state_of parts) → IsCore parts
 core-of parts are = record {
   sound = are.sound;
   tables = are.tables;
@@ -30,14 +30,14 @@ core-of parts are = record {
 }
 
 -- parts that stand for a state and fit it
-pub becomes-of : (parts : Parts) (after : State) → state_of parts ≡ after → AreOf parts after → Becomes parts after
+pub becomes-of : (parts : CoreParts) (after : State) → state_of parts ≡ after → AreOf parts after → Becomes parts after
 becomes-of parts after same are = record {
   state = same;
   core = core-of parts (subst (AreOf parts) (sym same) are);
 }
 
 -- what is out with seats is no part of the state
-pub becomes-out : (parts : Parts) (out : List (Option Lending)) (after : State) → Becomes parts after → Becomes (record parts { out = out }) after
+pub becomes-out : (parts : CoreParts) (out : List (Option Lending)) (after : State) → Becomes parts after → Becomes (record parts { out = out }) after
 becomes-out parts out after becomes = record {
   state = becomes.state;
   core = record {

@@ -1,5 +1,5 @@
 -- Who is on the roster of a batch that is cut: at each slot of its set the query that the scan runs there.
-use Rattle.event_core.proofs.Words.{◌++◌, ◌+◌, ◌-◌, ◌<◌, ◌↔◌, ◌∙◌, ◌∷◌, ◌≡◌, ◌≤◌, [], Accepted, accepted_as, accepted_at, accepted_in, ap, append-nil, AreHolders, arith, AskedQuery, bit_at, Bool, cond, cons_option, entry_by, entry_of, eq-eqb, eqb, extent_in, false, filter_map, filter_map-append, find, get_or, get_or_past, Grouped, Has, holder_of, is_some, IsCore, IsTrue, Known, known_at, known_in, length, life_at, List, Lives, ne_eqb, None, OnRoster, Option, option_map, option_map_or, Parts, QueryLife, range_parts, range_with_len, Reach, reach_at, reaches_in, refl, roster_by, roster_of, Running, Some, state_of, suc, sym, true, zero, ℕ}
+use Rattle.event_core.proofs.Words.{◌++◌, ◌+◌, ◌-◌, ◌<◌, ◌↔◌, ◌∙◌, ◌∷◌, ◌≡◌, ◌≤◌, [], Accepted, accepted_as, accepted_at, accepted_in, ap, append-nil, AreHolders, arith, AskedQuery, bit_at, Bool, cond, cons_option, CoreParts, entry_by, entry_of, eq-eqb, eqb, extent_in, false, filter_map, filter_map-append, find, get_or, get_or_past, Grouped, Has, holder_of, is_some, IsCore, IsTrue, Known, known_at, known_in, length, life_at, List, Lives, ne_eqb, None, OnRoster, Option, option_map, option_map_or, QueryLife, range_parts, range_with_len, Reach, reach_at, reaches_in, refl, roster_by, roster_of, Running, Some, state_of, suc, sym, true, zero, ℕ}
 use Rattle.continuous_scan.specs.Stamped as stamped
 use Rattle.core_state.specs.Found.{running_at}
 use Rattle.core_state.proofs.CutRosterLemmas.{RunsIn, runs-in}
@@ -67,12 +67,12 @@ bit-is law running slot = by_some (is_some (get_or running slot None)) refl
         ∙ sym is
 
 -- what a roster has at a slot
-abbrev at_slot : Parts → (holders : List ℕ) → (slot : ℕ) → Option OnRoster
+abbrev at_slot : CoreParts → (holders : List ℕ) → (slot : ℕ) → Option OnRoster
 at_slot parts holders slot = cond {A = Option OnRoster} (eqb (bit_at (stamped.roster_of parts.scan.running) slot) 1)
     (entry_by (known_in parts.asked) (reaches_in parts.lives.queries) slot (get_or holders slot 0)) None
 
 -- at a slot of the core the query that runs there
-slot-runs : RosterLaw → (parts : Parts) (holders : List ℕ) → IsCore parts → AreHolders parts.lives holders → (slot : ℕ)
+slot-runs : RosterLaw → (parts : CoreParts) (holders : List ℕ) → IsCore parts → AreHolders parts.lives holders → (slot : ℕ)
     → slot < length parts.lives.slots → at_slot parts holders slot ≡ running_at (state_of parts) slot
 slot-runs law parts holders core held slot low =
     ap (λ t. cond {A = Option OnRoster} t
@@ -93,7 +93,7 @@ slot-runs law parts holders core held slot low =
         ∙ ap Some (sym here.is)
 
 -- and past them nothing
-slot-past : RosterLaw → (parts : Parts) (holders : List ℕ) → IsCore parts → (slot : ℕ) → length parts.lives.slots ≤ slot
+slot-past : RosterLaw → (parts : CoreParts) (holders : List ℕ) → IsCore parts → (slot : ℕ) → length parts.lives.slots ≤ slot
     → at_slot parts holders slot ≡ None
 slot-past law parts holders core slot past =
     ap (λ t. cond {A = Option OnRoster} t
@@ -134,7 +134,7 @@ same-before {Y = Y} f g less more fits same none =
     ∙ append-nil (filter_map g (range_with_len 0 less))
 
 -- the roster of the batch that is cut
-pub roster-found : RosterLaw → (parts : Parts) (holders : List ℕ) → IsCore parts → AreHolders parts.lives holders
+pub roster-found : RosterLaw → (parts : CoreParts) (holders : List ℕ) → IsCore parts → AreHolders parts.lives holders
     → roster_by (known_in parts.asked) (reaches_in parts.lives.queries) (stamped.roster_of parts.scan.running) holders
     ≡ roster_of (state_of parts)
 roster-found law parts holders core held =

@@ -1,5 +1,5 @@
 -- A batch that is cut: what becomes of the parts is what becomes of the state.
-use Rattle.event_core.proofs.Words.{[], ◌++◌, ◌+◌, ◌-◌, ◌∙◌, ◌∷◌, ◌≡◌, after_cut, after_cutting, ap, AreHolders, arith, attached_to, batch_of, Becomes, cond, counted, Cut, cut_into, Event, false, Flight, flight_as, flights_as, frame_words, IsCore, IsEnabled, IsScannedAs, IsSound, IsTrue, Known, known_in, last_after, LeavesAttached, length, length-append, List, map, MayCut, next_number, None, Parts, Reach, reaches_in, refl, roster_of, Scanning, some_run, State, state_of, subst, sym, ℕ}
+use Rattle.event_core.proofs.Words.{[], ◌++◌, ◌+◌, ◌-◌, ◌∙◌, ◌∷◌, ◌≡◌, after_cut, after_cutting, ap, AreHolders, arith, attached_to, batch_of, Becomes, cond, CoreParts, counted, Cut, cut_into, Event, false, Flight, flight_as, flights_as, frame_words, IsCore, IsEnabled, IsScannedAs, IsSound, IsTrue, Known, known_in, last_after, LeavesAttached, length, length-append, List, map, MayCut, next_number, None, Reach, reaches_in, refl, roster_of, Scanning, some_run, State, state_of, subst, sym, ℕ}
 use Rattle.std.proofs.lemmas.List.{map-append}
 use Rattle.continuous_scan.specs.Range as scanned
 use Rattle.core_state.specs.Cutting.{end_in, first_in, rows_to_cut}
@@ -9,7 +9,7 @@ use Rattle.event_core.proofs.CutHolderLemmas.{RosterLaw, roster-found}
 use Rattle.event_core.proofs.SeenLemmas.{reaches-cut}
 
 -- the number of a cut's batch is the next one
-abbrev number_in : Parts → ℕ
+abbrev number_in : CoreParts → ℕ
 number_in parts = next_number parts.numbers.batch (map (λ flight. flight.batch.number) parts.flights)
 
 -- the batches in flight have the numbers that the code's have
@@ -20,13 +20,13 @@ same-numbers known reaches (flight ∷ flights) = ap (λ rest. flight.batch.numb
 
 -- the scan cuts the batch that the core cuts
 abbrev pub BatchLaw : Type 0
-BatchLaw = (parts : Parts) → IsCore parts
+BatchLaw = (parts : CoreParts) → IsCore parts
     → batch_of parts.settings.batch
     (next_number parts.numbers.batch (map (λ flight. flight.rows.number) (state_of parts).scan.flights))
     (frame_words (state_of parts)) parts.scan parts.tables.versions ≡ rows_to_cut (state_of parts)
 
 -- so the batch of the parts is that of the state
-same-rows : BatchLaw → (parts : Parts) (frame : List ℕ) → IsCore parts → length frame ≡ parts.pool.words
+same-rows : BatchLaw → (parts : CoreParts) (frame : List ℕ) → IsCore parts → length frame ≡ parts.pool.words
     → batch_of parts.settings.batch (number_in parts) (length frame) parts.scan parts.tables.versions ≡ rows_to_cut (state_of parts)
 same-rows law parts frame core long =
     ap (λ used. batch_of parts.settings.batch (next_number parts.numbers.batch used) (length frame) parts.scan parts.tables.versions)
@@ -37,7 +37,7 @@ same-rows law parts frame core long =
     ∙ law parts core
 
 -- the batch in flight that is cut
-abbrev new_flight : (holders frame : List ℕ) → Parts → Flight
+abbrev new_flight : (holders frame : List ℕ) → CoreParts → Flight
 new_flight holders frame parts = record {
   batch = batch_of parts.settings.batch (number_in parts) (length frame) parts.scan parts.tables.versions;
   holders = holders;
@@ -46,7 +46,7 @@ new_flight holders frame parts = record {
 }
 
 -- and with its roster it is the batch in flight of the state
-same-flight : BatchLaw → RosterLaw → (parts : Parts) (holders frame : List ℕ) → IsCore parts → length frame ≡ parts.pool.words
+same-flight : BatchLaw → RosterLaw → (parts : CoreParts) (holders frame : List ℕ) → IsCore parts → length frame ≡ parts.pool.words
     → AreHolders parts.lives holders
     → flight_as (known_in parts.asked) (reaches_in parts.lives.queries) (new_flight holders frame parts)
     ≡ record { rows = rows_to_cut (state_of parts); roster = roster_of (state_of parts); hand = None }
@@ -59,7 +59,7 @@ same-flight batches rosters parts holders frame core long held =
     ∙ ap (λ rows. record { rows = rows; roster = roster_of (state_of parts); hand = None }) (same-rows batches parts frame core long)
 
 -- the state behind a cut of these positions, with these batches and so many free frames
-abbrev cut_state : Parts → (first end position : ℕ) → (flights : List state.Flight) → (free : ℕ) → State
+abbrev cut_state : CoreParts → (first end position : ℕ) → (flights : List state.Flight) → (free : ℕ) → State
 cut_state parts first end position flights free = record (state_of parts) {
   lives = after_cut first (end - 1) parts.lives;
   scan = record { position = position; flights = flights; free = free; cut = counted parts.cut (end - first) };
@@ -67,7 +67,7 @@ cut_state parts first end position flights free = record (state_of parts) {
 }
 
 -- it is the same where each of these is
-cut_state-same : (parts : Parts) (first first' end end' position position' : ℕ) (flights flights' : List state.Flight) (free free' : ℕ)
+cut_state-same : (parts : CoreParts) (first first' end end' position position' : ℕ) (flights flights' : List state.Flight) (free free' : ℕ)
     → first ≡ first' → end ≡ end' → position ≡ position' → flights ≡ flights' → free ≡ free'
     → cut_state parts first end position flights free ≡ cut_state parts first' end' position' flights' free'
 cut_state-same parts first first' end end' position position' flights flights' free free' firsts ends positions same frees =
@@ -93,7 +93,7 @@ less-free inside all frame is =
     omega arith
 
 -- the batches in flight behind a cut
-flights-cut : BatchLaw → RosterLaw → (parts : Parts) (holders frame : List ℕ) (first last : ℕ) → IsCore parts
+flights-cut : BatchLaw → RosterLaw → (parts : CoreParts) (holders frame : List ℕ) (first last : ℕ) → IsCore parts
     → length frame ≡ parts.pool.words → AreHolders parts.lives holders
     → flights_as (known_in parts.asked) (reaches_in (after_cut first last parts.lives).queries) (parts.flights ++ new_flight holders frame parts ∷ [])
     ≡ (state_of parts).scan.flights
@@ -105,13 +105,13 @@ flights-cut batches rosters parts holders frame first last core long held =
     ∙ ap (λ one. (state_of parts).scan.flights ++ one ∷ []) (same-flight batches rosters parts holders frame core long held)
 
 -- the first position of a cut, and the one behind its last, are those of the core
-abbrev IsRange : Parts → Type 0
+abbrev IsRange : CoreParts → Type 0
 IsRange parts =
     (scanned.first_in (length parts.tables.versions) parts.scan ≡ first_in (state_of parts))
     × (scanned.end_in (length parts.tables.versions) parts.settings.batch parts.scan ≡ end_in (state_of parts))
 
 -- the state of the parts behind a cut
-state-cut : BatchLaw → RosterLaw → (parts : Parts) (holders frame : List ℕ) (inside : List (List ℕ)) → IsCore parts
+state-cut : BatchLaw → RosterLaw → (parts : CoreParts) (holders frame : List ℕ) (inside : List (List ℕ)) → IsCore parts
     → IsTrue (some_run parts.scan.running) → IsRange parts → parts.pool.inside ≡ inside ++ frame ∷ []
     → length frame ≡ parts.pool.words → AreHolders parts.lives holders
     → state_of (cut_into holders frame inside (number_in parts) parts) ≡ after_cutting (state_of parts)
@@ -143,7 +143,7 @@ unfolding after_event
 attached-cut law before sound may = law before Cut sound may tt
 
 -- the parts behind a cut are those of a core
-core-cut : AttachedLaw → (parts : Parts) (holders frame : List ℕ) (inside : List (List ℕ)) → IsCore parts → MayCut (state_of parts)
+core-cut : AttachedLaw → (parts : CoreParts) (holders frame : List ℕ) (inside : List (List ℕ)) → IsCore parts → MayCut (state_of parts)
     → IsSound (after_cutting (state_of parts))
     → IsScannedAs (after_cutting (state_of parts)) (scanned.after_cut (length parts.tables.versions) parts.settings.batch parts.scan)
     → state_of (cut_into holders frame inside (number_in parts) parts) ≡ after_cutting (state_of parts)
@@ -159,7 +159,7 @@ core-cut law parts holders frame inside core may sound scan same = record {
 }
 
 -- the parts behind a cut
-pub becomes-cut : BatchLaw → RosterLaw → AttachedLaw → (parts : Parts) (holders frame : List ℕ) (inside : List (List ℕ)) → IsCore parts
+pub becomes-cut : BatchLaw → RosterLaw → AttachedLaw → (parts : CoreParts) (holders frame : List ℕ) (inside : List (List ℕ)) → IsCore parts
     → MayCut (state_of parts) → parts.pool.inside ≡ inside ++ frame ∷ [] → length frame ≡ parts.pool.words → AreHolders parts.lives holders
     → IsTrue (some_run parts.scan.running) → IsRange parts
     → IsSound (after_cutting (state_of parts))

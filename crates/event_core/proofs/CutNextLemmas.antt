@@ -1,5 +1,5 @@
 -- Where the core may cut, its parts may: a frame is free, and each query that runs has as much left as the cut covers.
-use Rattle.event_core.proofs.Words.{◌*◌, ◌+◌, ◌-◌, ◌<◌, ◌∙◌, ◌≡◌, ◌≢◌, ◌≤◌, [], Accepted, accepted_at, All, ap, arith, CanCut, CanCutNext, CanTestAll, end_in, entry_of, eqb, eqb-true, extent_in, false, find-passes, first_in, flight_as, frame_words, frames_of, get_or, Held, held-accepted, holder_of, IsCore, IsScannedAs, IsSome, IsSound, IsTrue, known_in, length, length-map, Life, life_at, life_of, List, MayCut, None, Option, option_and_then, option_map_or, Parts, query_in, QueryLife, reaches_in, refl, Running, Scanning, slice_get, slice_get-get_or, slot_at, Some, some_run, State, state_of, subst, sym, true, ℕ}
+use Rattle.event_core.proofs.Words.{◌*◌, ◌+◌, ◌-◌, ◌<◌, ◌∙◌, ◌≡◌, ◌≢◌, ◌≤◌, [], Accepted, accepted_at, All, ap, arith, CanCut, CanCutNext, CanTestAll, CoreParts, end_in, entry_of, eqb, eqb-true, extent_in, false, find-passes, first_in, flight_as, frame_words, frames_of, get_or, Held, held-accepted, holder_of, IsCore, IsScannedAs, IsSome, IsSound, IsTrue, known_in, length, length-map, Life, life_at, life_of, List, MayCut, None, Option, option_and_then, option_map_or, query_in, QueryLife, reaches_in, refl, Running, Scanning, slice_get, slice_get-get_or, slot_at, Some, some_run, State, state_of, subst, sym, true, ℕ}
 use Rattle.batch_flow.specs.declared.batch.TheConstants.{KEYS_IN_A_ROW}
 use Rattle.pipeline_manager.specs.Changes as managed
 use Rattle.pipeline_manager.specs.Conditions as conditions
@@ -82,7 +82,7 @@ some-inside : (inside : List (List ℕ)) → 0 < length inside → inside ≢ []
 some-inside inside some none = let count : length inside ≡ 0 = ap length none in omega arith
 
 -- a batch may be cut
-pub can-cut-next : LeftLaw → (parts : Parts) → IsCore parts → MayCut (state_of parts)
+pub can-cut-next : LeftLaw → (parts : CoreParts) → IsCore parts → MayCut (state_of parts)
     → AreInStep parts.scan × CanCut (length parts.tables.versions) parts.settings.batch parts.scan
     → All (CanTestAll parts.scan.running) parts.tables.versions
     → parts.settings.batch * (1 + KEYS_IN_A_ROW) ≤ frame_words (state_of parts)

@@ -1,5 +1,5 @@
 -- When an event may come, by what the code asks of the batches in flight.
-use Rattle.event_core.proofs.Words.{◌<◌, ◌||◌, ◌∙◌, ◌∷◌, ◌≡◌, [], All, All-head, All-tail, ap, bit_at, Bool, CanEnd, cond, eqb, false, find, find_position, Flight, flight_as, flight_at, flights_as, get_or, held_by, IfSome, IsCore, IsSome, IsThrough, IsWanting, Known, known_in, length, List, list_any, list_any_none, map, MayCut, MayDistribute, MayFinish, MayTake, None, not, not-true, Option, option_map, option_map_or, Parts, position, Reach, reaches_in, refl, slots_of, Some, some-at, state_of, subst, sym, Through, true, Wants, ℕ, is_none}
+use Rattle.event_core.proofs.Words.{◌<◌, ◌||◌, ◌∙◌, ◌∷◌, ◌≡◌, [], All, All-head, All-tail, ap, bit_at, Bool, CanEnd, cond, CoreParts, eqb, false, find, find_position, Flight, flight_as, flight_at, flights_as, get_or, held_by, IfSome, IsCore, IsSome, IsThrough, IsWanting, Known, known_in, length, List, list_any, list_any_none, map, MayCut, MayDistribute, MayFinish, MayTake, None, not, not-true, Option, option_map, option_map_or, position, Reach, reaches_in, refl, slots_of, Some, some-at, state_of, subst, sym, Through, true, Wants, ℕ, is_none}
 use Rattle.std.proofs.Common.{◌↔◌, is_some, IsTrue, nat_lt}
 use Rattle.std.specs.Prelude.{Any}
 use Rattle.pipeline_manager.specs.Conditions.{IsRunning}
@@ -75,7 +75,7 @@ flight-there known reaches batch flights place flight at is =
     ∙ ap (option_map (flight_as known reaches)) (some-there (λ flight. eqb flight.batch.number batch) flights place flight at is)
 
 -- the batch of the number among those of the parts
-found-at : (parts : Parts) (batch : ℕ) (flights : List Flight) (place : ℕ) (flight : Flight) → flights ≡ parts.flights
+found-at : (parts : CoreParts) (batch : ℕ) (flights : List Flight) (place : ℕ) (flight : Flight) → flights ≡ parts.flights
     → position (λ flight. eqb flight.batch.number batch) flights ≡ Some place → flight ≡ get_or flights place flight
     → flight_at (state_of parts).scan.flights batch ≡ Some (flight_as (known_in parts.asked) (reaches_in parts.lives.queries) flight)
 found-at parts batch flights place flight same at is =
@@ -92,7 +92,7 @@ if-flight : (P : state.Flight → Type 0) (o : Option state.Flight) (flight : st
 if-flight P o flight is holds = subst (λ o. IfSome o P) (sym is) holds
 
 -- a batch that is not there is not distributed
-pub undistributed : (parts : Parts) (batch : ℕ) (flights : List Flight) → flights ≡ parts.flights
+pub undistributed : (parts : CoreParts) (batch : ℕ) (flights : List Flight) → flights ≡ parts.flights
     → position (λ flight. eqb flight.batch.number batch) flights ≡ None → IsTrue false ↔ MayDistribute batch (state_of parts)
 undistributed parts batch flights same none = (
   (λ never. absurd (not-both false refl never)),
@@ -112,7 +112,7 @@ undistributed parts batch flights same none = (
     here = subst (λ list. position (λ (flight : Flight). eqb flight.batch.number batch) list ≡ None) same none
 
 -- one that is there may be distributed where it is through
-pub distributed-through : (parts : Parts) (batch : ℕ) (filters : state.Filters) (flights : List Flight) (place : ℕ) (flight : Flight)
+pub distributed-through : (parts : CoreParts) (batch : ℕ) (filters : state.Filters) (flights : List Flight) (place : ℕ) (flight : Flight)
     → (through : Bool) → filters ≡ parts.filters → flights ≡ parts.flights → position (λ flight. eqb flight.batch.number batch) flights ≡ Some place
     → flight ≡ get_or flights place flight → IsTrue through ↔ Through filters flight
     → IsTrue through ↔ MayDistribute batch (state_of parts)
@@ -151,14 +151,14 @@ none-found None is = refl
 none-found (Some flight) is = absurd (not-both true is refl)
 
 -- a worker's hand is empty where no batch has a place in it
-pub empty-hand : (parts : Parts) (worker : ℕ) → position (λ flight. option_map_or (λ hand. eqb hand.worker worker) flight.hand false) parts.flights ≡ None
+pub empty-hand : (parts : CoreParts) (worker : ℕ) → position (λ flight. option_map_or (λ hand. eqb hand.worker worker) flight.hand false) parts.flights ≡ None
     → held_by (state_of parts).scan.flights worker ≡ None
 empty-hand parts worker none =
     none-found (held_by (state_of parts).scan.flights worker)
     (sym (is-held (known_in parts.asked) (reaches_in parts.lives.queries) worker parts.flights) ∙ ap is_some none)
 
 -- whether it is, is told by whether one has
-pub free-hand : (parts : Parts) (worker : ℕ) (flights : List Flight) (place : Option ℕ) (free : Bool) → flights ≡ parts.flights
+pub free-hand : (parts : CoreParts) (worker : ℕ) (flights : List Flight) (place : Option ℕ) (free : Bool) → flights ≡ parts.flights
     → position (λ flight. option_map_or (λ hand. eqb hand.worker worker) flight.hand false) flights ≡ place
     → is_some place ≡ not free → worker < length (state_of parts).seats → IsTrue free ↔ HasFreeHand worker (state_of parts)
 free-hand parts worker flights place free same at told seat = by_place place free here told
@@ -179,13 +179,13 @@ free-hand parts worker flights place free same at told seat = by_place place fre
     )
 
 -- a worker without a seat has none
-pub no-seat : (parts : Parts) (worker : ℕ) (has : Bool) → IsTrue has ↔ (worker < length (state_of parts).seats) → has ≡ false
+pub no-seat : (parts : CoreParts) (worker : ℕ) (has : Bool) → IsTrue has ↔ (worker < length (state_of parts).seats) → has ≡ false
     → IsTrue has ↔ HasFreeHand worker (state_of parts)
 no-seat parts worker has test none =
     ((λ holds. absurd (not-both has none holds)), (λ free. absurd (not-both has none (test.1 free.0))))
 
 -- a worker whose hand is not empty takes no batch
-pub untaken-hand : (parts : Parts) (worker batch : ℕ) (free : Bool) → IsTrue free ↔ HasFreeHand worker (state_of parts) → free ≡ false
+pub untaken-hand : (parts : CoreParts) (worker batch : ℕ) (free : Bool) → IsTrue free ↔ HasFreeHand worker (state_of parts) → free ≡ false
     → IsTrue false ↔ MayTake worker batch (state_of parts)
 untaken-hand parts worker batch free test none = (
   (λ never. absurd (not-both false refl never)),
@@ -193,7 +193,7 @@ untaken-hand parts worker batch free test none = (
 )
 
 -- nor does it carry one
-pub uncarried-hand : (parts : Parts) (worker batch : ℕ) (free : Bool) → IsTrue free ↔ HasFreeHand worker (state_of parts) → free ≡ false
+pub uncarried-hand : (parts : CoreParts) (worker batch : ℕ) (free : Bool) → IsTrue free ↔ HasFreeHand worker (state_of parts) → free ≡ false
     → IsTrue false ↔ MayCarry worker batch (state_of parts)
 uncarried-hand parts worker batch free test none = (
   (λ never. absurd (not-both false refl never)),
@@ -201,7 +201,7 @@ uncarried-hand parts worker batch free test none = (
 )
 
 -- a batch that has no place is not there
-not-there : (parts : Parts) (batch : ℕ) (flights : List Flight) → flights ≡ parts.flights
+not-there : (parts : CoreParts) (batch : ℕ) (flights : List Flight) → flights ≡ parts.flights
     → position (λ flight. eqb flight.batch.number batch) flights ≡ None → IsSome (flight_at (state_of parts).scan.flights batch) → ⊥
 not-there parts batch flights same none there =
     not-both (is_some (flight_at (state_of parts).scan.flights batch))
@@ -209,7 +209,7 @@ not-there parts batch flights same none there =
     (subst (λ list. position (λ (flight : Flight). eqb flight.batch.number batch) list ≡ None) same none))) there
 
 -- so no worker takes it
-pub untaken-batch : (parts : Parts) (worker batch : ℕ) (flights : List Flight) → flights ≡ parts.flights
+pub untaken-batch : (parts : CoreParts) (worker batch : ℕ) (flights : List Flight) → flights ≡ parts.flights
     → position (λ flight. eqb flight.batch.number batch) flights ≡ None → IsTrue false ↔ MayTake worker batch (state_of parts)
 untaken-batch parts worker batch flights same none = (
   (λ never. absurd (not-both false refl never)),
@@ -217,7 +217,7 @@ untaken-batch parts worker batch flights same none = (
 )
 
 -- nor carries it
-pub uncarried-batch : (parts : Parts) (worker batch : ℕ) (flights : List Flight) → flights ≡ parts.flights
+pub uncarried-batch : (parts : CoreParts) (worker batch : ℕ) (flights : List Flight) → flights ≡ parts.flights
     → position (λ flight. eqb flight.batch.number batch) flights ≡ None → IsTrue false ↔ MayCarry worker batch (state_of parts)
 uncarried-batch parts worker batch flights same none = (
   (λ never. absurd (not-both false refl never)),
@@ -225,7 +225,7 @@ uncarried-batch parts worker batch flights same none = (
 )
 
 -- a worker with an empty hand may take a batch that wants a filter
-pub taken-wanting : (parts : Parts) (worker batch : ℕ) (filters : state.Filters) (flights : List Flight) (place : ℕ)
+pub taken-wanting : (parts : CoreParts) (worker batch : ℕ) (filters : state.Filters) (flights : List Flight) (place : ℕ)
     → (flight : Flight) (wanting : Bool) → filters ≡ parts.filters → HasFreeHand worker (state_of parts) → flights ≡ parts.flights
     → position (λ flight. eqb flight.batch.number batch) flights ≡ Some place → flight ≡ get_or flights place flight
     → IsTrue wanting ↔ Wants filters flight → IsTrue wanting ↔ MayTake worker batch (state_of parts)
@@ -258,7 +258,7 @@ taken-wanting parts worker batch filters flights place flight wanting meant free
     to-code law = record { idle = law.idle; bits = law.bits; filter = law.filter }
 
 -- and carry one that is idle
-pub carried-idle : (parts : Parts) (worker batch : ℕ) (flights : List Flight) (place : ℕ) (flight : Flight) (idle : Bool)
+pub carried-idle : (parts : CoreParts) (worker batch : ℕ) (flights : List Flight) (place : ℕ) (flight : Flight) (idle : Bool)
     → HasFreeHand worker (state_of parts) → flights ≡ parts.flights
     → position (λ flight. eqb flight.batch.number batch) flights ≡ Some place → flight ≡ get_or flights place flight
     → idle ≡ is_none flight.hand → IsTrue idle ↔ MayCarry worker batch (state_of parts)
@@ -300,7 +300,7 @@ on-some known reaches slot (flight ∷ flights) slots =
     (All-tail (λ flight. flight.rows.roster ≡ slots_of flight.roster) (flight_as known reaches flight) (flights_as known reaches flights) slots))
 
 -- a slot that is over may be finished where no batch has it on its roster
-pub finished-landed : (parts : Parts) (slot : ℕ) (flights : List Flight) (on : Bool) → IsCore parts → flights ≡ parts.flights
+pub finished-landed : (parts : CoreParts) (slot : ℕ) (flights : List Flight) (on : Bool) → IsCore parts → flights ≡ parts.flights
     → on ≡ list_any (λ flight. eqb (bit_at flight.batch.roster slot) 1) flights → CanEnd slot parts.lives
     → IsTrue (not on) ↔ MayFinish slot (state_of parts)
 finished-landed parts slot flights on core same test over = (
@@ -314,7 +314,7 @@ finished-landed parts slot flights on core same test over = (
         (λ k d low. (core.sound.batches k d low).slots)
 
 -- a worker may give back where a batch is in its hand
-pub given-held : (parts : Parts) (worker : ℕ) (flights : List Flight) (held : Bool) → flights ≡ parts.flights
+pub given-held : (parts : CoreParts) (worker : ℕ) (flights : List Flight) (held : Bool) → flights ≡ parts.flights
     → held ≡ is_some (position (λ flight. option_map_or (λ hand. eqb hand.worker worker) flight.hand false) flights)
     → IsTrue held ↔ IsSome (held_by (state_of parts).scan.flights worker)
 given-held parts worker flights held same test =
@@ -325,10 +325,10 @@ given-held parts worker flights held same test =
         ∙ is-held (known_in parts.asked) (reaches_in parts.lives.queries) worker parts.flights
 
 -- where a query runs, a cut may come as far as a frame is free
-pub cut-seen : (parts now : Parts) (free : ℕ) (runs : Bool) → parts ≡ now
+pub cut-seen : (parts now : CoreParts) (free : ℕ) (runs : Bool) → parts ≡ now
     → IsTrue runs ↔ Any (λ entry. IsRunning entry.life) parts.lives.queries → runs ≡ true → free ≡ length parts.pool.inside
     → IsTrue (nat_lt 0 free) ↔ MayCut (state_of now)
-cut-seen parts now free runs same exact run counted = subst (λ (one : Parts). IsTrue (nat_lt 0 free) ↔ MayCut (state_of one)) same (
+cut-seen parts now free runs same exact run counted = subst (λ (one : CoreParts). IsTrue (nat_lt 0 free) ↔ MayCut (state_of one)) same (
   λ some. record {
     running = exact.0 (subst IsTrue (sym run) refl);
     frame = subst (λ n. 0 < n) counted (ltb-true 0 free some);
@@ -337,7 +337,7 @@ cut-seen parts now free runs same exact run counted = subst (λ (one : Parts). I
 )
 
 -- where no query runs, none may come
-pub uncut-seen : (parts now : Parts) (runs : Bool) → parts ≡ now
+pub uncut-seen : (parts now : CoreParts) (runs : Bool) → parts ≡ now
     → IsTrue runs ↔ Any (λ entry. IsRunning entry.life) parts.lives.queries → runs ≡ false → IsTrue runs ↔ MayCut (state_of now)
 uncut-seen parts now runs same exact idle =
-    subst (λ (one : Parts). IsTrue runs ↔ MayCut (state_of one)) same (λ run. absurd (let never : true ≡ false = sym run ∙ idle in cc), λ may. exact.1 may.running)
+    subst (λ (one : CoreParts). IsTrue runs ↔ MayCut (state_of one)) same (λ run. absurd (let never : true ≡ false = sym run ∙ idle in cc), λ may. exact.1 may.running)

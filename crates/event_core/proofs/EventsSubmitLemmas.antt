@@ -1,5 +1,5 @@
 -- What the code makes of a statement that is submitted is what the law says.
-use Rattle.event_core.proofs.Words.{◌++◌, ◌+◌, ◌<◌, ◌∙◌, ◌∷◌, ◌≡◌, [], accepted, after_change, after_submit, after_submitting, ap, arith, AskedQuery, attached_to, Becomes, Change, changed, Changed, ChangeKind, entries_as, filter_dimensions, fold, Follows, get_or, get_or-map, grouped_of, IsAsked, IsCore, IsKeyed, IsScannedAs, IsSound, KeyedStore, kind_of_change, known_in, length, length-map, length-set, List, Lives, logged, Logged, map, map-set, None, Ok, Option, option_map, option_map_or, Outcome, outcome_of, Parts, plain, query_of, refill, refill-all, refl, Reply, Roomy, Schema, seat_as, set, Some, Standing, StarQuery, State, state_of, Statement, statements_at, Store, Submitted, submitted, subst, sym, tables_of, Told, Waits, with_filters_for, with_first_filters, with_number, ℕ}
+use Rattle.event_core.proofs.Words.{◌++◌, ◌+◌, ◌<◌, ◌∙◌, ◌∷◌, ◌≡◌, [], accepted, after_change, after_submit, after_submitting, ap, arith, AskedQuery, attached_to, Becomes, Change, changed, Changed, ChangeKind, CoreParts, entries_as, filter_dimensions, fold, Follows, get_or, get_or-map, grouped_of, IsAsked, IsCore, IsKeyed, IsScannedAs, IsSound, KeyedStore, kind_of_change, known_in, length, length-map, length-set, List, Lives, logged, Logged, map, map-set, None, Ok, Option, option_map, option_map_or, Outcome, outcome_of, plain, query_of, refill, refill-all, refl, Reply, Roomy, Schema, seat_as, set, Some, Standing, StarQuery, State, state_of, Statement, statements_at, Store, Submitted, submitted, subst, sym, tables_of, Told, Waits, with_filters_for, with_first_filters, with_number, ℕ}
 use Rattle.std.proofs.Common.{Err, Result}
 use Rattle.std.specs.Result.{OnErr}
 use Rattle.std.proofs.Math.Seq.{map-set_same}
@@ -47,7 +47,7 @@ stays seats members seat found one same kept =
     ∙ ap statements_in same
 
 -- the filters of the dimensions that the fact table references
-pub filters-first : (parts : Parts) (schema : Schema) (old lives : Lives) (filters : state.Filters) (dimensions count : ℕ)
+pub filters-first : (parts : CoreParts) (schema : Schema) (old lives : Lives) (filters : state.Filters) (dimensions count : ℕ)
     → parts.tables.schema ≡ schema → parts.lives ≡ old → filters ≡ first_filters (filter_dimensions schema)
     → dimensions ≡ fold with_number 0 (dimensions_of filters.versions) → lives ≡ record old { filters = dimensions }
     → count ≡ length filters.versions
@@ -64,7 +64,7 @@ filters-first parts schema old lives filters dimensions count same_schema same_l
     referenced : List ℕ
     referenced = filter_dimensions schema
 
-    build : Lives → state.Filters → ℕ → Parts
+    build : Lives → state.Filters → ℕ → CoreParts
     build lives filters count = record parts { lives = lives; filters = filters; numbers = record parts.numbers { version = count } }
 
     set : dimensions ≡ fold with_number 0 referenced
@@ -75,7 +75,7 @@ filters-first parts schema old lives filters dimensions count same_schema same_l
     number = counted ∙ ap (λ (filters : state.Filters). length filters.versions) first ∙ length-first referenced 1
 
 -- parts whose tables have the same rows and versions, keyed, are those of the same state
-pub with-tables : (parts : Parts) (tables : KeyedStore) (after : State) → plain tables ≡ plain parts.tables → IsKeyed tables
+pub with-tables : (parts : CoreParts) (tables : KeyedStore) (after : State) → plain tables ≡ plain parts.tables → IsKeyed tables
     → Becomes parts after → Becomes (record parts { tables = tables }) after
 with-tables parts tables after same keyed becomes = record {
   state = same_state ∙ becomes.state;
@@ -127,7 +127,7 @@ stood P old before seats seat last number standing same counts stands holds =
 
 -- how the law goes on of a statement that is told a reply
 abbrev RepliedLaw : Type 0
-RepliedLaw = (parts : Parts) (seat : ℕ) (statement : Statement) (reply : Reply) → IsCore parts → seat < length parts.seats
+RepliedLaw = (parts : CoreParts) (seat : ℕ) (statement : Statement) (reply : Reply) → IsCore parts → seat < length parts.seats
     → outcome_of (tables_of (state_of parts)) statement ≡ outcome.only_tells (outcome.Replied reply)
     → Becomes (submitted seat (parts.numbers.statement + 1)
     (statements_at parts.seats seat ++ record { number = parts.numbers.statement + 1; standing = Waits reply } ∷ []) parts)
@@ -135,11 +135,11 @@ RepliedLaw = (parts : Parts) (seat : ℕ) (statement : Statement) (reply : Reply
 
 -- of one that declares the fact table: none was declared
 abbrev pub UndeclaredLaw : Type 0
-UndeclaredLaw = (parts : Parts) (statement : Statement) (change : Change) → IsCore parts
+UndeclaredLaw = (parts : CoreParts) (statement : Statement) (change : Change) → IsCore parts
     → (outcome_of (tables_of (state_of parts)) statement).change ≡ Some change → kind_of_change change ≡ DeclaresFact
     → (tables_of (state_of parts)).schema.fact ≡ None
 
-pub undeclared-before : UndeclaredLaw → (parts : Parts) (statement : Statement) (kind : ChangeKind) (reply : Reply) (tables : KeyedStore)
+pub undeclared-before : UndeclaredLaw → (parts : CoreParts) (statement : Statement) (kind : ChangeKind) (reply : Reply) (tables : KeyedStore)
     → IsCore parts → Follows {E = ApplyFault} parts.tables tables (Ok (Changed kind reply)) (outcome_of (plain parts.tables) statement)
     → kind ≡ DeclaresFact → parts.tables.schema.fact ≡ None
 undeclared-before law parts statement kind reply tables core follows declares =
@@ -150,7 +150,7 @@ undeclared-before law parts statement kind reply tables core follows declares =
 
 -- how it goes on of one that changes the tables
 abbrev ChangedLaw : Type 0
-ChangedLaw = (parts : Parts) (seat : ℕ) (statement : Statement) (reply : Reply) (change : Change) (tables : KeyedStore)
+ChangedLaw = (parts : CoreParts) (seat : ℕ) (statement : Statement) (reply : Reply) (change : Change) (tables : KeyedStore)
     → IsCore parts → seat < length parts.seats
     → outcome_of (tables_of (state_of parts)) statement ≡ record { change = Some change; told = outcome.Replied reply }
     → plain tables ≡ after_change (tables_of (state_of parts)) change → IsKeyed tables
@@ -165,7 +165,7 @@ asked_first number seat query snapshot =
 
 -- how it goes on of a query that is accepted
 abbrev AcceptedLaw : Type 0
-AcceptedLaw = (parts : Parts) (seat : ℕ) (statement : Statement) (query : StarQuery) (snapshot : ℕ)
+AcceptedLaw = (parts : CoreParts) (seat : ℕ) (statement : Statement) (query : StarQuery) (snapshot : ℕ)
     → IsCore parts → seat < length parts.seats
     → outcome_of (tables_of (state_of parts)) statement ≡ outcome.only_tells (outcome.Accepted (query_of query) snapshot)
     → Becomes (accepted seat (parts.numbers.statement + 1)
@@ -174,10 +174,10 @@ AcceptedLaw = (parts : Parts) (seat : ℕ) (statement : Statement) (query : Star
     (after_submitting seat statement (state_of parts))
 
 -- a seat of the state is one of the parts
-pub seat-there : (parts now : Parts) (seat : ℕ) → parts ≡ now → seat < length (state_of now).seats → seat < length parts.seats
+pub seat-there : (parts now : CoreParts) (seat : ℕ) → parts ≡ now → seat < length (state_of now).seats → seat < length parts.seats
 seat-there parts now seat is there =
     let many = length-map parts.seats (seat_as (known_in parts.asked)) in
-    let same = ap (λ (p : Parts). length (state_of p).seats) is in omega arith
+    let same = ap (λ (p : CoreParts). length (state_of p).seats) is in omega arith
 
 -- what follows of an answer, where the answer is this one
 pub follows-as : (old new : KeyedStore) (statement : Statement) (applied one : Applied) → applied ≡ one
@@ -187,7 +187,7 @@ follows-as old new statement applied one is follows =
     subst (λ (a : Applied). Follows {E = ApplyFault} old new (Ok a) (outcome_of (plain old) statement)) is follows
 
 -- a statement that gets a reply
-pub replies : RepliedLaw → (old : Parts) (seat number : ℕ) (statement : Statement) (reply : Reply) (tables : KeyedStore)
+pub replies : RepliedLaw → (old : CoreParts) (seat number : ℕ) (statement : Statement) (reply : Reply) (tables : KeyedStore)
     (before seats : List (List Submitted))
     → IsCore old → seat < length old.seats → number ≡ old.numbers.statement + 1 → before ≡ old.seats
     → seats ≡ with_stood seat (statement_of number (Waits reply)) before
@@ -205,7 +205,7 @@ replies law old seat number statement reply tables before seats core there count
     after : State
     after = after_submitting seat statement (state_of old)
 
-    with_seats : List (List Submitted) → ℕ → Parts
+    with_seats : List (List Submitted) → ℕ → CoreParts
     with_seats seats number = record old { tables = tables; seats = seats; numbers = record old.numbers { statement = number } }
 
     found : Outcome
@@ -219,14 +219,14 @@ replies law old seat number statement reply tables before seats core there count
         ∙ outcome-is found None (outcome.Replied reply) none follows.0
 
 -- a statement that changes the tables
-pub changes : ChangedLaw → (old : Parts) (seat number : ℕ) (statement : Statement) (kind : ChangeKind) (reply : Reply) (tables : KeyedStore)
+pub changes : ChangedLaw → (old : CoreParts) (seat number : ℕ) (statement : Statement) (kind : ChangeKind) (reply : Reply) (tables : KeyedStore)
     (schema : Schema) (lives : Lives) (filters : state.Filters) (version : ℕ) (log : List Logged) (before seats : List (List Submitted))
     → IsCore old → seat < length old.seats → number ≡ old.numbers.statement + 1
     → log ≡ old.log ++ record { seat = seat; statement = number; kind = kind } ∷ [] → before ≡ old.seats
     → seats ≡ with_stood seat (statement_of number (Waits reply)) before
     → Follows {E = ApplyFault} old.tables tables (Ok (Changed kind reply)) (outcome_of (plain old.tables) statement) → IsKeyed tables
     → schema ≡ tables.schema
-    → ((parts : Parts) → parts.tables.schema ≡ schema → parts.lives ≡ old.lives → parts.filters ≡ old.filters
+    → ((parts : CoreParts) → parts.tables.schema ≡ schema → parts.lives ≡ old.lives → parts.filters ≡ old.filters
     → parts.numbers.version ≡ old.numbers.version → with_filters_for kind parts
     ≡ record parts { lives = lives; filters = filters; numbers = record parts.numbers { version = version } })
     → Becomes (record old {
@@ -258,7 +258,7 @@ changes law old seat number statement kind reply tables schema lives filters ver
     entry : ℕ → ChangeKind → Logged
     entry number kind = record { seat = seat; statement = number; kind = kind }
 
-    with_seats : List Logged → List (List Submitted) → ℕ → Parts
+    with_seats : List Logged → List (List Submitted) → ℕ → CoreParts
     with_seats log seats number = record old {
       tables = tables;
       log = log;
@@ -283,19 +283,19 @@ changes law old seat number statement kind reply tables schema lives filters ver
         ∙ ap (λ store. after_change store change.one) core.tables.same
 
 -- parts whose tables and statements are as they were are the same parts
-pub same-parts : (parts : Parts) (tables : KeyedStore) (seats : List (List Submitted)) → tables ≡ parts.tables → seats ≡ parts.seats
+pub same-parts : (parts : CoreParts) (tables : KeyedStore) (seats : List (List Submitted)) → tables ≡ parts.tables → seats ≡ parts.seats
     → record parts { tables = tables; seats = seats } ≡ parts
 same-parts parts tables seats same_tables same_seats =
     ap (λ tables. record parts { tables = tables; seats = seats }) same_tables ∙ ap (λ seats. record parts { seats = seats }) same_seats
 
 -- a statement asks a query, and as it was applied the parts stayed the same
-pub record IsAskedOf (parts : Parts) (tables : KeyedStore) (seats : List (List Submitted)) (statement : Statement) (query : StarQuery)
+pub record IsAskedOf (parts : CoreParts) (tables : KeyedStore) (seats : List (List Submitted)) (statement : Statement) (query : StarQuery)
     (snapshot : ℕ) : Type 0 where
   pub same : record parts { tables = tables; seats = seats } ≡ parts
   pub tells : outcome_of (tables_of (state_of parts)) statement ≡ outcome.only_tells (outcome.Accepted (query_of query) snapshot)
 
 -- so it is where it is answered that the query is accepted
-pub asked-of : (parts : Parts) (tables : KeyedStore) (seats : List (List Submitted)) (statement : Statement) (query : StarQuery) (snapshot : ℕ)
+pub asked-of : (parts : CoreParts) (tables : KeyedStore) (seats : List (List Submitted)) (statement : Statement) (query : StarQuery) (snapshot : ℕ)
     (applied : Applied) → IsCore parts → seats ≡ parts.seats → applied ≡ Accepted query snapshot
     → Follows {E = ApplyFault} parts.tables tables (Ok applied) (outcome_of (plain parts.tables) statement)
     → IsAskedOf parts tables seats statement query snapshot
@@ -312,7 +312,7 @@ asked-of parts tables seats statement query snapshot applied core same_seats is 
     accepts = follows-as parts.tables tables statement applied (Accepted query snapshot) is follows
 
 -- a query that is accepted
-pub accepts : AcceptedLaw → (old : Parts) (seat number : ℕ) (statement : Statement) (query : StarQuery) (snapshot extent : ℕ)
+pub accepts : AcceptedLaw → (old : CoreParts) (seat number : ℕ) (statement : Statement) (query : StarQuery) (snapshot extent : ℕ)
     (one : AskedQuery) (seats : List (List Submitted)) (asked : List AskedQuery) (lives : Lives)
     → IsCore old → seat < length old.seats → number ≡ old.numbers.statement + 1 → one ≡ asked_first number seat query snapshot
     → extent ≡ length old.tables.versions → seats ≡ with_stood one.seat (statement_of one.number IsAsked) old.seats
@@ -338,11 +338,11 @@ accepts law old seat number statement query snapshot extent one seats asked live
     seats_by : AskedQuery → List (List Submitted)
     seats_by one = with_stood one.seat (statement_of one.number IsAsked) old.seats
 
-    with_parts : List (List Submitted) → List AskedQuery → Lives → ℕ → Parts
+    with_parts : List (List Submitted) → List AskedQuery → Lives → ℕ → CoreParts
     with_parts seats asked lives number =
         record old { seats = seats; asked = asked; lives = lives; numbers = record old.numbers { statement = number } }
 
-    with_one : AskedQuery → (extent number : ℕ) → Parts
+    with_one : AskedQuery → (extent number : ℕ) → CoreParts
     with_one one extent number =
         with_parts (seats_by one) (old.asked ++ one ∷ []) (after_submit one.number extent old.lives) number
 
@@ -352,7 +352,7 @@ on-error (Ok done) holds = tt
 on-error (Err none) holds = holds
 
 -- a seat that is there is there where the statements of the seats are the same
-pub seat-kept : (parts : Parts) (seats : List (Roomy Submitted)) (seat : ℕ) → statements_in seats ≡ parts.seats
+pub seat-kept : (parts : CoreParts) (seats : List (Roomy Submitted)) (seat : ℕ) → statements_in seats ≡ parts.seats
     → seat < length parts.seats → seat < length seats
 seat-kept parts seats seat same there =
     subst (λ n. seat < n) (sym (ap (λ (list : List (List Submitted)). length list) same)

@@ -1,5 +1,5 @@
 -- The parts of a core where a slot is finished.
-use Rattle.event_core.proofs.Words.{◌∙◌, ◌≡◌, ◌≢◌, Accepted, accepted_as, accepted_at, accepted_in, after_end, after_finish, All, ap, asked_at, AskedQuery, attached_for, attached_or, attached_to, Becomes, cases_eq, Done, Event, false, Finish, finished, get_or, get_or_from_slice_get, Grouped, Held, held-accepted, held-there, IsCore, IsEnabled, IsKept, IsScannedAs, IsSome, IsSound, IsTrue, known_in, LeavesScan, Life, life_of, List, MayFinish, None, Option, option_map_or, Parts, reaches_in, refl, Scanning, set, slice_get, slot_at, slot_of-holder, Some, State, state_of, subst, sym, tables_of, true, unheld, with_kept_at, ℕ, ⊎_elim}
+use Rattle.event_core.proofs.Words.{◌∙◌, ◌≡◌, ◌≢◌, Accepted, accepted_as, accepted_at, accepted_in, after_end, after_finish, All, ap, asked_at, AskedQuery, attached_for, attached_or, attached_to, Becomes, cases_eq, CoreParts, Done, Event, false, Finish, finished, get_or, get_or_from_slice_get, Grouped, Held, held-accepted, held-there, IsCore, IsEnabled, IsKept, IsScannedAs, IsSome, IsSound, IsTrue, known_in, LeavesScan, Life, life_of, List, MayFinish, None, Option, option_map_or, reaches_in, refl, Scanning, set, slice_get, slot_at, slot_of-holder, Some, State, state_of, subst, sym, tables_of, true, unheld, with_kept_at, ℕ, ⊎_elim}
 use Rattle.pipeline_manager.specs.Conditions.{IsHolderOver, gives_up}
 use Rattle.pipeline_manager.specs.declared.life.Life.TheVariants as life
 use Rattle.core_state.specs.Events.{after_event}
@@ -40,7 +40,7 @@ unfolding after_event
 finish-scanned leaves state scan slot sound may scans = leaves state scan (Finish slot) sound may tt scans
 
 -- the parts where a slot was finished, with these accepted queries
-abbrev ended : (slot : ℕ) → List AskedQuery → Parts → Parts
+abbrev ended : (slot : ℕ) → List AskedQuery → CoreParts → CoreParts
 ended slot asked parts = record parts {
   asked = asked;
   attached = set parts.attached slot None;
@@ -48,7 +48,7 @@ ended slot asked parts = record parts {
 }
 
 -- they stand for the core in which it was, where the accepted queries are as before and what is known of them is
-ended-becomes : KeepSound → EventsLeaveScan → FinishDetaches → (parts : Parts) (slot query built : ℕ) (asked : List AskedQuery) → IsCore parts
+ended-becomes : KeepSound → EventsLeaveScan → FinishDetaches → (parts : CoreParts) (slot query built : ℕ) (asked : List AskedQuery) → IsCore parts
     → MayFinish slot (state_of parts) → slot_at parts.lives slot ≡ Held query built
     → accepted_in (after_end slot parts.lives) (set parts.attached slot None) asked ≡ accepted_in parts.lives parts.attached parts.asked
     → known_in asked ≡ known_in parts.asked → All (IsBeside (after_end slot parts.lives) (set parts.attached slot None)) asked
@@ -67,7 +67,7 @@ ended-becomes keep leaves detach parts slot query built asked core may holds sam
     })
 
 -- a slot's query is an accepted one
-holder-asked : (parts : Parts) (slot query built : ℕ) → IsCore parts → slot_at parts.lives slot ≡ Held query built
+holder-asked : (parts : CoreParts) (slot query built : ℕ) → IsCore parts → slot_at parts.lives slot ≡ Held query built
     → (asked : AskedQuery) × (asked_at parts.asked query ≡ Some asked)
 holder-asked parts slot query built core holds =
     by_found (asked_at parts.asked query) refl (asked-there parts.lives parts.attached parts.asked query
@@ -79,7 +79,7 @@ holder-asked parts slot query built core holds =
     by_found (Some asked) is some = (asked, is)
 
 -- what is attached for the query of a slot is what is attached there
-holder-attached : (parts : Parts) (slot query built : ℕ) → IsCore parts → slot_at parts.lives slot ≡ Held query built
+holder-attached : (parts : CoreParts) (slot query built : ℕ) → IsCore parts → slot_at parts.lives slot ≡ Held query built
     → attached_for parts.lives parts.attached query ≡ get_or parts.attached slot None
 holder-attached parts slot query built core holds =
     attached-here parts.lives parts.attached query slot
@@ -96,7 +96,7 @@ attached-none None kept none = refl
 attached-none (Some groups) kept none = none
 
 -- there is something at a slot whose query is to be answered
-ending-some : FinishAnswers → (parts : Parts) (slot query built : ℕ) → IsCore parts → slot_at parts.lives slot ≡ Held query built
+ending-some : FinishAnswers → (parts : CoreParts) (slot query built : ℕ) → IsCore parts → slot_at parts.lives slot ≡ Held query built
     → life_of parts.lives query ≡ Some life.Ending → IsSome (get_or parts.attached slot None)
 ending-some answers parts slot query built core holds ending =
     let there = holder-asked parts slot query built core holds in
@@ -107,7 +107,7 @@ ending-some answers parts slot query built core holds ending =
     (sym (get_or_from_slice_get parts.attached slot accepted.groups None (ap (λ attached. slice_get attached slot) core.attached ∙ kept.0))) kept.1
 
 -- a query that is answered has beside it what it had at its slot
-answered-stays : (parts : Parts) (slot query built : ℕ) (entry : AskedQuery) → IsCore parts → slot_at parts.lives slot ≡ Held query built
+answered-stays : (parts : CoreParts) (slot query built : ℕ) (entry : AskedQuery) → IsCore parts → slot_at parts.lives slot ≡ Held query built
     → IsSome (get_or parts.attached slot None) → entry.number ≡ query
     → StaysGrouped parts.lives (after_end slot parts.lives) parts.attached (set parts.attached slot None) query (get_or parts.attached slot None) entry
 answered-stays parts slot query built entry core holds some same =
@@ -124,7 +124,7 @@ answered-stays parts slot query built entry core holds some same =
     here = ap (attached_for parts.lives parts.attached) same ∙ holder-attached parts slot query built core holds
 
 -- a slot whose query is answered is finished
-pub finish-answered : KeepSound → EventsLeaveScan → FinishDetaches → FinishAnswers → (parts : Parts) (slot query built : ℕ) → IsCore parts
+pub finish-answered : KeepSound → EventsLeaveScan → FinishDetaches → FinishAnswers → (parts : CoreParts) (slot query built : ℕ) → IsCore parts
     → MayFinish slot (state_of parts) → slot_at parts.lives slot ≡ Held query built → life_of parts.lives query ≡ Some life.Ending
     → Becomes (finished slot query (get_or parts.attached slot None) parts) (after_finish slot (state_of parts))
 finish-answered keep leaves detach answers parts slot query built core may holds ending =
@@ -154,7 +154,7 @@ kept-over state accepted extent life.Abandoned over apart kept = kept
 kept-over state accepted extent other over apart kept = absurd (let both : false ≡ true = over in cc)
 
 -- nothing is attached for a query that gives up its slot with no answer
-over-nothing : (parts : Parts) (slot query built : ℕ) → IsCore parts → MayFinish slot (state_of parts)
+over-nothing : (parts : CoreParts) (slot query built : ℕ) → IsCore parts → MayFinish slot (state_of parts)
     → slot_at parts.lives slot ≡ Held query built → life_of parts.lives query ≢ Some life.Ending
     → attached_for parts.lives parts.attached query ≡ None
 over-nothing parts slot query built core may holds apart =
@@ -177,7 +177,7 @@ over-nothing parts slot query built core may holds apart =
         (kept-over (state_of parts) accepted kept.0 now over (λ same. apart (is ∙ ap Some same)) kept.1)
 
 -- a slot whose query has no answer is finished
-pub finish-unanswered : KeepSound → EventsLeaveScan → FinishDetaches → (parts : Parts) (slot query built : ℕ) → IsCore parts
+pub finish-unanswered : KeepSound → EventsLeaveScan → FinishDetaches → (parts : CoreParts) (slot query built : ℕ) → IsCore parts
     → MayFinish slot (state_of parts) → slot_at parts.lives slot ≡ Held query built → life_of parts.lives query ≢ Some life.Ending
     → Becomes (unheld slot parts) (after_finish slot (state_of parts))
 finish-unanswered keep leaves detach parts slot query built core may holds apart =

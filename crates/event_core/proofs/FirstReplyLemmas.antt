@@ -1,5 +1,5 @@
 -- The first statement that a seat of a core waits for, and what may be taken as the reply to it.
-use Rattle.event_core.proofs.Words.{◌<◌, ◌∙◌, ◌≡◌, [], Accepted, accepted_as, accepted_at, accepted_in, ap, Asked, asked_at, AskedQuery, attached-get, attached_for, attached_or, Awaited, awaited_as, cases_lt, empty_seat, false, find-passes, first_of, get_or, get_or_from_slice_get, get_or_past, gets, gets_rows, Grouped, holder_of, holds-slot, is_open, IsAsked, IsCore, IsSome, IsSomeAnd, IsSound, IsTrue, kept-none, kept_by, kept_for, Known, known_in, length, Life, life-accepted, life_of, List, next_ready, None, none-some, Option, option_and_then, option_map, option_map_or, Parts, Pending, pending_as, Query, query_in, query_of, QueryLife, Ready, ready_to, ready_with, refl, Replied, Reply, Seat, seat_as, seat_at, slice_get, slice_get_within, slot_of, snapshot_for, Some, Standing, State, state_of, statements_at, Submitted, subst, sym, true, Waits, ℕ, ⊎_elim}
+use Rattle.event_core.proofs.Words.{◌<◌, ◌∙◌, ◌≡◌, [], Accepted, accepted_as, accepted_at, accepted_in, ap, Asked, asked_at, AskedQuery, attached-get, attached_for, attached_or, Awaited, awaited_as, cases_lt, CoreParts, empty_seat, false, find-passes, first_of, get_or, get_or_from_slice_get, get_or_past, gets, gets_rows, Grouped, holder_of, holds-slot, is_open, IsAsked, IsCore, IsSome, IsSomeAnd, IsSound, IsTrue, kept-none, kept_by, kept_for, Known, known_in, length, Life, life-accepted, life_of, List, next_ready, None, none-some, Option, option_and_then, option_map, option_map_or, Pending, pending_as, Query, query_in, query_of, QueryLife, Ready, ready_to, ready_with, refl, Replied, Reply, Seat, seat_as, seat_at, slice_get, slice_get_within, slot_of, snapshot_for, Some, Standing, State, state_of, statements_at, Submitted, subst, sym, true, Waits, ℕ, ⊎_elim}
 use Rattle.std.proofs.Math.ListN as lists
 use Rattle.reply_text.specs.declared.reply.Reply.TheVariants.{Memory}
 use Rattle.pipeline_manager.specs.declared.life.Life.TheVariants as life
@@ -20,7 +20,7 @@ WaitsOpen = (state : State) (seat : ℕ) (pending : Pending) → IsSound state �
     × IsSomeAnd (life_of state.lives pending.statement) (λ now. IsTrue (is_open now))
 
 -- the seat of a number
-pub seat-of : (parts : Parts) (seat : ℕ)
+pub seat-of : (parts : CoreParts) (seat : ℕ)
     → seat_at (state_of parts) seat ≡ seat_as (known_in parts.asked) (statements_at parts.seats seat)
 seat-of parts seat = lists.get_or-map (seat_as (known_in parts.asked)) parts.seats seat []
 
@@ -29,7 +29,7 @@ abbrev ready_for : State → Option Pending → Option Ready
 ready_for state pending = option_and_then (λ p. ready_to state p.statement p.awaited) pending
 
 -- what is pending first is the first statement that is waited for
-pub first-pending : (parts : Parts) (seat : ℕ)
+pub first-pending : (parts : CoreParts) (seat : ℕ)
     → slice_get (seat_at (state_of parts) seat).pending 0
     ≡ option_and_then (pending_as (known_in parts.asked)) (first_of (statements_at parts.seats seat))
 first-pending parts seat =
@@ -37,17 +37,17 @@ first-pending parts seat =
     ∙ sym (pending-first (known_in parts.asked) (statements_at parts.seats seat))
 
 -- what may be taken, where the first statement is this one
-next-of : (parts : Parts) (seat : ℕ) (o : Option Submitted) → first_of (statements_at parts.seats seat) ≡ o
+next-of : (parts : CoreParts) (seat : ℕ) (o : Option Submitted) → first_of (statements_at parts.seats seat) ≡ o
     → next_ready (state_of parts) seat ≡ ready_for (state_of parts) (option_and_then (pending_as (known_in parts.asked)) o)
 next-of parts seat o is =
     ap (ready_for (state_of parts)) (first-pending parts seat ∙ ap (option_and_then (pending_as (known_in parts.asked))) is)
 
 -- the statement, if it stands so
-abbrev standing_pending : Parts → (number : ℕ) → Standing → Option Pending
+abbrev standing_pending : CoreParts → (number : ℕ) → Standing → Option Pending
 standing_pending parts number standing =
     option_map (λ awaited. record { statement = number; awaited = awaited }) (awaited_as (known_in parts.asked) number standing)
 
-next-standing : (parts : Parts) (seat : ℕ) (first : Submitted) (standing : Standing)
+next-standing : (parts : CoreParts) (seat : ℕ) (first : Submitted) (standing : Standing)
     → first_of (statements_at parts.seats seat) ≡ Some first → first.standing ≡ standing
     → next_ready (state_of parts) seat ≡ ready_for (state_of parts) (standing_pending parts first.number standing)
 next-standing parts seat first standing is stands =
@@ -55,12 +55,12 @@ next-standing parts seat first standing is stands =
     ∙ ap (λ s. ready_for (state_of parts) (standing_pending parts first.number s)) stands
 
 -- nothing may be taken where nothing is waited for
-pub next-nothing : (parts : Parts) (seat : ℕ) → IsCore parts → first_of (statements_at parts.seats seat) ≡ None
+pub next-nothing : (parts : CoreParts) (seat : ℕ) → IsCore parts → first_of (statements_at parts.seats seat) ≡ None
     → next_ready (state_of parts) seat ≡ None
 next-nothing parts seat core is = next-of parts seat None is
 
 -- a reply that waits may be taken
-pub next-reply : (parts : Parts) (seat : ℕ) (first : Submitted) (reply : Reply) → IsCore parts
+pub next-reply : (parts : CoreParts) (seat : ℕ) (first : Submitted) (reply : Reply) → IsCore parts
     → first_of (statements_at parts.seats seat) ≡ Some first → first.standing ≡ Waits reply
     → next_ready (state_of parts) seat ≡ Some (Whole reply)
 next-reply parts seat first reply core is stands = next-standing parts seat first (Waits reply) is stands
@@ -70,7 +70,7 @@ abbrev awaited_of : Option Accepted → Awaited
 awaited_of accepted = option_map_or (λ entry. Asked entry.query entry.snapshot) (option_map known_of accepted) (Replied Memory)
 
 -- what may be taken of a query
-next-asked : (parts : Parts) (seat : ℕ) (first : Submitted) (o : Option Accepted)
+next-asked : (parts : CoreParts) (seat : ℕ) (first : Submitted) (o : Option Accepted)
     → first_of (statements_at parts.seats seat) ≡ Some first → first.standing ≡ IsAsked
     → accepted_at (accepted_in parts.lives parts.attached parts.asked) first.number ≡ o
     → next_ready (state_of parts) seat ≡ ready_to (state_of parts) first.number (awaited_of o)
@@ -96,7 +96,7 @@ lives-accepted state query now sound is = life-accepted state query sound (by_qu
     by_query (Some entry) e = refl
 
 -- nothing may be taken where the first statement is a query that may still be answered
-pub next-open : (parts : Parts) (seat : ℕ) (first : Submitted) → IsCore parts
+pub next-open : (parts : CoreParts) (seat : ℕ) (first : Submitted) → IsCore parts
     → first_of (statements_at parts.seats seat) ≡ Some first → first.standing ≡ IsAsked
     → option_map_or is_open (life_of parts.lives first.number) false ≡ true → next_ready (state_of parts) seat ≡ None
 next-open parts seat first core is stands opens = by_life (life_of parts.lives first.number) refl opens
@@ -118,7 +118,7 @@ next-open parts seat first core is stands opens = by_life (life_of parts.lives f
         by_accepted now (accepted_at state.accepted first.number) refl (lives-accepted state first.number now core.sound lives)
 
 -- `memory` may be taken of a query that found none
-pub next-spoiled : (parts : Parts) (seat : ℕ) (first : Submitted) → IsCore parts
+pub next-spoiled : (parts : CoreParts) (seat : ℕ) (first : Submitted) → IsCore parts
     → first_of (statements_at parts.seats seat) ≡ Some first → first.standing ≡ IsAsked
     → life_of parts.lives first.number ≡ Some life.Spoiled → next_ready (state_of parts) seat ≡ Some (Whole Memory)
 next-spoiled parts seat first core is stands lives = by_accepted (accepted_at (state_of parts).accepted first.number) refl
@@ -131,12 +131,12 @@ next-spoiled parts seat first core is stands lives = by_accepted (accepted_at (s
         ∙ ap (option_and_then (ready_by (state_of parts) first.number accepted.snapshot)) lives
 
 -- the first statement that is waited for, as the state has it
-pub record IsFirst (parts : Parts) (seat : ℕ) (first : Submitted) (pending : Pending) : Type 0 where
+pub record IsFirst (parts : CoreParts) (seat : ℕ) (first : Submitted) (pending : Pending) : Type 0 where
   pub is : slice_get (seat_at (state_of parts) seat).pending 0 ≡ Some pending
   pub statement : pending.statement ≡ first.number
   pub awaited : IsAwaited (state_of parts).accepted (state_of parts).lives.queries pending.statement pending.awaited
 
-pub first-is : (parts : Parts) (seat : ℕ) (first : Submitted) → IsCore parts
+pub first-is : (parts : CoreParts) (seat : ℕ) (first : Submitted) → IsCore parts
     → first_of (statements_at parts.seats seat) ≡ Some first → (pending : Pending) × IsFirst parts seat first pending
 first-is parts seat first core is = (found.0, record { is = here; statement = found.1.statement; awaited = waits })
   where
@@ -166,7 +166,7 @@ first-is parts seat first core is = (found.0, record { is = here; statement = fo
         ((core.sound.seats.each seat empty_seat there).awaited 0 found.0 (slice_get_within pending 0 found.0 here))
 
 -- what is not open may be taken
-closed-some : WaitsOpen → (parts : Parts) (seat : ℕ) (first : Submitted) → IsCore parts
+closed-some : WaitsOpen → (parts : CoreParts) (seat : ℕ) (first : Submitted) → IsCore parts
     → first_of (statements_at parts.seats seat) ≡ Some first
     → option_map_or is_open (life_of parts.lives first.number) false ≡ false → next_ready (state_of parts) seat ≡ None → ⊥
 closed-some waits parts seat first core is closed none =
@@ -182,7 +182,7 @@ closed-some waits parts seat first core is closed none =
     by_life (Some now) e opens = let both : true ≡ false = sym opens ∙ e in cc
 
 -- nothing is attached for a query that gets no rows
-pub nothing-attached : (parts : Parts) (query : ℕ) → IsCore parts → gets parts.lives query ≡ false
+pub nothing-attached : (parts : CoreParts) (query : ℕ) → IsCore parts → gets parts.lives query ≡ false
     → attached_for parts.lives parts.attached query ≡ None
 nothing-attached parts query core none = by_place (slot_of parts.lives query) refl
   where
@@ -202,7 +202,7 @@ nothing-beside None kept none = none
 nothing-beside (Some groups) kept none = absurd (none-some groups (sym none))
 
 -- what may be taken of an answered query is what is kept beside it
-next-answered : (parts : Parts) (seat : ℕ) (first : Submitted) (asked : AskedQuery) → IsCore parts
+next-answered : (parts : CoreParts) (seat : ℕ) (first : Submitted) (asked : AskedQuery) → IsCore parts
     → first_of (statements_at parts.seats seat) ≡ Some first → first.standing ≡ IsAsked
     → life_of parts.lives first.number ≡ Some life.Answered → asked_at parts.asked first.number ≡ Some asked
     → next_ready (state_of parts) seat ≡ option_map (Grouping asked.snapshot) asked.kept
@@ -223,7 +223,7 @@ next-answered parts seat first asked core is stands lives found =
         ∙ nothing-attached parts first.number core (ap (λ o. option_map_or gets_rows o false) lives)
 
 -- nothing is kept beside a query that found no memory
-spoiled-kept : (parts : Parts) (query : ℕ) (asked : AskedQuery) → IsCore parts → asked_at parts.asked query ≡ Some asked
+spoiled-kept : (parts : CoreParts) (query : ℕ) (asked : AskedQuery) → IsCore parts → asked_at parts.asked query ≡ Some asked
     → life_of parts.lives query ≡ Some life.Spoiled → asked.kept ≡ None
 spoiled-kept parts query asked core found lives =
     nothing-beside (attached_for parts.lives parts.attached asked.number) asked.kept
@@ -231,7 +231,7 @@ spoiled-kept parts query asked core found lives =
     (accepted-of parts.lives parts.attached parts.asked query asked found) lives).1
 
 -- groups may be taken of an answered query
-pub next-groups : WaitsOpen → (parts : Parts) (seat : ℕ) (first : Submitted) → IsCore parts
+pub next-groups : WaitsOpen → (parts : CoreParts) (seat : ℕ) (first : Submitted) → IsCore parts
     → first_of (statements_at parts.seats seat) ≡ Some first → first.standing ≡ IsAsked
     → life_of parts.lives first.number ≡ Some life.Answered
     → (asked : AskedQuery) × (asked_at parts.asked first.number ≡ Some asked) × (groups : Grouped)
@@ -258,11 +258,11 @@ next-groups waits parts seat first core is stands lives =
         (asked, found, there.0, there.1, there.2)
 
 -- what may be taken, where something is kept beside a query or nothing
-abbrev NextIs : (parts : Parts) → (seat snapshot : ℕ) → (kept : Option Grouped) → Type 0
+abbrev NextIs : (parts : CoreParts) → (seat snapshot : ℕ) → (kept : Option Grouped) → Type 0
 NextIs parts seat snapshot kept = next_ready (state_of parts) seat ≡ Some (groups_or_memory snapshot kept)
 
 -- of a query with a life that is not open
-closed-asked : WaitsOpen → (parts : Parts) (seat : ℕ) (first : Submitted) (asked : AskedQuery) → IsCore parts
+closed-asked : WaitsOpen → (parts : CoreParts) (seat : ℕ) (first : Submitted) (asked : AskedQuery) → IsCore parts
     → first_of (statements_at parts.seats seat) ≡ Some first → first.standing ≡ IsAsked
     → option_map_or is_open (life_of parts.lives first.number) false ≡ false → asked_at parts.asked first.number ≡ Some asked
     → NextIs parts seat asked.snapshot asked.kept
@@ -301,7 +301,7 @@ closed-asked waits parts seat first asked core is stands closed found =
     by_life (Some life.Abandoned) lives next = none (after (Some life.Abandoned) lives next)
 
 -- and of one that is not there
-closed-missing : (parts : Parts) (seat snapshot : ℕ) (first : Submitted) → IsCore parts
+closed-missing : (parts : CoreParts) (seat snapshot : ℕ) (first : Submitted) → IsCore parts
     → first_of (statements_at parts.seats seat) ≡ Some first → first.standing ≡ IsAsked
     → asked_at parts.asked first.number ≡ None → NextIs parts seat snapshot None
 closed-missing parts seat snapshot first core is stands missing =
@@ -310,7 +310,7 @@ closed-missing parts seat snapshot first core is stands missing =
     ∙ ap (option_map (accepted_as parts.lives parts.attached)) missing)
 
 -- what is no query that may still be answered may be taken: it is what stands there and what is kept beside
-pub next-closed : WaitsOpen → (parts : Parts) (seat : ℕ) (first : Submitted) → IsCore parts
+pub next-closed : WaitsOpen → (parts : CoreParts) (seat : ℕ) (first : Submitted) → IsCore parts
     → first_of (statements_at parts.seats seat) ≡ Some first
     → (first.standing ≡ IsAsked → option_map_or is_open (life_of parts.lives first.number) false ≡ false)
     → next_ready (state_of parts) seat

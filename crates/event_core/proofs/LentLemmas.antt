@@ -1,11 +1,11 @@
 -- What is beside the state, and events leave: the workers to which batches are lent, where batches in flight change.
-use Rattle.event_core.proofs.Words.{◌++◌, ◌+◌, ◌∙◌, ◌∷◌, ◌≡◌, ◌≢◌, [], All, All-head, All-tail, ap, append-nil, arith, Bool, cond, cons_option, drop, false, filter_map, filter_map-append, Filters, Flight, flight_behind, is_none, lent_to, List, Lives, map, None, none-some, Option, option_map, Parts, passed_in, refl, Rows, same_Some, set, slice_get, Some, subst, suc, sym, take, true, zero, ℕ}
+use Rattle.event_core.proofs.Words.{◌++◌, ◌+◌, ◌∙◌, ◌∷◌, ◌≡◌, ◌≢◌, [], All, All-head, All-tail, ap, append-nil, arith, Bool, cond, cons_option, CoreParts, drop, false, filter_map, filter_map-append, Filters, Flight, flight_behind, is_none, lent_to, List, Lives, map, None, none-some, Option, option_map, passed_in, refl, Rows, same_Some, set, slice_get, Some, subst, suc, sym, take, true, zero, ℕ}
 use Rattle.event_core.specs.Lent.{IsNotLent}
 use Rattle.shared_distributor.specs.Shared.{Lending}
 use Rattle.core_parts.specs.InFlight.{passed_through}
 use Rattle.core_parts.specs.Passed.{behind_all}
 use Rattle.core_state.specs.State as state
-use Rattle.event_core.specs.Parts.{AreBacked, beside_of, fixed_by, lent_as, lent_batches, LentBatch}
+use Rattle.event_core.specs.CoreParts.{AreBacked, beside_of, fixed_by, lent_as, lent_batches, LentBatch}
 use Rattle.event_core.proofs.EventsHandLemmas.{IsHeldAt}
 
 -- what is picked of a list stays where one is written over by one of which the same is picked
@@ -84,7 +84,7 @@ workers-lent (flight ∷ flights) = by_cases flight.lent flight.hand (workers-le
     by_cases true (Some hand) rest = ap (λ list. hand.worker ∷ list) rest
 
 -- where the same batches are lent and the same is out, what is beside the state is the same
-pub beside-by : (parts now : Parts) (flights : List Flight) (lives : Lives) (out : List (Option Lending)) → parts ≡ now
+pub beside-by : (parts now : CoreParts) (flights : List Flight) (lives : Lives) (out : List (Option Lending)) → parts ≡ now
     → lent_batches flights ≡ lent_batches parts.flights → lives.filters ≡ parts.lives.filters → out ≡ parts.out
     → beside_of (record parts { flights = flights; lives = lives; out = out }) ≡ beside_of now
 beside-by parts now flights lives out is same filters outside =
@@ -100,7 +100,7 @@ beside-by parts now flights lives out is same filters outside =
     ∙ ap beside_of is
 
 -- and what is out rests on what is lent, as before
-pub backed-by : (parts : Parts) (flights : List Flight) (lives : Lives) (out : List (Option Lending))
+pub backed-by : (parts : CoreParts) (flights : List Flight) (lives : Lives) (out : List (Option Lending))
     → lent_batches flights ≡ lent_batches parts.flights → lives.filters ≡ parts.lives.filters → out ≡ parts.out
     → AreBacked (beside_of parts) → AreBacked (beside_of (record parts { flights = flights; lives = lives; out = out }))
 backed-by parts flights lives out same filters outside backed =

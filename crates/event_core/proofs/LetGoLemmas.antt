@@ -1,5 +1,5 @@
 -- Accepted queries that were let go or handed on: the former are over, the latter have begun, and both stay so at every event.
-use Rattle.event_core.proofs.Words.{◌++◌, ◌∙◌, ◌∷◌, ◌≡◌, ◌≢◌, ◌-◌, [], after_abandon, after_cut, after_end, after_reserve, after_run, after_spoil, after_submit, All, All-cons, All-contains, All-head, All-tail, ap, AreFinished, asked_at, AskedQueries, AskedQuery, Bool, Building, CanAbandon, CanRun, CanSpoil, cond, Contains, eqb, eqb-true, extent_in, false, find, fold, is_begun, is_open, IsCore, IsSomeAnd, IsTrue, Life, life_in, life_of, List, Lives, None, Option, option_map, option_map_or, Parts, query_in, QueryLife, refl, Some, Spoiled, subst, sym, true, with_life, ℕ}
+use Rattle.event_core.proofs.Words.{◌++◌, ◌∙◌, ◌∷◌, ◌≡◌, ◌≢◌, ◌-◌, [], after_abandon, after_cut, after_end, after_reserve, after_run, after_spoil, after_submit, All, All-cons, All-contains, All-head, All-tail, ap, AreFinished, asked_at, AskedQueries, AskedQuery, Bool, Building, CanAbandon, CanRun, CanSpoil, cond, Contains, CoreParts, eqb, eqb-true, extent_in, false, find, fold, is_begun, is_open, IsCore, IsSomeAnd, IsTrue, Life, life_in, life_of, List, Lives, None, Option, option_map, option_map_or, query_in, QueryLife, refl, Some, Spoiled, subst, sym, true, with_life, ℕ}
 use Rattle.std.specs.Option.{option_or}
 use Rattle.std.proofs.lemmas.Bool.{false≢true}
 use Rattle.std.proofs.lemmas.List.Elements.{All-weaker}
@@ -38,10 +38,10 @@ pub record Stands (asked : AskedQueries) (number : ℕ) : Type 0 where
   pub gone : IsNotAmong asked.gone number
   pub handed : IsNoneOf asked.handed number
 
-pub building-stands : (parts now : Parts) (asked : AskedQueries) (number : ℕ) → parts ≡ now → AreFinished parts.lives asked
+pub building-stands : (parts now : CoreParts) (asked : AskedQueries) (number : ℕ) → parts ≡ now → AreFinished parts.lives asked
     → life_of now.lives number ≡ Some Building → Stands asked number
 building-stands parts now asked number is finished has =
-    let builds : life_of parts.lives number ≡ Some Building = ap (λ (p : Parts). life_of p.lives number) is ∙ has in
+    let builds : life_of parts.lives number ≡ Some Building = ap (λ (p : CoreParts). life_of p.lives number) is ∙ has in
     record {
       gone = open-stands parts.lives asked.gone number finished.over (subst (λ o. IsTrue (option_map_or is_open o false)) (sym builds) refl);
       handed = All-weaker (HasBegun parts.lives) (λ other. other ≢ number)
@@ -95,7 +95,7 @@ on-by : (old after new : Lives) → new ≡ after → GoOn old.queries after.que
 on-by old after new is on = subst (λ (lives : Lives). GoOn old.queries lives.queries) (sym is) on
 
 -- a query gets a slot
-pub on-reserved : (parts : Parts) (slot : ℕ) (new : Lives) → IsCore parts → new ≡ after_reserve slot parts.lives
+pub on-reserved : (parts : CoreParts) (slot : ℕ) (new : Lives) → IsCore parts → new ≡ after_reserve slot parts.lives
     → GoOn parts.lives.queries new.queries
 on-reserved parts slot new core is =
     let rising = core.sound.slots.lives.rising in
@@ -117,11 +117,11 @@ started-begun start extent = by_test (eqb extent 0)
     by_test true = refl
     by_test false = refl
 
-pub on-run : (parts now : Parts) (query start : ℕ) (new : Lives) → parts ≡ now → CanRun query now.lives → new ≡ after_run query start parts.lives
+pub on-run : (parts now : CoreParts) (query start : ℕ) (new : Lives) → parts ≡ now → CanRun query now.lives → new ≡ after_run query start parts.lives
     → GoOn parts.lives.queries new.queries
 on-run parts now query start new is may run =
     let begun = started start (extent_in parts.lives.queries query) in
-    let building : life_in parts.lives.queries query ≡ Some Building = ap (λ (p : Parts). life_of p.lives query) is ∙ may.building in
+    let building : life_in parts.lives.queries query ≡ Some Building = ap (λ (p : CoreParts). life_of p.lives query) is ∙ may.building in
     on-by parts.lives (after_run query start parts.lives) new run (record {
       over = (lives-written query begun parts.lives.queries (open-so (life_in parts.lives.queries query) Building begun building refl)).over;
       begun = λ number. says-written (IsPast is_to_start) query begun parts.lives.queries number
@@ -129,11 +129,11 @@ on-run parts now query start new is may run =
     })
 
 -- it has begun then
-pub has-begun : (parts now : Parts) (query start : ℕ) (new : Lives) → parts ≡ now → CanRun query now.lives → new ≡ after_run query start parts.lives
+pub has-begun : (parts now : CoreParts) (query start : ℕ) (new : Lives) → parts ≡ now → CanRun query now.lives → new ≡ after_run query start parts.lives
     → HasBegun new query
 has-begun parts now query start new is may run =
     let begun = started start (extent_in parts.lives.queries query) in
-    let building : life_in parts.lives.queries query ≡ Some Building = ap (λ (p : Parts). life_of p.lives query) is ∙ may.building in
+    let building : life_in parts.lives.queries query ≡ Some Building = ap (λ (p : CoreParts). life_of p.lives query) is ∙ may.building in
     subst (λ (lives : Lives). IsPast is_to_start (life_in lives.queries query)) (sym run)
     (subst (IsPast is_to_start) (sym (life_in-same parts.lives.queries query begun ∙ ap (option_map (λ before. begun)) building))
     (started-begun start (extent_in parts.lives.queries query)))
@@ -178,19 +178,19 @@ on-spoiled spoiled old new begun is =
     begun-open other begun = refl
 
 -- a query that is Building finds no memory
-pub on-unbuilt : (parts now : Parts) (query : ℕ) (new : Lives) → parts ≡ now → life_of now.lives query ≡ Some Building
+pub on-unbuilt : (parts now : CoreParts) (query : ℕ) (new : Lives) → parts ≡ now → life_of now.lives query ≡ Some Building
     → new ≡ after_spoil query parts.lives → GoOn parts.lives.queries new.queries
 on-unbuilt parts now query new is building spoilt = on-by parts.lives (after_spoil query parts.lives) new spoilt (record {
   over = (lives-written query Spoiled parts.lives.queries
-      (open-so (life_in parts.lives.queries query) Building Spoiled (ap (λ (p : Parts). life_of p.lives query) is ∙ building) refl)).over;
+      (open-so (life_in parts.lives.queries query) Building Spoiled (ap (λ (p : CoreParts). life_of p.lives query) is ∙ building) refl)).over;
   begun = λ number. says-written (IsPast is_to_start) query Spoiled parts.lives.queries number (λ old found begun. refl);
 })
 
 -- nobody waits for a query any more
-pub on-abandoned : (parts now : Parts) (query : ℕ) (new : Lives) → parts ≡ now → CanAbandon query now.lives
+pub on-abandoned : (parts now : CoreParts) (query : ℕ) (new : Lives) → parts ≡ now → CanAbandon query now.lives
     → new ≡ after_abandon query parts.lives → GoOn parts.lives.queries new.queries
 on-abandoned parts now query new is may lost = on-by parts.lives (after_abandon query parts.lives) new lost (record {
-  over = (lives-abandoned query parts.lives (subst (λ (p : Parts). CanAbandon query p.lives) (sym is) may)).over;
+  over = (lives-abandoned query parts.lives (subst (λ (p : CoreParts). CanAbandon query p.lives) (sym is) may)).over;
   begun = λ number. says-written (IsPast is_to_start) query life.Abandoned parts.lives.queries number (λ old found begun. refl);
 })
 
@@ -204,11 +204,11 @@ past-written new queries query past may =
     by_life None none = absurd (false≢true none)
     by_life (Some life) has = past
 
-pub has-left : (parts now : Parts) (query : ℕ) (new : Lives) (left : Life) → parts ≡ now → CanAbandon query now.lives → is_to_start left ≡ false
+pub has-left : (parts now : CoreParts) (query : ℕ) (new : Lives) (left : Life) → parts ≡ now → CanAbandon query now.lives → is_to_start left ≡ false
     → new.queries ≡ with_life query left parts.lives.queries → HasBegun new query
 has-left parts now query new left is may past written =
     subst (λ queries. IsPast is_to_start (life_in queries query)) (sym written)
-    (past-written left parts.lives.queries query past (subst (λ (p : Parts). CanAbandon query p.lives) (sym is) may))
+    (past-written left parts.lives.queries query past (subst (λ (p : CoreParts). CanAbandon query p.lives) (sym is) may))
 
 -- a query stands behind the others
 pub on-submitted : (query extent : ℕ) (old new : Lives) → new ≡ after_submit query extent old → GoOn old.queries new.queries

@@ -1,5 +1,5 @@
 -- A core of which the lives of queries, the filters and the last numbers change.
-use Rattle.event_core.proofs.Words.{◌∙◌, accepted_in, after_reorder, after_reserve, after_reserving, ap, attached_for, attached_to, Becomes, CanFree, cases_eq, Event, Filters, Free, gets, gets_rows, Grouped, Held, is_held_by, IsCore, IsEnabled, IsSome, IsSound, known_in, LeavesAttached, LeavesRest, LeavesScan, Lives, MayReserve, Numbers, option_map_or, order_by, Parts, reaches_in, Release, Reorder, reordered, Reserve, reserved, State, state_of, subst, sym, tables_of, with_life, with_slot, ⊎_elim}
+use Rattle.event_core.proofs.Words.{◌∙◌, accepted_in, after_reorder, after_reserve, after_reserving, ap, attached_for, attached_to, Becomes, CanFree, cases_eq, CoreParts, Event, Filters, Free, gets, gets_rows, Grouped, Held, is_held_by, IsCore, IsEnabled, IsSome, IsSound, known_in, LeavesAttached, LeavesRest, LeavesScan, Lives, MayReserve, Numbers, option_map_or, order_by, reaches_in, Release, Reorder, reordered, Reserve, reserved, State, state_of, subst, sym, tables_of, with_life, with_slot, ⊎_elim}
 use Rattle.std.specs.Prelude.{◌≡◌, ℕ, false, List, Option, refl}
 use Rattle.pipeline_manager.specs.Changes.{after_free}
 use Rattle.pipeline_manager.specs.declared.life.Life.TheVariants as life
@@ -14,11 +14,11 @@ use Rattle.event_core.proofs.SeenLemmas.{accepted-same, reaches-with_life, state
 
 -- quiet events leave a core
 abbrev pub QuietEventsLeave : Type 0
-QuietEventsLeave = (old new : Parts) (event : Event) → IsCore old → IsEnabled (state_of old) event → LeavesScan event
+QuietEventsLeave = (old new : CoreParts) (event : Event) → IsCore old → IsEnabled (state_of old) event → LeavesScan event
     → LeavesAttached event → state_of new ≡ after_event event (state_of old) → LeavesRest old new → IsCore new
 
 -- the parts with these lives, filters and numbers
-abbrev pub parts_lived : Lives → Filters → Numbers → Parts → Parts
+abbrev pub parts_lived : Lives → Filters → Numbers → CoreParts → CoreParts
 parts_lived lives filters numbers parts = record parts { lives = lives; filters = filters; numbers = numbers }
 
 -- and the state
@@ -31,7 +31,7 @@ pub record IsSeenAs (lives later : Lives) (groups : List (Option Grouped)) : Typ
   pub reaches : reaches_in later.queries ≡ reaches_in lives.queries
 
 -- the state that these parts stand for
-pub state-lived : (parts : Parts) (lives : Lives) (filters : Filters) (numbers : Numbers) → IsSeenAs parts.lives lives parts.attached
+pub state-lived : (parts : CoreParts) (lives : Lives) (filters : Filters) (numbers : Numbers) → IsSeenAs parts.lives lives parts.attached
     → state_of (parts_lived lives filters numbers parts) ≡ state_lived lives filters numbers (state_of parts)
 state-lived parts lives filters numbers same = state-seen (parts_lived lives filters numbers parts)
     (accepted_in parts.lives parts.attached parts.asked) (known_in parts.asked) (reaches_in parts.lives.queries)
@@ -39,7 +39,7 @@ state-lived parts lives filters numbers same = state-seen (parts_lived lives fil
     refl same.reaches
 
 -- what a quiet event makes of such parts
-pub becomes-lived : QuietEventsLeave → (parts : Parts) (event : Event) (after : State) (lives : Lives) (filters : Filters) (numbers : Numbers)
+pub becomes-lived : QuietEventsLeave → (parts : CoreParts) (event : Event) (after : State) (lives : Lives) (filters : Filters) (numbers : Numbers)
     → IsCore parts → IsEnabled (state_of parts) event → LeavesScan event → LeavesAttached event
     → after_event event (state_of parts) ≡ after → IsSeenAs parts.lives lives parts.attached
     → state_lived lives filters numbers (state_of parts) ≡ after
@@ -66,7 +66,7 @@ unfolding after_event
 attached-reserve state query slot sound may = attached-event state (Reserve query slot) sound may tt
 
 -- the slot that a query is given was Free, and nothing is attached for a query that gets no rows
-seen-reserved : (parts : Parts) (query slot : ℕ) → IsCore parts → MayReserve query slot (state_of parts)
+seen-reserved : (parts : CoreParts) (query slot : ℕ) → IsCore parts → MayReserve query slot (state_of parts)
     → IsSeenAs parts.lives (after_reserve slot parts.lives) parts.attached
 seen-reserved parts query slot core may =
     subst (λ o. IsSeenAs parts.lives (option_map_or reserved_for o parts.lives) parts.attached) (sym may.oldest) (record {
@@ -104,7 +104,7 @@ seen-reserved parts query slot core may =
         ∙ sym (ap (λ attached. attached_for parts.lives attached query) core.attached ∙ attached_for-none state query none)
 
 -- a slot that is free again was held by no query
-seen-released : (parts : Parts) (slot : ℕ) → CanFree slot parts.lives
+seen-released : (parts : CoreParts) (slot : ℕ) → CanFree slot parts.lives
     → IsSeenAs parts.lives (after_free slot parts.lives) parts.attached
 seen-released parts slot can = record {
   attached = λ query. attached_for-written parts.lives parts.attached slot query Free (sym (ap (is_held_by query) can));
@@ -112,7 +112,7 @@ seen-released parts slot can = record {
 }
 
 -- the parts where a query gets a slot
-pub becomes-reserved : QuietEventsLeave → (parts : Parts) (query slot : ℕ) → IsCore parts → MayReserve query slot (state_of parts)
+pub becomes-reserved : QuietEventsLeave → (parts : CoreParts) (query slot : ℕ) → IsCore parts → MayReserve query slot (state_of parts)
     → Becomes (reserved slot parts) (after_reserving slot (state_of parts))
 unfolding after_event
 becomes-reserved quiet parts query slot core may =
@@ -120,7 +120,7 @@ becomes-reserved quiet parts query slot core may =
     parts.numbers core may tt tt refl (seen-reserved parts query slot core may) refl
 
 -- the parts where a slot is free again
-pub becomes-released : QuietEventsLeave → (parts : Parts) (slot : ℕ) → IsCore parts → CanFree slot parts.lives
+pub becomes-released : QuietEventsLeave → (parts : CoreParts) (slot : ℕ) → IsCore parts → CanFree slot parts.lives
     → Becomes (released slot parts) (after_release slot (state_of parts))
 unfolding after_event
 becomes-released quiet parts slot core can =
@@ -128,7 +128,7 @@ becomes-released quiet parts slot core can =
     parts.numbers core can tt tt refl (seen-released parts slot can) refl
 
 -- the parts with another order of the filters
-pub becomes-reordered : QuietEventsLeave → (parts : Parts) → IsCore parts → IsSome (tables_of (state_of parts)).schema.fact
+pub becomes-reordered : QuietEventsLeave → (parts : CoreParts) → IsCore parts → IsSome (tables_of (state_of parts)).schema.fact
     → Becomes (reordered parts) (after_reorder (state_of parts))
 unfolding after_event
 becomes-reordered quiet parts core may =

@@ -1,11 +1,11 @@
 -- What is out with seats rests on batches that are lent: where one is lent, and where it comes home.
-use Rattle.event_core.proofs.Words.{◌++◌, ◌<◌, ◌∙◌, ◌∷◌, ◌≡◌, ◌≢◌, ◌≤◌, ◌⊎◌, [], All, All-contains, All-head, All-tail, AllPairs, ap, arith, Bool, cases_eq, cases_lt, cond, cons_option, Contains, drop, eq-eqb, eqb, false, filter_map, find, Flight, flights_as, get_or, get_or-set_other, get_or-set_same, get_or_past, Has, IfSome, inl, inr, Known, length, length-set, lent_to, List, ne_eqb, None, none-some, Option, option_map, option_map_or, Parts, Reach, refl, same_Some, set, slice_get, Some, some-at, subst, suc, sym, take, true, zero, ℕ}
+use Rattle.event_core.proofs.Words.{◌++◌, ◌<◌, ◌∙◌, ◌∷◌, ◌≡◌, ◌≢◌, ◌≤◌, ◌⊎◌, [], All, All-contains, All-head, All-tail, AllPairs, ap, arith, Bool, cases_eq, cases_lt, cond, cons_option, Contains, CoreParts, drop, eq-eqb, eqb, false, filter_map, find, Flight, flights_as, get_or, get_or-set_other, get_or-set_same, get_or_past, Has, IfSome, inl, inr, Known, length, length-set, lent_to, List, ne_eqb, None, none-some, Option, option_map, option_map_or, Reach, refl, same_Some, set, slice_get, Some, some-at, subst, suc, sym, take, true, zero, ℕ}
 use Rattle.query_meaning.specs.Keyed.{KeyedStore}
 use Rattle.shared_distributor.specs.Shared.{Lending}
 use Rattle.core_parts.specs.InFlight.{passed_through}
 use Rattle.core_state.specs.State as state
 use Rattle.event_core.specs.Lent.{IsNotLent}
-use Rattle.event_core.specs.Parts.{AreBacked, Beside, beside_of, Fixed, fixed_by, IsBacked, is_any_out, LeavesLoans, lent_as, lent_batches, LentBatch, Loan, loan_of}
+use Rattle.event_core.specs.CoreParts.{AreBacked, Beside, beside_of, Fixed, fixed_by, IsBacked, is_any_out, LeavesLoans, lent_as, lent_batches, LentBatch, Loan, loan_of}
 use Rattle.event_core.proofs.EventsHandLemmas.{IsHeldAt, is_in_hand}
 use Rattle.event_core.proofs.SparedLemmas.{contains-cases, contains-first, contains-more, contains-none}
 
@@ -92,7 +92,7 @@ abbrev loan_by : KeyedStore → Option Lending → Option Loan
 loan_by tables o = option_map (λ (one : Lending). record { slots = one.slots; groups = one.groups; tables = tables }) o
 
 -- where what is beside the state stays, so does what a seat has
-pub beside-lent : (old new : Parts) → beside_of new ≡ beside_of old → (seat : ℕ) → loan_of new seat ≡ loan_of old seat
+pub beside-lent : (old new : CoreParts) → beside_of new ≡ beside_of old → (seat : ℕ) → loan_of new seat ≡ loan_of old seat
 beside-lent old new same seat = by_lending (get_or old.out seat None) refl
   where
     by_lending : (o : Option Lending) → get_or old.out seat None ≡ o → loan_of new seat ≡ loan_of old seat
@@ -145,7 +145,7 @@ home-batches worker (flight ∷ flights) home batch has =
     by_case later (inl is) = first flight.lent flight.hand is home
     by_case later (inr more) = later more
 
-pub home-none : (parts : Parts) (worker : ℕ) → AreBacked (beside_of parts) → IsNotLent worker (lent_to parts.flights)
+pub home-none : (parts : CoreParts) (worker : ℕ) → AreBacked (beside_of parts) → IsNotLent worker (lent_to parts.flights)
     → get_or parts.out worker None ≡ None
 home-none parts worker backed home = by_lending (get_or parts.out worker None) refl
   where
@@ -344,7 +344,7 @@ fixed-same old new seat lending tables filters left same here was =
     ∙ sym (fixed-there old seat lending tables filters was)
 
 -- a seat that has nothing of the core has nothing out
-pub loan-none : (parts : Parts) (seat : ℕ) → loan_of parts seat ≡ None → get_or parts.out seat None ≡ None
+pub loan-none : (parts : CoreParts) (seat : ℕ) → loan_of parts seat ≡ None → get_or parts.out seat None ≡ None
 loan-none parts seat none = by_lending (get_or parts.out seat None) none
   where
     by_lending : (o : Option Lending) → loan_by parts.tables o ≡ None → o ≡ None
@@ -352,7 +352,7 @@ loan-none parts seat none = by_lending (get_or parts.out seat None) none
     by_lending (Some lending) is = absurd (none-some _ (sym is))
 
 -- what other seats have stays where one seat's is written over
-pub loans-beside : (old new : Parts) (worker : ℕ) (o : Option Lending) → new.out ≡ set old.out worker o → new.tables ≡ old.tables
+pub loans-beside : (old new : CoreParts) (worker : ℕ) (o : Option Lending) → new.out ≡ set old.out worker o → new.tables ≡ old.tables
     → LeavesLoans worker old new
 loans-beside old new worker o outs tables = λ seat other.
     ap (λ list. loan_by new.tables (get_or list seat None)) outs
@@ -360,7 +360,7 @@ loans-beside old new worker o outs tables = λ seat other.
     ∙ ap (λ them. loan_by them (get_or old.out seat None)) tables
 
 -- and where all stays
-pub loans-stay : (old new : Parts) → new.out ≡ old.out → new.tables ≡ old.tables → (seat : ℕ) → loan_of new seat ≡ loan_of old seat
+pub loans-stay : (old new : CoreParts) → new.out ≡ old.out → new.tables ≡ old.tables → (seat : ℕ) → loan_of new seat ≡ loan_of old seat
 loans-stay old new outs tables seat =
     ap (λ list. loan_by new.tables (get_or list seat None)) outs ∙ ap (λ them. loan_by them (get_or old.out seat None)) tables
 
@@ -373,6 +373,6 @@ set-none out seat = by_place (cases_lt seat (length out))
     by_place (inr past) = get_or_past (set out seat None) seat None (subst (λ n. n ≤ seat) (sym (length-set out seat None)) past)
 
 -- a seat of which nothing is out any more has nothing
-pub loan-gone : (old new : Parts) (worker : ℕ) → new.out ≡ set old.out worker None → loan_of new worker ≡ None
+pub loan-gone : (old new : CoreParts) (worker : ℕ) → new.out ≡ set old.out worker None → loan_of new worker ≡ None
 loan-gone old new worker outs =
     ap (λ list. loan_by new.tables (get_or list worker None)) outs ∙ ap (loan_by new.tables) (set-none old.out worker)

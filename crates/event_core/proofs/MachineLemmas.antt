@@ -1,5 +1,5 @@
 -- What a core answers, by its parts.
-use Rattle.event_core.proofs.Words.{◌<◌, ◌∙◌, ◌≡◌, [], ap, arith, Contains, empty_seat, eq-eqb, eqb, false, FilterVersion, find-there, get_or, get_or-map, Has, is_open, IsCore, IsSome, known_in, length, length-map, life_of, List, Lives, map, Option, option_map, option_map_or, Parts, Pending, Roomy, seat_as, seat_at, state_of, Submitted, subst, sym, version_at, ℕ}
+use Rattle.event_core.proofs.Words.{◌<◌, ◌∙◌, ◌≡◌, [], ap, arith, Contains, CoreParts, empty_seat, eq-eqb, eqb, false, FilterVersion, find-there, get_or, get_or-map, Has, is_open, IsCore, IsSome, known_in, length, length-map, life_of, List, Lives, map, Option, option_map, option_map_or, Pending, Roomy, seat_as, seat_at, state_of, Submitted, subst, sym, version_at, ℕ}
 use Rattle.std.proofs.Common.{find}
 
 -- a dimension that is among those of versions has one
@@ -17,7 +17,7 @@ version-there versions dimension there =
     within = subst (λ (count : ℕ). there.0 < count) (length-map versions (λ (version : FilterVersion). version.filter.dimension)) there.1
 
 -- a dimension that is a filter has a version
-pub has-version : (parts : Parts) (dimension : ℕ) → IsCore parts → Has parts.lives.filters dimension
+pub has-version : (parts : CoreParts) (dimension : ℕ) → IsCore parts → Has parts.lives.filters dimension
     → IsSome (version_at parts.filters.versions dimension)
 has-version parts dimension core is_filter =
     version-there parts.filters.versions dimension
@@ -30,7 +30,7 @@ first_open lives pending = option_map (λ (one : Pending). one.statement)
     (find (λ (one : Pending). option_map_or is_open (life_of lives one.statement) false) pending)
 
 -- what is found in a seat of the parts is found in that of the state
-pub found-pending : (parts : Parts) (lives : Lives) (seats : List (Roomy Submitted)) (seat : ℕ) (entry : Roomy Submitted) (found : Option ℕ)
+pub found-pending : (parts : CoreParts) (lives : Lives) (seats : List (Roomy Submitted)) (seat : ℕ) (entry : Roomy Submitted) (found : Option ℕ)
     → lives ≡ parts.lives → map (λ one. one.items) seats ≡ parts.seats → entry ≡ get_or seats seat entry
     → seat < length (state_of parts).seats → found ≡ first_open lives (seat_as (known_in parts.asked) entry.items).pending
     → found ≡ first_open parts.lives (seat_at (state_of parts) seat).pending

@@ -1,10 +1,10 @@
 -- The parts of a new core.
-use Rattle.event_core.proofs.Words.{◌*◌, ◌+◌, ◌∙◌, ◌∷◌, ◌≡◌, ◌≤◌, [], All, All-nil, ap, AreWithin, arith, AskedQueries, AskedQuery, Becomes, empty_core, empty_store, first_parts, Flight, frame_words, frames_of, Free, HasRoom, IsKeyed, KeyedStore, List, Lives, Logged, map, new_scan, None, Parts, parts_by, plain, plain_version, refl, replicate, Roomy, RunSettings, Scanning, Stock, Store, Submitted, subst, sym, Version, ℕ}
+use Rattle.event_core.proofs.Words.{◌*◌, ◌+◌, ◌∙◌, ◌∷◌, ◌≡◌, ◌≤◌, [], All, All-nil, ap, AreWithin, arith, AskedQueries, AskedQuery, Becomes, CoreParts, empty_core, empty_store, first_parts, Flight, frame_words, frames_of, Free, HasRoom, IsKeyed, KeyedStore, List, Lives, Logged, map, new_scan, None, parts_by, plain, plain_version, refl, replicate, Roomy, RunSettings, Scanning, Stock, Store, Submitted, subst, sym, Version, ℕ}
 use Rattle.query_meaning.specs.Keyed.{HasKeyNumbers}
 use Rattle.shared_distributor.specs.Shared.{SharedGroups}
 use Rattle.core_state.specs.State as state
 use Rattle.core_parts.specs.Filters.{no_filters}
-use Rattle.event_core.specs.Parts.{first_marks}
+use Rattle.event_core.specs.CoreParts.{first_marks}
 
 -- the law of new cores
 abbrev NewLaw : Type 0
@@ -19,7 +19,7 @@ none-keyed P (version ∷ versions) none = absurd (let some : plain_version vers
 
 -- parts of which nothing was cut and no number given
 abbrev parts_of : RunSettings → KeyedStore → List Logged → List (List Submitted) → List AskedQuery → Lives → state.Filters → Scanning
-    → SharedGroups → List Flight → Stock → Parts
+    → SharedGroups → List Flight → Stock → CoreParts
 parts_of settings tables log seats asked lives filters scan groups flights pool = record {
   settings = settings;
   tables = tables;

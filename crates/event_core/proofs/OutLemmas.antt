@@ -1,5 +1,5 @@
 -- What is out with seats rests on batches that are lent: a slot on no roster is not out, and where nothing is lent nothing is.
-use Rattle.event_core.proofs.Words.{◌<◌, ◌∙◌, ◌∷◌, ◌≡◌, [], after_end, after_reserve, after_spoil, All, All-cons, All-contains, All-head, All-nil, All-tail, ap, AreIdle, arith, AskedQuery, bit_at, Bool, Building, Clearing, cond, cons_option, eqb, eq-eqb, eqb-true, false, Flight, flight_as, flights_as, fold, Free, get_or, Has, Held, holder_of, holds-slot, IfSome, is_some, IsCore, KeyedStore, Known, known_in, length, lent_to, life_of, List, list_any_none, Lives, map, MayFinish, None, none-some, OnRoster, Option, option_map, option_map_or, Parts, Reach, reaches_in, refl, replicate, same_Some, set, slot_at, slot_of, SlotState, slots_of, Some, state_of, subst, suc, sym, true, with_life, with_slot, zero, ℕ}
+use Rattle.event_core.proofs.Words.{◌<◌, ◌∙◌, ◌∷◌, ◌≡◌, [], after_end, after_reserve, after_spoil, All, All-cons, All-contains, All-head, All-nil, All-tail, ap, AreIdle, arith, AskedQuery, bit_at, Bool, Building, Clearing, cond, cons_option, eqb, eq-eqb, eqb-true, false, Flight, flight_as, flights_as, fold, Free, get_or, Has, Held, holder_of, holds-slot, IfSome, is_some, IsCore, KeyedStore, Known, known_in, length, lent_to, life_of, List, list_any_none, Lives, map, MayFinish, None, none-some, OnRoster, Option, option_map, option_map_or, CoreParts, Reach, reaches_in, refl, replicate, same_Some, set, slot_at, slot_of, SlotState, slots_of, Some, state_of, subst, suc, sym, true, with_life, with_slot, zero, ℕ}
 use Rattle.std.proofs.lemmas.List.{get_or_default}
 use Rattle.std.proofs.lemmas.List.Folds.{Any-from_list_any}
 use Rattle.shared_distributor.specs.Shared.{IsAllIn, Lending}
@@ -10,7 +10,7 @@ use Rattle.core_state.proofs.CutFoundLemmas.{all-found}
 use Rattle.core_state.specs.Flown.{IsOnRoster, MayBeOnRoster}
 use Rattle.core_state.specs.Found.{is_on_roster}
 use Rattle.core_state.specs.State as state
-use Rattle.event_core.specs.Parts.{AreBacked, Beside, beside_of, first_beside, first_marks, Fixed, fixed_by, is_any_out, IsBacked, lent_as, lent_batches, LentBatch}
+use Rattle.event_core.specs.CoreParts.{AreBacked, Beside, beside_of, first_beside, first_marks, Fixed, fixed_by, is_any_out, IsBacked, lent_as, lent_batches, LentBatch}
 use Rattle.event_core.proofs.LentLemmas.{workers-lent}
 use Rattle.event_core.proofs.EnablingSetLemmas.{bit-roster}
 use Rattle.event_core.proofs.StartEventLemmas.{Starting}
@@ -41,7 +41,7 @@ clear-all slot flights clear = all-found lent_as (λ (batch : LentBatch). ¬ (Ha
     (λ k d low batch is. clear-lent slot (get_or flights k d) batch is (clear k d low))
 
 -- and it is not out
-pub not-out : (parts : Parts) (slot : ℕ) → AreBacked (beside_of parts) → AreClearOf slot parts.flights → IsAllIn slot parts.out
+pub not-out : (parts : CoreParts) (slot : ℕ) → AreBacked (beside_of parts) → AreClearOf slot parts.flights → IsAllIn slot parts.out
 not-out parts slot backed clear = λ k d low.
     by_lending k (get_or parts.out k None) (get_or parts.out k d) (get_or_default parts.out k None d low) (backed k)
   where
@@ -53,7 +53,7 @@ not-out parts slot backed clear = λ k d low.
         (clear-all slot parts.flights clear) rests.1 (subst (λ set. Has set slot) rests.2.slots has))
 
 -- where no batch that is in flight has a slot on its roster, none has it in the set of its roster
-pub clear-rosters : (parts : Parts) (slot : ℕ) → IsCore parts → All (λ flight. is_on_roster slot flight ≡ false) (state_of parts).scan.flights
+pub clear-rosters : (parts : CoreParts) (slot : ℕ) → IsCore parts → All (λ flight. is_on_roster slot flight ≡ false) (state_of parts).scan.flights
     → AreClearOf slot parts.flights
 clear-rosters parts slot core none =
     by_flights parts.flights none (λ k d low. (core.sound.batches k d low).slots)
@@ -81,14 +81,14 @@ clear-rosters parts slot core none =
         (flights_as known reaches flights) its))
 
 -- a slot that may be taken from its query is not out
-pub finish-inside : (parts now : Parts) (slot : ℕ) → parts ≡ now → IsCore parts → MayFinish slot (state_of now) → AreBacked (beside_of parts)
+pub finish-inside : (parts now : CoreParts) (slot : ℕ) → parts ≡ now → IsCore parts → MayFinish slot (state_of now) → AreBacked (beside_of parts)
     → IsAllIn slot parts.out
 finish-inside parts now slot is core may backed =
     not-out parts slot backed (clear-rosters parts slot core
-    (subst (λ (p : Parts). All (λ flight. is_on_roster slot flight ≡ false) (state_of p).scan.flights) (sym is) may.landed))
+    (subst (λ (p : CoreParts). All (λ flight. is_on_roster slot flight ≡ false) (state_of p).scan.flights) (sym is) may.landed))
 
 -- a slot that a query holds which has not begun is on no roster
-building-clear : (parts : Parts) (query slot : ℕ) (asked : AskedQuery) → Starting parts query slot asked
+building-clear : (parts : CoreParts) (query slot : ℕ) (asked : AskedQuery) → Starting parts query slot asked
     → All (λ flight. is_on_roster slot flight ≡ false) (state_of parts).scan.flights
 building-clear parts query slot asked starts = λ k d low.
     by_flight (get_or (state_of parts).scan.flights k d) (starts.core.sound.batches k d low).roster
@@ -116,7 +116,7 @@ building-clear parts query slot asked starts = λ k d low.
     by_flight flight all = by_test flight (is_on_roster slot flight) all refl
 
 -- nor is one that a query holds which begins its lap
-pub start-inside : (parts : Parts) (query slot : ℕ) (asked : AskedQuery) → Starting parts query slot asked → AreBacked (beside_of parts)
+pub start-inside : (parts : CoreParts) (query slot : ℕ) (asked : AskedQuery) → Starting parts query slot asked → AreBacked (beside_of parts)
     → IsAllIn slot parts.out
 start-inside parts query slot asked starts backed =
     not-out parts slot backed (clear-rosters parts slot starts.core (building-clear parts query slot asked starts))
@@ -162,7 +162,7 @@ none-at (suc seats) zero = refl
 none-at (suc seats) (suc seat) = none-at seats seat
 
 -- where nothing is out, nothing has to rest on what is lent
-pub backed-none : (parts : Parts) (seats : ℕ) → parts.out ≡ replicate seats None → AreBacked (beside_of parts)
+pub backed-none : (parts : CoreParts) (seats : ℕ) → parts.out ≡ replicate seats None → AreBacked (beside_of parts)
 backed-none parts seats none = λ seat.
     subst (λ o. IfSome o (IsBacked (beside_of parts) seat)) (sym (ap (λ out. get_or out seat None) none ∙ none-at seats seat)) tt
 
@@ -172,7 +172,7 @@ none-any zero = refl
 none-any (suc seats) = none-any seats
 
 -- what is beside the state of a core in which nothing has come yet
-pub beside-first : (parts : Parts) (seats : ℕ) → parts.flights ≡ [] → parts.out ≡ replicate seats None → parts.marks ≡ first_marks
+pub beside-first : (parts : CoreParts) (seats : ℕ) → parts.flights ≡ [] → parts.out ≡ replicate seats None → parts.marks ≡ first_marks
     → beside_of parts ≡ first_beside seats
 beside-first parts seats flights out marks =
     ap (λ list. record (beside_of parts) { lent = lent_to list; batches = lent_batches list }) flights
@@ -197,7 +197,7 @@ none-lent flights none = by_list (lent_batches flights) (sym (workers-lent fligh
     by_list (batch ∷ list) is = absurd (let some : batch.worker ∷ map (λ (batch : LentBatch). batch.worker) list ≡ [] = is in cc)
 
 -- where no batch is lent, nothing is out with any seat
-pub all-home : (parts : Parts) → AreBacked (beside_of parts) → lent_to parts.flights ≡ [] → All (λ lending. lending ≡ None) parts.out
+pub all-home : (parts : CoreParts) → AreBacked (beside_of parts) → lent_to parts.flights ≡ [] → All (λ lending. lending ≡ None) parts.out
 all-home parts backed none = λ k d low.
     sym (get_or_default parts.out k None d low) ∙ by_lending k (get_or parts.out k None) (backed k)
   where
@@ -211,7 +211,7 @@ pub not-any : (out : List (Option Lending)) → All (λ lending. lending ≡ Non
 not-any out none = list_any_none is_some out (λ k d low. ap is_some (none k d low))
 
 -- where nothing is out, what is beside the state stays whatever the tables and the filters become
-pub beside-idle : (parts now : Parts) (tables : KeyedStore) (lives : Lives) → parts ≡ now → All (λ lending. lending ≡ None) parts.out
+pub beside-idle : (parts now : CoreParts) (tables : KeyedStore) (lives : Lives) → parts ≡ now → All (λ lending. lending ≡ None) parts.out
     → beside_of (record parts { tables = tables; lives = lives }) ≡ beside_of now
 beside-idle parts now tables lives is none =
     ap with_fixed (idle tables lives.filters ∙ sym (idle parts.tables parts.lives.filters)) ∙ ap beside_of is
@@ -224,7 +224,7 @@ beside-idle parts now tables lives is none =
         (not-any parts.out none)
 
 -- where no batch is in a hand, none is lent
-pub idle-lend : (parts : Parts) → AreIdle (state_of parts) → lent_to parts.flights ≡ []
+pub idle-lend : (parts : CoreParts) → AreIdle (state_of parts) → lent_to parts.flights ≡ []
 idle-lend parts idle = by_flights parts.flights idle
   where
     known : List Known

@@ -1,5 +1,5 @@
 -- A batch passes the filter that it meets next: the front takes it and gives it back.
-use Rattle.event_core.proofs.Words.{◌++◌, ◌+◌, ◌<◌, ◌∙◌, ◌∷◌, ◌≡◌, ◌≢◌, [], after_give, after_take, All, All-append, All-cons, All-head, All-nil, All-tail, ap, arith, Becomes, Bool, cond, eq-eqb, eqb, false, Flight, flight_as, flights_as, get_or-append_seam, Give, inl, IsCore, IsEnabled, IsLed, IsPassing, IsSome, Known, known_in, length, length-append, List, list_all, MayTake, ne_eqb, next_of, None, not, Option, option_map_or, Parts, passed_by, plus, position_or_len, Reach, reaches_in, refl, slice_get, slice_get-get_or, Some, state_of, subst, sym, Take, DropTally, tally_of, true, ℕ}
+use Rattle.event_core.proofs.Words.{◌++◌, ◌+◌, ◌<◌, ◌∙◌, ◌∷◌, ◌≡◌, ◌≢◌, [], after_give, after_take, All, All-append, All-cons, All-head, All-nil, All-tail, ap, arith, Becomes, Bool, cond, CoreParts, eq-eqb, eqb, false, Flight, flight_as, flights_as, get_or-append_seam, Give, inl, IsCore, IsEnabled, IsLed, IsPassing, IsSome, Known, known_in, length, length-append, List, list_all, MayTake, ne_eqb, next_of, None, not, Option, option_map_or, passed_by, plus, position_or_len, Reach, reaches_in, refl, slice_get, slice_get-get_or, Some, state_of, subst, sym, Take, DropTally, tally_of, true, ℕ}
 use Rattle.std.proofs.Math.Seq.{set-append_seam}
 use Rattle.std.proofs.lemmas.List.{map-append}
 use Rattle.std.specs.List.{position}
@@ -13,7 +13,7 @@ use Rattle.event_core.proofs.LivedLemmas.{QuietEventsLeave}
 use Rattle.event_core.proofs.WorkLemmas.{seen-same}
 
 -- the parts with these tallies and batches in flight
-abbrev pub parts_at : Parts → List DropTally → List Flight → Parts
+abbrev pub parts_at : CoreParts → List DropTally → List Flight → CoreParts
 parts_at parts tallies flights = record parts { filters = record parts.filters { tallies = tallies }; flights = flights }
 
 -- what is idle
@@ -21,7 +21,7 @@ abbrev pub IsIdle : Flight → Type 0
 IsIdle flight = flight.hand ≡ None
 
 -- the front led the parts of a core from one to the other
-pub record IsPassedOn (old new : Parts) : Type 0 where
+pub record IsPassedOn (old new : CoreParts) : Type 0 where
   pub core : IsCore new
   pub led : IsLed IsPassing (state_of old) (state_of new)
 
@@ -107,7 +107,7 @@ none-placed : {X : Type 0} (p : X → Bool) (xs : List X) → All (λ one. p one
 none-placed p xs none = position-past p xs (let first = none-first p xs none in omega arith)
 
 -- the batch passes the version of the filter that it meets next
-pub passes-one : QuietEventsLeave → (parts : Parts) (tallies : List DropTally) (front : List Flight) (flight : Flight) (back : List Flight)
+pub passes-one : QuietEventsLeave → (parts : CoreParts) (tallies : List DropTally) (front : List Flight) (flight : Flight) (back : List Flight)
     (version : state.FilterVersion) → IsCore (parts_at parts tallies (front ++ flight ∷ back)) → All IsIdle (front ++ flight ∷ back)
     → list_all (λ bits. eqb bits 0) flight.batch.bits ≡ false → next_of parts.filters flight.batch ≡ Some version
     → IsPassedOn (parts_at parts tallies (front ++ flight ∷ back))
@@ -138,7 +138,7 @@ passes-one quiet parts tallies front flight back version core idle bits next = r
     reaches : List Reach
     reaches = reaches_in parts.lives.queries
 
-    old : Parts
+    old : CoreParts
     old = parts_at parts tallies (front ++ flight ∷ back)
 
     hand : state.Hand
@@ -147,13 +147,13 @@ passes-one quiet parts tallies front flight back version core idle bits next = r
     held : Flight
     held = record flight { hand = Some hand }
 
-    mid : Parts
+    mid : CoreParts
     mid = parts_at parts tallies (front ++ held ∷ back)
 
     behind : Flight
     behind = record flight { batch = passed_by version.filter flight.batch }
 
-    last : Parts
+    last : CoreParts
     last = parts_at parts
         (with_tally version.filter.dimension (plus (tally_of version.filter flight.batch)) parts.filters.versions tallies)
         (front ++ behind ∷ back)
@@ -194,7 +194,7 @@ passes-one quiet parts tallies front flight back version core idle bits next = r
     home = record behind { hand = None; lent = false }
 
     -- the parts with a batch in the place of the one that was given back
-    parts_behind : Flight → Parts
+    parts_behind : Flight → CoreParts
     parts_behind one = parts_at parts
         (with_tally version.filter.dimension (plus (tally_of version.filter flight.batch)) parts.filters.versions tallies)
         (front ++ one ∷ back)

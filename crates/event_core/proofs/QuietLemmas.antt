@@ -1,5 +1,5 @@
 -- Events that touch neither the scan nor what is attached.
-use Rattle.event_core.proofs.Words.{◌∙◌, after_event, after_step, ap, attached_to, Done, Event, frames_of, IsCore, IsEnabled, IsKeyed, IsScannedAs, IsSound, LeavesAttached, LeavesRest, LeavesScan, MayStep, Parts, plain, RunSettings, Scanning, State, state_of, Step, subst, sym, tables_by}
+use Rattle.event_core.proofs.Words.{◌∙◌, after_event, after_step, ap, attached_to, CoreParts, Done, Event, frames_of, IsCore, IsEnabled, IsKeyed, IsScannedAs, IsSound, LeavesAttached, LeavesRest, LeavesScan, MayStep, plain, RunSettings, Scanning, State, state_of, Step, subst, sym, tables_by}
 use Rattle.std.specs.Prelude.{◌≡◌, ◌+◌, ◌*◌}
 
 -- each step keeps a core sound
@@ -17,7 +17,7 @@ EventsLeaveAttached = (state : State) (event : Event) → IsSound state → IsEn
     → attached_to (after_event event state) ≡ attached_to state
 
 -- what the parts of a core have to be for its new state, where the rest of it was left
-pub core-left : (old new : Parts) → IsCore old → IsSound (state_of new) → IsScannedAs (state_of new) old.scan
+pub core-left : (old new : CoreParts) → IsCore old → IsSound (state_of new) → IsScannedAs (state_of new) old.scan
     → attached_to (state_of new) ≡ attached_to (state_of old) → LeavesRest old new → IsCore new
 core-left old new core sound scanned attached rest = record {
   sound = sound;
@@ -33,7 +33,7 @@ core-left old new core sound scanned attached rest = record {
 }
 
 -- an event that leaves the scan and what is attached
-pub core-quiet : StepsKeep → EventsLeaveScans → EventsLeaveAttached → (old new : Parts) (event : Event) → IsCore old
+pub core-quiet : StepsKeep → EventsLeaveScans → EventsLeaveAttached → (old new : CoreParts) (event : Event) → IsCore old
     → IsEnabled (state_of old) event → LeavesScan event → LeavesAttached event
     → state_of new ≡ after_event event (state_of old) → LeavesRest old new → IsCore new
 core-quiet keep scans attached old new event core may leaves_scan leaves_attached same rest = core-left old new core

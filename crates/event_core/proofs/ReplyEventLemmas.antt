@@ -1,28 +1,28 @@
 -- The parts of a core where a reply was taken, and what was taken.
-use Rattle.event_core.proofs.Words.{◌∙◌, ◌≡◌, after_taking, ap, AskedQuery, Becomes, Bool, cond, false, first_of, forgotten_at, Grouped, IfSome, is_open, IsAbandoned, IsAnswered, IsAsked, IsCore, IsRight, IsSome, IsSound, IsTaken, kept_for, Known, known_in, life_of, List, Lives, next_ready, None, none-some, not, Option, option_and_then, option_map_or, Parts, Pending, Ready, ready_with, refl, same_Some, seat_as, seat_at, set, slice_get, snapshot_for, Some, some-at, some-by, Standing, State, state_of, statements_at, Submitted, subst, sym, true, Waits, with_kept_at, with_taken, ℕ}
+use Rattle.event_core.proofs.Words.{◌∙◌, ◌≡◌, after_taking, ap, AskedQuery, Becomes, Bool, cond, CoreParts, false, first_of, forgotten_at, Grouped, IfSome, is_open, IsAbandoned, IsAnswered, IsAsked, IsCore, IsRight, IsSome, IsSound, IsTaken, kept_for, Known, known_in, life_of, List, Lives, next_ready, None, none-some, not, Option, option_and_then, option_map_or, Pending, Ready, ready_with, refl, same_Some, seat_as, seat_at, set, slice_get, snapshot_for, Some, some-at, some-by, Standing, State, state_of, statements_at, Submitted, subst, sym, true, Waits, with_kept_at, with_taken, ℕ}
 use Rattle.event_core.specs.Taking.{groups_or_memory, may_be_taken, next_number, number_to_take}
 
 -- nothing may be taken where nothing is waited for
 abbrev pub NothingNext : Type 0
-NothingNext = (parts : Parts) (seat : ℕ) → IsCore parts → first_of (statements_at parts.seats seat) ≡ None
+NothingNext = (parts : CoreParts) (seat : ℕ) → IsCore parts → first_of (statements_at parts.seats seat) ≡ None
     → next_ready (state_of parts) seat ≡ None
 
 -- or the first statement is a query that may still be answered
 abbrev pub OpenNext : Type 0
-OpenNext = (parts : Parts) (seat : ℕ) (first : Submitted) → IsCore parts → first_of (statements_at parts.seats seat) ≡ Some first
+OpenNext = (parts : CoreParts) (seat : ℕ) (first : Submitted) → IsCore parts → first_of (statements_at parts.seats seat) ≡ Some first
     → first.standing ≡ IsAsked → option_map_or is_open (life_of parts.lives first.number) false ≡ true
     → next_ready (state_of parts) seat ≡ None
 
 -- what else may be taken
 abbrev pub ClosedNext : Type 0
-ClosedNext = (parts : Parts) (seat : ℕ) (first : Submitted) → IsCore parts → first_of (statements_at parts.seats seat) ≡ Some first
+ClosedNext = (parts : CoreParts) (seat : ℕ) (first : Submitted) → IsCore parts → first_of (statements_at parts.seats seat) ≡ Some first
     → (first.standing ≡ IsAsked → option_map_or is_open (life_of parts.lives first.number) false ≡ false)
     → next_ready (state_of parts) seat
     ≡ Some (ready_with first.standing (snapshot_for parts.asked first.number) (kept_for parts.asked first.number))
 
 -- and what becomes of the parts then
 abbrev pub TakenNext : Type 0
-TakenNext = (parts : Parts) (seat : ℕ) (first : Submitted) (statements : List Submitted) → IsCore parts
+TakenNext = (parts : CoreParts) (seat : ℕ) (first : Submitted) (statements : List Submitted) → IsCore parts
     → first_of (statements_at parts.seats seat) ≡ Some first → IsSome (next_ready (state_of parts) seat)
     → seat_as (known_in parts.asked) statements ≡ with_taken (seat_as (known_in parts.asked) (statements_at parts.seats seat))
     → Becomes (forgotten_at seat first.number statements parts) (after_taking seat (state_of parts))
@@ -47,7 +47,7 @@ not-taken lives number IsAnswered may = absurd (let both : true ≡ false = may 
 not-taken lives number IsAbandoned may = absurd (let both : true ≡ false = may in cc)
 
 -- where the code finds no number, nothing may be taken
-pub reply-nothing : NothingNext → OpenNext → (parts : Parts) (seat : ℕ) → IsCore parts
+pub reply-nothing : NothingNext → OpenNext → (parts : CoreParts) (seat : ℕ) → IsCore parts
     → next_number parts.lives (statements_at parts.seats seat) ≡ None → next_ready (state_of parts) seat ≡ None
 reply-nothing nothing opens parts seat core none = by_first (first_of (statements_at parts.seats seat)) refl none
   where
@@ -65,7 +65,7 @@ reply-nothing nothing opens parts seat core none = by_first (first_of (statement
     by_first (Some first) is e = by_test first is (may_be_taken parts.lives first.number first.standing) refl e
 
 -- the first statement that a seat waits for has this number, and may be taken
-pub record IsNextAs (parts : Parts) (seat number : ℕ) (first : Submitted) : Type 0 where
+pub record IsNextAs (parts : CoreParts) (seat number : ℕ) (first : Submitted) : Type 0 where
   pub found : first_of (statements_at parts.seats seat) ≡ Some first
   pub number_is : first.number ≡ number
   pub closed : first.standing ≡ IsAsked → option_map_or is_open (life_of parts.lives first.number) false ≡ false
@@ -81,7 +81,7 @@ is-closed lives number standing may asked =
     by_test false e = refl
 
 -- the number that the code finds is that of such a statement
-pub next-as : (parts : Parts) (seat number : ℕ) → next_number parts.lives (statements_at parts.seats seat) ≡ Some number
+pub next-as : (parts : CoreParts) (seat number : ℕ) → next_number parts.lives (statements_at parts.seats seat) ≡ Some number
     → (first : Submitted) × IsNextAs parts seat number first
 next-as parts seat number is = by_first (first_of (statements_at parts.seats seat)) refl is
   where
@@ -111,7 +111,7 @@ ready-same other given snapshot None same = refl
 ready-same other given snapshot (Some groups) same = ap (λ n. groups_or_memory n (Some groups)) (same refl)
 
 -- what the code has taken: the number that it found, how the statement stood, its snapshot where groups are kept, and these
-pub record TakesFirst (parts : Parts) (seat number snapshot : ℕ) (groups : Option Grouped) (standing : Standing) (ready : Ready) : Type 0 where
+pub record TakesFirst (parts : CoreParts) (seat number snapshot : ℕ) (groups : Option Grouped) (standing : Standing) (ready : Ready) : Type 0 where
   pub number_is : next_number parts.lives (statements_at parts.seats seat) ≡ Some number
   pub snapshot_is : IsSome groups → snapshot ≡ snapshot_for parts.asked number
   pub groups_are : groups ≡ kept_for parts.asked number
@@ -119,7 +119,7 @@ pub record TakesFirst (parts : Parts) (seat number snapshot : ℕ) (groups : Opt
   pub ready_is : ready ≡ ready_with standing snapshot groups
 
 -- it is what may be taken
-pub reply-ready : ClosedNext → (parts : Parts) (seat number snapshot : ℕ) (groups : Option Grouped) (standing : Standing) (ready : Ready)
+pub reply-ready : ClosedNext → (parts : CoreParts) (seat number snapshot : ℕ) (groups : Option Grouped) (standing : Standing) (ready : Ready)
     → IsCore parts → TakesFirst parts seat number snapshot groups standing ready → next_ready (state_of parts) seat ≡ Some ready
 reply-ready closed parts seat number snapshot groups standing ready core took =
     closed parts seat first core there.1.found there.1.closed
@@ -138,13 +138,13 @@ reply-ready closed parts seat number snapshot groups standing ready core took =
     stands = some-at (λ (s : Submitted). s.standing ≡ standing) (first_of (statements_at parts.seats seat)) first there.1.found took.standing_is
 
 -- what the code has written: the seat that took the reply, and nothing beside the query of the number
-pub record WritesFirst (parts : Parts) (seat number : ℕ) (seats : List (List Submitted)) (asked : List AskedQuery) : Type 0 where
+pub record WritesFirst (parts : CoreParts) (seat number : ℕ) (seats : List (List Submitted)) (asked : List AskedQuery) : Type 0 where
   pub seat_takes : (known : List Known) → seat_as known (statements_at seats seat) ≡ with_taken (seat_as known (statements_at parts.seats seat))
   pub others_stay : seats ≡ set parts.seats seat (statements_at seats seat)
   pub asked_are : asked ≡ with_kept_at number None parts.asked
 
 -- the parts stand for the core that has taken it
-pub reply-becomes : TakenNext → (parts : Parts) (seat number : ℕ) (ready : Ready) (seats : List (List Submitted)) (asked : List AskedQuery)
+pub reply-becomes : TakenNext → (parts : CoreParts) (seat number : ℕ) (ready : Ready) (seats : List (List Submitted)) (asked : List AskedQuery)
     → IsCore parts → next_number parts.lives (statements_at parts.seats seat) ≡ Some number → next_ready (state_of parts) seat ≡ Some ready
     → WritesFirst parts seat number seats asked
     → Becomes (record parts { seats = seats; asked = asked }) (after_taking seat (state_of parts))
@@ -160,7 +160,7 @@ reply-becomes taken parts seat number ready seats asked core is next wrote =
     there = next-as parts seat number is
 
 -- what was taken is right
-pub reply-right : RightNext → (parts : Parts) (seat : ℕ) (ready : Ready) → IsCore parts → next_ready (state_of parts) seat ≡ Some ready
+pub reply-right : RightNext → (parts : CoreParts) (seat : ℕ) (ready : Ready) → IsCore parts → next_ready (state_of parts) seat ≡ Some ready
     → IfSome (slice_get (seat_at (state_of parts) seat).pending 0)
     (λ pending. IsRight (state_of parts) pending.statement pending.awaited ready)
 reply-right right parts seat ready core next =

@@ -1,5 +1,5 @@
 -- A seat among the seats: what is read there, and what is written over it.
-use Rattle.event_core.proofs.Words.{◌<◌, ◌∙◌, ◌≡◌, [], ap, arith, get_or, get_or-set_same, Known, known_in, length, length-set, List, map, map-set, Parts, refill, refill-all, Roomy, seat_as, set, state_of, statements_at, Submitted, subst, sym, with_taken, ℕ}
+use Rattle.event_core.proofs.Words.{◌<◌, ◌∙◌, ◌≡◌, [], ap, arith, CoreParts, get_or, get_or-set_same, Known, known_in, length, length-set, List, map, map-set, refill, refill-all, Roomy, seat_as, set, state_of, statements_at, Submitted, subst, sym, with_taken, ℕ}
 use Rattle.std.proofs.Math.ListN as lists
 use Rattle.std.proofs.lemmas.List.{get_or_default}
 
@@ -20,7 +20,7 @@ seat-read seats members seat got same there is =
     ∙ sym (at-place seats seat)
 
 -- a seat of the state is one of the seats
-pub seat-there : (parts now : Parts) (seats : List (Roomy Submitted)) (seat : ℕ) → parts ≡ now → parts.seats ≡ statements_in seats
+pub seat-there : (parts now : CoreParts) (seats : List (Roomy Submitted)) (seat : ℕ) → parts ≡ now → parts.seats ≡ statements_in seats
     → seat < length (state_of now).seats → seat < length seats
 seat-there parts now seats seat same are low =
     let inside : seat < length (state_of parts).seats = subst (λ seen. seat < length (state_of seen).seats) (sym same) low in

@@ -1,5 +1,5 @@
 -- What of the parts the state reads: lives and groups that change leave what is known of queries.
-use Rattle.event_core.proofs.Words.{◌∙◌, Accepted, accepted_as, accepted_in, after_spoil, ap, AskedQuery, attached_for, attached_or, fold, Grouped, Known, known_in, Life, Lives, Parts, query_of, QueryLife, Reach, reaches_in, Spoiled, state_of, with_kept_at, with_life}
+use Rattle.event_core.proofs.Words.{◌∙◌, Accepted, accepted_as, accepted_in, after_spoil, ap, AskedQuery, attached_for, attached_or, CoreParts, fold, Grouped, Known, known_in, Life, Lives, query_of, QueryLife, Reach, reaches_in, Spoiled, state_of, with_kept_at, with_life}
 use Rattle.std.specs.Prelude.{◌≡◌, ℕ, ◌==◌, Bool, true, false, if◌then◌else◌, List, [], ◌∷◌, map, Option, refl}
 use Rattle.pipeline_manager.specs.Changes.{cut_query}
 use Rattle.event_core.specs.Seen.{state_with}
@@ -67,7 +67,7 @@ accepted-same lives other attached others (entry ∷ asked) same =
     ∙ ap (λ rest. accepted_as other others entry ∷ rest) (accepted-same lives other attached others asked same)
 
 -- the state by what is read of the accepted queries and of their lives
-pub state-seen : (parts : Parts) (accepted : List Accepted) (known : List Known) (reaches : List Reach)
+pub state-seen : (parts : CoreParts) (accepted : List Accepted) (known : List Known) (reaches : List Reach)
     → accepted_in parts.lives parts.attached parts.asked ≡ accepted → known_in parts.asked ≡ known
     → reaches_in parts.lives.queries ≡ reaches → state_of parts ≡ state_with parts accepted known reaches
 state-seen parts accepted known reaches same_accepted same_known same_reaches =

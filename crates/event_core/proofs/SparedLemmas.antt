@@ -1,5 +1,5 @@
 -- Of each present version every seat has its reference, which is kept or in its hand: events keep it so.
-use Rattle.event_core.proofs.Words.{◌++◌, ◌+◌, ◌<◌, ◌∙◌, ◌∷◌, ◌≡◌, ◌≢◌, ◌≤◌, ◌⊎◌, [], All, All-head, All-tail, ap, arith, bit_at, Bool, cases_eq, ChangeKind, cond, drop, eq-eqb, eqb, eqb-true, false, Filter, filter_dimensions, Filters, FilterVersion, find, find-passes, Flight, flight_as, flight_at, flight_behind, get_or, get_or-map, get_or-range_with_len, get_or-set_other, get_or-set_same, held_by, IfSome, inl, inr, IsCore, IsSome, IsThrough, IsWanting, KeyedStore, known_in, length, length-map, length-range_with_len, length-set, List, map, MayDistribute, MayTake, ne_eqb, next_of, None, none-some, not, Option, option_and_then, option_map, option_map_or, Parts, passed_in, position, range_with_len, reaches_in, refl, replicate, same_Some, Schema, set, slice_get, Some, some-at, state_of, Store, subst, suc, sym, tables_of, TableDef, take, true, version_at, with_filters_for, with_new, zero, ℕ, All-cons, All-nil, Contains, filter_map, Rows, ⊎_elim, append-nil, cons_option}
+use Rattle.event_core.proofs.Words.{◌++◌, ◌+◌, ◌<◌, ◌∙◌, ◌∷◌, ◌≡◌, ◌≢◌, ◌≤◌, ◌⊎◌, [], All, All-head, All-tail, ap, arith, bit_at, Bool, cases_eq, ChangeKind, cond, CoreParts, drop, eq-eqb, eqb, eqb-true, false, Filter, filter_dimensions, Filters, FilterVersion, find, find-passes, Flight, flight_as, flight_at, flight_behind, get_or, get_or-map, get_or-range_with_len, get_or-set_other, get_or-set_same, held_by, IfSome, inl, inr, IsCore, IsSome, IsThrough, IsWanting, KeyedStore, known_in, length, length-map, length-range_with_len, length-set, List, map, MayDistribute, MayTake, ne_eqb, next_of, None, none-some, not, Option, option_and_then, option_map, option_map_or, passed_in, position, range_with_len, reaches_in, refl, replicate, same_Some, Schema, set, slice_get, Some, some-at, state_of, Store, subst, suc, sym, tables_of, TableDef, take, true, version_at, with_filters_for, with_new, zero, ℕ, All-cons, All-nil, Contains, filter_map, Rows, ⊎_elim, append-nil, cons_option}
 use Rattle.std.specs.Option.{option_or}
 use Rattle.std.proofs.lemmas.Bool.{false≢true}
 use Rattle.std.proofs.lemmas.List.{get_or-replicate, length-replicate}
@@ -239,7 +239,7 @@ of-dimension versions at found is =
     eqb-true found.filter.dimension at (find-passes (λ (version : FilterVersion). eqb version.filter.dimension at) versions found is)
 
 -- a filter has a next version, with a reference to it for each seat
-pub spare-renewed : (parts now : Parts) (filters : Filters) (spares left : Spares) (version : FilterVersion) (dimension : ℕ)
+pub spare-renewed : (parts now : CoreParts) (filters : Filters) (spares left : Spares) (version : FilterVersion) (dimension : ℕ)
     (references : List (Option Filter)) → parts ≡ now → version.filter.dimension ≡ dimension
     → references ≡ references_to now.settings.seats version → filters ≡ with_new version parts.filters
     → left ≡ set spares dimension references → AreSpare parts.settings.seats parts.filters.versions parts.flights spares
@@ -255,7 +255,7 @@ spare-renewed parts now filters spares left version dimension references is own 
     seats = parts.settings.seats
 
     all_made : references ≡ replicate seats (Some version.filter)
-    all_made = made ∙ ap (λ (p : Parts). references_to p.settings.seats version) (sym is)
+    all_made = made ∙ ap (λ (p : CoreParts). references_to p.settings.seats version) (sym is)
 
     renewed : (at : ℕ) → at ≡ dimension → at < length spares → get_or (set spares dimension references) at [] ≡ references
     renewed at same low =
@@ -301,7 +301,7 @@ spare-renewed parts now filters spares left version dimension references is own 
         (eqb before.filter.dimension version.filter.dimension) refl (same_Some (next version before) found some)
 
 -- in a seat's hand is no batch in the code where there is none in the state
-pub none-held : (parts : Parts) (seat : ℕ) → held_by (state_of parts).scan.flights seat ≡ None → find (is_in_hand seat) parts.flights ≡ None
+pub none-held : (parts : CoreParts) (seat : ℕ) → held_by (state_of parts).scan.flights seat ≡ None → find (is_in_hand seat) parts.flights ≡ None
 none-held parts seat none =
     no-image (find (is_in_hand seat) parts.flights)
     (sym (find-images (λ (flight : state.Flight). option_map_or (λ hand. eqb hand.worker seat) flight.hand false)
@@ -355,7 +355,7 @@ left-present filters rows = of_order filters.order
         behind (left dimension) (filter_map left order) (one dimension (left dimension) refl) (of_order order)
 
 -- the reference of a worker to a present version is kept where its hand is empty
-spare-kept : (parts : Parts) (worker : ℕ) (version : FilterVersion) (spares : Spares) → worker < parts.settings.seats
+spare-kept : (parts : CoreParts) (worker : ℕ) (version : FilterVersion) (spares : Spares) → worker < parts.settings.seats
     → held_by (state_of parts).scan.flights worker ≡ None → IsPresentIn parts.filters.versions version
     → AreSpare parts.settings.seats parts.filters.versions parts.flights spares
     → spare_at spares version.filter.dimension worker ≡ Some version.filter
@@ -369,7 +369,7 @@ spare-kept parts worker version spares low empty present all =
         (subst (λ list. Contains list version) (ap versions_of (none-held parts worker empty)) held))
 
 -- the reference of a worker that may take a batch is kept
-pub spare-waits : (parts now : Parts) (worker batch : ℕ) (flight : Flight) (version : FilterVersion) (spares : Spares) → parts ≡ now
+pub spare-waits : (parts now : CoreParts) (worker batch : ℕ) (flight : Flight) (version : FilterVersion) (spares : Spares) → parts ≡ now
     → IsCore parts → MayTake worker batch (state_of now) → next_of parts.filters flight.batch ≡ Some version
     → AreSpare parts.settings.seats parts.filters.versions parts.flights spares
     → spare_at spares version.filter.dimension worker ≡ Some version.filter
@@ -378,10 +378,10 @@ spare-waits parts now worker batch flight version spares is core may meets =
     (next-present parts.filters flight version meets)
   where
     here : MayTake worker batch (state_of parts)
-    here = subst (λ (p : Parts). MayTake worker batch (state_of p)) (sym is) may
+    here = subst (λ (p : CoreParts). MayTake worker batch (state_of p)) (sym is) may
 
 -- so are those of one that may carry a batch, to all versions that it has still to pass
-pub spares-wait : (parts now : Parts) (worker batch : ℕ) (rows : Rows) (spares : Spares) → parts ≡ now
+pub spares-wait : (parts now : CoreParts) (worker batch : ℕ) (rows : Rows) (spares : Spares) → parts ≡ now
     → IsCore parts → MayCarry worker batch (state_of now)
     → AreSpare parts.settings.seats parts.filters.versions parts.flights spares
     → All (λ (version : FilterVersion). spare_at spares version.filter.dimension worker ≡ Some version.filter)
@@ -393,31 +393,31 @@ spares-wait parts now worker batch rows spares is core may all =
     (versions_left parts.filters rows) (left-present parts.filters rows)
   where
     here : MayCarry worker batch (state_of parts)
-    here = subst (λ (p : Parts). MayCarry worker batch (state_of p)) (sym is) may
+    here = subst (λ (p : CoreParts). MayCarry worker batch (state_of p)) (sym is) may
 
 -- a batch that is taken is idle
-pub idle-wanting : (parts now : Parts) (worker batch place : ℕ) (flight : Flight) → parts ≡ now → MayTake worker batch (state_of now)
+pub idle-wanting : (parts now : CoreParts) (worker batch place : ℕ) (flight : Flight) → parts ≡ now → MayTake worker batch (state_of now)
     → position (has_number batch) parts.flights ≡ Some place → slice_get parts.flights place ≡ Some flight → flight.hand ≡ None
 idle-wanting parts now worker batch place flight is may at there =
     (some-at (IsWanting parts.filters) (flight_at (state_of parts).scan.flights batch)
     (flight_as (known_in parts.asked) (reaches_in parts.lives.queries) flight) (found-there parts batch place flight at there)
-    (subst (λ (p : Parts). MayTake worker batch (state_of p)) (sym is) may).wanting).idle
+    (subst (λ (p : CoreParts). MayTake worker batch (state_of p)) (sym is) may).wanting).idle
 
 -- so is one that is carried
-pub idle-carried : (parts now : Parts) (worker batch place : ℕ) (flight : Flight) → parts ≡ now → MayCarry worker batch (state_of now)
+pub idle-carried : (parts now : CoreParts) (worker batch place : ℕ) (flight : Flight) → parts ≡ now → MayCarry worker batch (state_of now)
     → position (has_number batch) parts.flights ≡ Some place → slice_get parts.flights place ≡ Some flight → flight.hand ≡ None
 idle-carried parts now worker batch place flight is may at there =
     some-at (λ (one : state.Flight). one.hand ≡ None) (flight_at (state_of parts).scan.flights batch)
     (flight_as (known_in parts.asked) (reaches_in parts.lives.queries) flight) (found-there parts batch place flight at there)
-    (subst (λ (p : Parts). MayCarry worker batch (state_of p)) (sym is) may).idle
+    (subst (λ (p : CoreParts). MayCarry worker batch (state_of p)) (sym is) may).idle
 
 -- so is one that is distributed
-pub idle-through : (parts now : Parts) (batch place : ℕ) (flight : Flight) → parts ≡ now → MayDistribute batch (state_of now)
+pub idle-through : (parts now : CoreParts) (batch place : ℕ) (flight : Flight) → parts ≡ now → MayDistribute batch (state_of now)
     → position (has_number batch) parts.flights ≡ Some place → slice_get parts.flights place ≡ Some flight → flight.hand ≡ None
 idle-through parts now batch place flight is may at there =
     (some-at (IsThrough parts.filters) (flight_at (state_of parts).scan.flights batch)
     (flight_as (known_in parts.asked) (reaches_in parts.lives.queries) flight) (found-there parts batch place flight at there)
-    (subst (λ (p : Parts). MayDistribute batch (state_of p)) (sym is) may).through).idle
+    (subst (λ (p : CoreParts). MayDistribute batch (state_of p)) (sym is) may).through).idle
 
 -- the reference of a worker to a present version that is in its hand may go
 spare-out : (seats worker : ℕ) (versions : List FilterVersion) (hands : Hands) (version : FilterVersion) (spares : Spares)
@@ -468,7 +468,7 @@ spares-out seats worker versions hands (version ∷ left) spares present held al
     (All-head (Contains (hands worker)) version left held) all)
 
 -- a batch is taken by the references of the worker to present versions, which are in its hand now
-spares-taken : (parts : Parts) (worker place : ℕ) (flight : Flight) (versions : List FilterVersion) (flights : List Flight)
+spares-taken : (parts : CoreParts) (worker place : ℕ) (flight : Flight) (versions : List FilterVersion) (flights : List Flight)
     (spares left : Spares) → held_by (state_of parts).scan.flights worker ≡ None → flight.hand ≡ None
     → slice_get parts.flights place ≡ Some flight
     → All (IsPresentIn parts.filters.versions) versions
@@ -506,7 +506,7 @@ spares-taken parts worker place flight versions flights spares left free idle th
     more seat version (inr other) has = subst (λ list. Contains list version) (sym (stays seat other)) has
 
 -- of the version of the filter that it meets next
-pub spare-taken : (parts now : Parts) (worker batch place : ℕ) (flight : Flight) (version : FilterVersion) (flights : List Flight)
+pub spare-taken : (parts now : CoreParts) (worker batch place : ℕ) (flight : Flight) (version : FilterVersion) (flights : List Flight)
     (spares left : Spares) → parts ≡ now → MayTake worker batch (state_of now)
     → position (has_number batch) parts.flights ≡ Some place → slice_get parts.flights place ≡ Some flight
     → next_of parts.filters flight.batch ≡ Some version
@@ -516,14 +516,14 @@ pub spare-taken : (parts now : Parts) (worker batch place : ℕ) (flight : Fligh
     → AreSpare parts.settings.seats parts.filters.versions flights left
 spare-taken parts now worker batch place flight version flights spares left is may at there meets flights_are left_is =
     spares-taken parts worker place flight (version ∷ []) flights spares left
-    (subst (λ (p : Parts). MayTake worker batch (state_of p)) (sym is) may).empty
+    (subst (λ (p : CoreParts). MayTake worker batch (state_of p)) (sym is) may).empty
     (idle-wanting parts now worker batch place flight is may at there) there
     (All-cons (IsPresentIn parts.filters.versions) version [] (next-present parts.filters flight version meets)
     (All-nil (IsPresentIn parts.filters.versions)))
     flights_are left_is
 
 -- of those of all that it has still to pass
-pub spare-carried : (parts now : Parts) (worker batch place : ℕ) (flight : Flight) (flights : List Flight)
+pub spare-carried : (parts now : CoreParts) (worker batch place : ℕ) (flight : Flight) (flights : List Flight)
     (spares left : Spares) → parts ≡ now → MayCarry worker batch (state_of now)
     → position (has_number batch) parts.flights ≡ Some place → slice_get parts.flights place ≡ Some flight
     → flights ≡ set parts.flights place
@@ -533,7 +533,7 @@ pub spare-carried : (parts now : Parts) (worker batch place : ℕ) (flight : Fli
     → AreSpare parts.settings.seats parts.filters.versions flights left
 spare-carried parts now worker batch place flight flights spares left is may at there =
     spares-taken parts worker place flight (versions_left parts.filters flight.batch) flights spares left
-    (subst (λ (p : Parts). MayCarry worker batch (state_of p)) (sym is) may).empty
+    (subst (λ (p : CoreParts). MayCarry worker batch (state_of p)) (sym is) may).empty
     (idle-carried parts now worker batch place flight is may at there) there (left-present parts.filters flight.batch)
 
 -- a present version with the number of a version in a hand is that one
@@ -816,7 +816,7 @@ spare-declared schema seats filters flights spares few filters_are made =
         }
 
 -- before a fact table is declared there are no filters, and any references will do; once it is, they stay
-pub spare-ready : (parts : Parts) (old new : Spares) → IsCore parts → (IsSome parts.tables.schema.fact → new ≡ old)
+pub spare-ready : (parts : CoreParts) (old new : Spares) → IsCore parts → (IsSome parts.tables.schema.fact → new ≡ old)
     → AreSpare parts.settings.seats parts.filters.versions parts.flights old
     → AreSpare parts.settings.seats parts.filters.versions parts.flights new
 spare-ready parts old new core stay all = by_fact parts.tables.schema.fact refl stay
@@ -833,7 +833,7 @@ spare-ready parts old new core stay all = by_fact parts.tables.schema.fact refl 
         subst (AreSpare parts.settings.seats parts.filters.versions parts.flights) (sym (stay refl)) all
 
 -- a change makes the first filters, or leaves them
-pub spare-changed : (kind : ChangeKind) (parts : Parts) (tables : KeyedStore) (filters : Filters) (spares : Spares)
+pub spare-changed : (kind : ChangeKind) (parts : CoreParts) (tables : KeyedStore) (filters : Filters) (spares : Spares)
     → length tables.schema.dimensions ≤ 8
     → (with_filters_for kind (record parts { tables = tables })).filters ≡ filters
     → (kind ≡ DeclaresFact → spares ≡ first_spares parts.settings.seats (first_filters (range_with_len 0 8)).versions)

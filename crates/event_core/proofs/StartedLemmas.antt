@@ -1,5 +1,5 @@
 -- The parts of a core where a query begins its lap.
-use Rattle.event_core.proofs.Words.{◌<◌, ◌∙◌, ◌≡◌, ◌≢◌, Accepted, accepted_as, accepted_at, accepted_in, after_run, after_start, ap, AreTablesOf, arith, asked_at, AskedQuery, attached-count, attached_for, attached_or, attached_to, Becomes, Bool, Building, CanRun, cases_eq, cond, Done, eqb, eqb-true, extent_in, false, get_or, get_or-set_same, get_or_from_slice_get, Grouped, grouped_of, held-accepted, holds-slot, is_begun, is_some, IsCore, IsScannedAs, IsSome, IsSound, KeyedStore, known_in, length, List, Lives, None, Option, option_map_or, Parts, query_of, reaches_in, refl, Scanning, set, slice_get, slot_of, slot_of-begun, Some, StarQuery, Start, started, State, state_of, subst, sym, true, versions_in, with_kept_at, ℕ, ⊎_elim}
+use Rattle.event_core.proofs.Words.{◌<◌, ◌∙◌, ◌≡◌, ◌≢◌, Accepted, accepted_as, accepted_at, accepted_in, after_run, after_start, ap, AreTablesOf, arith, asked_at, AskedQuery, attached-count, attached_for, attached_or, attached_to, Becomes, Bool, Building, CanRun, cases_eq, cond, CoreParts, Done, eqb, eqb-true, extent_in, false, get_or, get_or-set_same, get_or_from_slice_get, Grouped, grouped_of, held-accepted, holds-slot, is_begun, is_some, IsCore, IsScannedAs, IsSome, IsSound, KeyedStore, known_in, length, List, Lives, None, Option, option_map_or, query_of, reaches_in, refl, Scanning, set, slice_get, slot_of, slot_of-begun, Some, StarQuery, Start, started, State, state_of, subst, sym, true, versions_in, with_kept_at, ℕ, ⊎_elim}
 use Rattle.std.specs.Prelude.{[]}
 use Rattle.std.proofs.lemmas.Bool.{eq-eqb}
 use Rattle.pipeline_manager.specs.Changes.{started as started_life}
@@ -34,7 +34,7 @@ StartsNone = (state : State) (scan : Scanning) (query slot : ℕ) → IsSound st
     → slot_of state.lives query ≡ Some slot → extent_in state.lives.queries query ≡ 0 → IsScannedAs (after_start query state) scan
 
 -- a query that may run holds a slot, and is an accepted one
-pub start-there : (parts : Parts) (query : ℕ) → IsCore parts → CanRun query parts.lives
+pub start-there : (parts : CoreParts) (query : ℕ) → IsCore parts → CanRun query parts.lives
     → IsSome (slot_of parts.lives query) × IsSome (asked_at parts.asked query)
 start-there parts query core can = (there, by_place (slot_of parts.lives query) refl there)
   where
@@ -49,7 +49,7 @@ start-there parts query core can = (there, by_place (slot_of parts.lives query) 
         (held-accepted (state_of parts) slot query held.0 core.sound held.1 held.2)
 
 -- a query that is about to begin its lap, in its slot
-module _ (attach : StartsAttach) (parts : Parts) (query slot : ℕ) (asked : AskedQuery) (core : IsCore parts) (can : CanRun query parts.lives)
+module _ (attach : StartsAttach) (parts : CoreParts) (query slot : ℕ) (asked : AskedQuery) (core : IsCore parts) (can : CanRun query parts.lives)
     (place : slot_of parts.lives query ≡ Some slot) (found : asked_at parts.asked query ≡ Some asked) where
   -- it is accepted
   pub start-accepted : accepted_at (state_of parts).accepted query ≡ Some (accepted_as parts.lives parts.attached asked)
@@ -79,7 +79,7 @@ module _ (attach : StartsAttach) (parts : Parts) (query slot : ℕ) (asked : Ask
       ∙ (kept-with (state_of parts) query (accepted_as parts.lives parts.attached asked) Building core.sound start-accepted can.building).1
 
 -- something is kept beside a query that may run
-pub start-some : StartsAttach → (parts : Parts) (query : ℕ) (asked : AskedQuery) → IsCore parts → CanRun query parts.lives
+pub start-some : StartsAttach → (parts : CoreParts) (query : ℕ) (asked : AskedQuery) → IsCore parts → CanRun query parts.lives
     → asked_at parts.asked query ≡ Some asked → IsSome asked.kept
 start-some attach parts query asked core can found = by_place (slot_of parts.lives query) refl (start-there parts query core can).0
   where
@@ -88,7 +88,7 @@ start-some attach parts query asked core can found = by_place (slot_of parts.liv
     by_place (Some slot) place some = ap is_some (start-kept attach parts query slot asked core can place found)
 
 -- the parts where a query has begun its lap, with this scan
-abbrev begun : (query slot start : ℕ) → Grouped → Scanning → Parts → Parts
+abbrev begun : (query slot start : ℕ) → Grouped → Scanning → CoreParts → CoreParts
 begun query slot start groups scan parts = record parts {
   scan = scan;
   asked = with_kept_at query None parts.asked;
@@ -97,7 +97,7 @@ begun query slot start groups scan parts = record parts {
 }
 
 -- a query that begins its lap has the groups that were kept beside it
-begun-stays : (parts : Parts) (query slot start : ℕ) (asked : AskedQuery) (groups : Grouped) → slot_of parts.lives query ≡ Some slot
+begun-stays : (parts : CoreParts) (query slot start : ℕ) (asked : AskedQuery) (groups : Grouped) → slot_of parts.lives query ≡ Some slot
     → slot < length parts.attached → asked.number ≡ query → asked.kept ≡ Some groups
     → attached_for parts.lives parts.attached asked.number ≡ None
     → StaysGrouped parts.lives (after_run query start parts.lives) parts.attached (set parts.attached slot (Some groups)) query None asked
@@ -109,7 +109,7 @@ begun-stays parts query slot start asked groups place low number kept nothing =
     ∙ sym kept ∙ sym (ap (λ o. attached_or o asked.kept) nothing)
 
 -- the accepted queries are as before
-begun-accepted : (parts : Parts) (query slot start : ℕ) (asked : AskedQuery) (groups : Grouped) → IsCore parts
+begun-accepted : (parts : CoreParts) (query slot start : ℕ) (asked : AskedQuery) (groups : Grouped) → IsCore parts
     → slot_of parts.lives query ≡ Some slot → slot < length parts.attached → asked_at parts.asked query ≡ Some asked
     → asked.kept ≡ Some groups → attached_for parts.lives parts.attached asked.number ≡ None
     → accepted_in (after_run query start parts.lives) (set parts.attached slot (Some groups)) (with_kept_at query None parts.asked)
@@ -139,7 +139,7 @@ unfolding after_event
 start-sound keep state query can sound = keep (Done (Start query)) state can sound
 
 -- the parts stand for the core in which the query has begun its lap
-begun-becomes : KeepSound → StartsAttach → (parts : Parts) (query slot : ℕ) (asked : AskedQuery) (groups : Grouped) (scan : Scanning)
+begun-becomes : KeepSound → StartsAttach → (parts : CoreParts) (query slot : ℕ) (asked : AskedQuery) (groups : Grouped) (scan : Scanning)
     → IsCore parts → CanRun query parts.lives → slot_of parts.lives query ≡ Some slot → asked_at parts.asked query ≡ Some asked
     → asked.kept ≡ Some groups → IsScannedAs (after_start query (state_of parts)) scan
     → Becomes (begun query slot (scanned.first_of parts.scan.position (length parts.tables.versions)) groups scan parts)
@@ -161,7 +161,7 @@ begun-becomes keep attach parts query slot asked groups scan core can place foun
     start : ℕ
     start = scanned.first_of parts.scan.position (length parts.tables.versions)
 
-    later : Parts
+    later : CoreParts
     later = begun query slot start groups scan parts
 
     low : slot < length parts.attached
@@ -188,7 +188,7 @@ begun-becomes keep attach parts query slot asked groups scan core can place foun
         ∙ ap (shown (versions_in (state_of parts))) scans.position
 
 -- a query begins its lap with what was kept beside it, in a scan that has it where a position is to come
-pub start-becomes : KeepSound → StartsAttach → StartsScan → StartsNone → (parts : Parts) (query slot : ℕ) (asked : AskedQuery) (groups : Grouped)
+pub start-becomes : KeepSound → StartsAttach → StartsScan → StartsNone → (parts : CoreParts) (query slot : ℕ) (asked : AskedQuery) (groups : Grouped)
     → IsCore parts → CanRun query parts.lives → slot_of parts.lives query ≡ Some slot → asked_at parts.asked query ≡ Some asked
     → asked.kept ≡ Some groups → Becomes (started query slot asked groups parts) (after_start query (state_of parts))
 start-becomes keep attach scans none parts query slot asked groups core can place found kept = by_test (eqb extent 0) refl
@@ -207,7 +207,7 @@ start-becomes keep attach scans none parts query slot asked groups core can plac
     becomes scan = begun-becomes keep attach parts query slot asked groups scan core can place found kept
 
     by_test : (t : Bool) → eqb extent 0 ≡ t
-        → Becomes (record (cond {A = Parts} t parts (record parts { scan = later })) {
+        → Becomes (record (cond {A = CoreParts} t parts (record parts { scan = later })) {
           asked = with_kept_at query None parts.asked;
           attached = set parts.attached slot (Some groups);
           lives = after_run query start parts.lives;

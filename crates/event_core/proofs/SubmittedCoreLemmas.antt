@@ -1,5 +1,5 @@
 -- The parts after a statement are those of a core.
-use Rattle.event_core.proofs.Words.{◌*◌, ◌++◌, ◌+◌, ◌<◌, ◌∙◌, ◌∷◌, ◌≡◌, [], Accepted, after_outcome, after_step, after_submitting, All, ap, AreTablesOf, arith, attached_for, attached_to, Becomes, Done, Event, frames_of, IsCore, IsEnabled, IsNew, IsScannedAs, IsSome, IsSound, known_in, LeavesAttached, LeavesScan, length, length-map, List, map, MayStep, None, of-numbers, Outcome, outcome_of, Parts, QueryLife, refl, Reply, RunSettings, Scanning, Seat, seat_as, State, state_of, Statement, statements_at, Step, Submit, submitted, subst, sym, tables_of, Waits, ℕ}
+use Rattle.event_core.proofs.Words.{◌*◌, ◌++◌, ◌+◌, ◌<◌, ◌∙◌, ◌∷◌, ◌≡◌, [], Accepted, after_outcome, after_step, after_submitting, All, ap, AreTablesOf, arith, attached_for, attached_to, Becomes, CoreParts, Done, Event, frames_of, IsCore, IsEnabled, IsNew, IsScannedAs, IsSome, IsSound, known_in, LeavesAttached, LeavesScan, length, length-map, List, map, MayStep, None, of-numbers, Outcome, outcome_of, QueryLife, refl, Reply, RunSettings, Scanning, Seat, seat_as, State, state_of, Statement, statements_at, Step, Submit, submitted, subst, sym, tables_of, Waits, ℕ}
 use Rattle.star_store.specs.Outcome as outcome
 use Rattle.core_state.specs.Events.{after_event}
 use Rattle.event_core.proofs.SubmittedSeatLemmas.{seats-one, statement_of}
@@ -13,7 +13,7 @@ pub record Laws : Type 0 where
       → attached_to (after_event event state) ≡ attached_to state
 
 -- what a statement leaves as it was
-pub record Stays (old new : Parts) : Type 0 where
+pub record Stays (old new : CoreParts) : Type 0 where
   pub scan : new.scan ≡ old.scan
   pub attached : new.attached ≡ old.attached
   pub settings : new.settings ≡ old.settings
@@ -21,12 +21,12 @@ pub record Stays (old new : Parts) : Type 0 where
   pub words : new.pool.words ≡ old.pool.words
 
 -- what a statement has to keep of a core
-pub record Keeps (new : Parts) : Type 0 where
+pub record Keeps (new : CoreParts) : Type 0 where
   pub tables : AreTablesOf (state_of new) new.tables
   pub beside : All (λ asked. IsSome (attached_for new.lives new.attached asked.number) → asked.kept ≡ None) new.asked
 
 -- the parts whose state is that after a statement
-pub becomes-after : Laws → (old new : Parts) (seat : ℕ) (statement : Statement) → IsCore old → seat < length old.seats
+pub becomes-after : Laws → (old new : CoreParts) (seat : ℕ) (statement : Statement) → IsCore old → seat < length old.seats
     → state_of new ≡ after_submitting seat statement (state_of old) → Stays old new → Keeps new
     → Becomes new (after_submitting seat statement (state_of old))
 unfolding after_event
@@ -50,13 +50,13 @@ becomes-after laws old new seat statement core there same stays keeps = record {
     may = let many = length-map old.seats (seat_as (known_in old.asked)) in omega arith
 
 -- the next number is greater than those of all queries
-pub new-number : (parts : Parts) → IsSound (state_of parts) → IsNew (parts.numbers.statement + 1) parts.lives
+pub new-number : (parts : CoreParts) → IsSound (state_of parts) → IsNew (parts.numbers.statement + 1) parts.lives
 new-number parts sound = of-numbers (λ number. number < parts.numbers.statement + 1) (λ (a : Accepted). a.number)
     (λ (entry : QueryLife). entry.query) (state_of parts).accepted parts.lives.queries sound.queries.same
     (λ k d low. let query = sound.queries.each k d low in let given = query.number in omega arith)
 
 -- a statement that is told a reply
-pub becomes-replied : Laws → (parts : Parts) (seat : ℕ) (statement : Statement) (reply : Reply) → IsCore parts → seat < length parts.seats
+pub becomes-replied : Laws → (parts : CoreParts) (seat : ℕ) (statement : Statement) (reply : Reply) → IsCore parts → seat < length parts.seats
     → outcome_of (tables_of (state_of parts)) statement ≡ outcome.only_tells (outcome.Replied reply)
     → Becomes (submitted seat (parts.numbers.statement + 1)
     (statements_at parts.seats seat ++ statement_of (parts.numbers.statement + 1) (Waits reply) ∷ []) parts)
@@ -75,5 +75,5 @@ becomes-replied laws parts seat statement reply core there tells =
     number : ℕ
     number = parts.numbers.statement + 1
 
-    new : Parts
+    new : CoreParts
     new = submitted seat number (statements_at parts.seats seat ++ statement_of number (Waits reply) ∷ []) parts

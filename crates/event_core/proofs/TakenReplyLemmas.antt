@@ -1,5 +1,5 @@
 -- The parts of a core where a seat takes a reply.
-use Rattle.event_core.proofs.Words.{◌∙◌, ◌∷◌, ◌≡◌, [], Accepted, after_taking, ap, attached_for, attached_to, Becomes, false, first_of, forgotten, forgotten_at, gets, gets_rows, IfSome, IsCore, IsScannedAs, IsSome, IsSound, Known, known_in, Life, life_of, List, map, map-set, next_ready, None, none-some, Option, option_and_then, option_map_or, Parts, Pending, reaches_in, ready_to, refl, same_Some, Scanning, Seat, seat_as, seat_at, set, slice_get, Some, State, state_of, statements_at, Submitted, subst, sym, take, with_taken, ℕ, ⊎_elim}
+use Rattle.event_core.proofs.Words.{◌∙◌, ◌∷◌, ◌≡◌, [], Accepted, after_taking, ap, attached_for, attached_to, Becomes, CoreParts, false, first_of, forgotten, forgotten_at, gets, gets_rows, IfSome, IsCore, IsScannedAs, IsSome, IsSound, Known, known_in, Life, life_of, List, map, map-set, next_ready, None, none-some, Option, option_and_then, option_map_or, Pending, reaches_in, ready_to, refl, same_Some, Scanning, Seat, seat_as, seat_at, set, slice_get, Some, State, state_of, statements_at, Submitted, subst, sym, take, with_taken, ℕ, ⊎_elim}
 use Rattle.core_state.specs.Steps.{Replying}
 use Rattle.core_state.specs.Submitting.{without_groups}
 use Rattle.core_state.proofs.FrameLemmas.{Told}
@@ -24,7 +24,7 @@ told-none None told = refl
 told-none (Some now) told = ⊎_elim (λ is. ap gets_rows is) (λ is. ap gets_rows is) told
 
 -- what may be taken is no query that gets rows
-taken-gets : (parts : Parts) (seat : ℕ) (first : Submitted) (pending : Pending) → IsCore parts → IsFirst parts seat first pending
+taken-gets : (parts : CoreParts) (seat : ℕ) (first : Submitted) (pending : Pending) → IsCore parts → IsFirst parts seat first pending
     → IsSome (next_ready (state_of parts) seat) → gets parts.lives first.number ≡ false
 taken-gets parts seat first pending core first_is ready =
     ap (gets parts.lives) (sym first_is.statement)
@@ -48,7 +48,7 @@ seats-taken known seats seat statements here is are =
     ∙ ap (set (map (seat_as known) seats) seat) (are ∙ ap with_taken (sym is))
 
 -- the parts stand for the core where a reply is taken
-pub taking-becomes : KeepSound → TakingLeavesAttached → TakingLeavesScan → (parts : Parts) (seat : ℕ) (first : Submitted) (statements : List Submitted)
+pub taking-becomes : KeepSound → TakingLeavesAttached → TakingLeavesScan → (parts : CoreParts) (seat : ℕ) (first : Submitted) (statements : List Submitted)
     → IsCore parts → first_of (statements_at parts.seats seat) ≡ Some first → IsSome (next_ready (state_of parts) seat)
     → seat_as (known_in parts.asked) statements ≡ with_taken (seat_as (known_in parts.asked) (statements_at parts.seats seat))
     → Becomes (forgotten_at seat first.number statements parts) (after_taking seat (state_of parts))
@@ -63,7 +63,7 @@ taking-becomes keep attaches scans parts seat first statements core is ready are
       words = core.words;
     })
   where
-    later : Parts
+    later : CoreParts
     later = forgotten_at seat first.number statements parts
 
     after : State

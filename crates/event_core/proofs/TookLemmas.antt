@@ -1,10 +1,10 @@
 -- Events that a core took.
-use Rattle.event_core.proofs.Words.{◌++◌, ◌+◌, ◌∙◌, ◌∷◌, ◌≡◌, ◌⊎◌, [], after_build, after_build_wants, after_distribute, All, ap, AreFed, arith, Build, Distribute, drop, Event, get_or_from_slice_get, IfSome, inl, inr, IsEnabled, IsSound, lent_to, List, Parts, refl, slice_get, slice_get_within, Some, State, subst, suc, sym, take, TookAll, zero, ℕ}
+use Rattle.event_core.proofs.Words.{◌++◌, ◌+◌, ◌∙◌, ◌∷◌, ◌≡◌, ◌⊎◌, [], after_build, after_build_wants, after_distribute, All, ap, AreFed, arith, Build, CoreParts, Distribute, drop, Event, get_or_from_slice_get, IfSome, inl, inr, IsEnabled, IsSound, lent_to, List, refl, slice_get, slice_get_within, Some, State, subst, suc, sym, take, TookAll, zero, ℕ}
 use Rattle.core_state.specs.Events.{after_event, after_want}
 use Rattle.std.proofs.Common.{Err, Result}
 use Rattle.std.specs.Prelude.{◌↔◌, IsErrOf}
 use Rattle.event_core.specs.Lent.{IsAtHome}
-use Rattle.event_core.specs.Parts.{Beside, beside_of}
+use Rattle.event_core.specs.CoreParts.{Beside, beside_of}
 use Rattle.event_core.specs.Took.{IsAfter, IsRefused, MayWantMemory, Took}
 use Rattle.event_core.specs.declared.stepping.StepFault.{StepFault}
 use Rattle.event_core.specs.declared.stepping.StepFault.TheVariants.{NotEnabled, Memory}
@@ -85,7 +85,7 @@ refused-next at events left rest event now next cause result is steps failed sam
     by_cause Memory failed = memory failed
 
 -- the event that comes next is at home, where all are
-pub home-next : (at : ℕ) (events left rest : List Event) (event : Event) (old now : Parts) → left ≡ drop at events → left ≡ event ∷ rest
+pub home-next : (at : ℕ) (events left rest : List Event) (event : Event) (old now : CoreParts) → left ≡ drop at events → left ≡ event ∷ rest
     → beside_of now ≡ beside_of old → All (λ one. IsAtHome one (lent_to old.flights)) events → IsAtHome event (lent_to now.flights)
 home-next at events left rest event old now is steps same all =
     subst (IsAtHome event) (sym (ap (λ (beside : Beside). beside.lent) same))

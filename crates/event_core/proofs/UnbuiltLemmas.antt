@@ -1,5 +1,5 @@
 -- A query of a core finds no memory as a filter is built for it.
-use Rattle.event_core.proofs.Words.{◌∙◌, ◌∷◌, ◌≡◌, [], Accepted, accepted_as, accepted_in, after_build_wants, All, All-cons, All-head, All-nil, All-tail, ap, AskedQuery, attached_for, attached_or, attached_to, Becomes, Bool, Build, CanBuild, cond, eqb, eqb-true, false, forgotten, gets_rows, Grouped, IsCore, IsScannedAs, IsSome, IsSound, known_in, List, Lives, map, None, Option, option_map_or, Parts, reaches_in, refl, Scanning, State, state_of, subst, sym, true, unbuilt, Wanting, with_kept, with_kept_at, ℕ}
+use Rattle.event_core.proofs.Words.{◌∙◌, ◌∷◌, ◌≡◌, [], Accepted, accepted_as, accepted_in, after_build_wants, All, All-cons, All-head, All-nil, All-tail, ap, AskedQuery, attached_for, attached_or, attached_to, Becomes, Bool, Build, CanBuild, cond, CoreParts, eqb, eqb-true, false, forgotten, gets_rows, Grouped, IsCore, IsScannedAs, IsSome, IsSound, known_in, List, Lives, map, None, Option, option_map_or, reaches_in, refl, Scanning, State, state_of, subst, sym, true, unbuilt, Wanting, with_kept, with_kept_at, ℕ}
 use Rattle.pipeline_manager.specs.declared.life.Life.TheVariants as life
 use Rattle.core_state.specs.Events.{after_want}
 use Rattle.event_core.proofs.HeldSlotLemmas.{attached_for-none}
@@ -49,7 +49,7 @@ unfolding after_want
 sound-unbuilt keep state query dimension can sound = keep (Wanting (Build query dimension) []) state (can, tt) sound
 
 -- the state
-state-unbuilt : (parts : Parts) (query dimension : ℕ) → IsCore parts → CanBuild query dimension parts.lives
+state-unbuilt : (parts : CoreParts) (query dimension : ℕ) → IsCore parts → CanBuild query dimension parts.lives
     → state_of (unbuilt query parts) ≡ after_build_wants query (state_of parts)
 state-unbuilt parts query dimension core can = state-seen (unbuilt query parts)
     (map (forgotten query) (accepted_in parts.lives parts.attached parts.asked)) (known_in parts.asked) (reaches_in parts.lives.queries)
@@ -66,7 +66,7 @@ pub becomes-unbuilt : StepsKeep
     → IsScannedAs (after_build_wants query state) scan)
     → ((state : State) (query dimension : ℕ) → CanBuild query dimension state.lives
     → attached_to (after_build_wants query state) ≡ attached_to state)
-    → (parts : Parts) (query dimension : ℕ) → IsCore parts → CanBuild query dimension parts.lives
+    → (parts : CoreParts) (query dimension : ℕ) → IsCore parts → CanBuild query dimension parts.lives
     → Becomes (unbuilt query parts) (after_build_wants query (state_of parts))
 becomes-unbuilt keep scans attached parts query dimension core can =
     let same = state-unbuilt parts query dimension core can in

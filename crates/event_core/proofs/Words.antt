@@ -107,7 +107,7 @@ pub use Rattle.core_state.specs.declared.settings.RunSettings.{RunSettings}
 pub use Rattle.event_core.specs.Changes.{abandoned, accepted, built, changed, cleared, cut_into, distributed, finished, first_parts, forgotten_at, given, logged, reordered, reserved, started, statements_at, submitted, taken, unbuilt, unheld, with_filters_for, with_first_filters}
 pub use Rattle.event_core.specs.Chosen.{AreIdle, IsPassing, NoneMayCome}
 pub use Rattle.event_core.specs.Core.{AreHolders, Becomes, CanCutNext, HasRoom, holders_in, IsCore, LeavesRest}
-pub use Rattle.event_core.specs.Parts.{Parts, parts_by}
+pub use Rattle.event_core.specs.CoreParts.{CoreParts, parts_by}
 pub use Rattle.event_core.specs.Seen.{accepted_as, accepted_in, attached_for, attached_or, entries_as, state_of}
 pub use Rattle.event_core.specs.Taking.{kept_for, ready_with, snapshot_for}
 pub use Rattle.event_core.specs.Took.{IsLed, TookAll}

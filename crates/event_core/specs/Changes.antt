@@ -28,14 +28,14 @@ use Rattle.core_parts.specs.declared.submitted.Submitted.{Submitted}
 use Rattle.core_parts.specs.Asked.{AskedQuery, with_kept_at}
 use Rattle.core_parts.specs.Filters.{first_filters, no_filters, with_new}
 use Rattle.core_parts.specs.Flights.{passed_in}
-use Rattle.event_core.specs.Parts.{Parts, first_marks}
+use Rattle.event_core.specs.CoreParts.{CoreParts, first_marks}
 
 -- `reserve`
-abbrev pub reserved : (slot : ℕ) → Parts → Parts
+abbrev pub reserved : (slot : ℕ) → CoreParts → CoreParts
 reserved slot parts = record parts { lives = after_reserve slot parts.lives }
 
 -- `build`, with the next version
-abbrev pub built : (query dimension : ℕ) → state.FilterVersion → Parts → Parts
+abbrev pub built : (query dimension : ℕ) → state.FilterVersion → CoreParts → CoreParts
 built query dimension version parts = record parts {
   filters = with_new version parts.filters;
   lives = after_built query dimension parts.lives;
@@ -43,14 +43,14 @@ built query dimension version parts = record parts {
 }
 
 -- `build` of a query that finds no memory
-abbrev pub unbuilt : (query : ℕ) → Parts → Parts
+abbrev pub unbuilt : (query : ℕ) → CoreParts → CoreParts
 unbuilt query parts = record parts {
   asked = with_kept_at query None parts.asked;
   lives = after_spoil query parts.lives;
 }
 
 -- the scan with a query in a slot, where it has a position to come
-abbrev pub scan_with : (slot extent : ℕ) → AskedQuery → Parts → Parts
+abbrev pub scan_with : (slot extent : ℕ) → AskedQuery → CoreParts → CoreParts
 scan_with slot extent asked parts = if extent == 0 then parts else record parts {
   scan =
       scanned.after_start slot asked.query asked.snapshot extent
@@ -58,7 +58,7 @@ scan_with slot extent asked parts = if extent == 0 then parts else record parts 
 }
 
 -- `start` of a query in its slot, with the groups that are kept for it
-abbrev pub started : (query slot : ℕ) → AskedQuery → Grouped → Parts → Parts
+abbrev pub started : (query slot : ℕ) → AskedQuery → Grouped → CoreParts → CoreParts
 started query slot asked groups parts =
     let extent = extent_in parts.lives.queries query in
     let start = scanned.first_of parts.scan.position (length parts.tables.versions) in
@@ -69,8 +69,8 @@ started query slot asked groups parts =
     }
 
 -- `cut` into a frame that was taken from the pool
-abbrev pub cut_into : (holders frame : List ℕ) → (inside : List (List ℕ)) → (number : ℕ) → Parts
-    → Parts
+abbrev pub cut_into : (holders frame : List ℕ) → (inside : List (List ℕ)) → (number : ℕ) → CoreParts
+    → CoreParts
 cut_into holders frame inside number parts =
     let versions = parts.tables.versions in
     let size = parts.settings.batch in
@@ -91,18 +91,18 @@ cut_into holders frame inside number parts =
     }
 
 -- the batches in flight, with another at a place
-abbrev pub with_flight_at : (place : ℕ) → Flight → Parts → Parts
+abbrev pub with_flight_at : (place : ℕ) → Flight → CoreParts → CoreParts
 with_flight_at place flight parts = record parts { flights = slice_set parts.flights place flight }
 
 -- the batch at a place in a worker's hand, with these versions: `take` with one,
 -- `carry` with all that are left
-abbrev pub taken : (place worker : ℕ) → Flight → List state.FilterVersion → Parts → Parts
+abbrev pub taken : (place worker : ℕ) → Flight → List state.FilterVersion → CoreParts → CoreParts
 taken place worker flight versions parts =
     with_flight_at place
     (record flight { hand = Some (record { worker = worker; versions = versions }) }) parts
 
 -- `give` of the batch at a place, which is in a hand
-abbrev pub given : (place : ℕ) → Flight → state.Hand → Parts → Parts
+abbrev pub given : (place : ℕ) → Flight → state.Hand → CoreParts → CoreParts
 given place flight hand parts = record parts {
   flights = slice_set parts.flights place (passed_in hand flight);
   filters = record parts.filters {
@@ -118,7 +118,7 @@ without_place place list = take place list ++ drop (place + 1) list
 -- `distribute` of the batch at a place, where the queries in these slots, of
 -- these numbers, find no memory
 abbrev pub distributed : (place : ℕ) → Flight → (dims : List (Roomy DimensionRow)) → (slots : ℕ)
-    → (spoiled frame : List ℕ) → Parts → Parts
+    → (spoiled frame : List ℕ) → CoreParts → CoreParts
 distributed place flight dims slots spoiled frame parts = record parts {
   attached = after_batch dims flight.batch parts.tables.versions slots parts.attached;
   lives = fold (λ lives query. after_spoil query lives) parts.lives spoiled;
@@ -128,7 +128,7 @@ distributed place flight dims slots spoiled frame parts = record parts {
 }
 
 -- `finish` of a slot whose query keeps this of its rows
-abbrev pub finished : (slot query : ℕ) → (kept : Option Grouped) → Parts → Parts
+abbrev pub finished : (slot query : ℕ) → (kept : Option Grouped) → CoreParts → CoreParts
 finished slot query kept parts = record parts {
   asked = with_kept_at query kept parts.asked;
   attached = slice_set parts.attached slot None;
@@ -136,7 +136,7 @@ finished slot query kept parts = record parts {
 }
 
 -- `clear`, with the next version
-abbrev pub cleared : (slot dimension : ℕ) → state.FilterVersion → Parts → Parts
+abbrev pub cleared : (slot dimension : ℕ) → state.FilterVersion → CoreParts → CoreParts
 cleared slot dimension version parts = record parts {
   filters = with_new version parts.filters;
   lives = after_cleared slot dimension parts.lives;
@@ -144,15 +144,15 @@ cleared slot dimension version parts = record parts {
 }
 
 -- `release`
-abbrev pub released : (slot : ℕ) → Parts → Parts
+abbrev pub released : (slot : ℕ) → CoreParts → CoreParts
 released slot parts = record parts { lives = after_free slot parts.lives }
 
 -- `reorder`
-abbrev pub reordered : Parts → Parts
+abbrev pub reordered : CoreParts → CoreParts
 reordered parts = record parts { filters = record parts.filters { order = order_by parts.filters } }
 
 -- `abandon` of a query, whose seat has these statements left
-abbrev pub abandoned : (query seat : ℕ) → List Submitted → Parts → Parts
+abbrev pub abandoned : (query seat : ℕ) → List Submitted → CoreParts → CoreParts
 abandoned query seat statements parts = record parts {
   seats = slice_set parts.seats seat statements;
   asked = with_kept_at query None parts.asked;
@@ -162,18 +162,18 @@ abandoned query seat statements parts = record parts {
 }
 
 -- a seat has these statements, and a statement of this number was the last
-abbrev pub submitted : (seat statement : ℕ) → List Submitted → Parts → Parts
+abbrev pub submitted : (seat statement : ℕ) → List Submitted → CoreParts → CoreParts
 submitted seat statement statements parts = record parts {
   seats = slice_set parts.seats seat statements;
   numbers = record parts.numbers { statement = statement };
 }
 
 -- the tables after a change, which is logged
-abbrev pub logged : Logged → KeyedStore → Parts → Parts
+abbrev pub logged : Logged → KeyedStore → CoreParts → CoreParts
 logged entry tables parts = record parts { tables = tables; log = parts.log ++ entry ∷ [] }
 
 -- filters for each of these dimensions, of which no row was asked
-abbrev pub with_first_filters : (dimensions : List ℕ) → Parts → Parts
+abbrev pub with_first_filters : (dimensions : List ℕ) → CoreParts → CoreParts
 with_first_filters dimensions parts = record parts {
   lives = record parts.lives { filters = fold with_number 0 dimensions };
   filters = first_filters dimensions;
@@ -181,20 +181,21 @@ with_first_filters dimensions parts = record parts {
 }
 
 -- the filters that a change of this kind asks for
-abbrev pub with_filters_for : ChangeKind → Parts → Parts
+abbrev pub with_filters_for : ChangeKind → CoreParts → CoreParts
 with_filters_for DeclaresFact parts =
     with_first_filters (filter_dimensions parts.tables.schema) parts
 with_filters_for other parts = parts
 
 -- `submit` of a statement that changes the tables
-abbrev pub changed : (seat statement : ℕ) → List Submitted → ChangeKind → KeyedStore → Parts → Parts
+abbrev pub changed : (seat statement : ℕ) → List Submitted → ChangeKind → KeyedStore → CoreParts
+    → CoreParts
 changed seat statement statements kind tables parts =
     with_filters_for kind
     (logged (record { seat = seat; statement = statement; kind = kind }) tables
     (submitted seat statement statements parts))
 
 -- `submit` of a query that is accepted
-abbrev pub accepted : (seat statement : ℕ) → List Submitted → AskedQuery → Parts → Parts
+abbrev pub accepted : (seat statement : ℕ) → List Submitted → AskedQuery → CoreParts → CoreParts
 accepted seat statement statements asked parts =
     record (submitted seat statement statements parts) {
       asked = parts.asked ++ asked ∷ [];
@@ -207,14 +208,14 @@ statements_at seats seat = slice_index_or seats seat []
 
 -- a reply is taken by a seat, which has these statements left, and nothing is kept
 -- beside the query of a number
-abbrev pub forgotten_at : (seat query : ℕ) → List Submitted → Parts → Parts
+abbrev pub forgotten_at : (seat query : ℕ) → List Submitted → CoreParts → CoreParts
 forgotten_at seat query statements parts = record parts {
   seats = slice_set parts.seats seat statements;
   asked = with_kept_at query None parts.asked;
 }
 
 -- `finish` of a slot whose query has no answer
-abbrev pub unheld : (slot : ℕ) → Parts → Parts
+abbrev pub unheld : (slot : ℕ) → CoreParts → CoreParts
 unheld slot parts =
     record parts {
       attached = slice_set parts.attached slot None;
@@ -222,7 +223,7 @@ unheld slot parts =
     }
 
 -- the parts of a core before its first event
-abbrev pub first_parts : RunSettings → KeyedStore → (inside : List (List ℕ)) → Parts
+abbrev pub first_parts : RunSettings → KeyedStore → (inside : List (List ℕ)) → CoreParts
 first_parts settings tables inside = record {
   settings = settings;
   tables = tables;

@@ -23,13 +23,13 @@ use Rattle.core_state.specs.State.{State}
 use Rattle.core_state.specs.declared.settings.RunSettings.{RunSettings}
 use Rattle.core_parts.specs.Asked.{AskedEntry, AskedQueries}
 use Rattle.core_parts.specs.Lent.{Flight}
-use Rattle.event_core.specs.Parts.{Parts}
+use Rattle.event_core.specs.CoreParts.{CoreParts}
 use Rattle.event_core.specs.Seen.{attached_for, state_of}
 
 -- the state is sound, and the parts fit it: the tables are those of its history; the scan has what
 -- runs; at the slots the groups of the queries that get rows are attached, and then nothing is kept
 -- beside; and the frames are as many and as long as the settings say
-pub record IsCore (parts : Parts) : Type 0 where
+pub record IsCore (parts : CoreParts) : Type 0 where
   pub sound : IsSound (state_of parts)
   pub tables : AreTablesOf (state_of parts) parts.tables
   pub scanned : IsScannedAs (state_of parts) parts.scan
@@ -45,7 +45,7 @@ abbrev pub HasRoom : RunSettings → Roomy Flight → Type 0
 HasRoom settings flights = frames_of settings ≤ length flights.items + flights.room
 
 -- these are the parts of a core whose state is this one
-pub record Becomes (parts : Parts) (after : State) : Type 0 where
+pub record Becomes (parts : CoreParts) (after : State) : Type 0 where
   pub state : state_of parts ≡ after
   pub core : IsCore parts
 
@@ -66,7 +66,7 @@ pub record CanCutInto (size : ℕ) (versions : List Version) (scan : Scanning)
   pub tests : All (CanTestAll scan.running) versions
 
 -- a batch may be cut: the scan may cut it, and the lives of the queries can go on by its positions
-pub record CanCutNext (parts : Parts) : Type 0 where
+pub record CanCutNext (parts : CoreParts) : Type 0 where
   pub into : CanCutInto parts.settings.batch parts.tables.versions parts.scan parts.pool
   pub runs : IsTrue (some_run parts.scan.running)
   pub first : first_in (length parts.tables.versions) parts.scan
@@ -90,7 +90,7 @@ pub record LeavesPast (old new : AskedQueries) : Type 0 where
   pub handed : new.handed ≡ old.handed
 
 -- what holds of a core beside its state is left as it was
-pub record LeavesRest (old new : Parts) : Type 0 where
+pub record LeavesRest (old new : CoreParts) : Type 0 where
   pub tables : new.tables ≡ old.tables
   pub scan : new.scan ≡ old.scan
   pub attached : new.attached ≡ old.attached

@@ -1,5 +1,5 @@
 -- The parts of a core in code, the state that they stand for, and what holds of them.
-pub mod Parts
+pub mod CoreParts
 pub mod Lent
 pub mod Seen
 pub mod Core

@@ -15,7 +15,7 @@ use Rattle.core_state.specs.Sound.{IsSound}
 use Rattle.core_state.specs.State.{Seat}
 use Rattle.core_state.specs.Submitting as state
 use Rattle.core_state.specs.Submitting.{after_taking, next_ready, seat_at}
-use Rattle.event_core.specs.Parts.{Parts, beside_of}
+use Rattle.event_core.specs.CoreParts.{CoreParts, beside_of}
 use Rattle.event_core.specs.Seen.{state_of}
 use Rattle.event_core.specs.declared.replies.Ready.{Ready}
 use Rattle.event_core.specs.declared.replies.Ready.TheVariants.{Whole, Grouped}
@@ -35,7 +35,7 @@ IsReplyOf (Grouped snapshot groups) reply = (reply ≡ Memory) ⊎
 
 -- what a call leaves that takes the next reply of a seat, and what it gives. Where the seat has
 -- none that may be taken, nothing has changed
-pub record TakesReply (seat : ℕ) (old new : Parts) (result : Option Ready) : Type 0 where
+pub record TakesReply (seat : ℕ) (old new : CoreParts) (result : Option Ready) : Type 0 where
   pub ready : option_map ready_of result ≡ next_ready (state_of old) seat
   pub taken : IsSome result → state_of new ≡ after_taking seat (state_of old)
   pub none : result ≡ None → new ≡ old

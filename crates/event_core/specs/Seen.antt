@@ -13,7 +13,7 @@ use Rattle.event_core.specs.declared.logged.Logged.{Logged}
 use Rattle.core_parts.specs.Flights.{flights_as}
 use Rattle.core_parts.specs.Known.{Known, Reach, reaches_in}
 use Rattle.core_parts.specs.Asked.{AskedQuery, known_in}
-use Rattle.event_core.specs.Parts.{Parts}
+use Rattle.event_core.specs.CoreParts.{CoreParts}
 use Rattle.core_parts.specs.Seats.{seat_as}
 
 -- the groups that are attached at the slot that a query holds, if it holds one and some are
@@ -54,7 +54,7 @@ abbrev pub entries_as : Store → List Logged → List Entry
 entries_as store log = entries_with log (changes_told store 0 1 (map (λ logged. logged.kind) log))
 
 -- the state with these accepted queries, where this is known of them and they go so far
-abbrev pub state_with : Parts → List Accepted → List Known → List Reach → State
+abbrev pub state_with : CoreParts → List Accepted → List Known → List Reach → State
 state_with parts accepted known reaches = record {
   settings = parts.settings;
   entries = entries_as (plain parts.tables) parts.log;
@@ -72,7 +72,7 @@ state_with parts accepted known reaches = record {
 }
 
 -- the state
-abbrev pub state_of : Parts → State
+abbrev pub state_of : CoreParts → State
 state_of parts =
     state_with parts (accepted_in parts.lives parts.attached parts.asked)
     (known_in parts.asked) (reaches_in parts.lives.queries)

@@ -11,7 +11,7 @@ use Rattle.core_state.specs.Steps.{Step, Done, Wanting, Replying, MayStepAll, af
 use Rattle.core_state.specs.declared.event.Event.{Event}
 use Rattle.core_state.specs.declared.event.Event.TheVariants.{Submit, Build, Cut, Carry, Give, Distribute, Clear}
 use Rattle.event_core.specs.Lent.{IsBlankWorkOf}
-use Rattle.event_core.specs.Parts.{LeavesLoans, Parts, beside_of, loan_of}
+use Rattle.event_core.specs.CoreParts.{CoreParts, LeavesLoans, beside_of, loan_of}
 use Rattle.event_core.specs.Seen.{state_of}
 use Rattle.event_core.specs.declared.stepping.StepFault.{StepFault}
 use Rattle.event_core.specs.declared.stepping.StepFault.TheVariants.{NotEnabled, Memory}
@@ -80,7 +80,7 @@ IsRefused NotEnabled state event = IsEnabled state event → ⊥
 IsRefused Memory state event = IsEnabled state event × MayWantMemory event
 
 -- what a call leaves that takes an event, if it may come, and what it tells
-pub record TakesEvent (event : Event) (old new : Parts)
+pub record TakesEvent (event : Event) (old new : CoreParts)
     (result : Result (Unit {0}) StepFault) : Type 0 where
   pub disabled : IsErrOf result NotEnabled ↔ (IsEnabled (state_of old) event → ⊥)
   pub taken : OnOk result (Took event (state_of old) (state_of new))
@@ -92,7 +92,7 @@ pub record TakesEvent (event : Event) (old new : Parts)
 -- what a call leaves that takes the submission of a statement, as far as it does so, and what it
 -- reports. Where groups or tables are out it may tell a statement that may change the tables to
 -- wait until they are home
-pub record Submits (seat : ℕ) (statement : Statement) (old new : Parts)
+pub record Submits (seat : ℕ) (statement : Statement) (old new : CoreParts)
     (result : Result (Unit {0}) SubmitFault) : Type 0 where
   pub disabled : IsErrOf result submit.NotEnabled
       ↔ (IsEnabled (state_of old) (Submit seat statement) → ⊥)
@@ -112,14 +112,14 @@ pub record CutsAndCarries (worker : ℕ) (old new : State) : Type 0 where
   pub carried : Took (Carry worker batch) between new
 
 -- a worker carries a batch as it was cut, and takes this with it
-pub record CarriesBlank (worker : ℕ) (old new : Parts) (blank : BlankWork) : Type 0 where
+pub record CarriesBlank (worker : ℕ) (old new : CoreParts) (blank : BlankWork) : Type 0 where
   pub carries : CutsAndCarries worker (state_of old) (state_of new)
   pub work : IsSomeAnd (held_by (state_of new).scan.flights worker) (λ flight.
       IsSomeAnd flight.hand (IsBlankWorkOf blank (loan_of new worker) flight))
 
 -- a call that lends to one seat, or takes back from it, leaves the marks as they were, each other
 -- seat what it had, and the core sound
-pub record TouchesOneSeat (seat : ℕ) (old new : Parts) : Type 0 where
+pub record TouchesOneSeat (seat : ℕ) (old new : CoreParts) : Type 0 where
   pub marks : new.marks ≡ old.marks
   pub others : LeavesLoans seat old new
   pub sound : IsSound (state_of new)

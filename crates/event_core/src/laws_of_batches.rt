@@ -10,7 +10,7 @@ ghost use Rattle.core_parts.specs.Lent.{Flight};
 ghost use Rattle.event_core.specs.Changes.{cut_into, given, taken};
 ghost use Rattle.event_core.specs.Core.{AreHolders, Becomes, CanCutNext, IsCore};
 ghost use Rattle.filter_order.specs.Filters.{next_of, versions_left};
-ghost use Rattle.event_core.specs.Parts.{Parts};
+ghost use Rattle.event_core.specs.CoreParts.{CoreParts};
 ghost use Rattle.event_core.specs.Seen.{state_of};
 
 use crate::laws_of_core::quiet_events_leave_a_core;
@@ -25,8 +25,8 @@ use core_state::{
 /// Where the core may cut, the scan and the manager may, and a frame is free; the batch
 /// that is cut has its number.
 pub(crate) fn cuts_follow_the_core()
-    ensures may { (parts : Parts) → IsCore parts → MayCut (state_of parts) → CanCutNext parts }
-    ensures done { (parts : Parts) (holders frame : List ℕ) (inside : List (List ℕ)) →
+    ensures may { (parts : CoreParts) → IsCore parts → MayCut (state_of parts) → CanCutNext parts }
+    ensures done { (parts : CoreParts) (holders frame : List ℕ) (inside : List (List ℕ)) →
         IsCore parts → MayCut (state_of parts) → parts.pool.inside ≡ inside ++ frame ∷ [] →
         length frame ≡ parts.pool.words → AreHolders parts.lives holders →
         Becomes (cut_into holders frame inside
@@ -45,7 +45,7 @@ pub(crate) fn cuts_follow_the_core()
 /// A batch that is taken or carried gets a hand, and one that is given back has passed the versions
 /// in it, which are of different filters, none of which it had passed.
 pub(crate) fn hands_follow_the_core()
-    ensures taken { (parts : Parts) (worker batch place : ℕ) (flight : Flight)
+    ensures taken { (parts : CoreParts) (worker batch place : ℕ) (flight : Flight)
         (version : state.FilterVersion) →
         IsCore parts → MayTake worker batch (state_of parts) →
         position (λ flight. flight.batch.number == batch) parts.flights ≡ Some place →
@@ -53,20 +53,22 @@ pub(crate) fn hands_follow_the_core()
         next_of parts.filters flight.batch ≡ Some version →
         Becomes (taken place worker flight (version ∷ []) parts)
         (after_take worker batch (state_of parts)) }
-    ensures carried { (parts : Parts) (worker batch place : ℕ) (flight : Flight) → IsCore parts →
+    ensures carried { (parts : CoreParts) (worker batch place : ℕ) (flight : Flight) →
+        IsCore parts →
         MayCarry worker batch (state_of parts) →
         position (λ flight. flight.batch.number == batch) parts.flights ≡ Some place →
         slice_get parts.flights place ≡ Some flight →
         Becomes (taken place worker flight (versions_left parts.filters flight.batch) parts)
         (after_carry worker batch (state_of parts)) }
-    ensures may { (parts : Parts) (place : ℕ) (flight : Flight) (hand : state.Hand) → IsCore parts →
+    ensures may { (parts : CoreParts) (place : ℕ) (flight : Flight) (hand : state.Hand) →
+        IsCore parts →
         slice_get parts.flights place ≡ Some flight → flight.hand ≡ Some hand →
         All (λ version. ¬ (Has flight.batch.passed version.filter.dimension)) hand.versions }
-    ensures apart { (parts : Parts) (place : ℕ) (flight : Flight) (hand : state.Hand) →
+    ensures apart { (parts : CoreParts) (place : ℕ) (flight : Flight) (hand : state.Hand) →
         IsCore parts → slice_get parts.flights place ≡ Some flight → flight.hand ≡ Some hand →
         AllPairs (λ version other. version.filter.dimension ≢ other.filter.dimension)
         hand.versions }
-    ensures given { (parts : Parts) (worker place : ℕ) (flight : Flight) (hand : state.Hand) →
+    ensures given { (parts : CoreParts) (worker place : ℕ) (flight : Flight) (hand : state.Hand) →
         IsCore parts →
         position (λ flight. option_map_or (λ hand. hand.worker == worker) flight.hand false)
         parts.flights

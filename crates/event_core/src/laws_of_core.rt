@@ -13,7 +13,7 @@ ghost use Rattle.core_state.specs.Scanned.{LeavesScan};
 ghost use Rattle.core_state.specs.State.{State};
 ghost use Rattle.core_state.specs.declared.event.Event.{Event};
 ghost use Rattle.event_core.specs.Core.{Becomes, IsCore, LeavesRest};
-ghost use Rattle.event_core.specs.Parts.{Parts};
+ghost use Rattle.event_core.specs.CoreParts.{CoreParts};
 ghost use Rattle.event_core.specs.Seen.{state_of};
 
 use core_state::{
@@ -25,7 +25,7 @@ use core_state::{
 /// Where an event touches neither the scan nor what is attached, and the state is the one after it,
 /// the parts are still those of a core.
 pub(crate) fn quiet_events_leave_a_core()
-    ensures { (old new : Parts) (event : Event) → IsCore old → IsEnabled (state_of old) event →
+    ensures { (old new : CoreParts) (event : Event) → IsCore old → IsEnabled (state_of old) event →
         LeavesScan event →
         LeavesAttached event → state_of new ≡ after_event event (state_of old) →
         LeavesRest old new → IsCore new }

@@ -11,7 +11,7 @@ ghost use Rattle.core_state.specs.Handed.{fed_in};
 ghost use Rattle.core_parts.specs.Lent.{Flight};
 ghost use Rattle.event_core.specs.Changes.{distributed};
 ghost use Rattle.event_core.specs.Core.{Becomes, IsCore, holders_in};
-ghost use Rattle.event_core.specs.Parts.{Parts};
+ghost use Rattle.event_core.specs.CoreParts.{CoreParts};
 ghost use Rattle.event_core.specs.Seen.{state_of};
 
 use core_state::{
@@ -22,13 +22,13 @@ use core_state::{
 /// A batch in flight is of the versions of the fact table, and there is room for its rows in the
 /// groups, and for its frame in the pool.
 pub(crate) fn batches_in_flight_have_room()
-    ensures within { (parts : Parts) (place : ℕ) (flight : Flight) → IsCore parts →
+    ensures within { (parts : CoreParts) (place : ℕ) (flight : Flight) → IsCore parts →
         slice_get parts.flights place ≡ Some flight →
         flight.batch.first + flight.batch.count ≤ length parts.tables.versions }
-    ensures room { (parts : Parts) (place : ℕ) (flight : Flight) → IsCore parts →
+    ensures room { (parts : CoreParts) (place : ℕ) (flight : Flight) → IsCore parts →
         slice_get parts.flights place ≡ Some flight →
         All (HaveRoom flight.batch.count) parts.attached }
-    ensures frame { (parts : Parts) (place : ℕ) (flight : Flight) → IsCore parts →
+    ensures frame { (parts : CoreParts) (place : ℕ) (flight : Flight) → IsCore parts →
         slice_get parts.flights place ≡ Some flight →
         (length parts.pool.inside < parts.pool.made) × (flight.batch.room ≡ parts.pool.words) }
 {
@@ -38,16 +38,17 @@ pub(crate) fn batches_in_flight_have_room()
 /// Slots that find no memory for the rows of a batch are held by queries that get rows of it and
 /// may be spoiled, and these are spoiled as it is distributed.
 pub(crate) fn distributions_follow_the_core()
-    ensures holders { (parts : Parts) (slots : ℕ) → IsCore parts →
+    ensures holders { (parts : CoreParts) (slots : ℕ) → IsCore parts →
         AreAttached slots parts.attached →
         holders_in parts.lives slots ≡ fed_in (state_of parts) slots }
-    ensures begun { (parts : Parts) (slots : ℕ) → IsCore parts → AreAttached slots parts.attached →
+    ensures begun { (parts : CoreParts) (slots : ℕ) → IsCore parts →
+        AreAttached slots parts.attached →
         All (λ query. CanSpoil query parts.lives) (holders_in parts.lives slots) }
-    ensures fed { (parts : Parts) (batch place slots : ℕ) (flight : Flight) → IsCore parts →
+    ensures fed { (parts : CoreParts) (batch place slots : ℕ) (flight : Flight) → IsCore parts →
         position (λ flight. flight.batch.number == batch) parts.flights ≡ Some place →
         slice_get parts.flights place ≡ Some flight → HaveRows slots flight.batch.bits →
         AreFed batch (fed_in (state_of parts) slots) (state_of parts) }
-    ensures done { (parts : Parts) (batch place slots : ℕ) (flight : Flight)
+    ensures done { (parts : CoreParts) (batch place slots : ℕ) (flight : Flight)
         (dims : List (Roomy DimensionRow)) (frame : List ℕ) → IsCore parts →
         MayDistribute batch (state_of parts) →
         position (λ flight. flight.batch.number == batch) parts.flights ≡ Some place →

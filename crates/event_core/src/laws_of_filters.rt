@@ -15,7 +15,7 @@ ghost use Rattle.core_state.specs.Tables.{tables_of};
 ghost use Rattle.core_parts.specs.Asked.{AskedQuery, asked_at};
 ghost use Rattle.event_core.specs.Changes.{built, cleared, reordered, unbuilt};
 ghost use Rattle.event_core.specs.Core.{Becomes, IsCore};
-ghost use Rattle.event_core.specs.Parts.{Parts};
+ghost use Rattle.event_core.specs.CoreParts.{CoreParts};
 ghost use Rattle.event_core.specs.Seen.{state_of};
 
 use crate::laws_of_core::quiet_events_leave_a_core;
@@ -28,19 +28,19 @@ use star_plan::rows_fit_by_their_kinds;
 /// A query that is built holds a slot, and may be added in it to the filter; the next version has
 /// it. Where no memory is found, nothing is kept of it.
 pub(crate) fn builds_follow_the_core()
-    ensures there { (parts : Parts) (query dimension : ℕ) → IsCore parts →
+    ensures there { (parts : CoreParts) (query dimension : ℕ) → IsCore parts →
         CanBuild query dimension parts.lives →
         (dimension < 8) × IsSome (slot_of parts.lives query)
         × IsSome (version_at parts.filters.versions dimension)
         × IsSome (asked_at parts.asked query) }
-    ensures may { (parts : Parts) (query dimension slot : ℕ) (asked : AskedQuery)
+    ensures may { (parts : CoreParts) (query dimension slot : ℕ) (asked : AskedQuery)
         (old : FilterVersion) →
         IsCore parts → CanBuild query dimension parts.lives →
         slot_of parts.lives query ≡ Some slot → asked_at parts.asked query ≡ Some asked →
         version_at parts.filters.versions dimension ≡ Some old →
         CanAdd slot (selection_in (query_of asked.query) dimension)
         (rows_in parts.tables.dimensions dimension) old.filter }
-    ensures done { (parts : Parts) (query dimension slot : ℕ) (asked : AskedQuery)
+    ensures done { (parts : CoreParts) (query dimension slot : ℕ) (asked : AskedQuery)
         (old version : FilterVersion) → IsCore parts → CanBuild query dimension parts.lives →
         slot_of parts.lives query ≡ Some slot → asked_at parts.asked query ≡ Some asked →
         version_at parts.filters.versions dimension ≡ Some old →
@@ -50,7 +50,7 @@ pub(crate) fn builds_follow_the_core()
         (rows_in parts.tables.dimensions dimension) old.filter →
         Becomes (built query dimension version parts)
         (after_build query dimension (state_of parts)) }
-    ensures wants { (parts : Parts) (query dimension : ℕ) → IsCore parts →
+    ensures wants { (parts : CoreParts) (query dimension : ℕ) → IsCore parts →
         CanBuild query dimension parts.lives →
         Becomes (unbuilt query parts) (after_build_wants query (state_of parts)) }
 {
@@ -64,11 +64,11 @@ pub(crate) fn builds_follow_the_core()
 
 /// A filter that is cleared of a slot is there; the next version is without it.
 pub(crate) fn clearings_follow_the_core()
-    ensures there { (parts : Parts) (slot dimension : ℕ) → IsCore parts →
+    ensures there { (parts : CoreParts) (slot dimension : ℕ) → IsCore parts →
         CanClear slot dimension parts.lives →
         (slot < MAX_SLOTS) × (dimension < 8)
         × IsSome (version_at parts.filters.versions dimension) }
-    ensures done { (parts : Parts) (slot dimension : ℕ) (old version : FilterVersion) →
+    ensures done { (parts : CoreParts) (slot dimension : ℕ) (old version : FilterVersion) →
         IsCore parts → CanClear slot dimension parts.lives →
         version_at parts.filters.versions dimension ≡ Some old →
         version.number
@@ -82,7 +82,7 @@ pub(crate) fn clearings_follow_the_core()
 
 /// Another order of the filters changes nothing else.
 pub(crate) fn orders_follow_the_core()
-    ensures { (parts : Parts) → IsCore parts → IsSome (tables_of (state_of parts)).schema.fact →
+    ensures { (parts : CoreParts) → IsCore parts → IsSome (tables_of (state_of parts)).schema.fact →
         Becomes (reordered parts) (after_reorder (state_of parts)) }
 {
     quiet_events_leave_a_core();

@@ -13,7 +13,7 @@ ghost use Rattle.core_parts.specs.declared.submitted.Submitted.{Submitted};
 ghost use Rattle.core_parts.specs.Asked.{AskedQuery, asked_at, known_in};
 ghost use Rattle.event_core.specs.Changes.{abandoned, finished, released, reserved, started, statements_at, unheld};
 ghost use Rattle.event_core.specs.Core.{Becomes, IsCore};
-ghost use Rattle.event_core.specs.Parts.{Parts};
+ghost use Rattle.event_core.specs.CoreParts.{CoreParts};
 ghost use Rattle.core_parts.specs.Seats.{seat_as};
 ghost use Rattle.event_core.specs.Seen.{state_of};
 
@@ -25,10 +25,10 @@ use core_state::{
 
 /// A query gets a slot, and a slot is free again.
 pub(crate) fn slots_follow_the_core()
-    ensures reserve { (parts : Parts) (query slot : ℕ) → IsCore parts →
+    ensures reserve { (parts : CoreParts) (query slot : ℕ) → IsCore parts →
         MayReserve query slot (state_of parts) →
         Becomes (reserved slot parts) (after_reserving slot (state_of parts)) }
-    ensures release { (parts : Parts) (slot : ℕ) → IsCore parts → CanFree slot parts.lives →
+    ensures release { (parts : CoreParts) (slot : ℕ) → IsCore parts → CanFree slot parts.lives →
         Becomes (released slot parts) (after_release slot (state_of parts)) }
 {
     quiet_events_leave_a_core();
@@ -37,19 +37,19 @@ pub(crate) fn slots_follow_the_core()
 /// A query that begins its lap holds a slot, and groups of no rows are kept beside it: they
 /// are attached at the slot.
 pub(crate) fn starts_follow_the_core()
-    ensures there { (parts : Parts) (query : ℕ) → IsCore parts → CanRun query parts.lives →
+    ensures there { (parts : CoreParts) (query : ℕ) → IsCore parts → CanRun query parts.lives →
         IsSome (slot_of parts.lives query) × IsSome (asked_at parts.asked query) }
-    ensures kept { (parts : Parts) (query : ℕ) (asked : AskedQuery) → IsCore parts →
+    ensures kept { (parts : CoreParts) (query : ℕ) (asked : AskedQuery) → IsCore parts →
         CanRun query parts.lives →
         asked_at parts.asked query ≡ Some asked → IsSome asked.kept }
-    ensures may { (parts : Parts) (query slot : ℕ) (asked : AskedQuery) → IsCore parts →
+    ensures may { (parts : CoreParts) (query slot : ℕ) (asked : AskedQuery) → IsCore parts →
         CanRun query parts.lives → slot_of parts.lives query ≡ Some slot →
         asked_at parts.asked query ≡ Some asked →
         (slice_get parts.attached slot ≡ Some None)
         × (extent_in parts.lives.queries query ≢ 0 →
         CanStart slot (extent_in parts.lives.queries query)
         (length parts.tables.versions) parts.scan) }
-    ensures done { (parts : Parts) (query slot : ℕ) (asked : AskedQuery) (groups : Grouped) →
+    ensures done { (parts : CoreParts) (query slot : ℕ) (asked : AskedQuery) (groups : Grouped) →
         IsCore parts → CanRun query parts.lives → slot_of parts.lives query ≡ Some slot →
         asked_at parts.asked query ≡ Some asked → asked.kept ≡ Some groups →
         Becomes (started query slot asked groups parts) (after_start query (state_of parts)) }
@@ -62,12 +62,12 @@ pub(crate) fn starts_follow_the_core()
 /// A slot that is finished is held by a query. The groups of one that is
 /// answered are kept beside it.
 pub(crate) fn finishes_follow_the_core()
-    ensures answered { (parts : Parts) (slot query built : ℕ) → IsCore parts →
+    ensures answered { (parts : CoreParts) (slot query built : ℕ) → IsCore parts →
         MayFinish slot (state_of parts) → slot_at parts.lives slot ≡ Held query built →
         life_of parts.lives query ≡ Some Ending →
         Becomes (finished slot query (slice_index_or parts.attached slot None) parts)
         (after_finish slot (state_of parts)) }
-    ensures unanswered { (parts : Parts) (slot query built : ℕ) → IsCore parts →
+    ensures unanswered { (parts : CoreParts) (slot query built : ℕ) → IsCore parts →
         MayFinish slot (state_of parts) → slot_at parts.lives slot ≡ Held query built →
         life_of parts.lives query ≢ Some Ending →
         Becomes (unheld slot parts) (after_finish slot (state_of parts)) }
@@ -80,11 +80,12 @@ pub(crate) fn finishes_follow_the_core()
 /// A query that nobody wants any more is forgotten at its slot, beside it, by
 /// the scan and by its seat.
 pub(crate) fn abandoned_queries_follow_the_core()
-    ensures there { (parts : Parts) (query : ℕ) → IsCore parts → CanAbandon query parts.lives →
+    ensures there { (parts : CoreParts) (query : ℕ) → IsCore parts → CanAbandon query parts.lives →
         IsSome (asked_at parts.asked query) }
-    ensures seat { (parts : Parts) (query : ℕ) (asked : AskedQuery) → IsCore parts →
+    ensures seat { (parts : CoreParts) (query : ℕ) (asked : AskedQuery) → IsCore parts →
         asked_at parts.asked query ≡ Some asked → asked.seat < length parts.seats }
-    ensures done { (parts : Parts) (query : ℕ) (asked : AskedQuery) (statements : List Submitted) →
+    ensures done { (parts : CoreParts) (query : ℕ) (asked : AskedQuery)
+        (statements : List Submitted) →
         IsCore parts → CanAbandon query parts.lives → asked_at parts.asked query ≡ Some asked →
         seat_as (known_in parts.asked) statements
         ≡ without_pending query

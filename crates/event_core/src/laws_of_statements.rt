@@ -22,7 +22,7 @@ ghost use Rattle.core_parts.specs.declared.submitted.Standing.TheVariants.{Waits
 ghost use Rattle.core_parts.specs.Asked.{AskedQuery, asked_at, known_in};
 ghost use Rattle.event_core.specs.Changes.{accepted, changed, forgotten_at, statements_at, submitted};
 ghost use Rattle.event_core.specs.Core.{Becomes, IsCore};
-ghost use Rattle.event_core.specs.Parts.{Parts};
+ghost use Rattle.event_core.specs.CoreParts.{CoreParts};
 ghost use Rattle.core_parts.specs.Seats.{is_waited, seat_as};
 ghost use Rattle.event_core.specs.Seen.{state_of};
 ghost use Rattle.event_core.specs.Taking.{kept_for, ready_with, snapshot_for};
@@ -38,9 +38,9 @@ use star_store::outcomes_fit_the_tables;
 /// A statement that a seat submits stands behind its others, with what is told of it; a change is
 /// logged, and a query waits.
 pub(crate) fn submissions_follow_the_core()
-    ensures tables { (parts : Parts) → IsCore parts →
+    ensures tables { (parts : CoreParts) → IsCore parts →
         plain parts.tables ≡ tables_of (state_of parts) }
-    ensures replied { (parts : Parts) (seat : ℕ) (statement : Statement) (reply : Reply) →
+    ensures replied { (parts : CoreParts) (seat : ℕ) (statement : Statement) (reply : Reply) →
         IsCore parts → seat < length parts.seats →
         outcome_of (tables_of (state_of parts)) statement
         ≡ outcome.only_tells (outcome.Replied reply) →
@@ -49,7 +49,7 @@ pub(crate) fn submissions_follow_the_core()
         ++ record { number = parts.numbers.statement + 1; standing = Waits reply } ∷ [])
         parts)
         (after_submitting seat statement (state_of parts)) }
-    ensures changed { (parts : Parts) (seat : ℕ) (statement : Statement) (reply : Reply)
+    ensures changed { (parts : CoreParts) (seat : ℕ) (statement : Statement) (reply : Reply)
         (change : Change) (tables : KeyedStore) → IsCore parts → seat < length parts.seats →
         outcome_of (tables_of (state_of parts)) statement
         ≡ record { change = Some change; told = outcome.Replied reply } →
@@ -59,7 +59,7 @@ pub(crate) fn submissions_follow_the_core()
         ++ record { number = parts.numbers.statement + 1; standing = Waits reply } ∷ [])
         (kind_of_change change) tables parts)
         (after_submitting seat statement (state_of parts)) }
-    ensures accepted { (parts : Parts) (seat : ℕ) (statement : Statement) (query : StarQuery)
+    ensures accepted { (parts : CoreParts) (seat : ℕ) (statement : Statement) (query : StarQuery)
         (snapshot : ℕ) →
         IsCore parts → seat < length parts.seats →
         outcome_of (tables_of (state_of parts)) statement
@@ -75,7 +75,8 @@ pub(crate) fn submissions_follow_the_core()
           kept = Some (grouped_of (query_of query) []);
         }) parts)
         (after_submitting seat statement (state_of parts)) }
-    ensures new { (parts : Parts) → IsCore parts → IsNew (parts.numbers.statement + 1) parts.lives }
+    ensures new { (parts : CoreParts) → IsCore parts →
+        IsNew (parts.numbers.statement + 1) parts.lives }
 {
     accepted_histories_are_settled();
     changes_follow_from_the_tables();
@@ -90,19 +91,20 @@ pub(crate) fn submissions_follow_the_core()
 /// waits, `memory` where the query found none, or the groups that are kept beside an answered
 /// query. It may be taken unless the statement is a query that may still be answered.
 pub(crate) fn next_replies_follow_the_core()
-    ensures nothing { (parts : Parts) (seat : ℕ) → IsCore parts →
+    ensures nothing { (parts : CoreParts) (seat : ℕ) → IsCore parts →
         find (λ submitted. is_waited submitted.standing) (statements_at parts.seats seat) ≡ None →
         next_ready (state_of parts) seat ≡ None }
-    ensures reply { (parts : Parts) (seat : ℕ) (first : Submitted) (reply : Reply) → IsCore parts →
+    ensures reply { (parts : CoreParts) (seat : ℕ) (first : Submitted) (reply : Reply) →
+        IsCore parts →
         find (λ submitted. is_waited submitted.standing) (statements_at parts.seats seat)
         ≡ Some first →
         first.standing ≡ Waits reply → next_ready (state_of parts) seat ≡ Some (Whole reply) }
-    ensures open { (parts : Parts) (seat : ℕ) (first : Submitted) → IsCore parts →
+    ensures open { (parts : CoreParts) (seat : ℕ) (first : Submitted) → IsCore parts →
         find (λ submitted. is_waited submitted.standing) (statements_at parts.seats seat)
         ≡ Some first → first.standing ≡ IsAsked →
         option_map_or is_open (life_of parts.lives first.number) false ≡ true →
         next_ready (state_of parts) seat ≡ None }
-    ensures closed { (parts : Parts) (seat : ℕ) (first : Submitted) → IsCore parts →
+    ensures closed { (parts : CoreParts) (seat : ℕ) (first : Submitted) → IsCore parts →
         find (λ submitted. is_waited submitted.standing) (statements_at parts.seats seat)
         ≡ Some first →
         (first.standing ≡ IsAsked →
@@ -110,11 +112,11 @@ pub(crate) fn next_replies_follow_the_core()
         next_ready (state_of parts) seat
         ≡ Some (ready_with first.standing (snapshot_for parts.asked first.number)
         (kept_for parts.asked first.number)) }
-    ensures spoiled { (parts : Parts) (seat : ℕ) (first : Submitted) → IsCore parts →
+    ensures spoiled { (parts : CoreParts) (seat : ℕ) (first : Submitted) → IsCore parts →
         find (λ submitted. is_waited submitted.standing) (statements_at parts.seats seat)
         ≡ Some first → first.standing ≡ IsAsked → life_of parts.lives first.number ≡ Some Spoiled →
         next_ready (state_of parts) seat ≡ Some (Whole Memory) }
-    ensures answered { (parts : Parts) (seat : ℕ) (first : Submitted) → IsCore parts →
+    ensures answered { (parts : CoreParts) (seat : ℕ) (first : Submitted) → IsCore parts →
         find (λ submitted. is_waited submitted.standing) (statements_at parts.seats seat)
         ≡ Some first → first.standing ≡ IsAsked → life_of parts.lives first.number ≡ Some Answered →
         (asked : AskedQuery) × (asked_at parts.asked first.number ≡ Some asked) × (groups : Grouped)
@@ -127,7 +129,7 @@ pub(crate) fn next_replies_follow_the_core()
 /// Where a seat takes the reply to its first statement that is waited for, nothing is kept any more
 /// beside the query of its number.
 pub(crate) fn taken_replies_follow_the_core()
-    ensures { (parts : Parts) (seat : ℕ) (first : Submitted) (statements : List Submitted) →
+    ensures { (parts : CoreParts) (seat : ℕ) (first : Submitted) (statements : List Submitted) →
         IsCore parts →
         find (λ submitted. is_waited submitted.standing) (statements_at parts.seats seat)
         ≡ Some first → IsSome (next_ready (state_of parts) seat) →

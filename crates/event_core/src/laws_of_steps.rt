@@ -4,7 +4,7 @@ ghost use Rattle.core_state.specs.Sound.{IsSound};
 ghost use Rattle.core_state.specs.State.{State};
 ghost use Rattle.core_state.specs.declared.event.Event.{Event};
 ghost use Rattle.event_core.specs.Chosen.{AreIdle};
-ghost use Rattle.event_core.specs.Parts.{beside_of};
+ghost use Rattle.event_core.specs.CoreParts.{beside_of};
 ghost use Rattle.event_core.specs.Seen.{state_of};
 ghost use Rattle.event_core.specs.Took.{StepsFor, TookAll};
 

@@ -13,7 +13,7 @@ ghost use Rattle.core_state.specs.Sound.{IsSound, empty_core};
 ghost use Rattle.core_state.specs.Submitting.{seat_at};
 ghost use Rattle.core_state.specs.Tables.{tables_of};
 ghost use Rattle.core_parts.specs.Filters.{tally_at};
-ghost use Rattle.event_core.specs.Parts.{beside_of, first_beside};
+ghost use Rattle.event_core.specs.CoreParts.{beside_of, first_beside};
 ghost use Rattle.event_core.specs.Replies.{first_open};
 ghost use Rattle.event_core.specs.Seen.{state_of};
 
@@ -85,12 +85,12 @@ pub struct Core {
 
 impl Model for Core {
     ghost use Rattle.std.specs.Prelude.{◌≡◌, length};
-    ghost use Rattle.event_core.specs.Parts.{AreBacked, Parts, beside_of, parts_by};
+    ghost use Rattle.event_core.specs.CoreParts.{AreBacked, CoreParts, beside_of, parts_by};
     ghost use Rattle.event_core.specs.Core.{IsCore, HasRoom};
     ghost use Rattle.event_core.specs.Spared.{AreSpare};
     ghost use Rattle.core_parts.specs.Asked.{AreFinished};
 
-    ghost Value = { Parts };
+    ghost Value = { CoreParts };
 
     ghost use Rattle.star_plan.specs.contracts.star_query.StarQuery as star_query;
     ghost use Rattle.std.specs.Coded.{codes};

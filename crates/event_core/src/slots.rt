@@ -14,7 +14,7 @@ ghost use Rattle.core_parts.specs.Asked.{AreAskedRising, IsNotAmong, with_kept_a
 ghost use Rattle.event_core.specs.Changes.{statements_at};
 ghost use Rattle.core_parts.specs.Known.{Known};
 ghost use Rattle.core_parts.specs.Seats.{seat_as};
-ghost use Rattle.event_core.specs.Parts.{beside_of};
+ghost use Rattle.event_core.specs.CoreParts.{beside_of};
 ghost use Rattle.event_core.specs.Seen.{state_of};
 
 use crate::laws_of_slots::{

@@ -12,8 +12,8 @@ ghost use Rattle.core_state.specs.Scanned.{stopped_for};
 ghost use Rattle.event_core.specs.Core.{AreHolders, holders_in};
 
 use batch_flow::SlotBits;
-use continuous_scan::Scan;
 use bit_words::MAX_SLOTS;
+use continuous_scan::Scan;
 use pipeline_manager::{Manager, SlotState};
 
 /// The query that holds a slot, if one does.

@@ -24,7 +24,7 @@ ghost use Rattle.event_core.specs.Changes.{statements_at, with_filters_for};
 ghost use Rattle.event_core.specs.Core.{CanEnter, IsCore, LeavesPast};
 ghost use Rattle.filter_order.specs.Spares.{first_spares};
 ghost use Rattle.core_parts.specs.Filters.{first_filters};
-ghost use Rattle.event_core.specs.Parts.{Parts, beside_of};
+ghost use Rattle.event_core.specs.CoreParts.{CoreParts, beside_of};
 ghost use Rattle.core_parts.specs.Seats.{is_waited};
 ghost use Rattle.event_core.specs.Seen.{state_of};
 
@@ -140,11 +140,11 @@ impl Core {
 
 /// Where the change of a statement declares the fact table, none was declared, and no slot is held.
 fn a_declared_fact_table_finds_free_slots()
-    ensures first { (parts : Parts) (statement : Statement) (change : Change) → IsCore parts →
+    ensures first { (parts : CoreParts) (statement : Statement) (change : Change) → IsCore parts →
         (outcome_of (tables_of (state_of parts)) statement).change ≡ Some change →
         kind_of_change change ≡ DeclaresFact →
         (tables_of (state_of parts)).schema.fact ≡ None }
-    ensures free { (parts : Parts) (statement : Statement) (change : Change) → IsCore parts →
+    ensures free { (parts : CoreParts) (statement : Statement) (change : Change) → IsCore parts →
         (outcome_of (tables_of (state_of parts)) statement).change ≡ Some change →
         kind_of_change change ≡ DeclaresFact →
         All (λ slot. slot ≡ Free) parts.lives.slots }
@@ -246,7 +246,8 @@ fn log_change(
     requires quiet { entry.kind ≡ DeclaresFact → All (λ slot. slot ≡ Free) manager.old.slots }
     ensures log { log.new ≡ log.old ++ entry ∷ [] }
     ensures queries { manager.new.queries ≡ manager.old.queries }
-    ensures parts { (parts : Parts) → parts.tables.schema ≡ schema.now → parts.lives ≡ manager.old →
+    ensures parts { (parts : CoreParts) → parts.tables.schema ≡ schema.now →
+        parts.lives ≡ manager.old →
         parts.filters ≡ filters.old → parts.numbers.version ≡ last_version.old →
         with_filters_for entry.kind parts ≡ record parts {
           lives = manager.new;

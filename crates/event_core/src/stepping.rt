@@ -6,7 +6,7 @@ ghost use Rattle.core_state.specs.Sound.{IsSound};
 ghost use Rattle.core_state.specs.Submitting.{after_submitting};
 ghost use Rattle.core_parts.specs.Lent.{lent_to};
 ghost use Rattle.event_core.specs.Lent.{IsAtHome};
-ghost use Rattle.event_core.specs.Parts.{beside_of};
+ghost use Rattle.event_core.specs.CoreParts.{beside_of};
 ghost use Rattle.event_core.specs.Seen.{state_of};
 ghost use Rattle.event_core.specs.Took.{IsRefused, MayWantMemory, Submits, TakesEvent, Took, TookAll};
 

@@ -14,7 +14,7 @@ use Rattle.script_reader.specs.declared.reader.TheConstants.{SCRIPT_LIMIT}
 use Rattle.core_state.specs.Sound.{empty_core}
 use Rattle.core_state.specs.State.{State}
 use Rattle.core_state.specs.declared.settings.RunSettings.{RunSettings}
-use Rattle.event_core.specs.Parts.{Parts}
+use Rattle.event_core.specs.CoreParts.{CoreParts}
 use Rattle.event_core.specs.Seen.{state_of}
 use Rattle.make_load.specs.Script.{made_script}
 use Rattle.script_run.specs.End.{end_of_all}
@@ -58,7 +58,7 @@ front-whole Alone settings true ended wanted given core front = record {
   submits = front.submits;
 }
 
-tells-whole : (Alone : Type 0) (settings : RunSettings) (refused ended : Bool) (wanted given : List ℕ) (found : Option Parts)
+tells-whole : (Alone : Type 0) (settings : RunSettings) (refused ended : Bool) (wanted given : List ℕ) (found : Option CoreParts)
     → IfSome found (λ parts. (Alone → TellsRun (end_of_all refused) wanted given settings.slots (state_of parts))
     × TellsGiven Alone settings (end_of_all refused) ended wanted given (state_of parts))
     → IfSome found (λ parts. TellsMade Alone settings wanted given (state_of parts))
@@ -69,7 +69,7 @@ tells-whole Alone settings true ended wanted given (Some core) told =
     (told.0, front-whole Alone settings true ended wanted given (state_of core) told.1)
 
 -- it read all bytes, and wrote all replies
-is-ran : (Alone : Type 0) (settings : RunSettings) (core : Option Parts) (refused : Bool) (script rest taken given written wanted : List ℕ)
+is-ran : (Alone : Type 0) (settings : RunSettings) (core : Option CoreParts) (refused : Bool) (script rest taken given written wanted : List ℕ)
     → Consumes (Some script) (Some rest) given → Appends (Some []) (Some taken) written → rest ≡ []
     → written ≡ script_text wanted true given
     → some_refused wanted true given ≡ refused → IfSome core (λ parts. TellsMade Alone settings wanted given (state_of parts))
@@ -83,7 +83,7 @@ is-ran Alone settings core refused script rest taken given written wanted gave t
       tells = subst (λ s. IfSome core (λ parts. TellsMade Alone settings wanted s (state_of parts))) (sym all) tells;
     }
 
-ran-by : (Alone : Type 0) (settings : RunSettings) (core : Option Parts) (refused : Bool) (script rest taken : List ℕ)
+ran-by : (Alone : Type 0) (settings : RunSettings) (core : Option CoreParts) (refused : Bool) (script rest taken : List ℕ)
     (from from' : ReadingSide) (to to' : WritingSide)
     → from.left ≡ Some script → from'.left ≡ Some rest → to.taken ≡ Some [] → to'.taken ≡ Some taken
     → AnswersShared Alone settings core (end_of_all refused) from from' to to' → IsRan Alone settings script taken refused core
@@ -99,7 +99,7 @@ ran-by Alone settings core true script rest taken from from' to to' first last n
     (tells-whole Alone settings true from'.ended run.0.wanted run.0.given core run.1)
 
 -- the same with the end, the script and the bytes by equations
-pub ran_of : (Alone : Type 0) (settings : RunSettings) (core : Option Parts) (run_end : RunEnd) (script first rest old taken : List ℕ)
+pub ran_of : (Alone : Type 0) (settings : RunSettings) (core : Option CoreParts) (run_end : RunEnd) (script first rest old taken : List ℕ)
     (from from' : ReadingSide) (to to' : WritingSide)
     → first ≡ script → old ≡ [] → from.left ≡ Some first → from'.left ≡ Some rest → to.taken ≡ Some old → to'.taken ≡ Some taken
     → AnswersShared Alone settings core run_end from from' to to' → (refused : Bool) → run_end ≡ end_of_all refused
@@ -177,7 +177,7 @@ pub without_memory : (Alone : Type 0) (settings : RunSettings) (seed rows : ℕ)
 without_memory Alone settings seed rows to = record { wanted = []; written = []; took = Appends-nil to.taken; writes = refl; told = tt }
 
 -- the same by equations
-pub without_core : (Alone : Type 0) (settings : RunSettings) (seed rows : ℕ) (core : Option Parts) (end : MadeEnd) (to to' : WritingSide)
+pub without_core : (Alone : Type 0) (settings : RunSettings) (seed rows : ℕ) (core : Option CoreParts) (end : MadeEnd) (to to' : WritingSide)
     → core ≡ None → end ≡ made.NoMemory → to' ≡ to → AnswersMade Alone settings seed rows core end to to'
 without_core Alone settings seed rows core end to to' no_core is same =
     subst (λ c. AnswersMade Alone settings seed rows c end to to') (sym no_core)
@@ -185,12 +185,12 @@ without_core Alone settings seed rows core end to to' no_core is same =
     (subst (λ t. AnswersMade Alone settings seed rows None made.NoMemory to t) (sym same) (without_memory Alone settings seed rows to)))
 
 -- there is no core then, no steps lead to one, and no write failed
-pub back-without : (Alone : Type 0) (settings : RunSettings) (core : Option Parts) (end : MadeEnd)
+pub back-without : (Alone : Type 0) (settings : RunSettings) (core : Option CoreParts) (end : MadeEnd)
     → core ≡ None → end ≡ made.NoMemory → HandsBack Alone settings core (end ≡ made.NoMemory)
 back-without Alone settings core end no_core is = record {
-  core = (λ none. is, λ same. subst (λ (c : Option Parts). IsNone c) (sym no_core) refl);
+  core = (λ none. is, λ same. subst (λ (c : Option CoreParts). IsNone c) (sym no_core) refl);
   run = λ alone.
-      subst (λ (c : Option Parts). IfSome c (λ parts. IsRun (empty_core settings) (state_of parts))) (sym no_core) tt;
+      subst (λ (c : Option CoreParts). IfSome c (λ parts. IsRun (empty_core settings) (state_of parts))) (sym no_core) tt;
 }
 
 pub faults-without : (end : MadeEnd) (to : WritingSide) → end ≡ made.NoMemory → CountsMade end to to
@@ -202,17 +202,17 @@ never-wanting false is = let wrong : script_end.Clean ≡ script_end.NoMemory = 
 never-wanting true is = let wrong : script_end.SomeRefused ≡ script_end.NoMemory = is in cc
 
 -- where there was memory the core is the one that was found
-hands-found : (end : MadeEnd) (found handed : Option Parts) → end ≢ made.NoMemory → HandsOn end found handed → handed ≡ found
+hands-found : (end : MadeEnd) (found handed : Option CoreParts) → end ≢ made.NoMemory → HandsOn end found handed → handed ≡ found
 hands-found made.Clean found handed some hands = hands
 hands-found made.SomeRefused found handed some hands = hands
 hands-found made.WriteFault found handed some hands = hands
 hands-found made.NoMemory found handed some hands = absurd (some refl)
 
-hands-none : (end : MadeEnd) (found handed : Option Parts) → end ≡ made.NoMemory → HandsOn end found handed → handed ≡ None
+hands-none : (end : MadeEnd) (found handed : Option CoreParts) → end ≡ made.NoMemory → HandsOn end found handed → handed ≡ None
 hands-none end found handed is hands = subst (λ e. HandsOn e found handed) is hands
 
 -- a script was run to its end and summed up, and its line was written
-by-ran : (Alone : Type 0) (settings : RunSettings) (seed rows : ℕ) (script replies line : List ℕ) (refused : Bool) (core : Option Parts)
+by-ran : (Alone : Type 0) (settings : RunSettings) (seed rows : ℕ) (script replies line : List ℕ) (refused : Bool) (core : Option CoreParts)
     (end : MadeEnd) (to to' : WritingSide)
     → script ≡ made_script seed rows → IsRan Alone settings script replies refused core
     → ((wanted : List ℕ) → replies ≡ script_text wanted true script → line ≡ line_of wanted script) → WritesSome end line refused to to'
@@ -227,7 +227,7 @@ by-ran Alone settings seed rows script replies line refused core end to to' is r
   told = subst (λ s. IfSome core (λ parts. TellsMade Alone settings ran.wanted s (state_of parts))) is ran.tells;
 }
 
-answers-summed : (Alone : Type 0) (settings : RunSettings) (seed rows : ℕ) (script : List ℕ) (ran : Ran) (core : Option Parts)
+answers-summed : (Alone : Type 0) (settings : RunSettings) (seed rows : ℕ) (script : List ℕ) (ran : Ran) (core : Option CoreParts)
     (end : MadeEnd) (to to' : WritingSide)
     (summed : Result Summed values.NoMemory) → script ≡ made_script seed rows → RunsText Alone settings script ran
     → IfOk summed (IsSummed ran.end script ran.replies.taken) → WritesSummed summed end to to' → HandsOn end ran.core core
@@ -248,31 +248,31 @@ answers_of Alone settings seed rows script ran done to to' is runs told =
     answers-summed Alone settings seed rows script ran done.core done.end to to' told.summed is runs told.is told.writes told.hands
 
 -- there is no core exactly where no memory was left
-core-summed : (run_end : RunEnd) (found core : Option Parts) (end : MadeEnd) (script replies : List ℕ) (to to' : WritingSide)
+core-summed : (run_end : RunEnd) (found core : Option CoreParts) (end : MadeEnd) (script replies : List ℕ) (to to' : WritingSide)
     (summed : Result Summed values.NoMemory) → (IsNone found → run_end ≡ script_end.NoMemory)
     → IfOk summed (IsSummed run_end script replies)
     → WritesSummed summed end to to' → HandsOn end found core → IsNone core ↔ (end ≡ made.NoMemory)
 core-summed run_end found core end script replies to to' (Ok summed) known summed_is writes hands = (
   λ none. absurd
       (never-wanting summed.refused
-      (sym summed_is.0 ∙ known (subst (λ (c : Option Parts). IsNone c) (hands-found end found core writes.ends hands) none))),
+      (sym summed_is.0 ∙ known (subst (λ (c : Option CoreParts). IsNone c) (hands-found end found core writes.ends hands) none))),
   λ is. absurd (writes.ends is),
 )
 core-summed run_end found core end script replies to to' (Err wanting) known summed_is writes hands =
-    (λ none. writes.0, λ is. subst (λ (c : Option Parts). IsNone c) (sym (hands-none end found core is hands)) refl)
+    (λ none. writes.0, λ is. subst (λ (c : Option CoreParts). IsNone c) (sym (hands-none end found core is hands)) refl)
 
 -- steps of a run lead to the core that is handed back
-run-handed : (settings : RunSettings) (found core : Option Parts) (end : MadeEnd) → HandsOn end found core
+run-handed : (settings : RunSettings) (found core : Option CoreParts) (end : MadeEnd) → HandsOn end found core
     → IfSome found (λ parts. IsRun (empty_core settings) (state_of parts))
     → IfSome core (λ parts. IsRun (empty_core settings) (state_of parts))
 run-handed settings found core made.Clean hands run =
-    subst (λ (c : Option Parts). IfSome c (λ parts. IsRun (empty_core settings) (state_of parts))) (sym hands) run
+    subst (λ (c : Option CoreParts). IfSome c (λ parts. IsRun (empty_core settings) (state_of parts))) (sym hands) run
 run-handed settings found core made.SomeRefused hands run =
-    subst (λ (c : Option Parts). IfSome c (λ parts. IsRun (empty_core settings) (state_of parts))) (sym hands) run
+    subst (λ (c : Option CoreParts). IfSome c (λ parts. IsRun (empty_core settings) (state_of parts))) (sym hands) run
 run-handed settings found core made.WriteFault hands run =
-    subst (λ (c : Option Parts). IfSome c (λ parts. IsRun (empty_core settings) (state_of parts))) (sym hands) run
+    subst (λ (c : Option CoreParts). IfSome c (λ parts. IsRun (empty_core settings) (state_of parts))) (sym hands) run
 run-handed settings found core made.NoMemory hands run =
-    subst (λ (c : Option Parts). IfSome c (λ parts. IsRun (empty_core settings) (state_of parts))) (sym hands) tt
+    subst (λ (c : Option CoreParts). IfSome c (λ parts. IsRun (empty_core settings) (state_of parts))) (sym hands) tt
 
 -- the core of a run is handed back once more
 pub back_of : (Alone : Type 0) (settings : RunSettings) (script : List ℕ) (ran : Ran) (done : MadeDone) (to to' : WritingSide)
@@ -285,7 +285,7 @@ back_of Alone settings script ran done to to' told back = record {
 }
 
 -- what is known where nobody else had the core is known of less, too
-pub made-alone : (Alone Alone' : Type 0) (settings : RunSettings) (seed rows : ℕ) (core : Option Parts) (end : MadeEnd)
+pub made-alone : (Alone Alone' : Type 0) (settings : RunSettings) (seed rows : ℕ) (core : Option CoreParts) (end : MadeEnd)
     (to to' : WritingSide)
     → (Alone' → Alone) → AnswersMade Alone settings seed rows core end to to' → AnswersMade Alone' settings seed rows core end to to'
 made-alone Alone Alone' settings seed rows core end to to' less run = record {
@@ -296,7 +296,7 @@ made-alone Alone Alone' settings seed rows core end to to' less run = record {
   told = told-alone core run.told;
 }
   where
-    told-alone : (found : Option Parts)
+    told-alone : (found : Option CoreParts)
         → IfSome found (λ parts. TellsMade Alone settings run.wanted (made_script seed rows) (state_of parts))
         → IfSome found (λ parts. TellsMade Alone' settings run.wanted (made_script seed rows) (state_of parts))
     told-alone None told = tt

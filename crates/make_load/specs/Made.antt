@@ -12,7 +12,7 @@ use Rattle.make_load.specs.Summary.{summary_of, summary_text}
 use Rattle.core_state.specs.Sound.{empty_core}
 use Rattle.core_state.specs.State.{State}
 use Rattle.core_state.specs.declared.settings.RunSettings.{RunSettings}
-use Rattle.event_core.specs.Parts.{Parts}
+use Rattle.event_core.specs.CoreParts.{CoreParts}
 use Rattle.event_core.specs.Seen.{state_of}
 use Rattle.script_run.specs.End.{end_of_all}
 use Rattle.script_run.specs.Front.{IsRun}
@@ -66,7 +66,7 @@ TellsMade Alone settings wanted script core =
 -- the line sums up (`IsRan`), and the line tells how many they are. A core that is handed back
 -- tells of the same script and of the same places; `Alone` is what is known if nobody else had it.
 pub record AnswersMade (Alone : Type 0) (settings : RunSettings) (seed rows : ℕ)
-    (core : Option Parts) (end : MadeEnd)
+    (core : Option CoreParts) (end : MadeEnd)
     (to to' : WritingSide) : Type 0 where
   pub wanted : List ℕ
   pub written : List ℕ
@@ -96,7 +96,7 @@ IsTextOf replies script = (wanted : List ℕ) × (replies ≡ script_text wanted
 -- replies, which determines the places `wanted` as it does in `IsTextOf`, and a core that there is
 -- tells of the script.
 pub record IsRan (Alone : Type 0) (settings : RunSettings) (script replies : List ℕ)
-    (refused : Bool) (core : Option Parts) : Type 0 where
+    (refused : Bool) (core : Option CoreParts) : Type 0 where
   pub wanted : List ℕ
   pub text : replies ≡ script_text wanted true script
   pub refusal : some_refused wanted true script ≡ refused
@@ -136,13 +136,13 @@ pub record EndsText (end : RunEnd) : Type 0 where
 
 -- a core of these settings is handed back but where a run is in want of memory, and where nobody
 -- else had it, steps of a run lead to it from an empty one
-pub record HandsBack (Alone : Type 0) (settings : RunSettings) (handed : Option Parts)
+pub record HandsBack (Alone : Type 0) (settings : RunSettings) (handed : Option CoreParts)
     (Wanting : Type 0) : Type 0 where
   pub core : IsNone handed ↔ Wanting
   pub run : Alone → IfSome handed (λ parts. IsRun (empty_core settings) (state_of parts))
 
 -- the core of a run is handed on, unless no memory was left
-abbrev pub HandsOn : MadeEnd → (found handed : Option Parts) → Type 0
+abbrev pub HandsOn : MadeEnd → (found handed : Option CoreParts) → Type 0
 HandsOn NoMemory found handed = handed ≡ None
 HandsOn other found handed = handed ≡ found
 

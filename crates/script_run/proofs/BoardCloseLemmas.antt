@@ -15,7 +15,7 @@ use Rattle.board_lock.specs.declared.seat.BoardSeat.{BoardSeat}
 use Rattle.board_lock.specs.declared.view.Parted.{Parted}
 use Rattle.board_lock.specs.declared.view.View.{View}
 use Rattle.event_core.specs.Board.{CoreRow, core_entries, core_row, core_settings, first_row}
-use Rattle.event_core.specs.Parts.{Parts}
+use Rattle.event_core.specs.CoreParts.{CoreParts}
 use Rattle.worker_gate.specs.Turns.{sight_in}
 use Rattle.script_run.specs.BoardRun.{AnswersBoard, AreJoined, HasJoined, HasRun, IsLeftBy}
 use Rattle.script_run.specs.Shared.{AnswersSent, TellsSent, UnlessWanting}
@@ -80,11 +80,11 @@ own-all seat (entry ∷ entries) none = All-cons (λ (e : Entry). e.seat ≡ sea
 -- The rows of seats that were joined.
 
 -- the row of a joined seat is as it was
-abbrev IsKept : Parts → Parted Parts → Type 0
+abbrev IsKept : CoreParts → Parted CoreParts → Type 0
 IsKept core parted = core_row core parted.number ≡ row_in core_row first_row parted.last parted.number
 
 -- none of them made an entry
-parted-none : (core : Parts) (from : ℕ) (joined : List (Parted Parts)) → AreJoined from joined → All (IsKept core) joined
+parted-none : (core : CoreParts) (from : ℕ) (joined : List (Parted CoreParts)) → AreJoined from joined → All (IsKept core) joined
     → (k : ℕ) → from ≤ k → k < from + length joined → made_by k (core_entries core) ≡ []
 parted-none core from [] are kept k low high = absurd (omega arith)
 parted-none core from (parted ∷ joined) (number, made, are) kept k low high = dite (ℕ_discrete k from)
@@ -93,7 +93,7 @@ parted-none core from (parted ∷ joined) (number, made, are) kept k low high = 
     (λ apart. parted-none core (from + 1) joined are (All-tail (IsKept core) parted joined kept) k (omega arith) (omega arith))
 
 -- what the front's seat left, where all others were joined
-pub left-by : (board : BoardLock Parts) (others : ℕ) (old : View Parts) (seat : BoardSeat Parts) (core : Parts) → old.number ≡ 0
+pub left-by : (board : BoardLock CoreParts) (others : ℕ) (old : View CoreParts) (seat : BoardSeat CoreParts) (core : CoreParts) → old.number ≡ 0
     → HasJoined board others 0 old seat → Finds core_row first_row core_entries core_settings (view_of seat) core
     → AreUnmadeEmpty core_row first_row (view_of seat).made core → IsLeftBy old core
 left-by board others old seat core first has finds unmade = record {
@@ -117,7 +117,7 @@ left-by board others old seat core first has finds unmade = record {
 -- What the front sees.
 
 -- it sees in the core what its seat knew last
-pub front-sees : (view : View Parts) (core : Parts) → IsLeftBy view core → (sight_in view).row.made ≡ made_by 0 (sight_in view).seen
+pub front-sees : (view : View CoreParts) (core : CoreParts) → IsLeftBy view core → (sight_in view).row.made ≡ made_by 0 (sight_in view).seen
     → sight_of (state_of core) 0 ≡ sight_in view
 front-sees view core left made = λ i. record { row = (left.row i).row; seen = entries i }
   where
@@ -130,7 +130,7 @@ front-sees view core left made = λ i. record { row = (left.row i).row; seen = e
     entries = sym left.goes_on.1 ∙ ap (λ list. (sight_in view).seen ++ list) none ∙ append-nil (sight_in view).seen
 
 -- what a run tells by the core that it hands back, if there is one
-pub board-answers : (given : Option Parts) (core : Parts) (end : RunEnd) (view : View Parts) (from from' : ReadingSide)
+pub board-answers : (given : Option CoreParts) (core : CoreParts) (end : RunEnd) (view : View CoreParts) (from from' : ReadingSide)
     (to to' : WritingSide) → IfSome given (λ parts. parts ≡ core) → IsLeftBy view core
     → (sight_in view).row.made ≡ made_by 0 (sight_in view).seen
     → AnswersSent end (sight_in view) from from' to to' → AnswersBoard given end from from' to to'
@@ -142,7 +142,7 @@ board-answers given core end view from from' to to' is left made sent = by_given
     own : All (λ (e : Entry). e.seat ≡ 0) (sight_in view).seen
     own = subst (All (λ (e : Entry). e.seat ≡ 0)) (ap (λ (sight : Sight). sight.seen) sees) left.own
 
-    by_given : (given : Option Parts) → IfSome given (λ parts. parts ≡ core) → AnswersBoard given end from from' to to'
+    by_given : (given : Option CoreParts) → IfSome given (λ parts. parts ≡ core) → AnswersBoard given end from from' to to'
     by_given None same = ((sent own).0, tt)
     by_given (Some parts) same = (
       (sent own).0,
@@ -151,12 +151,12 @@ board-answers given core end view from from' to to' is left made sent = by_given
     )
 
 -- what a run tells whose front ran, and whose board was ended
-pub board-done : (given : Option Parts) (core : Parts) (end : RunEnd) (board : BoardLock Parts) (old seat : BoardSeat Parts)
-    (view : View Parts) (from from' from'' : ReadingSide) (to to' to'' : WritingSide) → view_of seat ≡ view → from' ≡ from'' → to' ≡ to''
+pub board-done : (given : Option CoreParts) (core : CoreParts) (end : RunEnd) (board : BoardLock CoreParts) (old seat : BoardSeat CoreParts)
+    (view : View CoreParts) (from from' from'' : ReadingSide) (to to' to'' : WritingSide) → view_of seat ≡ view → from' ≡ from'' → to' ≡ to''
     → HasRun board end old seat from from' to to' → IsLeftBy view core → IfSome given (λ parts. parts ≡ core)
     → AnswersBoard given end from from'' to to''
 board-done given core end board old seat view from from' from'' to to' to'' same read written run left is =
     subst (λ (source : ReadingSide). AnswersBoard given end from source to to'') read
     (subst (λ (sink : WritingSide). AnswersBoard given end from from' to sink) written
     (board-answers given core end (view_of seat) from from' to to' is
-    (subst (λ (v : View Parts). IsLeftBy v core) (sym same) left) run.made run.answers))
+    (subst (λ (v : View CoreParts). IsLeftBy v core) (sym same) left) run.made run.answers))

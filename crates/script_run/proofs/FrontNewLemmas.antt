@@ -1,7 +1,7 @@
 -- A front whose core was given nothing.
 use Rattle.script_run.proofs.Words.{◌<◌, ◌≡◌, All-nil, ap, arith, count_by, empty_core, empty_seat, get_or, is_query, IsCounted, KnowsCore, Pending, refl, RunSettings, Seat, seat_at, State, state_of, subst, suc, sym, zero, ℕ}
 use Rattle.core_state.specs.Settings.{AreWithin}
-use Rattle.event_core.specs.Parts.{Parts}
+use Rattle.event_core.specs.CoreParts.{CoreParts}
 use Rattle.script_run.specs.Counted.{IsCalm}
 use Rattle.std.proofs.Common.{replicate}
 
@@ -36,7 +36,7 @@ new-knows settings core within is = subst (KnowsCore settings 0) (sym is) (recor
 })
 
 -- and it counted none
-pub new-counted : (settings : RunSettings) (core : Parts) → state_of core ≡ empty_core settings
+pub new-counted : (settings : RunSettings) (core : CoreParts) → state_of core ≡ empty_core settings
     → IsCounted (record { core = core; unfinished = 0 })
 new-counted settings core is = record {
   calm = subst (IsCalm 0) (sym is) (new-calm settings);

@@ -5,7 +5,7 @@ use Rattle.star_io.specs.declared.run_end.RunEnd.{RunEnd}
 use Rattle.star_io.specs.declared.run_end.RunEnd.TheVariants as end
 use Rattle.star_io.specs.Link.{ReadingSide, WritingSide}
 use Rattle.core_state.specs.Rows.{Sight, empty_row, sight_of}
-use Rattle.event_core.specs.Parts.{Parts}
+use Rattle.event_core.specs.CoreParts.{CoreParts}
 use Rattle.script_run.specs.BoardRun.{AnswersBoard}
 use Rattle.script_run.specs.End.{end_behind, end_of_rest}
 use Rattle.script_run.specs.SeatFront.{SeatPlays, SeatPlaysBy, SeatPlaysWhole}
@@ -111,7 +111,7 @@ ended-sent now mid new waits waits' (Err halt) refused some from from' left to t
 -- The core is handed back.
 
 -- by a run with workers: what the core tells by what its seat 0 sees it tells then
-pub shared-board : (settings : RunSettings) (core : Option Parts) (end : RunEnd) (from from' : ReadingSide) (to to' : WritingSide)
+pub shared-board : (settings : RunSettings) (core : Option CoreParts) (end : RunEnd) (from from' : ReadingSide) (to to' : WritingSide)
     → (settings.workers ≡ 0 → ⊥) → AnswersBoard core end from from' to to'
     → AnswersShared (settings.workers ≡ 0) settings core end from from' to to'
 shared-board settings None end from from' to to' many answers = (answers.0, tt)

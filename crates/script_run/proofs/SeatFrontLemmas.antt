@@ -8,7 +8,7 @@ use Rattle.core_state.specs.Fronts.{Goes, IsDue}
 use Rattle.core_state.specs.Rows.{Sight}
 use Rattle.core_state.specs.Sent.{Lost, Sent, statements_in}
 use Rattle.core_state.proofs.FrontLemmas.{goes-lost}
-use Rattle.event_core.specs.Parts.{Parts}
+use Rattle.event_core.specs.CoreParts.{CoreParts}
 use Rattle.worker_gate.specs.Turns.{sight_in}
 use Rattle.script_run.specs.Front.{EndsSo, PlaysOn}
 use Rattle.script_run.specs.SeatFront.{SeatPlays, SeatPlaysBy, TellsWaited}
@@ -22,15 +22,15 @@ use Rattle.script_run.proofs.WholeLemmas.{or_false}
 -- Seats.
 
 -- the same seat has the same number
-pub same-number : (old new : BoardSeat Parts) → IsSameSeat old new → (view_of new).number ≡ (view_of old).number
+pub same-number : (old new : BoardSeat CoreParts) → IsSameSeat old new → (view_of new).number ≡ (view_of old).number
 same-number old new same = new.numbered.1 ∙ same.2 ∙ sym old.numbered.1
 
 -- so what is said by the number of the one is said by that of the other
-pub by-number : (Is : ℕ → Type 0) (old new : BoardSeat Parts) → IsSameSeat old new → Is (view_of new).number → Is (view_of old).number
+pub by-number : (Is : ℕ → Type 0) (old new : BoardSeat CoreParts) → IsSameSeat old new → Is (view_of new).number → Is (view_of old).number
 by-number Is old new same is = subst Is (same-number old new same) is
 
 -- what is told behind a turn in which a seat sent nothing
-pub tried-behind : (taken : Bool) (statement : Statement) (old between new : BoardSeat Parts) → IsSameSeat old between
+pub tried-behind : (taken : Bool) (statement : Statement) (old between new : BoardSeat CoreParts) → IsSameSeat old between
     → SitsStill (view_of old).number (sight_in (view_of old)) (sight_in (view_of between)) → TellsTried taken statement between new
     → TellsTried taken statement old new
 tried-behind true statement old between new same stays tells =

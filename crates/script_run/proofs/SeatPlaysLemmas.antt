@@ -6,7 +6,7 @@ use Rattle.board_lock.specs.Seats.{view_of}
 use Rattle.board_lock.specs.declared.seat.BoardLock.{BoardLock}
 use Rattle.board_lock.specs.declared.seat.BoardSeat.{BoardSeat}
 use Rattle.core_state.specs.Sent.{pendings_of, statements_in}
-use Rattle.event_core.specs.Parts.{Parts}
+use Rattle.event_core.specs.CoreParts.{CoreParts}
 use Rattle.worker_gate.specs.Hands.{HasDoneIf}
 use Rattle.worker_gate.specs.Turns.{IsReady, sight_in}
 use Rattle.script_run.specs.Answer.{CountsHalt}
@@ -22,7 +22,7 @@ use Rattle.script_run.proofs.WholeLemmas.{or_false}
 -- One part behind another.
 
 -- replies were written in both
-pub played-ok : (board : BoardLock Parts) (refused some : Bool) (old between new : BoardSeat Parts) (statements others : List Statement)
+pub played-ok : (board : BoardLock CoreParts) (refused some : Bool) (old between new : BoardSeat CoreParts) (statements others : List Statement)
     (to0 to to' : WritingSide) → PlaysAt board (Ok refused) old between statements to0 to → PlaysAt board (Ok some) between new others to to'
     → PlaysAt board (Ok (refused || some)) old new (statements ++ others) to0 to'
 played-ok board refused some old between new statements others to0 to to' first second =
@@ -40,7 +40,7 @@ played-ok board refused some old between new statements others to0 to to' first 
     }
 
 -- they halt in the second
-pub played-err : (board : BoardLock Parts) (refused : Bool) (halt : Halt) (old between new : BoardSeat Parts)
+pub played-err : (board : BoardLock CoreParts) (refused : Bool) (halt : Halt) (old between new : BoardSeat CoreParts)
     (statements others : List Statement) (to0 to to' : WritingSide) → PlaysAt board (Ok refused) old between statements to0 to
     → PlaysAt board (Err halt) between new others to to' → PlaysAt board (Err halt) old new (statements ++ others) to0 to'
 played-err board refused halt old between new statements others to0 to to' first second =
@@ -63,7 +63,7 @@ some-behind [] others some none = some refl
 some-behind (one ∷ rest) others some none = cc
 
 -- they halt before the second
-pub played-short : (board : BoardLock Parts) (halt : Halt) (old new : BoardSeat Parts) (statements others : List Statement)
+pub played-short : (board : BoardLock CoreParts) (halt : Halt) (old new : BoardSeat CoreParts) (statements others : List Statement)
     (to to' : WritingSide) → PlaysAt board (Err halt) old new statements to to'
     → PlaysAt board (Err halt) old new (statements ++ others) to to'
 played-short board halt old new statements others to to' first = record {
@@ -91,7 +91,7 @@ played-short board halt old new statements others to to' first = record {
 }
 
 -- a turn in which nothing was written, and what follows
-pub played-behind : (board : BoardLock Parts) (result : Result Bool Halt) (old between new : BoardSeat Parts)
+pub played-behind : (board : BoardLock CoreParts) (result : Result Bool Halt) (old between new : BoardSeat CoreParts)
     (statements others : List Statement) (to to' : WritingSide) → StaysReady board old between
     → SeatPlays (Ok false) (view_of old).number (sight_in (view_of old)) statements (sight_in (view_of between)) to.taken to.taken
     → PlaysAt board result between new others to to' → PlaysAt board result old new (statements ++ others) to to'
@@ -105,7 +105,7 @@ played-behind board result old between new statements others to to' seat first s
 }
 
 -- nothing was sent, taken or written in a turn, or nothing happens
-played-stays : (board : BoardLock Parts) (old new : BoardSeat Parts) (to : WritingSide) → StaysReady board old new
+played-stays : (board : BoardLock CoreParts) (old new : BoardSeat CoreParts) (to : WritingSide) → StaysReady board old new
     → SitsStill (view_of old).number (sight_in (view_of old)) (sight_in (view_of new)) → PlaysAt board (Ok false) old new [] to to
 played-stays board old new to seat stays = record {
   seat = seat;
@@ -114,7 +114,7 @@ played-stays board old new to seat stays = record {
   faults = refl;
 }
 
-pub played-none : (board : BoardLock Parts) (seat : BoardSeat Parts) (to : WritingSide) → IsReady board None seat
+pub played-none : (board : BoardLock CoreParts) (seat : BoardSeat CoreParts) (to : WritingSide) → IsReady board None seat
     → PlaysAt board (Ok false) seat seat [] to to
 played-none board seat to ready =
     played-stays board seat seat to (out-none board (HasDoneIf None) seat ready)
@@ -123,7 +123,7 @@ played-none board seat to ready =
 -- The replies, one after the other.
 
 -- one was taken in a turn and written, or not all of it
-pub took-ok : (board : BoardLock Parts) (told : Bool) (ready : Ready) (reply : Reply) (old new : BoardSeat Parts) (to to' : WritingSide)
+pub took-ok : (board : BoardLock CoreParts) (told : Bool) (ready : Ready) (reply : Reply) (old new : BoardSeat CoreParts) (to to' : WritingSide)
     → StaysReady board old new → TakesNext ready (view_of old).number (sight_in (view_of old)) (sight_in (view_of new))
     → IsReplyOf ready reply → Appends to.taken to'.taken (text_of reply) → told ≡ is_refusal reply → CountsHalt (Ok told) to to'
     → PlaysAt board (Ok told) old new [] to to'
@@ -135,7 +135,7 @@ took-ok board told ready reply old new to to' seat takes is wrote is_told counts
   faults = counts;
 }
 
-pub took-err : (board : BoardLock Parts) (halt : Halt) (ready : Ready) (reply : Reply) (old new : BoardSeat Parts) (to to' : WritingSide)
+pub took-err : (board : BoardLock CoreParts) (halt : Halt) (ready : Ready) (reply : Reply) (old new : BoardSeat CoreParts) (to to' : WritingSide)
     → StaysReady board old new → TakesNext ready (view_of old).number (sight_in (view_of old)) (sight_in (view_of new))
     → IsReplyOf ready reply → AppendsFront to.taken to'.taken (text_of reply) → CountsHalt {A = Bool} (Err halt) to to'
     → PlaysAt board (Err halt) old new [] to to'
@@ -148,7 +148,7 @@ took-err board halt ready reply old new to to' seat takes is wrote counts = reco
 }
 
 -- no more was taken
-pub replies-stay : (board : BoardLock Parts) (refused : Bool) (old between new : BoardSeat Parts) (to0 to : WritingSide)
+pub replies-stay : (board : BoardLock CoreParts) (refused : Bool) (old between new : BoardSeat CoreParts) (to0 to : WritingSide)
     → PlaysAt board (Ok refused) old between [] to0 to → StaysReady board between new
     → SitsStill (view_of between).number (sight_in (view_of between)) (sight_in (view_of new)) → PlaysAt board (Ok refused) old new [] to0 to
 replies-stay board refused old between new to0 to first seat stays =
@@ -156,7 +156,7 @@ replies-stay board refused old between new to0 to first seat stays =
     (played-ok board refused false old between new [] [] to0 to to first (played-stays board between new to seat stays))
 
 -- nor was there memory for one that is waited for
-pub replies-want : (board : BoardLock Parts) (refused : Bool) (old between new : BoardSeat Parts) (to0 to : WritingSide)
+pub replies-want : (board : BoardLock CoreParts) (refused : Bool) (old between new : BoardSeat CoreParts) (to0 to : WritingSide)
     → PlaysAt board (Ok refused) old between [] to0 to → StaysReady board between new
     → SitsStill (view_of between).number (sight_in (view_of between)) (sight_in (view_of new)) × ((sight_in (view_of new)).row.pending ≢ [])
     → PlaysAt board (Err NoMemory) old new [] to0 to
@@ -173,12 +173,12 @@ replies-want board refused old between new to0 to first seat tells =
 -- The first statements of a list, and the others.
 
 -- none was given yet
-pub first-none : (board : BoardLock Parts) (seat : BoardSeat Parts) (all rest : List Statement) (to : WritingSide) → rest ≡ all
+pub first-none : (board : BoardLock CoreParts) (seat : BoardSeat CoreParts) (all rest : List Statement) (to : WritingSide) → rest ≡ all
     → IsReady board None seat → PlaysFirst board (Ok false) seat seat all rest to to
 first-none board seat all rest to is ready = record { first = []; are = sym is; plays = played-none board seat to ready }
 
 -- some were sent in one turn, and the replies followed that were there
-pub first-turn : (board : BoardLock Parts) (result : Result Bool Halt) (n : ℕ) (old between new : BoardSeat Parts)
+pub first-turn : (board : BoardLock CoreParts) (result : Result Bool Halt) (n : ℕ) (old between new : BoardSeat CoreParts)
     (all rest : List Statement) (to to' : WritingSide) → StaysReady board old between
     → SendsAll (view_of old).number (take n all) (sight_in (view_of old)) (sight_in (view_of between)) → rest ≡ drop n all
     → PlaysAt board result between new [] to to' → PlaysFirst board result old new all rest to to'
@@ -191,14 +191,14 @@ first-turn board result n old between new all rest to to' seat sent is plays = r
 }
 
 -- the others behind them
-pub first-ok : (board : BoardLock Parts) (refused some : Bool) (old between new : BoardSeat Parts) (all rest : List Statement)
+pub first-ok : (board : BoardLock CoreParts) (refused some : Bool) (old between new : BoardSeat CoreParts) (all rest : List Statement)
     (to0 to to' : WritingSide) → PlaysFirst board (Ok refused) old between all rest to0 to
     → PlaysAt board (Ok some) between new rest to to' → PlaysAt board (Ok (refused || some)) old new all to0 to'
 first-ok board refused some old between new all rest to0 to to' way plays =
     subst (λ list. PlaysAt board (Ok (refused || some)) old new list to0 to') (sym way.are)
     (played-ok board refused some old between new way.first rest to0 to to' way.plays plays)
 
-pub first-err : (board : BoardLock Parts) (refused : Bool) (halt : Halt) (old between new : BoardSeat Parts) (all rest : List Statement)
+pub first-err : (board : BoardLock CoreParts) (refused : Bool) (halt : Halt) (old between new : BoardSeat CoreParts) (all rest : List Statement)
     (to0 to to' : WritingSide) → PlaysFirst board (Ok refused) old between all rest to0 to
     → PlaysAt board (Err halt) between new rest to to' → PlaysAt board (Err halt) old new all to0 to'
 first-err board refused halt old between new all rest to0 to to' way plays =
@@ -206,14 +206,14 @@ first-err board refused halt old between new all rest to0 to to' way plays =
     (played-err board refused halt old between new way.first rest to0 to to' way.plays plays)
 
 -- or none of them
-pub first-short : (board : BoardLock Parts) (halt : Halt) (old new : BoardSeat Parts) (all rest : List Statement) (to to' : WritingSide)
+pub first-short : (board : BoardLock CoreParts) (halt : Halt) (old new : BoardSeat CoreParts) (all rest : List Statement) (to to' : WritingSide)
     → PlaysFirst board (Err halt) old new all rest to to' → PlaysAt board (Err halt) old new all to to'
 first-short board halt old new all rest to to' way =
     subst (λ list. PlaysAt board (Err halt) old new list to to') (sym way.are)
     (played-short board halt old new way.first rest to to' way.plays)
 
 -- one more
-pub first-more : (board : BoardLock Parts) (refused some : Bool) (old between new : BoardSeat Parts) (all rest left : List Statement)
+pub first-more : (board : BoardLock CoreParts) (refused some : Bool) (old between new : BoardSeat CoreParts) (all rest left : List Statement)
     (statement : Statement) (to0 to to' : WritingSide) → PlaysFirst board (Ok refused) old between all rest to0 to
     → rest ≡ statement ∷ left → PlaysAt board (Ok some) between new (statement ∷ []) to to'
     → PlaysFirst board (Ok (refused || some)) old new all left to0 to'
@@ -224,7 +224,7 @@ first-more board refused some old between new all rest left statement to0 to to'
 }
 
 -- the replies halt at the next one
-pub first-halts : (board : BoardLock Parts) (refused : Bool) (halt : Halt) (old between new : BoardSeat Parts)
+pub first-halts : (board : BoardLock CoreParts) (refused : Bool) (halt : Halt) (old between new : BoardSeat CoreParts)
     (all rest left : List Statement) (statement : Statement) (to0 to to' : WritingSide)
     → PlaysFirst board (Ok refused) old between all rest to0 to → rest ≡ statement ∷ left
     → PlaysAt board (Err halt) between new (statement ∷ []) to to' → PlaysAt board (Err halt) old new all to0 to'
@@ -234,7 +234,7 @@ first-halts board refused halt old between new all rest left statement to0 to to
     (played-short board halt between new (statement ∷ []) left to to' plays))
 
 -- none is left
-pub first-all : (board : BoardLock Parts) (refused : Bool) (old new : BoardSeat Parts) (all rest : List Statement) (n : ℕ)
+pub first-all : (board : BoardLock CoreParts) (refused : Bool) (old new : BoardSeat CoreParts) (all rest : List Statement) (n : ℕ)
     (to to' : WritingSide) → PlaysFirst board (Ok refused) old new all rest to to' → n ≡ length rest → n ≡ 0
     → PlaysAt board (Ok refused) old new all to to'
 first-all board refused old new all rest n to to' way long none =

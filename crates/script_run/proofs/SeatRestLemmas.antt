@@ -7,7 +7,7 @@ use Rattle.core_state.specs.Rows.{Sight}
 use Rattle.board_lock.specs.Seats.{IsSameSeat, view_of}
 use Rattle.board_lock.specs.declared.seat.BoardLock.{BoardLock}
 use Rattle.board_lock.specs.declared.seat.BoardSeat.{BoardSeat}
-use Rattle.event_core.specs.Parts.{Parts}
+use Rattle.event_core.specs.CoreParts.{CoreParts}
 use Rattle.worker_gate.specs.Turns.{IsReady, sight_in}
 use Rattle.script_run.specs.Answer.{CountsHalt}
 use Rattle.script_run.specs.Front.{LeavesToRead, PlaysOn, UnlessHalted}
@@ -81,7 +81,7 @@ counts-stopped WriteFault to0 to to' same counts = subst (λ (n : ℕ). FailedOn
 counts-stopped NoMemory to0 to to' same counts = counts ∙ same
 
 -- a seat that was at rest may take another turn where its replies halted
-pub stopped-at : (board : BoardLock Parts) (halt : Halt) (old new : BoardSeat Parts) (waits waits' : Reading) (to0 to to' : WritingSide)
+pub stopped-at : (board : BoardLock CoreParts) (halt : Halt) (old new : BoardSeat CoreParts) (waits waits' : Reading) (to0 to to' : WritingSide)
     → IsReady board None new → IsSameSeat old new
     → RepliesWhole {A = Unit {0}} (Err halt) (view_of old).number (sight_in (view_of old)) waits (sight_in (view_of new)) waits' to0.taken to'.taken
     → to.faults ≡ to0.faults → CountsHalt {A = Bool} (Err halt) to to'

@@ -14,7 +14,7 @@ use Rattle.core_state.proofs.FrontLemmas.{goes-passes, goes-submits, goes-then}
 use Rattle.core_state.proofs.MoverLemmas.{mindful-none, mindful-then}
 use Rattle.core_state.proofs.RowLemmas.{submits-mindful, submits-row, takes-mindful}
 use Rattle.event_core.specs.Board.{CoreRow, core_entries, core_row, core_settings, first_row}
-use Rattle.event_core.specs.Parts.{LeavesLoans, Parts, loan_of}
+use Rattle.event_core.specs.CoreParts.{CoreParts, LeavesLoans, loan_of}
 use Rattle.worker_gate.specs.Hands.{HasDoneIf, HasNothing}
 use Rattle.worker_gate.specs.Left.{LeavesAllLoans, MovesHand}
 use Rattle.worker_gate.specs.Turns.{IsOutWith, IsReady, IsSeated, own_row, sight_in}
@@ -31,11 +31,11 @@ use Rattle.script_run.proofs.TakenLemmas.{RowTells, TakesReply, WaitsForOpen, id
 -- Seats.
 
 -- a seat stays what it is where nothing happens, and one part behind another
-pub out-none : (board : BoardLock Parts) (IsHeld : CoreRow → Type 0) (seat : BoardSeat Parts) → IsOutWith board IsHeld seat
+pub out-none : (board : BoardLock CoreParts) (IsHeld : CoreRow → Type 0) (seat : BoardSeat CoreParts) → IsOutWith board IsHeld seat
     → StaysOut board IsHeld seat seat
 out-none board IsHeld seat out = record { out = out; same = same-seat seat; team = (refl, refl) }
 
-pub out-then : (board : BoardLock Parts) (IsOther IsHeld : CoreRow → Type 0) (old between new : BoardSeat Parts)
+pub out-then : (board : BoardLock CoreParts) (IsOther IsHeld : CoreRow → Type 0) (old between new : BoardSeat CoreParts)
     → StaysOut board IsOther old between → StaysOut board IsHeld between new → StaysOut board IsHeld old new
 out-then board IsOther IsHeld old between new first second = record {
   out = second.out;
@@ -78,7 +78,7 @@ pub waits-moved : (seat : ℕ) (old new : State) → MovesHand seat old new → 
 waits-moved seat old new moves waits none = waits (sym (ap (λ (row : SeatRow). row.pending) moves.own) ∙ none)
 
 -- and from what it knew to the core that it finds
-pub stays-found : (view : View Parts) (found : Parts) → FindsCore view found
+pub stays-found : (view : View CoreParts) (found : CoreParts) → FindsCore view found
     → SitsStill view.number (sight_in view) (sight_of (state_of found) view.number)
 stays-found view found finds = stays-passes view.number (sight_in view) (sight_of (state_of found) view.number) refl (record {
   submitted = ap (λ (row : CoreRow). row.row.submitted) finds.own;
@@ -153,7 +153,7 @@ lets-abandoned seat old new abandons = record {
 }
 
 -- and from what the seat knew to the core that it finds
-abbrev lets-found : (view : View Parts) (found : Parts) → FindsCore view found
+abbrev lets-found : (view : View CoreParts) (found : CoreParts) → FindsCore view found
     → LetsGo view.number (sight_in view) (sight_of (state_of found) view.number)
 lets-found view found finds = record {
   since = finds.goes_on.0;
@@ -168,14 +168,14 @@ lets-found view found finds = record {
 -- A turn.
 
 -- what a seat left is what it sees of it
-pub sight-left : (old new : BoardSeat Parts) (core : Parts) → view_of new ≡ left (view_of old) core
+pub sight-left : (old new : BoardSeat CoreParts) (core : CoreParts) → view_of new ≡ left (view_of old) core
     → sight_in (view_of new) ≡ sight_of (state_of core) (view_of old).number
 sight-left old new core view = ap sight_in view
 
 -- what it did to the core that it found it did to what it knew
 pub turn-tells : (Tells : (seat : ℕ) → (old new : Sight) → Type 0)
     → ((seat : ℕ) (old between new : Sight) → SitsStill seat old between → Tells seat between new → Tells seat old new)
-    → (old new : BoardSeat Parts) (found core : Parts) (seat : ℕ) → view_of new ≡ left (view_of old) core → FindsCore (view_of old) found
+    → (old new : BoardSeat CoreParts) (found core : CoreParts) (seat : ℕ) → view_of new ≡ left (view_of old) core → FindsCore (view_of old) found
     → seat ≡ (view_of old).number → Tells seat (sight_of (state_of found) seat) (sight_of (state_of core) seat)
     → Tells (view_of old).number (sight_in (view_of old)) (sight_in (view_of new))
 turn-tells Tells behind old new found core seat view finds is tells =
@@ -185,7 +185,7 @@ turn-tells Tells behind old new found core seat view finds is tells =
     (subst (λ n. Tells n (sight_of (state_of found) n) (sight_of (state_of core) n)) is tells))
 
 -- it let go what it waited for
-pub turn-lets : (old new : BoardSeat Parts) (found core : Parts) (seat : ℕ) → view_of new ≡ left (view_of old) core
+pub turn-lets : (old new : BoardSeat CoreParts) (found core : CoreParts) (seat : ℕ) → view_of new ≡ left (view_of old) core
     → FindsCore (view_of old) found → seat ≡ (view_of old).number
     → LetsGo seat (sight_of (state_of found) seat) (sight_of (state_of core) seat)
     → LetsGo (view_of old).number (sight_in (view_of old)) (sight_in (view_of new))
@@ -196,7 +196,7 @@ turn-lets old new found core seat view finds is lets =
     (subst (λ n. LetsGo n (sight_of (state_of found) n) (sight_of (state_of core) n)) is lets))
 
 -- and took none of the replies
-pub turn-leaves : (old new : BoardSeat Parts) (found core : Parts) (seat : ℕ) → view_of new ≡ left (view_of old) core
+pub turn-leaves : (old new : BoardSeat CoreParts) (found core : CoreParts) (seat : ℕ) → view_of new ≡ left (view_of old) core
     → FindsCore (view_of old) found → seat ≡ (view_of old).number
     → AbandonsRow (sight_of (state_of found) seat) (sight_of (state_of core) seat)
     → Leaves (view_of old).number (sight_in (view_of old)) (sight_in (view_of new))
@@ -210,32 +210,32 @@ turn-leaves old new found core seat view finds is abandons =
     )
 
 -- it waits for nothing where nothing is pending in the core that it left
-pub turn-due : (old new : BoardSeat Parts) (core : Parts) (seat : ℕ) → view_of new ≡ left (view_of old) core → seat ≡ (view_of old).number
+pub turn-due : (old new : BoardSeat CoreParts) (core : CoreParts) (seat : ℕ) → view_of new ≡ left (view_of old) core → seat ≡ (view_of old).number
     → (seat_at (state_of core) seat).pending ≡ [] → IsDue (view_of new).number (sight_in (view_of new)) []
 turn-due old new core seat view is idle =
-    subst (λ (v : View Parts). IsDue v.number (sight_in v) []) (sym view)
+    subst (λ (v : View CoreParts). IsDue v.number (sight_in v) []) (sym view)
     (due-none (view_of old).number (state_of core) (subst (λ n. (seat_at (state_of core) n).pending ≡ []) is idle))
 
 -- a core that a seat found may be put back by it where steps of that seat alone have changed it
 abbrev pub KeepsBoard : Type 0
-KeepsBoard = (view : View Parts) (found core : Parts) → view.last ≡ Some found → IsMindful view.number (state_of found) (state_of core)
+KeepsBoard = (view : View CoreParts) (found core : CoreParts) → view.last ≡ Some found → IsMindful view.number (state_of found) (state_of core)
     → LeavesLoans view.number found core → Keeps core_row first_row core_entries core_settings view core
 
-pub turn-keeps : KeepsBoard → (old inside : View Parts) (found core : Parts) (seat : ℕ) → inside ≡ entered old found → seat ≡ old.number
+pub turn-keeps : KeepsBoard → (old inside : View CoreParts) (found core : CoreParts) (seat : ℕ) → inside ≡ entered old found → seat ≡ old.number
     → IsMindful seat (state_of found) (state_of core) → LeavesLoans seat found core
     → Keeps core_row first_row core_entries core_settings inside core
 turn-keeps keeps old inside found core seat enters is mindful loans =
-    let number : seat ≡ inside.number = is ∙ sym (ap (λ (view : View Parts). view.number) enters) in
-    keeps inside found core (ap (λ (view : View Parts). view.last) enters)
+    let number : seat ≡ inside.number = is ∙ sym (ap (λ (view : View CoreParts). view.number) enters) in
+    keeps inside found core (ap (λ (view : View CoreParts). view.last) enters)
     (subst (λ n. IsMindful n (state_of found) (state_of core)) number mindful) (subst (λ n. LeavesLoans n found core) number loans)
 
-pub turn-keeps-hand : KeepsBoard → (old inside : View Parts) (found core : Parts) (seat : ℕ) → inside ≡ entered old found → seat ≡ old.number
+pub turn-keeps-hand : KeepsBoard → (old inside : View CoreParts) (found core : CoreParts) (seat : ℕ) → inside ≡ entered old found → seat ≡ old.number
     → KeepsHand seat found core → Keeps core_row first_row core_entries core_settings inside core
 turn-keeps-hand keeps old inside found core seat enters is kept =
     turn-keeps keeps old inside found core seat enters is kept.mindful (λ other apart. kept.loans other)
 
 -- what is said of what it left is said of the seat
-pub turn-out : (board : BoardLock Parts) (IsHeld : CoreRow → Type 0) (old new : BoardSeat Parts) (found core : Parts) (seat : ℕ)
+pub turn-out : (board : BoardLock CoreParts) (IsHeld : CoreRow → Type 0) (old new : BoardSeat CoreParts) (found core : CoreParts) (seat : ℕ)
     → view_of new ≡ left (view_of old) core → IsOf board new → IsOutside new → IsSeated (view_of old) → FindsCore (view_of old) found
     → IsMindful seat (state_of found) (state_of core) → seat ≡ (view_of old).number
     → IsHeld (core_row core seat) → IsOutWith board IsHeld new
@@ -245,17 +245,17 @@ turn-out board IsHeld old new found core seat view own outside seated finds mind
   seated = subst IsSeated (sym view)
       (subst (λ (settings : RunSettings). (view_of old).number < settings.seats) (sym mindful.settings)
       (seated-found (view_of old) found (view_of old).number seated finds refl));
-  hand = subst (λ (v : View Parts). IsHeld (own_row v)) (sym view) (subst (λ n. IsHeld (core_row core n)) is held);
+  hand = subst (λ (v : View CoreParts). IsHeld (own_row v)) (sym view) (subst (λ n. IsHeld (core_row core n)) is held);
 }
 
 -- a seat that had nothing has nothing where its hand and what it is lent are as they were
-pub nothing-stays : (seat : ℕ) (old new : Parts) → HasNothing (core_row old seat)
+pub nothing-stays : (seat : ℕ) (old new : CoreParts) → HasNothing (core_row old seat)
     → held_by (state_of new).scan.flights seat ≡ held_by (state_of old).scan.flights seat → loan_of new seat ≡ loan_of old seat
     → HasNothing (core_row new seat)
 nothing-stays seat old new has hand loan = record { hand = hand ∙ has.hand; loan = loan ∙ has.loan }
 
 -- a seat stays what it is in a turn of it
-pub turn-stays : (board : BoardLock Parts) (IsOther IsHeld : CoreRow → Type 0) (old inside new : BoardSeat Parts) (found core : Parts)
+pub turn-stays : (board : BoardLock CoreParts) (IsOther IsHeld : CoreRow → Type 0) (old inside new : BoardSeat CoreParts) (found core : CoreParts)
     (seat : ℕ) → IsOutWith board IsOther old → view_of inside ≡ entered (view_of old) found → view_of new ≡ left (view_of inside) core
     → IsSameSeat old inside → IsSameSeat inside new → IsOutside new → FindsCore (view_of old) found
     → IsMindful seat (state_of found) (state_of core) → seat ≡ (view_of old).number → IsHeld (core_row core seat)
@@ -264,11 +264,11 @@ turn-stays board IsOther IsHeld old inside new found core seat ready enters leav
     let view = view-left (view_of old) (view_of inside) (view_of new) found core enters leaves in record {
       out = turn-out board IsHeld old new found core seat view (second.0 ∙ first.0 ∙ ready.own) outside ready.seated finds mindful is held;
       same = same-then old inside new first second;
-      team = (ap (λ (v : View Parts). v.made) view, ap (λ (v : View Parts). v.joined) view);
+      team = (ap (λ (v : View CoreParts). v.made) view, ap (λ (v : View CoreParts). v.joined) view);
     }
 
 -- and may take another one where it had nothing, and its hand and what it is lent are as they were
-pub turn-stays-ready : (board : BoardLock Parts) (old inside new : BoardSeat Parts) (found core : Parts) (seat : ℕ)
+pub turn-stays-ready : (board : BoardLock CoreParts) (old inside new : BoardSeat CoreParts) (found core : CoreParts) (seat : ℕ)
     → IsReady board None old → view_of inside ≡ entered (view_of old) found → view_of new ≡ left (view_of inside) core
     → IsSameSeat old inside → IsSameSeat inside new → IsOutside new → FindsCore (view_of old) found
     → KeepsHand seat found core → seat ≡ (view_of old).number → StaysReady board old new
@@ -278,37 +278,37 @@ turn-stays-ready board old inside new found core seat ready enters leaves first 
     (nothing-stays seat found core (hand-found (HasDoneIf None) (view_of old) found seat ready.hand finds is) keeps.hand (keeps.loans seat))
 
 -- where each has what it had, each but one has
-pub loans-but : (seat : ℕ) (old new : Parts) → LeavesAllLoans old new → LeavesLoans seat old new
+pub loans-but : (seat : ℕ) (old new : CoreParts) → LeavesAllLoans old new → LeavesLoans seat old new
 loans-but seat old new all other apart = all other
 
 -- one part behind another
-pub loans-then : (seat : ℕ) (old between new : Parts) → LeavesLoans seat old between → LeavesLoans seat between new
+pub loans-then : (seat : ℕ) (old between new : CoreParts) → LeavesLoans seat old between → LeavesLoans seat between new
     → LeavesLoans seat old new
 loans-then seat old between new first second other apart = second other apart ∙ first other apart
 
-pub all-loans-then : (old between new : Parts) → LeavesAllLoans old between → LeavesAllLoans between new → LeavesAllLoans old new
+pub all-loans-then : (old between new : CoreParts) → LeavesAllLoans old between → LeavesAllLoans between new → LeavesAllLoans old new
 all-loans-then old between new first second seat = second seat ∙ first seat
 
 -- where nothing has changed
-pub all-loans-same : (old new : Parts) → new ≡ old → LeavesAllLoans old new
-all-loans-same old new same seat = ap (λ (parts : Parts). loan_of parts seat) same
+pub all-loans-same : (old new : CoreParts) → new ≡ old → LeavesAllLoans old new
+all-loans-same old new same seat = ap (λ (parts : CoreParts). loan_of parts seat) same
 
 -- a hand is kept where nothing has changed, one part behind another, and where the state and what is lent stays
-pub keeps-same : (seat : ℕ) (old new : Parts) → new ≡ old → KeepsHand seat old new
+pub keeps-same : (seat : ℕ) (old new : CoreParts) → new ≡ old → KeepsHand seat old new
 keeps-same seat old new same = record {
   mindful = subst (IsMindful seat (state_of old)) (sym (ap state_of same)) (mindful-none seat (state_of old));
-  hand = ap (λ (parts : Parts). held_by (state_of parts).scan.flights seat) same;
+  hand = ap (λ (parts : CoreParts). held_by (state_of parts).scan.flights seat) same;
   loans = all-loans-same old new same;
 }
 
-pub keeps-then : (seat : ℕ) (old between new : Parts) → KeepsHand seat old between → KeepsHand seat between new → KeepsHand seat old new
+pub keeps-then : (seat : ℕ) (old between new : CoreParts) → KeepsHand seat old between → KeepsHand seat between new → KeepsHand seat old new
 keeps-then seat old between new first second = record {
   mindful = mindful-then seat (state_of old) (state_of between) (state_of new) first.mindful second.mindful;
   hand = second.hand ∙ first.hand;
   loans = all-loans-then old between new first.loans second.loans;
 }
 
-pub keeps-marked : (seat : ℕ) (old between new : Parts) → KeepsHand seat old between → state_of new ≡ state_of between
+pub keeps-marked : (seat : ℕ) (old between new : CoreParts) → KeepsHand seat old between → state_of new ≡ state_of between
     → LeavesAllLoans between new → KeepsHand seat old new
 keeps-marked seat old between new first same loans = record {
   mindful = subst (IsMindful seat (state_of old)) (sym same) first.mindful;

@@ -4,7 +4,7 @@ use Rattle.star_io.specs.Link.{WritingSide}
 use Rattle.board_lock.specs.Seats.{view_of}
 use Rattle.board_lock.specs.declared.seat.BoardLock.{BoardLock}
 use Rattle.board_lock.specs.declared.seat.BoardSeat.{BoardSeat}
-use Rattle.event_core.specs.Parts.{Parts}
+use Rattle.event_core.specs.CoreParts.{CoreParts}
 use Rattle.worker_gate.specs.Turns.{IsReady, sight_in}
 use Rattle.script_run.specs.Front.{LeavesToRead, ReadsBetween, UnlessHalted, halt_of}
 use Rattle.script_run.specs.SeatFront.{PlaysAt, PlaysWholeAt}
@@ -15,14 +15,14 @@ use Rattle.script_run.proofs.SharedReadLemmas.{reads-itself, reads-then}
 use Rattle.script_run.proofs.WholeLemmas.{fed_on}
 
 -- the statements that were read so far were sent by turns of a seat, and the replies that were there were written
-pub record PlaysRead (board : BoardLock Parts) (refused : Bool) (old now : BoardSeat Parts) (waits waits' : Reading)
+pub record PlaysRead (board : BoardLock CoreParts) (refused : Bool) (old now : BoardSeat CoreParts) (waits waits' : Reading)
     (to to' : WritingSide) : Type 0 where
   pub statements : List Statement
   pub reads : ReadsBetween waits statements waits'
   pub stays : StaysFed waits waits'
   pub plays : PlaysAt board (Ok refused) old now statements to to'
 
-pub read-none : (board : BoardLock Parts) (seat : BoardSeat Parts) (waits : Reading) (to : WritingSide) → IsReady board None seat
+pub read-none : (board : BoardLock CoreParts) (seat : BoardSeat CoreParts) (waits : Reading) (to : WritingSide) → IsReady board None seat
     → PlaysRead board false seat seat waits waits to to
 read-none board seat waits to ready = record {
   statements = [];
@@ -32,7 +32,7 @@ read-none board seat waits to ready = record {
 }
 
 -- one run more
-pub read-more : (board : BoardLock Parts) (refused some : Bool) (old between new : BoardSeat Parts) (waits waits' waits'' : Reading)
+pub read-more : (board : BoardLock CoreParts) (refused some : Bool) (old between new : BoardSeat CoreParts) (waits waits' waits'' : Reading)
     (run : List Statement) (to0 to to' : WritingSide) → PlaysRead board refused old between waits waits' to0 to
     → ReadsBetween waits' run waits'' → StaysFed waits' waits'' → PlaysAt board (Ok some) between new run to to'
     → PlaysRead board (refused || some) old new waits waits'' to0 to'
@@ -46,7 +46,7 @@ read-more board refused some old between new waits waits' waits'' run to0 to to'
 -- The ways out.
 
 -- what was sent is what was read
-whole-at : (board : BoardLock Parts) (result : Result Bool Halt) (old new : BoardSeat Parts) (waits waits' : Reading)
+whole-at : (board : BoardLock CoreParts) (result : Result Bool Halt) (old new : BoardSeat CoreParts) (waits waits' : Reading)
     (statements : List Statement) (to to' : WritingSide) → ReadsBetween waits statements waits' → StaysFed waits waits'
     → PlaysAt board result old new statements to to' → Eases (halt_of result) ⊥ (LeavesToRead waits')
     → UnlessHalted (halt_of result) ((waits' ≡ waits') × HasNoStatement waits') → PlaysWholeAt board result old new waits waits' to to'
@@ -70,14 +70,14 @@ whole-at board result old new waits waits' statements to to' reads stays plays e
 }
 
 -- no other statement is whole
-pub read-all : (board : BoardLock Parts) (refused : Bool) (old now : BoardSeat Parts) (waits waits' : Reading) (to to' : WritingSide)
+pub read-all : (board : BoardLock CoreParts) (refused : Bool) (old now : BoardSeat CoreParts) (waits waits' : Reading) (to to' : WritingSide)
     → PlaysRead board refused old now waits waits' to to' → HasNoStatement waits' → PlaysWholeAt board (Ok refused) old now waits waits' to to'
 read-all board refused old now waits waits' to to' way none =
     whole-at board (Ok refused) old now waits waits' way.statements to to' way.reads way.stays way.plays
     (eases-none ⊥ (LeavesToRead waits')) (refl, none)
 
 -- the replies halt in a run
-pub read-halts : (board : BoardLock Parts) (refused : Bool) (halt : Halt) (old between new : BoardSeat Parts)
+pub read-halts : (board : BoardLock CoreParts) (refused : Bool) (halt : Halt) (old between new : BoardSeat CoreParts)
     (waits waits' waits'' : Reading) (run : List Statement) (to0 to to' : WritingSide)
     → PlaysRead board refused old between waits waits' to0 to → ReadsBetween waits' run waits'' → StaysFed waits' waits''
     → PlaysAt board (Err halt) between new run to to' → PlaysWholeAt board (Err halt) old new waits waits'' to0 to'
@@ -88,7 +88,7 @@ read-halts board refused halt old between new waits waits' waits'' run to0 to to
     (eases-some halt ⊥ (LeavesToRead waits'') (λ never. absurd never)) tt
 
 -- there is no memory for the next statement
-pub read-wants : (board : BoardLock Parts) (refused : Bool) (old now : BoardSeat Parts) (waits waits' : Reading) (to to' : WritingSide)
+pub read-wants : (board : BoardLock CoreParts) (refused : Bool) (old now : BoardSeat CoreParts) (waits waits' : Reading) (to to' : WritingSide)
     → PlaysRead board refused old now waits waits' to to' → LeavesToRead waits'
     → PlaysWholeAt board (Err NoMemory) old now waits waits' to to'
 read-wants board refused old now waits waits' to to' way left = record {

@@ -6,7 +6,7 @@ use Rattle.core_state.specs.Rows.{SeatRow, Sight, empty_row, row_of, sight_of}
 use Rattle.core_state.specs.Sent.{Sent}
 use Rattle.script_run.specs.Front.{LeavesToRead, Plays, PlaysIn, PlaysOn, PlaysWhole, ReadsBetween, ReadsOn, SubmitsAll, givens_in}
 use Rattle.script_run.specs.Shared.{AnswersShared, CutScript, TellsFront, TellsGiven, TellsOf, TellsRun, TellsSent, UnlessWanting, cut_of}
-use Rattle.event_core.specs.Parts.{Parts}
+use Rattle.event_core.specs.CoreParts.{CoreParts}
 use Rattle.star_io.specs.declared.run_end.RunEnd.{RunEnd}
 use Rattle.script_run.specs.Run.{AnswersScript}
 use Rattle.script_run.proofs.BetweenLemmas.{front-between, part-between, refused-halted}
@@ -310,27 +310,27 @@ module _ (settings : RunSettings) (new : State) (own : IsOwn (sight_of new 0)) (
 -- The core is handed back.
 
 -- what it tells it tells then
-pub shared-by : (settings settings' : RunSettings) (core : Option Parts) (parts : Parts) (end : RunEnd) (from from' : ReadingSide)
+pub shared-by : (settings settings' : RunSettings) (core : Option CoreParts) (parts : CoreParts) (end : RunEnd) (from from' : ReadingSide)
     (to to' : WritingSide) → IfSome core (λ own. own ≡ parts) → settings' ≡ settings
     → AnswersBy settings' (state_of parts) end from from' to to' → AnswersShared (Unit {0}) settings core end from from' to to'
 shared-by settings settings' None parts end from from' to to' own same answers = (answers.0, tt)
 shared-by settings settings' (Some other) parts end from from' to to' own same answers = (
   answers.0,
   (
-    λ alone. subst (λ (p : Parts). TellsRun end answers.0.wanted answers.0.given settings.slots (state_of p)) (sym own)
+    λ alone. subst (λ (p : CoreParts). TellsRun end answers.0.wanted answers.0.given settings.slots (state_of p)) (sym own)
         (subst (λ (s : RunSettings). TellsRun end answers.0.wanted answers.0.given s.slots (state_of parts)) same answers.1),
-    subst (λ (p : Parts). TellsGiven (Unit {0}) settings end from'.ended answers.0.wanted answers.0.given (state_of p)) (sym own)
+    subst (λ (p : CoreParts). TellsGiven (Unit {0}) settings end from'.ended answers.0.wanted answers.0.given (state_of p)) (sym own)
         (subst (λ (s : RunSettings). TellsGiven (Unit {0}) s end from'.ended answers.0.wanted answers.0.given (state_of parts)) same
         answers.2),
   ),
 )
 
 -- and the steps of a run lead to it
-pub run-by : (core : Option Parts) (parts : Parts) (old : State) (settings : RunSettings) → IfSome core (λ own. own ≡ parts)
+pub run-by : (core : Option CoreParts) (parts : CoreParts) (old : State) (settings : RunSettings) → IfSome core (λ own. own ≡ parts)
     → old ≡ empty_core settings → IsRun old (state_of parts) → IfSome core (λ own. IsRun (empty_core settings) (state_of own))
 run-by None parts old settings own is run = tt
 run-by (Some other) parts old settings own is run =
-    subst (λ (p : Parts). IsRun (empty_core settings) (state_of p)) (sym own) (subst (λ o. IsRun o (state_of parts)) is run)
+    subst (λ (p : CoreParts). IsRun (empty_core settings) (state_of p)) (sym own) (subst (λ o. IsRun o (state_of parts)) is run)
 
 -- what is told where nobody else had the core is told where more is known
 pub front-alone : (Alone Alone' : Type 0) (settings : RunSettings) (end : RunEnd) (ended : Bool) (wanted given : List ℕ) (core : State)
@@ -344,7 +344,7 @@ given-alone Alone Alone' settings end ended wanted given core known =
     unless-weaker end (TellsFront Alone settings end ended wanted given core) (TellsFront Alone' settings end ended wanted given core)
     (front-alone Alone Alone' settings end ended wanted given core known)
 
-pub shared-alone : (Alone Alone' : Type 0) (settings : RunSettings) (core : Option Parts) (end : RunEnd) (from from' : ReadingSide)
+pub shared-alone : (Alone Alone' : Type 0) (settings : RunSettings) (core : Option CoreParts) (end : RunEnd) (from from' : ReadingSide)
     (to to' : WritingSide) → (Alone' → Alone) → AnswersShared Alone settings core end from from' to to'
     → AnswersShared Alone' settings core end from from' to to'
 shared-alone Alone Alone' settings None end from from' to to' known answers = (answers.0, tt)

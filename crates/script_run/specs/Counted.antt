@@ -13,7 +13,7 @@ use Rattle.pipeline_manager.specs.declared.life.Life.{Life}
 use Rattle.pipeline_manager.specs.declared.life.Life.TheVariants.{Waiting, Building, Running, Ending}
 use Rattle.event_core.specs.Chosen.{AreIdle}
 use Rattle.core_state.specs.declared.settings.RunSettings.{RunSettings}
-use Rattle.event_core.specs.Parts.{Parts}
+use Rattle.event_core.specs.CoreParts.{CoreParts}
 use Rattle.event_core.specs.Seen.{state_of}
 use Rattle.script_run.specs.Laps.{places_of}
 
@@ -62,7 +62,7 @@ pub record IsCalm (count : ℕ) (state : State) : Type 0 where
 
 -- a front: its core, and how many queries of the core have not come to their end
 pub record FrontParts : Type 0 where
-  pub core : Parts
+  pub core : CoreParts
   pub unfinished : ℕ
 
 -- what a front knows of its core, also where it was halted: that it has these settings, by which

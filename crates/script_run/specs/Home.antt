@@ -10,7 +10,7 @@ use Rattle.board_lock.specs.Seats.{IsSameSeat, view_of}
 use Rattle.board_lock.specs.declared.seat.BoardLock.{BoardLock}
 use Rattle.board_lock.specs.declared.seat.BoardSeat.{BoardSeat}
 use Rattle.board_lock.specs.declared.view.View.{View}
-use Rattle.event_core.specs.Parts.{Parts}
+use Rattle.event_core.specs.CoreParts.{CoreParts}
 use Rattle.worker_gate.specs.Turns.{IsReady, sight_in}
 use Rattle.script_run.specs.Answer.{CountsHalt}
 use Rattle.script_run.specs.Front.{UnlessHalted, halt_of}
@@ -19,7 +19,7 @@ use Rattle.script_run.specs.declared.halt.Halt.{Halt}
 
 -- a seat of this board by which a session may be served: it may take a turn, waits for no reply,
 -- and has in its row the entries that it made
-pub record IsAtRest (board : BoardLock Parts) (seat : BoardSeat Parts) : Type 0 where
+pub record IsAtRest (board : BoardLock CoreParts) (seat : BoardSeat CoreParts) : Type 0 where
   pub ready : IsReady board None seat
   pub due : IsDue (view_of seat).number (sight_in (view_of seat)) []
 
@@ -34,8 +34,8 @@ RepliesWhole result seat old waits new waits' taken taken' =
 
 -- a seat that was at rest replied to them by turns of it: it may take another turn, it is at rest
 -- again, unless the replies halted, and one write failed where that is why they did, and else none
-pub record RepliesAt {A : Type 0} (board : BoardLock Parts) (result : Result A Halt)
-    (old new : BoardSeat Parts) (waits waits' : Reading)
+pub record RepliesAt {A : Type 0} (board : BoardLock CoreParts) (result : Result A Halt)
+    (old new : BoardSeat CoreParts) (waits waits' : Reading)
     (to to' : WritingSide) : Type 0 where
   pub ready : IsReady board None new
   pub same : IsSameSeat old new
@@ -60,5 +60,5 @@ abbrev pub Leaves : (seat : ℕ) → (old new : Sight) → Type 0
 Leaves seat old new = (lets : LetsGo seat old new) × (lets.more ≡ [])
 
 -- the core that a seat left last is marked closing
-abbrev pub LeftClosing : View Parts → Type 0
+abbrev pub LeftClosing : View CoreParts → Type 0
 LeftClosing view = IsSomeAnd view.last (λ core. core.marks.closing ≡ true)

@@ -12,7 +12,7 @@ use Rattle.board_lock.specs.Seats.{view_of}
 use Rattle.board_lock.specs.declared.seat.BoardLock.{BoardLock}
 use Rattle.board_lock.specs.declared.seat.BoardSeat.{BoardSeat}
 use Rattle.event_core.specs.Board.{CoreRow}
-use Rattle.event_core.specs.Parts.{Parts}
+use Rattle.event_core.specs.CoreParts.{CoreParts}
 use Rattle.worker_gate.specs.Hands.{HasDoneIf, HasNothing}
 use Rattle.worker_gate.specs.Turns.{sight_in}
 use Rattle.script_run.specs.Answer.{CountsHalt, HasNoStatement}
@@ -61,7 +61,8 @@ SeatPlays result seat old statements new taken taken' = (due : List Sent) → Is
 
 -- a seat did this with statements and may take another turn, and one write failed where that is why
 -- it halted, and else none
-pub record PlaysAt (board : BoardLock Parts) (result : Result Bool Halt) (old new : BoardSeat Parts)
+pub record PlaysAt (board : BoardLock CoreParts) (result : Result Bool Halt)
+    (old new : BoardSeat CoreParts)
     (statements : List Statement)
     (to to' : WritingSide) : Type 0 where
   pub seat : StaysReady board old new
@@ -70,8 +71,8 @@ pub record PlaysAt (board : BoardLock Parts) (result : Result Bool Halt) (old ne
   pub faults : CountsHalt result to to'
 
 -- so it is of the first ones of a list, and the others are left
-pub record PlaysFirst (board : BoardLock Parts) (result : Result Bool Halt)
-    (old new : BoardSeat Parts) (all rest : List Statement)
+pub record PlaysFirst (board : BoardLock CoreParts) (result : Result Bool Halt)
+    (old new : BoardSeat CoreParts) (all rest : List Statement)
     (to to' : WritingSide) : Type 0 where
   pub first : List Statement
   pub are : all ≡ first ++ rest
@@ -100,8 +101,8 @@ SeatPlaysWhole result seat old waits new waits' taken taken' =
 -- The statements that are whole were read and given to the core by turns of a seat, which may take
 -- another turn. The reader was fed with nothing. One write failed if that is why the replies
 -- halted, and else none.
-pub record PlaysWholeAt (board : BoardLock Parts) (result : Result Bool Halt)
-    (old new : BoardSeat Parts) (waits waits' : Reading)
+pub record PlaysWholeAt (board : BoardLock CoreParts) (result : Result Bool Halt)
+    (old new : BoardSeat CoreParts) (waits waits' : Reading)
     (to to' : WritingSide) : Type 0 where
   pub seat : StaysReady board old new
   pub plays : SeatPlaysWhole result (view_of old).number

@@ -13,7 +13,7 @@ use Rattle.board_lock.specs.declared.seat.BoardLock.{BoardLock}
 use Rattle.board_lock.specs.declared.seat.BoardSeat.{BoardSeat}
 use Rattle.board_lock.specs.declared.view.View.{View}
 use Rattle.event_core.specs.Board.{CoreRow, core_row}
-use Rattle.event_core.specs.Parts.{LeavesLoans, Parts}
+use Rattle.event_core.specs.CoreParts.{CoreParts, LeavesLoans}
 use Rattle.event_core.specs.Replies.{IsReplyOf}
 use Rattle.event_core.specs.Seen.{state_of}
 use Rattle.event_core.specs.declared.replies.Ready.{Ready}
@@ -28,18 +28,18 @@ use Rattle.script_run.specs.declared.seat_turn.ReplyTurn.TheVariants.{Got, Nothi
 
 -- behind turns of it a seat does not have the core, it is so with its row, its hand and what is
 -- lent beside it, and it is the same seat of the same team
-pub record StaysOut (board : BoardLock Parts) (IsHeld : CoreRow → Type 0)
-    (old new : BoardSeat Parts) : Type 0 where
+pub record StaysOut (board : BoardLock CoreParts) (IsHeld : CoreRow → Type 0)
+    (old new : BoardSeat CoreParts) : Type 0 where
   pub out : IsOutWith board IsHeld new
   pub same : IsSameSeat old new
   pub team : IsSameTeam (view_of old) (view_of new)
 
 -- it may take another turn
-abbrev pub StaysReady : BoardLock Parts → (old new : BoardSeat Parts) → Type 0
+abbrev pub StaysReady : BoardLock CoreParts → (old new : BoardSeat CoreParts) → Type 0
 StaysReady board old new = StaysOut board (HasDoneIf None) old new
 
 -- only steps of a seat changed the core, and what is in its hand stays there, and lent what is lent
-pub record KeepsHand (seat : ℕ) (old new : Parts) : Type 0 where
+pub record KeepsHand (seat : ℕ) (old new : CoreParts) : Type 0 where
   pub mindful : IsMindful seat (state_of old) (state_of new)
   pub hand : held_by (state_of new).scan.flights seat ≡ held_by (state_of old).scan.flights seat
   pub loans : LeavesAllLoans old new
@@ -67,12 +67,12 @@ TellsGiven given.Lost seat statement old new = SitsStill seat old new
 TellsGiven given.Waits seat statement old new = SitsStill seat old new
 
 -- the core that a seat left last tells of no statement that waits for the tables
-abbrev pub LeftUnmarked : View Parts → Type 0
+abbrev pub LeftUnmarked : View CoreParts → Type 0
 LeftUnmarked view = IsSomeAnd view.last (λ core. core.marks.waiting ≡ false)
 
 -- what is told of a statement that a seat tried to give until it was taken, or
 -- there was no memory for it
-abbrev pub TellsTried : (taken : Bool) → Statement → (old new : BoardSeat Parts) → Type 0
+abbrev pub TellsTried : (taken : Bool) → Statement → (old new : BoardSeat CoreParts) → Type 0
 TellsTried true statement old new =
     SendsOne (view_of old).number statement (sight_in (view_of old)) (sight_in (view_of new))
 TellsTried false statement old new =
@@ -105,7 +105,7 @@ HasAsked (Looked look) row = HasLooked look row
 HasAsked other row = HasNothing row
 
 -- what a seat does with the core where it asks for its next reply
-pub record AsksCore (asked : ReplyTurn) (seat : ℕ) (old new : Parts) : Type 0 where
+pub record AsksCore (asked : ReplyTurn) (seat : ℕ) (old new : CoreParts) : Type 0 where
   pub tells : TellsAsked asked seat (sight_of (state_of old) seat) (sight_of (state_of new) seat)
   pub mindful : IsMindful seat (state_of old) (state_of new)
   pub others : LeavesLoans seat old new

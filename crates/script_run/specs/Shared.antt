@@ -11,7 +11,7 @@ use Rattle.core_state.specs.Rows.{Sight, empty_row, sight_of}
 use Rattle.core_state.specs.Settings.{AreWithin}
 use Rattle.core_state.specs.State.{State}
 use Rattle.core_state.specs.Tables.{changes_of, versions_in}
-use Rattle.event_core.specs.Parts.{Parts}
+use Rattle.event_core.specs.CoreParts.{CoreParts}
 use Rattle.event_core.specs.Seen.{state_of}
 use Rattle.core_state.specs.Sound.{empty_core}
 use Rattle.core_state.specs.declared.settings.RunSettings.{RunSettings}
@@ -125,7 +125,7 @@ AnswersBy settings core end from from' to to' = (answers : AnswersScript end fro
 -- a run answered a script, and the core that is handed back, if there is one, tells of the
 -- statements that were given to it; `Alone` is what is known where nobody else had the core, which
 -- then tells of the same script
-abbrev pub AnswersShared : (Alone : Type 0) → (settings : RunSettings) → Option Parts
+abbrev pub AnswersShared : (Alone : Type 0) → (settings : RunSettings) → Option CoreParts
     → (end : RunEnd) → (from from' : ReadingSide)
     → (to to' : WritingSide) → Type 0
 AnswersShared Alone settings core end from from' to to' =

@@ -14,7 +14,7 @@ use Rattle.board_lock.specs.declared.seat.BoardLock.{BoardLock}
 use Rattle.board_lock.specs.declared.seat.BoardSeat.{BoardSeat}
 use Rattle.board_lock.specs.declared.view.View.{View}
 use Rattle.event_core.specs.Board.{core_entries, core_row, first_row}
-use Rattle.event_core.specs.Parts.{Parts}
+use Rattle.event_core.specs.CoreParts.{CoreParts}
 use Rattle.worker_gate.specs.Turns.{sight_in}
 use Rattle.script_run.specs.BoardRun.{IsLeader, KnowsNew}
 use Rattle.script_run.specs.Home.{IsAtRest}
@@ -30,7 +30,7 @@ nothing-due : (seat : ℕ) → IsDue seat nothing []
 nothing-due seat = record { pending = refl; points = All-nil _; given = All-nil IsGiven; made = refl }
 
 -- the first seat, where nothing was given to the core
-pub leader-rests : (settings : RunSettings) (board : BoardLock Parts) (others : ℕ) (first : BoardSeat Parts) → IsLeader board others first
+pub leader-rests : (settings : RunSettings) (board : BoardLock CoreParts) (others : ℕ) (first : BoardSeat CoreParts) → IsLeader board others first
     → KnowsNew settings (view_of first) → 0 < settings.seats → IsAtRest board first
 leader-rests settings board others first leader knows some = record {
   ready = (leader-starts settings board others first leader knows some).ready;
@@ -38,7 +38,7 @@ leader-rests settings board others first leader knows some = record {
 }
 
 -- one that the first seat made
-pub seat-rests : (settings : RunSettings) (board : BoardLock Parts) (others : ℕ) (first seat : BoardSeat Parts) → IsLeader board others first
+pub seat-rests : (settings : RunSettings) (board : BoardLock CoreParts) (others : ℕ) (first seat : BoardSeat CoreParts) → IsLeader board others first
     → KnowsNew settings (view_of first) → others + 1 < settings.seats → IsOf board seat → IsOutside seat
     → view_of seat ≡ new_view (view_of first) → row_in core_row first_row (view_of seat).last (view_of seat).number ≡ first_row
     → IsAtRest board seat
@@ -48,7 +48,7 @@ seat-rests settings board others first seat leader knows few own outside is empt
 }
   where
     entries : list_in core_entries (view_of seat).seen ≡ []
-    entries = ap (λ (view : View Parts). list_in core_entries view.seen) is ∙ ap (λ (sight : Sight). sight.seen) knows.sight
+    entries = ap (λ (view : View CoreParts). list_in core_entries view.seen) is ∙ ap (λ (sight : Sight). sight.seen) knows.sight
 
     sees : sight_in (view_of seat) ≡ nothing
     sees = λ i. record { row = (empty i).row; seen = entries i }
@@ -56,7 +56,7 @@ seat-rests settings board others first seat leader knows few own outside is empt
 -- Fronts at rest.
 
 -- one more of them
-pub fronts-pushed : (board : BoardLock Parts) (fronts : List SeatFront) (front : SeatFront) → AreAtRest board fronts
+pub fronts-pushed : (board : BoardLock CoreParts) (fronts : List SeatFront) (front : SeatFront) → AreAtRest board fronts
     → IsAtRest board front.seat → AreAtRest board (fronts ++ front ∷ [])
 fronts-pushed board fronts front rest rests place other low =
     let long = length_push fronts front in

@@ -11,7 +11,7 @@ use Rattle.script_reader.specs.declared.statement.Statement.{Statement}
 use Rattle.core_state.specs.Fronts.{IsDue}
 use Rattle.core_state.specs.Rows.{Sight}
 use Rattle.core_state.specs.Sent.{Sent}
-use Rattle.event_core.specs.Parts.{Parts}
+use Rattle.event_core.specs.CoreParts.{CoreParts}
 use Rattle.script_run.specs.Answer.{HasNoStatement}
 use Rattle.script_run.specs.Front.{LeavesToRead, PlaysOn, ReadsBetween}
 use Rattle.script_run.specs.Pieces.{fed_with}
@@ -76,7 +76,7 @@ fed-serving seat old now waits waits' left0 left left' taken0 taken piece run ga
 -- What goes on behind it.
 
 -- what was read by a seat of this number was read by a seat of the number that it had before
-pub reads-by : (first now : BoardSeat Parts) (halted : Option Halt) (old new : Sight) (waits waits' : Reading)
+pub reads-by : (first now : BoardSeat CoreParts) (halted : Option Halt) (old new : Sight) (waits waits' : Reading)
     (taken taken' : Option (List ℕ)) → IsSameSeat first now → SeatReads halted (view_of now).number old [] waits new waits' taken taken'
     → SeatReads halted (view_of first).number old [] waits new waits' taken taken'
 reads-by first now halted old new waits waits' taken taken' same reads =

@@ -6,7 +6,7 @@ use Rattle.star_io.specs.declared.serve_end.ServeEnd.{ServeEnd}
 use Rattle.star_io.specs.declared.serve_end.ServeEnd.TheVariants.{Ended, DoorFault, NoMemory}
 use Rattle.board_lock.specs.declared.seat.BoardLock.{BoardLock}
 use Rattle.core_state.specs.declared.settings.RunSettings.{RunSettings}
-use Rattle.event_core.specs.Parts.{Parts}
+use Rattle.event_core.specs.CoreParts.{CoreParts}
 use Rattle.script_run.specs.BoardRun.{AreWorkers}
 use Rattle.script_run.specs.Home.{IsAtRest}
 use Rattle.script_run.specs.declared.seat_front.SeatFront.{SeatFront}
@@ -29,7 +29,7 @@ CountsNext None old new = new.faults ≡ old.faults
 CountsNext (Some end) old new = CountsDoor end old new
 
 -- each of these fronts has a seat of the board by which a session may be served
-abbrev pub AreAtRest : BoardLock Parts → List SeatFront → Type 0
+abbrev pub AreAtRest : BoardLock CoreParts → List SeatFront → Type 0
 AreAtRest board fronts =
     (place : ℕ) (other : SeatFront) → place < length fronts
     → IsAtRest board (slice_index_or fronts place other).seat
@@ -48,7 +48,7 @@ pub record IsNewServer (settings : RunSettings) (server : Server) : Type 0 where
   pub count : settings.workers + (length server.sessions.items + 1) ≡ settings.seats
 
 -- so many seats of a board are neither the first one nor those of the workers, as the settings say
-pub record HasSeatsLeft (settings : RunSettings) (board : BoardLock Parts) (left : ℕ)
+pub record HasSeatsLeft (settings : RunSettings) (board : BoardLock CoreParts) (left : ℕ)
     : Type 0 where
   pub most : board.seats ≡ settings.seats
   pub count : settings.workers + (left + 1) ≡ settings.seats

@@ -12,7 +12,7 @@ use Rattle.core_state.specs.Rows.{Sight}
 use Rattle.board_lock.specs.Seats.{IsSameSeat}
 use Rattle.board_lock.specs.declared.seat.BoardLock.{BoardLock}
 use Rattle.board_lock.specs.declared.seat.BoardSeat.{BoardSeat}
-use Rattle.event_core.specs.Parts.{Parts}
+use Rattle.event_core.specs.CoreParts.{CoreParts}
 use Rattle.worker_gate.specs.Turns.{IsReady}
 use Rattle.script_run.specs.Home.{IsAtRest}
 use Rattle.script_run.specs.Pieces.{CountsPieceFault, FindsEnd, TakesPiece}
@@ -77,7 +77,7 @@ IsSessionComplete end from from' to to' =
 
 -- A session has its seat still, which may take a turn. If every whole statement was replied to, the
 -- seat is at rest.
-pub record LeavesSeat (board : BoardLock Parts) (Whole : Type 0) (old new : BoardSeat Parts)
+pub record LeavesSeat (board : BoardLock CoreParts) (Whole : Type 0) (old new : BoardSeat CoreParts)
     : Type 0 where
   pub ready : IsReady board None new
   pub same : IsSameSeat old new

@@ -2,7 +2,7 @@
 ghost use Rattle.std.specs.Prelude.{◌≡◌, ◌↔◌, IsTrue, []};
 ghost use Rattle.core_state.specs.Settings.{AreWithin};
 ghost use Rattle.event_core.specs.Chosen.{AreIdle};
-ghost use Rattle.event_core.specs.Parts.{beside_of};
+ghost use Rattle.event_core.specs.CoreParts.{beside_of};
 ghost use Rattle.event_core.specs.Seen.{state_of};
 
 use core_driver::{finish_all, turn};

@@ -7,7 +7,7 @@ use Rattle.star_io.specs.declared.run_end.RunEnd.{RunEnd}
 use Rattle.star_io.specs.declared.run_end.RunEnd.TheVariants as run_end
 use Rattle.star_io.specs.declared.serve_end.ServeEnd.TheVariants as serve_end
 use Rattle.core_state.specs.Sound.{empty_core}
-use Rattle.event_core.specs.Parts.{Parts}
+use Rattle.event_core.specs.CoreParts.{CoreParts}
 use Rattle.event_core.specs.Seen.{state_of}
 use Rattle.script_run.specs.Front.{IsRun}
 use Rattle.script_run.specs.Shared.{AnswersShared}
@@ -56,12 +56,12 @@ module _ (settings : Settings) (done : TopDone) (old new : Outside) (leaves : Un
       go Serve is has = absurd has
 
 -- a core that a run hands back, if one is, where no memory was left there is none
-pub hands-run : (settings : Settings) (handed : HandedBack) (status : ℕ) (core : Option Parts) → core_in handed ≡ core
+pub hands-run : (settings : Settings) (handed : HandedBack) (status : ℕ) (core : Option CoreParts) → core_in handed ≡ core
     → IsNone core ↔ (status ≡ 5)
     → (settings.workers ≡ 0 → IfSome core (λ parts. IsRun (empty_core (run_settings_of settings)) (state_of parts)))
     → HandsCore settings handed status
 hands-run settings handed status core is none run = record {
-  core = subst (λ (c : Option Parts). IsNone c ↔ (status ≡ 5)) (sym is) none;
+  core = subst (λ (c : Option CoreParts). IsNone c ↔ (status ≡ 5)) (sym is) none;
   run = λ alone. subst (λ c. IfSome c (λ parts. IsRun (empty_core (run_settings_of settings)) (state_of parts))) (sym is) (run alone);
 }
 
@@ -81,12 +81,12 @@ full-made made_end.WriteFault = ((λ e. absurd (cc e)), (λ n. absurd (omega ari
 full-made made_end.NoMemory = ((λ e. refl), (λ n. refl))
 
 -- so there is no core exactly at status 5
-pub none-run : (core : Option Parts) (end : RunEnd) (status : ℕ) → status ≡ status_of end → IsNone core ↔ (end ≡ run_end.NoMemory)
+pub none-run : (core : Option CoreParts) (end : RunEnd) (status : ℕ) → status ≡ status_of end → IsNone core ↔ (end ≡ run_end.NoMemory)
     → IsNone core ↔ (status ≡ 5)
 none-run core end status told none =
     let full = full-run end in ((λ h. told ∙ full.0 (none.0 h)), (λ five. none.1 (full.1 (sym told ∙ five))))
 
-pub none-made : (core : Option Parts) (end : MadeEnd) (status : ℕ) → status ≡ made_status_of end
+pub none-made : (core : Option CoreParts) (end : MadeEnd) (status : ℕ) → status ≡ made_status_of end
     → IsNone core ↔ (end ≡ made_end.NoMemory) → IsNone core ↔ (status ≡ 5)
 none-made core end status told none =
     let full = full-made end in ((λ h. told ∙ full.0 (none.0 h)), (λ five. none.1 (full.1 (sym told ∙ five))))

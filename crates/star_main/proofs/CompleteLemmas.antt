@@ -5,7 +5,7 @@ use Rattle.star_io.specs.Link.{ReadingSide, WritingSide}
 use Rattle.star_io.specs.declared.run_end.RunEnd.{RunEnd}
 use Rattle.star_io.specs.declared.run_end.RunEnd.TheVariants.{Clean, SomeRefused, ReadFault, WriteFault, NoMemory, ScriptLimit}
 use Rattle.core_state.specs.declared.settings.RunSettings.{RunSettings}
-use Rattle.event_core.specs.Parts.{Parts}
+use Rattle.event_core.specs.CoreParts.{CoreParts}
 use Rattle.script_run.specs.Run.{AnswersScript}
 use Rattle.make_load.specs.Made.{AnswersMade}
 use Rattle.make_load.specs.declared.made.MadeEnd.{MadeEnd}
@@ -27,7 +27,7 @@ script-ends WriteFault status from from' to to' told answers causes read write =
 script-ends NoMemory status from from' to to' told answers causes read write = inr (inr (inl told))
 script-ends ScriptLimit status from from' to to' told answers causes read write = inr (inr (inr (told, answers)))
 
-made-ends : (Alone : Type 0) (size : RunSettings) (seed rows : ℕ) (core : Option Parts) (end : MadeEnd) (status : ℕ)
+made-ends : (Alone : Type 0) (size : RunSettings) (seed rows : ℕ) (core : Option CoreParts) (end : MadeEnd) (status : ℕ)
     (from from' : ReadingSide) (to to' : WritingSide)
     → status ≡ made_status_of end → AnswersMade Alone size seed rows core end to to' → HasCause status from from' to to'
     → ¬ WriteFailed to to' → EndsMade seed rows status to to'
@@ -40,7 +40,7 @@ made-ends Alone size seed rows core made_end.WriteFault status from from' to to'
 made-ends Alone size seed rows core made_end.NoMemory status from from' to to' told answers causes write = inr (inr told)
 
 -- a script was run
-pub complete-script : (settings : Settings) (size : RunSettings) (core : Option Parts) (status : ℕ) (from from' : ReadingSide)
+pub complete-script : (settings : Settings) (size : RunSettings) (core : Option CoreParts) (status : ℕ) (from from' : ReadingSide)
     (to to' : WritingSide) (DoorFailed : Type 0) → HasScript settings → Headline size core status from from' to to'
     → HasCause status from from' to to' → IsComplete settings status from from' to to' DoorFailed
 complete-script settings size core status from from' to to' DoorFailed has headline causes = record {
@@ -50,7 +50,7 @@ complete-script settings size core status from from' to to' DoorFailed has headl
 }
 
 -- the workload was made
-pub complete-made : (settings : Settings) (size : RunSettings) (core : Option Parts) (status : ℕ) (from from' : ReadingSide)
+pub complete-made : (settings : Settings) (size : RunSettings) (core : Option CoreParts) (status : ℕ) (from from' : ReadingSide)
     (to to' : WritingSide) (DoorFailed : Type 0) → IsMade settings → MadeHeadline size settings.seed settings.rows core status to to'
     → HasCause status from from' to to' → IsComplete settings status from from' to to' DoorFailed
 complete-made settings size core status from from' to to' DoorFailed is headline causes = record {

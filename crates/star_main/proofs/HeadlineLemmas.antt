@@ -6,7 +6,7 @@ use Rattle.star_io.specs.declared.run_end.RunEnd.{RunEnd}
 use Rattle.star_io.specs.declared.run_end.RunEnd.TheVariants.{Clean, SomeRefused, ReadFault, WriteFault, NoMemory, ScriptLimit}
 use Rattle.core_state.specs.Sound.{empty_core}
 use Rattle.core_state.specs.declared.settings.RunSettings.{RunSettings}
-use Rattle.event_core.specs.Parts.{Parts}
+use Rattle.event_core.specs.CoreParts.{CoreParts}
 use Rattle.event_core.specs.Seen.{state_of}
 use Rattle.script_run.specs.Front.{IsRun}
 use Rattle.script_run.specs.Run.{AnswersScript, CountsFaults}
@@ -27,7 +27,7 @@ never_faulty ScriptLimit is = absurd (omega arith)
 
 module _ (from from' : ReadingSide) (to to' : WritingSide) where
   -- where a core of these settings ran the script, by itself or with workers
-  pub headline_shared : (Alone : Type 0) (settings settings' : RunSettings) (core core' : Option Parts) (end : RunEnd) (status : ℕ)
+  pub headline_shared : (Alone : Type 0) (settings settings' : RunSettings) (core core' : Option CoreParts) (end : RunEnd) (status : ℕ)
       → settings' ≡ settings → core' ≡ core → status ≡ status_of end → (settings'.workers ≡ 0 → Alone)
       → AnswersShared Alone settings core end from from' to to' → Headline settings' core' status from from' to to'
   headline_shared Alone settings settings' core core' end status same_settings same_core same_status alone run = record {
@@ -39,7 +39,7 @@ module _ (from from' : ReadingSide) (to to' : WritingSide) where
   }
 
   -- where no core did
-  pub headline_alone : (settings : RunSettings) (core : Option Parts) (end : RunEnd) (status : ℕ) → core ≡ None → status ≡ status_of end
+  pub headline_alone : (settings : RunSettings) (core : Option CoreParts) (end : RunEnd) (status : ℕ) → core ≡ None → status ≡ status_of end
       → AnswersScript end from from' to to' → Headline settings core status from from' to to'
   headline_alone settings core end status no_core same_status run = record {
     end = end;

@@ -3,7 +3,7 @@ use Rattle.std.specs.Prelude.{IfSome}
 use Rattle.std.proofs.Common.{◌≡◌, ◌≢◌, ◌∙◌, inl, ℕ, Option, Some, None, refl, sym, subst, arith}
 use Rattle.star_io.specs.Link.{ReadingSide, WritingSide}
 use Rattle.core_state.specs.declared.settings.RunSettings.{RunSettings}
-use Rattle.event_core.specs.Parts.{Parts}
+use Rattle.event_core.specs.CoreParts.{CoreParts}
 use Rattle.make_load.specs.Made.{AnswersMade, CountsMade}
 use Rattle.make_load.specs.declared.made.MadeEnd.{MadeEnd}
 use Rattle.make_load.specs.declared.made.MadeEnd.TheVariants.{Clean, SomeRefused, WriteFault, NoMemory}
@@ -21,7 +21,7 @@ never_faulty_made WriteFault is = absurd (omega arith)
 never_faulty_made NoMemory is = absurd (omega arith)
 
 -- the status of a run of the workload tells what its end tells
-pub made_headline : (Alone : Type 0) (settings settings' : RunSettings) (seed rows : ℕ) (core core' : Option Parts) (end : MadeEnd)
+pub made_headline : (Alone : Type 0) (settings settings' : RunSettings) (seed rows : ℕ) (core core' : Option CoreParts) (end : MadeEnd)
     (status : ℕ) (to to' : WritingSide)
     → settings' ≡ settings → core' ≡ core → status ≡ made_status_of end → (settings'.workers ≡ 0 → Alone)
     → AnswersMade Alone settings seed rows core end to to' → MadeHeadline settings' seed rows core' status to to'

@@ -1,7 +1,7 @@
 -- What a call hands back beside its status.
 use Rattle.std.specs.Prelude.{◌≡◌, ◌↔◌, ℕ, Option, Some, None, IfSome, IsNone}
 use Rattle.core_state.specs.Sound.{empty_core}
-use Rattle.event_core.specs.Parts.{Parts}
+use Rattle.event_core.specs.CoreParts.{CoreParts}
 use Rattle.event_core.specs.Seen.{state_of}
 use Rattle.script_run.specs.Front.{IsRun}
 use Rattle.star_main.specs.Modes.{run_settings_of}
@@ -10,7 +10,7 @@ use Rattle.star_main.specs.declared.top.HandedBack.{HandedBack}
 use Rattle.star_main.specs.declared.top.HandedBack.TheVariants.{Nothing, Core}
 
 -- the core that was handed back, if one was
-abbrev pub core_in : HandedBack → Option Parts
+abbrev pub core_in : HandedBack → Option CoreParts
 core_in Nothing = None
 core_in (Core core) = Some core
 

@@ -6,7 +6,7 @@ use Rattle.star_io.specs.Link.{ReadingSide, WritingSide}
 use Rattle.star_io.specs.declared.run_end.RunEnd.{RunEnd}
 use Rattle.star_io.specs.declared.run_end.RunEnd.TheVariants.{Clean, SomeRefused, ReadFault, WriteFault, NoMemory, ScriptLimit}
 use Rattle.core_state.specs.declared.settings.RunSettings.{RunSettings}
-use Rattle.event_core.specs.Parts.{Parts}
+use Rattle.event_core.specs.CoreParts.{CoreParts}
 use Rattle.script_run.specs.Shared.{AnswersShared}
 
 -- the status of a run
@@ -26,7 +26,7 @@ status_of ScriptLimit = 6
 -- reading had met no end. At some places memory was wanted for the statement alone; the replies
 -- tell which. The core that is handed back, if one is, tells of the same script: of what its seat 0
 -- was given and took, and where no workers shared it, of its queries and laps.
-pub record Headline (settings : RunSettings) (core : Option Parts) (status : ℕ)
+pub record Headline (settings : RunSettings) (core : Option CoreParts) (status : ℕ)
     (from from' : ReadingSide)
     (to to' : WritingSide) : Type 0 where
   pub end : RunEnd

@@ -2,7 +2,7 @@
 use Rattle.std.specs.Prelude.{◌≡◌, ℕ, Option}
 use Rattle.star_io.specs.Link.{WritingSide}
 use Rattle.core_state.specs.declared.settings.RunSettings.{RunSettings}
-use Rattle.event_core.specs.Parts.{Parts}
+use Rattle.event_core.specs.CoreParts.{CoreParts}
 use Rattle.make_load.specs.Made.{AnswersMade}
 use Rattle.make_load.specs.declared.made.MadeEnd.{MadeEnd}
 use Rattle.make_load.specs.declared.made.MadeEnd.TheVariants.{Clean, SomeRefused, WriteFault, NoMemory}
@@ -19,7 +19,8 @@ made_status_of NoMemory = 5
 -- places: the whole line; where a write failed, a proper front of it; where no memory was left,
 -- nothing. The core that is handed back, if one is, tells of the same script: of what its seat 0
 -- was given and took, and where no workers shared it, of its queries and laps.
-pub record MadeHeadline (settings : RunSettings) (seed rows : ℕ) (core : Option Parts) (status : ℕ)
+pub record MadeHeadline (settings : RunSettings) (seed rows : ℕ) (core : Option CoreParts)
+    (status : ℕ)
     (to to' : WritingSide) : Type 0 where
   pub end : MadeEnd
   pub told : status ≡ made_status_of end

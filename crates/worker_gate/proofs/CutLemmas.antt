@@ -9,7 +9,7 @@ use Rattle.core_state.specs.declared.event.Event.TheVariants.{Carry, Cut}
 use Rattle.event_core.specs.Board.{core_row}
 use Rattle.event_core.specs.Chosen.{kind_of}
 use Rattle.event_core.specs.Lent.{HasFreeHand, IsBlankWorkOf}
-use Rattle.event_core.specs.Parts.{Parts, loan_of}
+use Rattle.event_core.specs.CoreParts.{CoreParts, loan_of}
 use Rattle.event_core.specs.Seen.{state_of}
 use Rattle.event_core.specs.Took.{CutsAndCarries, Took}
 use Rattle.event_core.specs.declared.choosing.EventKind.{EventKind}
@@ -33,7 +33,7 @@ first-cut state of_kind other is first =
     absurd (let both : kind_of other ≡ kind.Cut = first.is_of ∙ is in cc)
 
 -- a worker that is to make an event has a free hand
-pub free-hand : (worker : ℕ) (core : Parts) → IsSound (state_of core) → IsToManage worker core → HasFreeHand worker (state_of core)
+pub free-hand : (worker : ℕ) (core : CoreParts) → IsSound (state_of core) → IsToManage worker core → HasFreeHand worker (state_of core)
 free-hand worker core sound manages =
     ((let low = manages.seat in let count = sound.seats.count in omega arith), manages.empty.hand)
 
@@ -54,7 +54,7 @@ unset carried true none = absurd (let never : Some carried ≡ None = none refl 
 unset carried false none = refl
 
 -- the worker carries it
-pub cuts-for : IsRight → (blank : BlankWork) (worker : ℕ) (old new : Parts) → IsToManage worker old
+pub cuts-for : IsRight → (blank : BlankWork) (worker : ℕ) (old new : CoreParts) → IsToManage worker old
     → IsFirstOf managed_kinds (state_of old) kind.Cut Cut → CutsAndCarries worker (state_of old) (state_of new)
     → IsSomeAnd (held_by (state_of new).scan.flights worker)
     (λ flight. IsSomeAnd flight.hand (IsBlankWorkOf blank (loan_of new worker) flight))
@@ -74,7 +74,7 @@ cuts-for right blank worker old new manages first cuts is waiting marks sound = 
 pub leaves-cut : MovesOne → (old new : State) → IsSound old → Took Cut old new → LeavesRows old new
 leaves-cut law old new sound took = leaves-kind law Cut old new tt sound took
 
-pub makes-cut : (worker : ℕ) (old new : Parts) → IsToManage worker old → IsFirstOf managed_kinds (state_of old) kind.Cut Cut
+pub makes-cut : (worker : ℕ) (old new : CoreParts) → IsToManage worker old → IsFirstOf managed_kinds (state_of old) kind.Cut Cut
     → Took Cut (state_of old) (state_of new) → new.marks ≡ old.marks → MakesEvent kind.Cut old new
 makes-cut worker old new manages first took marks = record {
   wants = manages.wants;

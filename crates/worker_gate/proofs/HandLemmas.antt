@@ -13,7 +13,7 @@ use Rattle.core_state.specs.State.{Flight, Hand, State}
 use Rattle.core_state.proofs.FoundLemmas.{find-passes, some-at, some-of, some-passes}
 use Rattle.core_state.proofs.Words.{all_pairs_head, all_pairs_tail}
 use Rattle.event_core.specs.Board.{CoreRow}
-use Rattle.event_core.specs.Parts.{Loan}
+use Rattle.event_core.specs.CoreParts.{Loan}
 use Rattle.worker_gate.specs.Hands.{Holds}
 
 -- What is said of a hand.

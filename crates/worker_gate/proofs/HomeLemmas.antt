@@ -8,7 +8,7 @@ use Rattle.core_state.specs.State.{Flight, State}
 use Rattle.core_state.specs.Tables.{tables_of}
 use Rattle.core_state.specs.declared.event.Event.TheVariants.{Distribute, Give}
 use Rattle.event_core.specs.Board.{core_row}
-use Rattle.event_core.specs.Parts.{Parts, loan_of}
+use Rattle.event_core.specs.CoreParts.{CoreParts, loan_of}
 use Rattle.event_core.specs.Seen.{state_of}
 use Rattle.event_core.specs.Took.{CameHome, Lands}
 use Rattle.event_core.specs.declared.marks.Marks.{Marks}
@@ -72,7 +72,7 @@ moves-home law keep worker folding test old between new sound sound' home orders
     (leaves-ordered law test between new sound' orders)))
 
 -- its worker has nothing then
-pub empty-home : MovesOne → StepsKeep → (worker : ℕ) (folding : Option Folding) (test : Bool) (old between new : Parts)
+pub empty-home : MovesOne → StepsKeep → (worker : ℕ) (folding : Option Folding) (test : Bool) (old between new : CoreParts)
     → IsSome (held_by (state_of old).scan.flights worker) → IsSound (state_of old) → IsSound (state_of between)
     → CameHome worker folding (state_of old) (state_of between) → OrdersIf test (state_of between) (state_of new)
     → loan_of between worker ≡ None → LeavesAllLoans between new → HasNothing (core_row new worker)
@@ -88,7 +88,7 @@ empty-home law keep worker folding test old between new some sound sound' home o
         (leaves-ordered law test (state_of between) (state_of new) sound' orders)
 
 -- and what was made of the core
-pub brings-by : (worker : ℕ) (folding : Option Folding) (old between new : Parts)
+pub brings-by : (worker : ℕ) (folding : Option Folding) (old between new : CoreParts)
     → CameHome worker folding (state_of old) (state_of between) → between.marks ≡ old.marks
     → new.marks ≡ counted_home (is_some folding) between.marks
     → OrdersIf (is_sixteenth_home (is_some folding) between.marks) (state_of between) (state_of new) → BringsHome worker folding old new

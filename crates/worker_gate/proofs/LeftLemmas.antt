@@ -16,7 +16,7 @@ use Rattle.core_state.proofs.WholeFrameLemmas.{Frame}
 use Rattle.event_core.specs.Board.{CoreRow, core_row}
 use Rattle.event_core.specs.Chosen.{IsManaged, kind_of}
 use Rattle.event_core.specs.Lent.{IsAtHome}
-use Rattle.event_core.specs.Parts.{LeavesLoans, Loan, Parts, loan_of}
+use Rattle.event_core.specs.CoreParts.{CoreParts, LeavesLoans, Loan, loan_of}
 use Rattle.event_core.specs.Seen.{state_of}
 use Rattle.event_core.specs.Took.{IsEventOf, Took}
 use Rattle.event_core.proofs.MadeLemmas.{makes-taken}
@@ -167,23 +167,23 @@ moves-mindful worker old new moves = record {
 -- What is lent beside batches.
 
 -- where nothing has changed
-pub loans-same : (old new : Parts) → new ≡ old → LeavesAllLoans old new
-loans-same old new same seat = ap (λ (parts : Parts). loan_of parts seat) same
+pub loans-same : (old new : CoreParts) → new ≡ old → LeavesAllLoans old new
+loans-same old new same seat = ap (λ (parts : CoreParts). loan_of parts seat) same
 
 -- one behind another
-pub loans-then : (old between new : Parts) → LeavesAllLoans old between → LeavesAllLoans between new → LeavesAllLoans old new
+pub loans-then : (old between new : CoreParts) → LeavesAllLoans old between → LeavesAllLoans between new → LeavesAllLoans old new
 loans-then old between new first second seat = second seat ∙ first seat
 
 -- what leaves all loans leaves those of others
-pub others-all : (worker : ℕ) (old new : Parts) → LeavesAllLoans old new → LeavesLoans worker old new
+pub others-all : (worker : ℕ) (old new : CoreParts) → LeavesAllLoans old new → LeavesLoans worker old new
 others-all worker old new leaves other apart = leaves other
 
-pub others-then : (worker : ℕ) (old between new : Parts) → LeavesLoans worker old between → LeavesLoans worker between new
+pub others-then : (worker : ℕ) (old between new : CoreParts) → LeavesLoans worker old between → LeavesLoans worker between new
     → LeavesLoans worker old new
 others-then worker old between new first second other apart = second other apart ∙ first other apart
 
 -- a row is what it was where its row and its loan are
-pub row-still : (seat : ℕ) (old new : Parts) → row_of (state_of new) seat ≡ row_of (state_of old) seat → loan_of new seat ≡ loan_of old seat
+pub row-still : (seat : ℕ) (old new : CoreParts) → row_of (state_of new) seat ≡ row_of (state_of old) seat → loan_of new seat ≡ loan_of old seat
     → core_row new seat ≡ core_row old seat
 row-still seat old new row loan = ap (λ r. with_loan r (loan_of new seat)) row ∙ ap (with_loan (row_of (state_of old) seat)) loan
   where

@@ -20,7 +20,7 @@ use Rattle.core_state.specs.declared.event.Event.TheVariants.{Carry}
 use Rattle.event_core.specs.Board.{CoreRow, core_row}
 use Rattle.event_core.specs.Chosen.{NoneMayCome}
 use Rattle.event_core.specs.Lent.{IsNotLent, IsWorkOf}
-use Rattle.event_core.specs.Parts.{Beside, Parts, beside_of, loan_of}
+use Rattle.event_core.specs.CoreParts.{Beside, CoreParts, beside_of, loan_of}
 use Rattle.event_core.specs.Seen.{state_of}
 use Rattle.event_core.specs.Took.{Took}
 use Rattle.event_core.specs.declared.choosing.EventKind.{EventKind}
@@ -72,7 +72,7 @@ held-took worker batch old new took =
     (carried-held worker batch old took.enabled)
 
 -- and nothing is lent to it
-pub home-took : (worker batch : ℕ) (old new : Parts) → Took (Carry worker batch) (state_of old) (state_of new) → beside_of new ≡ beside_of old
+pub home-took : (worker batch : ℕ) (old new : CoreParts) → Took (Carry worker batch) (state_of old) (state_of new) → beside_of new ≡ beside_of old
     → IsNotLent worker (lent_to new.flights)
 home-took worker batch old new took beside =
     subst (IsNotLent worker) (sym (ap (λ (b : Beside). b.lent) beside))
@@ -85,7 +85,7 @@ IsRight = (state : State) (seat : ℕ) (flight : Flight) (hand : Hand) → IsSou
     × IsSoundHand (length state.seats) state.lives.filters (tables_of state) flight hand
 
 -- what is carried of the batch that is in a hand is fresh
-pub has-work : IsRight → (work : Carried) (worker : ℕ) (core : Parts) → IsSound (state_of core)
+pub has-work : IsRight → (work : Carried) (worker : ℕ) (core : CoreParts) → IsSound (state_of core)
     → Holds (IsCarriedOf work) (core_row core worker) → HasWork work (core_row core worker)
 has-work right work worker core sound holds = record {
   holds = holds;
@@ -94,7 +94,7 @@ has-work right work worker core sound holds = record {
 }
 
 -- a batch was taken, and then lent
-pub takes-by : IsRight → (work : Work) (worker batch : ℕ) (old between new : Parts) → Took (Carry worker batch) (state_of old) (state_of between)
+pub takes-by : IsRight → (work : Work) (worker batch : ℕ) (old between new : CoreParts) → Took (Carry worker batch) (state_of old) (state_of between)
     → beside_of between ≡ beside_of old → state_of new ≡ state_of between → new.marks ≡ between.marks
     → IfSome (held_by (state_of between).scan.flights worker) (λ flight. IfSome flight.hand (IsWorkOf work (loan_of new worker) flight))
     → (IsTrue between.marks.waiting → work.folding ≡ None) → IsSound (state_of new) → TakesWork work worker old new
@@ -112,7 +112,7 @@ takes-by right work worker batch old between new took beside same marks is waits
 -- Nothing is taken.
 
 -- a hand stays empty where rows and loans stay
-pub empty-still : (worker : ℕ) (old new : Parts) → LeavesRows (state_of old) (state_of new) → LeavesAllLoans old new
+pub empty-still : (worker : ℕ) (old new : CoreParts) → LeavesRows (state_of old) (state_of new) → LeavesAllLoans old new
     → HasNothing (core_row old worker) → HasNothing (core_row new worker)
 empty-still worker old new leaves loans empty = record {
   hand = ap (λ (row : SeatRow). row.hand) (leaves.rows worker) ∙ empty.hand;
@@ -120,20 +120,20 @@ empty-still worker old new leaves loans empty = record {
 }
 
 -- where there is nothing to do, the mark tells whether a worker rests or ends
-pub tells-idle : (closing : Bool) (worker : ℕ) (old new : Parts) → new ≡ old → IsIdle (state_of old) → closing ≡ new.marks.closing
+pub tells-idle : (closing : Bool) (worker : ℕ) (old new : CoreParts) → new ≡ old → IsIdle (state_of old) → closing ≡ new.marks.closing
     → TellsLook (cond {A = Look} closing look.Closed look.Rest) worker old new
-tells-idle true worker old new same idle is = (same, (idle, sym (is ∙ ap (λ (parts : Parts). parts.marks.closing) same)))
-tells-idle false worker old new same idle is = (same, (idle, sym (is ∙ ap (λ (parts : Parts). parts.marks.closing) same)))
+tells-idle true worker old new same idle is = (same, (idle, sym (is ∙ ap (λ (parts : CoreParts). parts.marks.closing) same)))
+tells-idle false worker old new same idle is = (same, (idle, sym (is ∙ ap (λ (parts : CoreParts). parts.marks.closing) same)))
 
 pub looked-idle : (closing : Bool) (row : CoreRow) → HasNothing row → HasLooked (cond {A = Look} closing look.Closed look.Rest) row
 looked-idle true row none = none
 looked-idle false row none = none
 
 -- how a worker ends where it is told to
-pub last-looked : (found : Look) (worker : ℕ) (old new : Parts) → TellsLook found worker old new → LooksLast found (Some new)
+pub last-looked : (found : Look) (worker : ℕ) (old new : CoreParts) → TellsLook found worker old new → LooksLast found (Some new)
 last-looked look.Closed worker old new tells =
-    subst (λ (parts : Parts). IsIdle (state_of parts) × (parts.marks.closing ≡ true)) (sym tells.0) tells.1
-last-looked look.Memory worker old new tells = subst (λ (parts : Parts). IsStuck (state_of parts)) (sym tells.0) tells.1
+    subst (λ (parts : CoreParts). IsIdle (state_of parts) × (parts.marks.closing ≡ true)) (sym tells.0) tells.1
+last-looked look.Memory worker old new tells = subst (λ (parts : CoreParts). IsStuck (state_of parts)) (sym tells.0) tells.1
 last-looked other worker old new tells = tt
 
 -- Whether there is more to do.

@@ -13,7 +13,7 @@ use Rattle.core_state.specs.Tables.{tables_by, tables_of}
 use Rattle.core_state.specs.declared.event.Event.{Event}
 use Rattle.core_state.specs.declared.event.Event.TheVariants.{Clear, Distribute, Reorder, Submit}
 use Rattle.event_core.specs.Chosen.{IsManaged, kind_of}
-use Rattle.event_core.specs.Parts.{Beside, Parts, beside_of, loan_of}
+use Rattle.event_core.specs.CoreParts.{Beside, CoreParts, beside_of, loan_of}
 use Rattle.event_core.specs.Seen.{state_of}
 use Rattle.event_core.specs.Took.{MayWantMemory, Took}
 use Rattle.event_core.specs.declared.choosing.EventKind.{EventKind}
@@ -37,7 +37,7 @@ refused result NotEnabled state event is may disabled memory = absurd (disabled.
 refused result Memory state event is may disabled memory = (memory is).1
 
 -- one that wants none was taken
-pub was-taken : {T : Type 0} (result : Result T StepFault) (old new : Parts) (event : Event) → IsEnabled (state_of old) event
+pub was-taken : {T : Type 0} (result : Result T StepFault) (old new : CoreParts) (event : Event) → IsEnabled (state_of old) event
     → (MayWantMemory event → ⊥) → OnOk result (Took event (state_of old) (state_of new))
     → IsErrOf result NotEnabled ↔ (IsEnabled (state_of old) event → ⊥)
     → (IsErrOf result Memory → IsEnabled (state_of old) event × MayWantMemory event) → Took event (state_of old) (state_of new)
@@ -134,27 +134,27 @@ orders-more marks n old new count more same =
 -- A Distribute is counted.
 
 -- the marks tell it
-pub counted-up : (n : ℕ) (old new : Parts) → n ≡ (old.marks.distributed + 1) % 16
+pub counted-up : (n : ℕ) (old new : CoreParts) → n ≡ (old.marks.distributed + 1) % 16
     → new ≡ record old { marks = record old.marks { distributed = n } } → new.marks ≡ counted_by kind.Distribute old.marks
 counted-up n old new count same =
-    ap (λ (parts : Parts). parts.marks) same ∙ ap (λ number. record old.marks { distributed = number }) count
+    ap (λ (parts : CoreParts). parts.marks) same ∙ ap (λ number. record old.marks { distributed = number }) count
 
 -- and nothing else has changed
-pub state-counted : (n : ℕ) (old new : Parts) → new ≡ record old { marks = record old.marks { distributed = n } } → state_of new ≡ state_of old
+pub state-counted : (n : ℕ) (old new : CoreParts) → new ≡ record old { marks = record old.marks { distributed = n } } → state_of new ≡ state_of old
 state-counted n old new same = ap state_of same
 
 -- nor has what is lent
-pub loans-counted : (n : ℕ) (old new : Parts) → new ≡ record old { marks = record old.marks { distributed = n } } → LeavesAllLoans old new
-loans-counted n old new same seat = ap (λ (parts : Parts). loan_of parts seat) same
+pub loans-counted : (n : ℕ) (old new : CoreParts) → new ≡ record old { marks = record old.marks { distributed = n } } → LeavesAllLoans old new
+loans-counted n old new same seat = ap (λ (parts : CoreParts). loan_of parts seat) same
 
 -- One event, and what is behind it.
 
 -- the marks are as they were where what is beside the state is
-pub marks-stay : (old new : Parts) → beside_of new ≡ beside_of old → new.marks ≡ old.marks
+pub marks-stay : (old new : CoreParts) → beside_of new ≡ beside_of old → new.marks ≡ old.marks
 marks-stay old new beside = ap (λ (b : Beside). b.marks) beside
 
 -- the event was made and counted, and the filters were ordered if it was time
-pub manages-by : (of_kind : EventKind) (event : Event) (old between new : Parts) → IsFirstOf managed_kinds (state_of old) of_kind event
+pub manages-by : (of_kind : EventKind) (event : Event) (old between new : CoreParts) → IsFirstOf managed_kinds (state_of old) of_kind event
     → Took event (state_of old) (state_of between) → beside_of between ≡ beside_of old → new.marks ≡ counted_by of_kind between.marks
     → OrdersIf (is_sixteenth of_kind between.marks) (state_of between) (state_of new) → Manages of_kind old new
 manages-by of_kind event old between new first took beside counted orders =

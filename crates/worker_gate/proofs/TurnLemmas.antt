@@ -10,27 +10,27 @@ use Rattle.board_lock.specs.declared.seat.BoardLock.{BoardLock}
 use Rattle.board_lock.specs.declared.seat.BoardSeat.{BoardSeat}
 use Rattle.board_lock.specs.declared.view.View.{View}
 use Rattle.event_core.specs.Board.{CoreRow, core_entries, core_row, core_settings, first_row}
-use Rattle.event_core.specs.Parts.{Parts}
+use Rattle.event_core.specs.CoreParts.{CoreParts}
 use Rattle.event_core.specs.Seen.{state_of}
 use Rattle.worker_gate.specs.Left.{MovesHand}
 use Rattle.worker_gate.specs.Turns.{IsOutWith, IsSeated, LooksLast, own_row, sight_in}
 use Rattle.worker_gate.specs.declared.looking.Look.{Look}
 
 -- the core is what the seat knew of it
-abbrev pub FindsCore : View Parts → Parts → Type 0
+abbrev pub FindsCore : View CoreParts → CoreParts → Type 0
 FindsCore = Finds core_row first_row core_entries core_settings
 
 -- What is found.
 
 -- the seat is one of the core that it finds
-pub seated-found : (view : View Parts) (found : Parts) (worker : ℕ) → IsSeated view → FindsCore view found → worker ≡ view.number
+pub seated-found : (view : View CoreParts) (found : CoreParts) (worker : ℕ) → IsSeated view → FindsCore view found → worker ≡ view.number
     → worker < (state_of found).settings.seats
 seated-found view found worker seated finds is =
     subst (λ n. n < (state_of found).settings.seats) (sym is)
     (subst (λ o. IsSomeAnd o (λ (settings : RunSettings). view.number < settings.seats)) finds.settled seated)
 
 -- what was in its hand is there, and what was lent beside it
-pub hand-found : (IsHeld : CoreRow → Type 0) (view : View Parts) (found : Parts) (worker : ℕ) → IsHeld (own_row view)
+pub hand-found : (IsHeld : CoreRow → Type 0) (view : View CoreParts) (found : CoreParts) (worker : ℕ) → IsHeld (own_row view)
     → FindsCore view found → worker ≡ view.number → IsHeld (core_row found worker)
 hand-found IsHeld view found worker held finds is =
     subst (λ n. IsHeld (core_row found n)) (sym is) (subst IsHeld (sym finds.own) held)
@@ -38,14 +38,14 @@ hand-found IsHeld view found worker held finds is =
 -- What is left.
 
 -- the seat is still one of the core
-pub seated-left : (view : View Parts) (found core : Parts) (worker : ℕ) → IsSeated view → FindsCore view found
+pub seated-left : (view : View CoreParts) (found core : CoreParts) (worker : ℕ) → IsSeated view → FindsCore view found
     → MovesHand worker (state_of found) (state_of core) → IsSeated (left view core)
 seated-left view found core worker seated finds moves =
     subst (λ (settings : RunSettings). view.number < settings.seats) (sym moves.settings)
     (seated-found view found view.number seated finds refl)
 
 -- nothing of its row has changed but for the hand, and entries of others came
-pub passes-left : (view : View Parts) (found core : Parts) (worker : ℕ) → FindsCore view found
+pub passes-left : (view : View CoreParts) (found core : CoreParts) (worker : ℕ) → FindsCore view found
     → MovesHand worker (state_of found) (state_of core) → worker ≡ view.number → Passes (sight_in view) (sight_in (left view core))
 passes-left view found core worker finds moves is = record {
   submitted = ap (λ (row : SeatRow). row.submitted) same;
@@ -64,11 +64,11 @@ passes-left view found core worker finds moves is = record {
     same = moved.own ∙ ap (λ (row : CoreRow). record row.row { hand = (core_row core view.number).row.hand }) finds.own
 
 -- a seat that took the core and left another
-pub view-left : (old taken new : View Parts) (found core : Parts) → taken ≡ entered old found → new ≡ left taken core → new ≡ left old core
-view-left old taken new found core enters leaves = leaves ∙ ap (λ (view : View Parts). left view core) enters
+pub view-left : (old taken new : View CoreParts) (found core : CoreParts) → taken ≡ entered old found → new ≡ left taken core → new ≡ left old core
+view-left old taken new found core enters leaves = leaves ∙ ap (λ (view : View CoreParts). left view core) enters
 
 -- what is said of what it left is said of the seat
-pub turn-out : (board : BoardLock Parts) (IsHeld : CoreRow → Type 0) (old new : BoardSeat Parts) (found core : Parts) (worker : ℕ)
+pub turn-out : (board : BoardLock CoreParts) (IsHeld : CoreRow → Type 0) (old new : BoardSeat CoreParts) (found core : CoreParts) (worker : ℕ)
     → view_of new ≡ left (view_of old) core → IsOf board new → IsOutside new → IsSeated (view_of old) → FindsCore (view_of old) found
     → MovesHand worker (state_of found) (state_of core) → worker ≡ (view_of old).number
     → IsHeld (core_row core worker) → IsOutWith board IsHeld new
@@ -76,31 +76,31 @@ turn-out board IsHeld old new found core worker view own outside seated finds mo
   own = own;
   outside = outside;
   seated = subst IsSeated (sym view) (seated-left (view_of old) found core worker seated finds moves);
-  hand = subst (λ (v : View Parts). IsHeld (own_row v)) (sym view) (subst (λ n. IsHeld (core_row core n)) is held);
+  hand = subst (λ (v : View CoreParts). IsHeld (own_row v)) (sym view) (subst (λ n. IsHeld (core_row core n)) is held);
 }
 
-pub turn-passes : (old new : BoardSeat Parts) (found core : Parts) (worker : ℕ) → view_of new ≡ left (view_of old) core
+pub turn-passes : (old new : BoardSeat CoreParts) (found core : CoreParts) (worker : ℕ) → view_of new ≡ left (view_of old) core
     → FindsCore (view_of old) found → MovesHand worker (state_of found) (state_of core) → worker ≡ (view_of old).number
     → Passes (sight_in (view_of old)) (sight_in (view_of new))
 turn-passes old new found core worker view finds moves is =
-    subst (λ (v : View Parts). Passes (sight_in (view_of old)) (sight_in v)) (sym view) (passes-left (view_of old) found core worker finds moves is)
+    subst (λ (v : View CoreParts). Passes (sight_in (view_of old)) (sight_in v)) (sym view) (passes-left (view_of old) found core worker finds moves is)
 
-pub turn-last : (found : Look) (old new : BoardSeat Parts) (core : Parts) → view_of new ≡ left (view_of old) core → LooksLast found (Some core)
+pub turn-last : (found : Look) (old new : BoardSeat CoreParts) (core : CoreParts) → view_of new ≡ left (view_of old) core → LooksLast found (Some core)
     → LooksLast found (view_of new).last
-turn-last found old new core view last = subst (λ (v : View Parts). LooksLast found v.last) (sym view) last
+turn-last found old new core view last = subst (λ (v : View CoreParts). LooksLast found v.last) (sym view) last
 
 -- Seats.
 
 -- one that is what another is
 pub out-as : (IsHeld IsOther : CoreRow → Type 0) → ((row : CoreRow) → IsHeld row → IsOther row)
-    → (board : BoardLock Parts) (seat : BoardSeat Parts) → IsOutWith board IsHeld seat → IsOutWith board IsOther seat
+    → (board : BoardLock CoreParts) (seat : BoardSeat CoreParts) → IsOutWith board IsHeld seat → IsOutWith board IsOther seat
 out-as IsHeld IsOther more board seat out =
     record { own = out.own; outside = out.outside; seated = out.seated; hand = more (own_row (view_of seat)) out.hand }
 
-pub same-seat : (seat : BoardSeat Parts) → IsSameSeat seat seat
+pub same-seat : (seat : BoardSeat CoreParts) → IsSameSeat seat seat
 same-seat seat = (refl, refl, refl)
 
-pub same-then : (old between new : BoardSeat Parts) → IsSameSeat old between → IsSameSeat between new → IsSameSeat old new
+pub same-then : (old between new : BoardSeat CoreParts) → IsSameSeat old between → IsSameSeat between new → IsSameSeat old new
 same-then old between new first second = (second.0 ∙ first.0, second.1 ∙ first.1, second.2 ∙ first.2)
 
 -- Sights.

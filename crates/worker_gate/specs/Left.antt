@@ -2,7 +2,7 @@
 use Rattle.std.specs.Prelude.{◌≡◌, ◌≢◌, ℕ}
 use Rattle.core_state.specs.Rows.{row_of}
 use Rattle.core_state.specs.State.{State}
-use Rattle.event_core.specs.Parts.{Parts, loan_of}
+use Rattle.event_core.specs.CoreParts.{CoreParts, loan_of}
 
 -- no row has changed, and no entry came
 pub record LeavesRows (old new : State) : Type 0 where
@@ -18,5 +18,5 @@ pub record MovesHand (worker : ℕ) (old new : State) : Type 0 where
   pub settings : new.settings ≡ old.settings
 
 -- each seat has what it had beside its batch
-abbrev pub LeavesAllLoans : (old new : Parts) → Type 0
+abbrev pub LeavesAllLoans : (old new : CoreParts) → Type 0
 LeavesAllLoans old new = (seat : ℕ) → loan_of new seat ≡ loan_of old seat

@@ -4,7 +4,7 @@ use Rattle.core_state.specs.Events.{IsWanting}
 use Rattle.core_state.specs.State.{State}
 use Rattle.core_state.specs.declared.event.Event.TheVariants.{Carry, Cut}
 use Rattle.event_core.specs.Board.{CoreRow, core_row}
-use Rattle.event_core.specs.Parts.{Parts}
+use Rattle.event_core.specs.CoreParts.{CoreParts}
 use Rattle.event_core.specs.Seen.{state_of}
 use Rattle.event_core.specs.Took.{CutsAndCarries, Took}
 use Rattle.event_core.specs.declared.choosing.EventKind.{EventKind}
@@ -26,7 +26,7 @@ NoneWants state = All (λ flight. IsWanting state.filters flight → ⊥) state.
 
 -- a worker carries a batch through all filters that it did not pass, and has it as its work, with
 -- what it was lent beside it: nothing to fold with while a statement waits for the tables
-pub record TakesWork (work : Work) (worker : ℕ) (old new : Parts) : Type 0 where
+pub record TakesWork (work : Work) (worker : ℕ) (old new : CoreParts) : Type 0 where
   pub batch : ℕ
   pub took : Took (Carry worker batch) (state_of old) (state_of new)
   pub has : HasWork (carried.Written work) (core_row new worker)
@@ -34,12 +34,12 @@ pub record TakesWork (work : Work) (worker : ℕ) (old new : Parts) : Type 0 whe
   pub marks : new.marks ≡ old.marks
 
 -- what `take_work` tells
-abbrev pub TellsTaken : TakenWork → (worker : ℕ) → (old new : Parts) → Type 0
+abbrev pub TellsTaken : TakenWork → (worker : ℕ) → (old new : CoreParts) → Type 0
 TellsTaken (taken.Got work) worker old new = TakesWork work worker old new
 TellsTaken taken.Nothing worker old new = (new ≡ old) × NoneWants (state_of old)
 
 -- a worker of the core whose hand is empty finds no batch that wants a filter
-pub record IsToManage (worker : ℕ) (parts : Parts) : Type 0 where
+pub record IsToManage (worker : ℕ) (parts : CoreParts) : Type 0 where
   pub seat : worker < (state_of parts).settings.seats
   pub empty : HasNothing (core_row parts worker)
   pub wants : NoneWants (state_of parts)
@@ -55,13 +55,13 @@ pub record IsStuck (state : State) : Type 0 where
   pub clear : ClearsNext state
 
 -- no batch wants a filter, and an event of this kind was made
-pub record MakesEvent (of_kind : EventKind) (old new : Parts) : Type 0 where
+pub record MakesEvent (of_kind : EventKind) (old new : CoreParts) : Type 0 where
   pub wants : NoneWants (state_of old)
   pub manages : Manages of_kind old new
 
 -- no batch wants a filter, and the first event that may come cuts one: it was cut, and a worker
 -- carries it as it is cut, which none does while a statement waits for the tables
-pub record CutsFor (blank : BlankWork) (worker : ℕ) (old new : Parts) : Type 0 where
+pub record CutsFor (blank : BlankWork) (worker : ℕ) (old new : CoreParts) : Type 0 where
   pub wants : NoneWants (state_of old)
   pub first : IsFirstOf managed_kinds (state_of old) kind.Cut Cut
   pub took : CutsAndCarries worker (state_of old) (state_of new)
@@ -70,14 +70,14 @@ pub record CutsFor (blank : BlankWork) (worker : ℕ) (old new : Parts) : Type 0
   pub marks : new.marks ≡ old.marks
 
 -- how a worker came by what it carries: it took a batch, or cut one
-abbrev pub TellsGot : Carried → (worker : ℕ) → (old new : Parts) → Type 0
+abbrev pub TellsGot : Carried → (worker : ℕ) → (old new : CoreParts) → Type 0
 TellsGot (carried.Written work) worker old new = TakesWork work worker old new
 TellsGot (carried.Blank blank) worker old new = CutsFor blank worker old new
 
 -- what `worker_look` tells: what the worker carries; that an event of a kind was made; that there
 -- is nothing to do, where the core is not marked closing and where it is; and that there was no
 -- memory to clear a filter
-abbrev pub TellsLook : Look → (worker : ℕ) → (old new : Parts) → Type 0
+abbrev pub TellsLook : Look → (worker : ℕ) → (old new : CoreParts) → Type 0
 TellsLook (look.Got work) worker old new = TellsGot work worker old new
 TellsLook (look.Did of_kind) worker old new = MakesEvent of_kind old new
 TellsLook look.Rest worker old new =

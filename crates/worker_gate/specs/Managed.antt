@@ -6,7 +6,7 @@ use Rattle.core_state.specs.State.{State}
 use Rattle.core_state.specs.declared.event.Event.{Event}
 use Rattle.core_state.specs.declared.event.Event.TheVariants.{Reorder}
 use Rattle.event_core.specs.Chosen.{IsOfKind, NoneMayCome}
-use Rattle.event_core.specs.Parts.{Parts}
+use Rattle.event_core.specs.CoreParts.{CoreParts}
 use Rattle.event_core.specs.Seen.{state_of}
 use Rattle.event_core.specs.Took.{CameHome, Took}
 use Rattle.event_core.specs.declared.choosing.EventKind.{EventKind}
@@ -52,7 +52,7 @@ OrdersIf false old new = new ≡ old
 
 -- the first of these events that may come was taken, which is one of this kind, and where it was
 -- the sixteenth Distribute the filters were ordered behind it
-pub record Manages (of_kind : EventKind) (old new : Parts) : Type 0 where
+pub record Manages (of_kind : EventKind) (old new : CoreParts) : Type 0 where
   pub event : Event
   pub between : State
   pub first : IsFirstOf managed_kinds (state_of old) of_kind event
@@ -67,7 +67,7 @@ pub record ClearsNext (state : State) : Type 0 where
 
 -- what `manage_one` tells: an event of a kind was made, none may come, or there was no
 -- memory to clear a filter
-abbrev pub TellsManaged : Managed → (old new : Parts) → Type 0
+abbrev pub TellsManaged : Managed → (old new : CoreParts) → Type 0
 TellsManaged (managed.Did of_kind) old new = Manages of_kind old new
 TellsManaged managed.Idle old new = (new ≡ old) × NoneIsLeft (state_of old)
 TellsManaged managed.Memory old new = (new ≡ old) × ClearsNext (state_of old)
@@ -82,7 +82,7 @@ is_sixteenth_home is_folded marks = is_folded && is_sixteenth kind.Distribute ma
 
 -- the batch of a worker came home, and if it was folded outside, it was distributed, too: this was
 -- counted, and the filters were ordered after each sixteenth
-pub record BringsHome (worker : ℕ) (folding : Option Folding) (old new : Parts) : Type 0 where
+pub record BringsHome (worker : ℕ) (folding : Option Folding) (old new : CoreParts) : Type 0 where
   pub between : State
   pub came : CameHome worker folding (state_of old) between
   pub counted : new.marks ≡ counted_home (is_some folding) old.marks

@@ -2,7 +2,7 @@
 ghost use Rattle.std.specs.Prelude.{◌≡◌, ◌↔◌, ◌<◌, IsTrue, if◌then◌else◌};
 ghost use Rattle.core_state.specs.declared.event.Event.TheVariants.{Cut};
 ghost use Rattle.event_core.specs.Board.{core_row};
-ghost use Rattle.event_core.specs.Parts.{LeavesLoans};
+ghost use Rattle.event_core.specs.CoreParts.{LeavesLoans};
 ghost use Rattle.event_core.specs.Seen.{state_of};
 ghost use Rattle.worker_gate.specs.Hands.{HasNothing};
 ghost use Rattle.worker_gate.specs.Left.{MovesHand};

@@ -4,7 +4,7 @@ ghost use Rattle.std.specs.Prelude.{◌<◌, None};
 ghost use Rattle.board_lock.specs.Seats.{IsSameSeat, view_of};
 ghost use Rattle.core_state.specs.Fronts.{Passes};
 ghost use Rattle.event_core.specs.Board.{core_row};
-ghost use Rattle.event_core.specs.Parts.{LeavesLoans};
+ghost use Rattle.event_core.specs.CoreParts.{LeavesLoans};
 ghost use Rattle.event_core.specs.Seen.{state_of};
 ghost use Rattle.worker_gate.specs.Hands.{HasDoneIf, HasNothing};
 ghost use Rattle.worker_gate.specs.Left.{MovesHand};

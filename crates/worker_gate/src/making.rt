@@ -2,7 +2,7 @@
 ghost use Rattle.core_state.specs.Events.{IsEnabled};
 ghost use Rattle.core_parts.specs.Lent.{lent_to};
 ghost use Rattle.event_core.specs.Lent.{IsAtHome};
-ghost use Rattle.event_core.specs.Parts.{beside_of};
+ghost use Rattle.event_core.specs.CoreParts.{beside_of};
 ghost use Rattle.event_core.specs.Seen.{state_of};
 ghost use Rattle.event_core.specs.Took.{MayWantMemory, Took};
 ghost use Rattle.worker_gate.specs.Left.{LeavesAllLoans};

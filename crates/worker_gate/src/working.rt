@@ -3,7 +3,7 @@ ghost use Rattle.std.specs.Prelude.{◌≡◌, ◌<◌, None};
 ghost use Rattle.core_state.specs.Events.{MayCarry};
 ghost use Rattle.core_state.specs.Found.{held_by};
 ghost use Rattle.event_core.specs.Board.{core_row};
-ghost use Rattle.event_core.specs.Parts.{LeavesLoans};
+ghost use Rattle.event_core.specs.CoreParts.{LeavesLoans};
 ghost use Rattle.event_core.specs.Seen.{state_of};
 ghost use Rattle.worker_gate.specs.Hands.{HasDone, HasNothing};
 ghost use Rattle.worker_gate.specs.Left.{MovesHand};

@@ -5,7 +5,7 @@ use Rattle.std.specs.Prelude.{IsErrOf, IsSome}
 use Rattle.core_parts.specs.Filtered.{order_by}
 use Rattle.core_state.specs.Tables.{tables_of}
 use Rattle.core_state.specs.Events.{after_event}
-use Rattle.event_core.specs.Parts.{Parts}
+use Rattle.event_core.specs.CoreParts.{CoreParts}
 use Rattle.event_core.specs.Took.{MayWantMemory}
 use Rattle.event_core.specs.declared.stepping.StepFault.{StepFault}
 use Rattle.event_core.specs.declared.stepping.StepFault.TheVariants.{NotEnabled, Memory}
@@ -28,7 +28,7 @@ ordered old new took = record {
       (λ some. refl)) (λ never. absurd never) took.after;
 }
 
-once : {T : Type 0} (result : Result T StepFault) (old new : Parts) → OnOk result (Took Reorder (state_of old) (state_of new))
+once : {T : Type 0} (result : Result T StepFault) (old new : CoreParts) → OnOk result (Took Reorder (state_of old) (state_of new))
     → OnErr result (new ≡ old) → IsErrOf result NotEnabled ↔ (IsEnabled (state_of old) Reorder → ⊥)
     → (IsErrOf result Memory → IsEnabled (state_of old) Reorder × MayWantMemory Reorder) → OrdersFilters (state_of old) (state_of new)
 once (Ok x) old new took same disabled memory = ordered (state_of old) (state_of new) took

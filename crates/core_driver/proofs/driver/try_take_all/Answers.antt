@@ -1,6 +1,6 @@
 -- An event more of the kinds is taken, which leaves less work.
 use Rattle.core_driver.proofs.Words.{ap, IsManaged, IsOfSome, NoneOfMayCome, Ok, state_of, StaysIdle, subst, sym}
-use Rattle.event_core.specs.Parts.{Parts}
+use Rattle.event_core.specs.CoreParts.{CoreParts}
 use Rattle.event_core.proofs.ChoosingLemmas.{all-managed}
 use Rattle.core_driver.proofs.IdleLemmas.{idle-taken, stays-then}
 use Rattle.core_driver.proofs.KindLemmas.{kind-of-some}
@@ -31,7 +31,7 @@ returns-in_err-take_one-clause-stays c =
 pub returns-clause-none : goal.returns-clause-none
 returns-clause-none c =
     let ended = c.in_ok-take_one.ensures.none (ap Ok c.if-branch.false) in
-    subst (λ (parts : Parts). NoneOfMayCome c.args.kinds.now (state_of parts)) (sym ended.0) ended.1
+    subst (λ (parts : CoreParts). NoneOfMayCome c.args.kinds.now (state_of parts)) (sym ended.0) ended.1
 
 pub returns-clause-stays : goal.returns-clause-stays
 returns-clause-stays c =

@@ -2,7 +2,7 @@
 use Rattle.std.proofs.Common.{◌<◌, ◌∙◌, ap, subst, sym}
 use Rattle.core_state.specs.Found.{held_by}
 use Rattle.core_state.specs.declared.settings.RunSettings.{RunSettings}
-use Rattle.event_core.specs.Parts.{Parts}
+use Rattle.event_core.specs.CoreParts.{CoreParts}
 use Rattle.event_core.specs.Seen.{state_of}
 use Rattle.crate_tests.proofs.lent.pass.Goals as goal
 
@@ -20,4 +20,4 @@ returns-in-Nothing-clause-seat c =
 
 pub returns-in-Nothing-clause-empty : goal.returns-in-Nothing-clause-empty
 returns-in-Nothing-clause-empty c =
-    ap (λ (parts : Parts). held_by (state_of parts).scan.flights 1) c.in-Nothing.ensures.tells.0 ∙ c.requires.empty
+    ap (λ (parts : CoreParts). held_by (state_of parts).scan.flights 1) c.in-Nothing.ensures.tells.0 ∙ c.requires.empty

@@ -7,7 +7,7 @@ use Rattle.core_state.specs.State.{State}
 use Rattle.core_state.specs.Submitting.{after_submitting}
 use Rattle.core_state.specs.declared.event.Event.TheVariants.{Submit}
 use Rattle.core_state.proofs.MoverLemmas.{mindful-none}
-use Rattle.event_core.specs.Parts.{Parts}
+use Rattle.event_core.specs.CoreParts.{CoreParts}
 use Rattle.event_core.specs.Seen.{state_of}
 use Rattle.event_core.specs.Took.{Submits, Took}
 use Rattle.event_core.specs.declared.stepping.SubmitFault.{SubmitFault}
@@ -20,7 +20,7 @@ after-submit statement old new took = ⊎_elim (λ done. done) (λ spoilt. absur
 
 -- the row of its seat moves alone
 mindful-submit : ((state : State) (seat : ℕ) (statement : Statement) → IsMindful seat state (after_submitting seat statement state))
-    → (statement : Statement) (old new : Parts) (result : Result (Unit {0}) SubmitFault) → Submits 0 statement old new result
+    → (statement : Statement) (old new : CoreParts) (result : Result (Unit {0}) SubmitFault) → Submits 0 statement old new result
     → IsMindful 0 (state_of old) (state_of new)
 mindful-submit law statement old new (Ok x) submits =
     subst (IsMindful 0 (state_of old)) (sym (after-submit statement (state_of old) (state_of new) submits.taken))

@@ -1,14 +1,14 @@
-use Rattle.event_core.proofs.Words.{◌∙◌, ◌≡◌, ap, Option, Parts, Some, state_of, subst, sym, ℕ}
+use Rattle.event_core.proofs.Words.{◌∙◌, ◌≡◌, ap, CoreParts, Option, Some, state_of, subst, sym, ℕ}
 use mathlib.Core.List.{IsPrefix}
 use Rattle.board_lock.specs.Views.{fixed_in, Keeps, list_in, row_in}
 use Rattle.board_lock.specs.declared.view.View.{View}
 use Rattle.core_state.specs.Rows.{IsMindful, row_of, SeatRow}
 use Rattle.event_core.specs.Board.{core_entries, core_row, core_settings, CoreRow, first_row}
-use Rattle.event_core.specs.Parts.{LeavesLoans, Loan, loan_of}
+use Rattle.event_core.specs.CoreParts.{LeavesLoans, Loan, loan_of}
 use Rattle.event_core.proofs.laws_of_boards.own_steps_keep_a_board.Goals as goal
 
 -- another seat's row is as it was found
-same-row : (found core : Parts) (seat : ℕ) → row_of (state_of core) seat ≡ row_of (state_of found) seat
+same-row : (found core : CoreParts) (seat : ℕ) → row_of (state_of core) seat ≡ row_of (state_of found) seat
     → loan_of core seat ≡ loan_of found seat → core_row core seat ≡ core_row found seat
 same-row found core seat rows loans =
     ap (λ row. made row (loan_of core seat)) rows ∙ ap (made (row_of (state_of found) seat)) loans
@@ -17,7 +17,7 @@ same-row found core seat rows loans =
     made row loan = record { row = row; loan = loan }
 
 -- each other row is as it was found, the entries go on, and the settings stay
-kept : (view : View Parts) (found core : Parts) → view.last ≡ Some found → IsMindful view.number (state_of found) (state_of core)
+kept : (view : View CoreParts) (found core : CoreParts) → view.last ≡ Some found → IsMindful view.number (state_of found) (state_of core)
     → LeavesLoans view.number found core → Keeps core_row first_row core_entries core_settings view core
 kept view found core last mindful loans = record {
   others = λ seat other. same-row found core seat (mindful.rows seat other) (loans seat other)

@@ -1,7 +1,7 @@
 -- The reply that was taken is that to the first statement; where none may be taken nothing has changed so far.
 use Rattle.script_run.proofs.Words.{◌<◌, ◌∙◌, ap, next_ready, refl, state_of, subst, sym}
 use Rattle.event_core.specs.Board.{core_row}
-use Rattle.event_core.specs.Parts.{Parts}
+use Rattle.event_core.specs.CoreParts.{CoreParts}
 use Rattle.worker_gate.specs.Hands.{HasNothing}
 use Rattle.script_run.specs.SeatTurns.{AsksCore}
 use Rattle.script_run.proofs.SeatTurnLemmas.{hand-taken, loans-but, mindful-taken, nothing-stays, takes-next}
@@ -9,9 +9,9 @@ use Rattle.script_run.proofs.seat_turn.ask.Goals as goal
 
 pub wait_or_look-requires : goal.wait_or_look-requires
 wait_or_look-requires c = record {
-  seat = subst (λ (parts : Parts). c.args.seat < (state_of parts).settings.seats) (sym (c.in-None.ensures.none refl)) c.requires.seat;
-  empty = subst (λ (parts : Parts). HasNothing (core_row parts c.args.seat)) (sym (c.in-None.ensures.none refl)) c.requires.empty;
-  none = ap (λ (parts : Parts). next_ready (state_of parts) c.args.seat) (c.in-None.ensures.none refl) ∙ sym c.in-None.ensures.ready;
+  seat = subst (λ (parts : CoreParts). c.args.seat < (state_of parts).settings.seats) (sym (c.in-None.ensures.none refl)) c.requires.seat;
+  empty = subst (λ (parts : CoreParts). HasNothing (core_row parts c.args.seat)) (sym (c.in-None.ensures.none refl)) c.requires.empty;
+  none = ap (λ (parts : CoreParts). next_ready (state_of parts) c.args.seat) (c.in-None.ensures.none refl) ∙ sym c.in-None.ensures.ready;
 }
 
 pub returns-in-Some-clause-asks : goal.returns-in-Some-clause-asks
@@ -30,5 +30,5 @@ returns-in-Some-clause-asks c =
 
 pub returns-in-None-clause-asks : goal.returns-in-None-clause-asks
 returns-in-None-clause-asks c =
-    subst (λ (parts : Parts). AsksCore c.wait_or_look.result c.args.seat parts c.wait_or_look.new.core) (c.in-None.ensures.none refl)
+    subst (λ (parts : CoreParts). AsksCore c.wait_or_look.result c.args.seat parts c.wait_or_look.new.core) (c.in-None.ensures.none refl)
     c.wait_or_look.ensures.asks

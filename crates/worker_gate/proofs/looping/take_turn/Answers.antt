@@ -3,7 +3,7 @@ use Rattle.std.proofs.Common.{ap, subst, sym, ◌∙◌}
 use Rattle.core_state.specs.Rows.{IsMindful}
 use Rattle.board_lock.specs.Seats.{view_of}
 use Rattle.board_lock.specs.declared.view.View.{View}
-use Rattle.event_core.specs.Parts.{LeavesLoans, Parts}
+use Rattle.event_core.specs.CoreParts.{CoreParts, LeavesLoans}
 use Rattle.event_core.specs.Seen.{state_of}
 use Rattle.worker_gate.specs.Hands.{HasDoneIf}
 use Rattle.worker_gate.specs.Looks.{HasLooked}
@@ -22,13 +22,13 @@ give_and_look-look-requires g c = record {
 pub leave-requires-clause-keeps : goal.leave-requires-clause-keeps
 leave-requires-clause-keeps g c =
     c.own_steps_keep_a_board.ensures (view_of c.enter-core.new.seat) c.enter-core.result c.give_and_look-look.new.core
-    (ap (λ (view : View Parts). view.last) c.enter-core.ensures.inside.1)
+    (ap (λ (view : View CoreParts). view.last) c.enter-core.ensures.inside.1)
     (subst (λ n. IsMindful n (state_of c.enter-core.result) (state_of c.give_and_look-look.new.core))
-    (c.number-worker.ensures ∙ sym (ap (λ (view : View Parts). view.number) c.enter-core.ensures.inside.1))
+    (c.number-worker.ensures ∙ sym (ap (λ (view : View CoreParts). view.number) c.enter-core.ensures.inside.1))
     (moves-mindful c.number-worker.result (state_of c.enter-core.result) (state_of c.give_and_look-look.new.core)
     c.give_and_look-look.ensures.moves))
     (subst (λ n. LeavesLoans n c.enter-core.result c.give_and_look-look.new.core)
-    (c.number-worker.ensures ∙ sym (ap (λ (view : View Parts). view.number) c.enter-core.ensures.inside.1))
+    (c.number-worker.ensures ∙ sym (ap (λ (view : View CoreParts). view.number) c.enter-core.ensures.inside.1))
     c.give_and_look-look.ensures.others)
 
 pub returns-clause-out : goal.returns-clause-out

@@ -1,4 +1,4 @@
-use Rattle.event_core.proofs.Words.{◌∙◌, Abandoned, ap, CanAbandon, length, Lives, Parts, refl, subst, sym, the_view}
+use Rattle.event_core.proofs.Words.{◌∙◌, Abandoned, ap, CanAbandon, CoreParts, length, Lives, refl, subst, sym, the_view}
 use Rattle.event_core.proofs.AbandonEventLemmas.{abandon-becomes, abandon-seat, seat-rises, slot-attached, statements_in}
 use Rattle.event_core.proofs.AskedKeptLemmas.{asked-rise}
 use Rattle.core_parts.specs.Asked.{HasBegun}
@@ -13,7 +13,7 @@ asked_of-requires-clause-rising c = asked-rise _ c.self.invariant.0
 pub asked_of-requires-clause-stands : goal.asked_of-requires-clause-stands
 asked_of-requires-clause-stands c =
     open-stands c.self.inside.manager c.self.inside.asked.gone c.args.query c.self.invariant.2.over
-    (subst (λ (parts : Parts). CanAbandon c.args.query parts.lives) (sym c.self.view_is) c.requires)
+    (subst (λ (parts : CoreParts). CanAbandon c.args.query parts.lives) (sym c.self.view_is) c.requires)
 
 pub give_up-requires-clause-rising : goal.give_up-requires-clause-rising
 give_up-requires-clause-rising c =
@@ -27,7 +27,7 @@ give_up-requires-2-clause-rising c = asked-rise _ c.self.invariant.0
 pub give_up-requires-2-clause-stands : goal.give_up-requires-2-clause-stands
 give_up-requires-2-clause-stands c =
     open-stands c.self.inside.manager c.self.inside.asked.gone c.args.query c.self.invariant.2.over
-    (subst (λ (parts : Parts). CanAbandon c.args.query parts.lives) (sym c.self.view_is) c.requires)
+    (subst (λ (parts : CoreParts). CanAbandon c.args.query parts.lives) (sym c.self.view_is) c.requires)
 
 pub drop_at-requires : goal.drop_at-requires
 drop_at-requires c = slot-attached _ c.slot_of-slot.result c.self.invariant.0 c.slot_of-slot.ensures.within

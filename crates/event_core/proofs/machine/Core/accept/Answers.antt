@@ -1,5 +1,5 @@
-use Rattle.event_core.proofs.Words.{◌+◌, ◌<◌, ◌∙◌, ◌≡◌, after_outcome, after_submitting, ap, arith, AskedQuery, Becomes, get_or, KeyedStore, length, Lives, Outcome, outcome_of, Parts, refl, state_of, subst, sym, tables_of, the_view}
-use Rattle.event_core.specs.Parts.{AreBacked, beside_of}
+use Rattle.event_core.proofs.Words.{◌+◌, ◌<◌, ◌∙◌, ◌≡◌, after_outcome, after_submitting, ap, arith, AskedQuery, Becomes, CoreParts, get_or, KeyedStore, length, Lives, Outcome, outcome_of, refl, state_of, subst, sym, tables_of, the_view}
+use Rattle.event_core.specs.CoreParts.{AreBacked, beside_of}
 use Rattle.event_core.proofs.EventsSubmitLemmas.{accepts, seat-kept, seat-there, statements_in}
 use Rattle.event_core.proofs.LetGoLemmas.{finished-on, on-submitted}
 use Rattle.event_core.proofs.machine.Core.accept.Goals as goal
@@ -33,7 +33,7 @@ accepted c =
     c.in_ok-number.ensures c.in_ok-query.ensures.asked
     (c.len-extent.ensures.count ∙ ap length c.facts.ensures.versions ∙ ap (λ (store : KeyedStore). length store.versions) c.store.ensures)
     c.in_ok-enter.ensures.statements c.in_ok-enter.ensures.queries c.in_ok-enter.ensures.lives
-    (ap (λ (parts : Parts). outcome_of (tables_of (state_of parts)) c.requires.asked.0) c.self.view_is ∙ c.requires.asked.1)
+    (ap (λ (parts : CoreParts). outcome_of (tables_of (state_of parts)) c.requires.asked.0) c.self.view_is ∙ c.requires.asked.1)
 
 pub invariant_of-self-2 : goal.invariant_of-self-2
 invariant_of-self-2 c = (
@@ -51,5 +51,5 @@ invariant_of-self-2 c = (
 pub returns-clause-ok : goal.returns-clause-ok
 returns-clause-ok c =
     (accepted c).state
-    ∙ ap (λ (parts : Parts). after_submitting c.args.seat c.requires.asked.0 (state_of parts)) c.self.view_is
+    ∙ ap (λ (parts : CoreParts). after_submitting c.args.seat c.requires.asked.0 (state_of parts)) c.self.view_is
     ∙ ap (λ (found : Outcome). after_outcome c.args.seat found (state_of c.args.self.now)) c.requires.asked.1

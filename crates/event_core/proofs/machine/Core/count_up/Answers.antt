@@ -1,4 +1,4 @@
-use Rattle.event_core.proofs.Words.{◌+◌, ◌∙◌, ap, Parts, refl, the_view}
+use Rattle.event_core.proofs.Words.{◌+◌, ◌∙◌, ap, CoreParts, refl, the_view}
 use Rattle.std.specs.Prelude.{◌%◌}
 use Rattle.event_core.proofs.WorkLemmas.{seen-same}
 use Rattle.event_core.proofs.machine.Core.count_up.Goals as goal
@@ -15,8 +15,8 @@ invariant_of-self c = (
 )
 
 pub returns-clause-count : goal.returns-clause-count
-returns-clause-count c = c.next_in_round-self-inside.ensures ∙ ap (λ (parts : Parts). (parts.marks.distributed + 1) % 16) c.self.view_is
+returns-clause-count c = c.next_in_round-self-inside.ensures ∙ ap (λ (parts : CoreParts). (parts.marks.distributed + 1) % 16) c.self.view_is
 
 pub returns-clause-marks : goal.returns-clause-marks
 returns-clause-marks c =
-    ap (λ (parts : Parts). record parts { marks = record parts.marks { distributed = c.next_in_round-self-inside.result } }) c.self.view_is
+    ap (λ (parts : CoreParts). record parts { marks = record parts.marks { distributed = c.next_in_round-self-inside.result } }) c.self.view_is

@@ -1,4 +1,4 @@
-use Rattle.event_core.proofs.Words.{ap, Parts, refl, the_view, true}
+use Rattle.event_core.proofs.Words.{ap, CoreParts, refl, the_view, true}
 use Rattle.event_core.proofs.WorkLemmas.{seen-same}
 use Rattle.event_core.proofs.machine.Core.mark_closing.Goals as goal
 
@@ -13,4 +13,4 @@ invariant_of-self c = (
 )
 
 pub returns : goal.returns
-returns c = ap (λ (parts : Parts). record parts { marks = record parts.marks { closing = true } }) c.self.view_is
+returns c = ap (λ (parts : CoreParts). record parts { marks = record parts.marks { closing = true } }) c.self.view_is

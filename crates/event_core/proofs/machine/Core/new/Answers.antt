@@ -4,7 +4,7 @@ use Rattle.event_core.proofs.NewCoreLemmas.{becomes-empty, room-made}
 use Rattle.event_core.proofs.SparedLemmas.{spare-none}
 use Rattle.core_parts.specs.Asked.{AreOver, HasBegun, IsQueryOver}
 use Rattle.shared_distributor.specs.Shared.{SharedGroups}
-use Rattle.event_core.specs.Parts.{first_marks}
+use Rattle.event_core.specs.CoreParts.{first_marks}
 use Rattle.event_core.proofs.OutLemmas.{backed-none, beside-first}
 use Rattle.event_core.proofs.machine.Core.new.Goals as goal
 

@@ -1,4 +1,4 @@
-use Rattle.event_core.proofs.Words.{◌∙◌, ap, Parts, refl, state_of}
+use Rattle.event_core.proofs.Words.{◌∙◌, ap, CoreParts, refl, state_of}
 use Rattle.event_core.proofs.ChoosingLemmas.{carry-offered, none-carried, none-carries, numbers-apart}
 use Rattle.event_core.proofs.machine.Core.next_carry.Goals as goal
 
@@ -9,7 +9,7 @@ next_idle-requires c =
 pub returns-in_err-batch-clause-none : goal.returns-in_err-batch-clause-none
 returns-in_err-batch-clause-none c = λ none.
     none-carried c.args.self.now c.as_slice.result.now
-    (c.as_slice.ensures ∙ ap (λ (parts : Parts). parts.flights) c.self.view_is) (c.in_err-batch.ensures.none refl)
+    (c.as_slice.ensures ∙ ap (λ (parts : CoreParts). parts.flights) c.self.view_is) (c.in_err-batch.ensures.none refl)
 
 pub returns-in_err-worker-clause-none : goal.returns-in_err-worker-clause-none
 returns-in_err-worker-clause-none c = λ none. none-carries (state_of c.args.self.now) (c.in_err-worker.ensures.none refl)
@@ -17,4 +17,4 @@ returns-in_err-worker-clause-none c = λ none. none-carries (state_of c.args.sel
 pub returns-clause-enabled : goal.returns-clause-enabled
 returns-clause-enabled c =
     carry-offered c.args.self.now c.in_ok-worker.worker c.in_ok-batch.batch c.as_slice.result.now
-    (c.as_slice.ensures ∙ ap (λ (parts : Parts). parts.flights) c.self.view_is) c.in_ok-worker.ensures.some c.in_ok-batch.ensures.some
+    (c.as_slice.ensures ∙ ap (λ (parts : CoreParts). parts.flights) c.self.view_is) c.in_ok-worker.ensures.some c.in_ok-batch.ensures.some

@@ -1,4 +1,4 @@
-use Rattle.event_core.proofs.Words.{◌≡◌, ap, arith, held_by, IsSome, IsSound, Parts, state_of, subst, ℕ}
+use Rattle.event_core.proofs.Words.{◌≡◌, ap, arith, CoreParts, held_by, IsSome, IsSound, state_of, subst, ℕ}
 use Rattle.std.proofs.Common.{below_more}
 use Rattle.std.proofs.lemmas.Bool.{false≢true}
 use Rattle.event_core.proofs.ChoosingLemmas.{none-gives}
@@ -11,7 +11,7 @@ loop-worker-preserved c =
 
 pub returns-clause-none : goal.returns-clause-none
 returns-clause-none c = λ none.
-    none-gives (state_of c.args.self.now) (subst (λ (parts : Parts). IsSound (state_of parts)) c.self.view_is c.self.invariant.0.sound)
+    none-gives (state_of c.args.self.now) (subst (λ (parts : CoreParts). IsSound (state_of parts)) c.self.view_is c.self.invariant.0.sound)
     (λ k low. c.loop-worker.invariant k (
-    let same : c.self.inside.settings.seats ≡ c.args.self.now.settings.seats = ap (λ (parts : Parts). parts.settings.seats) c.self.view_is in
+    let same : c.self.inside.settings.seats ≡ c.args.self.now.settings.seats = ap (λ (parts : CoreParts). parts.settings.seats) c.self.view_is in
     let over = c.loop-worker-test.false in omega arith))

@@ -1,6 +1,6 @@
 use Rattle.std.specs.Vec.Iter.{into_iter_items}
 use Rattle.std.proofs.Common.{◌≡◌}
-use Rattle.event_core.specs.Parts.{beside_of}
+use Rattle.event_core.specs.CoreParts.{beside_of}
 use Rattle.event_core.specs.Seen.{state_of}
 use Rattle.event_core.proofs.TookLemmas.{AreTaken}
 use Rattle.event_core.proofs.machine.Core.run_events.Given as goal

@@ -1,4 +1,4 @@
-use Rattle.event_core.proofs.Words.{◌∙◌, ◌≡◌, after_outcome, after_submitting, ap, Becomes, Changed, Follows, IsCore, KeyedStore, Lives, outcome_of, Outcome, Parts, plain, query_of, refl, state_of, subst, sym, tables_of, the_view, with_filters_for}
+use Rattle.event_core.proofs.Words.{◌∙◌, ◌≡◌, after_outcome, after_submitting, ap, Becomes, Changed, Follows, IsCore, KeyedStore, Lives, outcome_of, Outcome, CoreParts, plain, query_of, refl, state_of, subst, sym, tables_of, the_view, with_filters_for}
 use Rattle.std.proofs.Common.{Err, Ok}
 use Rattle.std.proofs.lemmas.Result.{err_from_is_err_and}
 use Rattle.star_store.specs.Outcome as outcome
@@ -6,7 +6,7 @@ use Rattle.star_store.specs.Outcome.{only_tells}
 use Rattle.star_store.specs.declared.applied.Applied.TheVariants.{Replied}
 use Rattle.star_store.specs.declared.applied.ApplyFault.{ApplyFault}
 use Rattle.star_store.specs.declared.applied.ApplyFault.TheVariants.{Busy}
-use Rattle.event_core.specs.Parts.{AreBacked, beside_of}
+use Rattle.event_core.specs.CoreParts.{AreBacked, beside_of}
 use Rattle.event_core.proofs.EventsSubmitLemmas.{IsChange, asked-of, changes, follows-as, replies, same-parts, seat-there, some-change, statements_in, undeclared-before}
 use Rattle.event_core.proofs.LetGoLemmas.{finished-on, on-same}
 use Rattle.event_core.proofs.SparedLemmas.{spare-changed, spare-ready}
@@ -83,7 +83,7 @@ invariant_of-self-in-Replied-1 c = (
 
 pub returns-in-Replied-clause-ok : goal.returns-in-Replied-clause-ok
 returns-in-Replied-clause-ok c =
-    (replied c).state ∙ ap (λ (parts : Parts). after_submitting c.args.seat c.args.statement.now (state_of parts)) c.self.view_is
+    (replied c).state ∙ ap (λ (parts : CoreParts). after_submitting c.args.seat c.args.statement.now (state_of parts)) c.self.view_is
 
 pub returns-in-Replied-clause-beside : goal.returns-in-Replied-clause-beside
 returns-in-Replied-clause-beside c = replied_beside c ∙ ap beside_of c.self.view_is
@@ -154,7 +154,7 @@ changed_beside c =
     c.is_any_out-are_lent.ensures
     (changed-stays c.a_declared_fact_table_finds_free_slots.ensures.first (the_view c.self.inside) c.args.statement.now c.in-Changed.kind
     c.in-Changed.reply c.apply_to.new.tables c.log_change.new.manager c.is_any_out-are_lent.result c.self.invariant.0 (changed_follows c)
-    c.apply_to.ensures.lent (ap (λ (parts : Parts). parts.lives) (with_filters c)))
+    c.apply_to.ensures.lent (ap (λ (parts : CoreParts). parts.lives) (with_filters c)))
 
 pub invariant_of-self-in-Changed : goal.invariant_of-self-in-Changed
 invariant_of-self-in-Changed c = (
@@ -163,7 +163,7 @@ invariant_of-self-in-Changed c = (
   finished-on c.self.inside.manager c.log_change.new.manager c.self.inside.asked c.self.inside.asked
       (on-same c.self.inside.manager c.log_change.new.manager c.log_change.ensures.queries) refl refl c.self.invariant.2,
   spare-changed c.in-Changed.kind (the_view c.self.inside) c.apply_to.new.tables c.log_change.new.filters c.make_filters.new.spares
-      c.apply_to.ensures.settled.declared.limits.dimensions (ap (λ (parts : Parts). parts.filters) (with_filters c))
+      c.apply_to.ensures.settled.declared.limits.dimensions (ap (λ (parts : CoreParts). parts.filters) (with_filters c))
       (λ declares. c.in_ok-all.ensures.spares
       (undeclared-before c.a_declared_fact_table_finds_free_slots.ensures.first (the_view c.self.inside) c.args.statement.now c.in-Changed.kind
       c.in-Changed.reply c.apply_to.new.tables c.self.invariant.0 (changed_follows c) declares))
@@ -175,7 +175,7 @@ invariant_of-self-in-Changed c = (
 
 pub returns-in-Changed-clause-ok : goal.returns-in-Changed-clause-ok
 returns-in-Changed-clause-ok c =
-    (changed c).state ∙ ap (λ (parts : Parts). after_submitting c.args.seat c.args.statement.now (state_of parts)) c.self.view_is
+    (changed c).state ∙ ap (λ (parts : CoreParts). after_submitting c.args.seat c.args.statement.now (state_of parts)) c.self.view_is
 
 pub returns-in-Changed-clause-beside : goal.returns-in-Changed-clause-beside
 returns-in-Changed-clause-beside c = changed_beside c ∙ ap beside_of c.self.view_is
@@ -200,7 +200,7 @@ accept-requires-clause-asked c =
     let asked = asked-of (the_view c.self.inside) c.apply_to.new.tables (statements_in c.reserve_at.new.seats) c.args.statement.now
     c.in-Accepted.query c.in-Accepted.snapshot c.in_ok-reply.field-0 c.self.invariant.0 c.reserve_at.ensures.statements c.in-Accepted.is
     c.in_ok-reply.ensures.follows in
-    (c.args.statement.now, ap (λ (parts : Parts). outcome_of (tables_of (state_of parts)) c.args.statement.now) asked.same ∙ asked.tells)
+    (c.args.statement.now, ap (λ (parts : CoreParts). outcome_of (tables_of (state_of parts)) c.args.statement.now) asked.same ∙ asked.tells)
 
 pub returns-in_ok-accept-in-Accepted-clause-ok : goal.returns-in_ok-accept-in-Accepted-clause-ok
 returns-in_ok-accept-in-Accepted-clause-ok c =
@@ -208,7 +208,7 @@ returns-in_ok-accept-in-Accepted-clause-ok c =
     c.in-Accepted.query c.in-Accepted.snapshot c.in_ok-reply.field-0 c.self.invariant.0 c.reserve_at.ensures.statements c.in-Accepted.is
     c.in_ok-reply.ensures.follows in
     c.in_ok-accept-in-Accepted.ensures.ok
-    ∙ ap (λ (parts : Parts). after_outcome c.args.seat (only_tells (outcome.Accepted (query_of c.in-Accepted.query) c.in-Accepted.snapshot))
+    ∙ ap (λ (parts : CoreParts). after_outcome c.args.seat (only_tells (outcome.Accepted (query_of c.in-Accepted.query) c.in-Accepted.snapshot))
     (state_of parts)) asked.same
     ∙ sym (ap (λ (found : Outcome). after_outcome c.args.seat found (state_of (the_view c.self.inside))) asked.tells)
-    ∙ ap (λ (parts : Parts). after_submitting c.args.seat c.args.statement.now (state_of parts)) c.self.view_is
+    ∙ ap (λ (parts : CoreParts). after_submitting c.args.seat c.args.statement.now (state_of parts)) c.self.view_is

@@ -1,4 +1,4 @@
-use Rattle.event_core.proofs.Words.{◌∙◌, ◌≡◌, after_taking, ap, AskedQueries, Becomes, IfSome, IsRight, IsSome, IsSound, next_ready, None, none-some, option_map, Parts, parts_by, refl, seat_at, slice_get, Some, state_of, statements_at, subst, sym}
+use Rattle.event_core.proofs.Words.{◌∙◌, ◌≡◌, after_taking, ap, AskedQueries, Becomes, CoreParts, IfSome, IsRight, IsSome, IsSound, next_ready, None, none-some, option_map, parts_by, refl, seat_at, slice_get, Some, state_of, statements_at, subst, sym}
 use Rattle.std.proofs.lemmas.Bool.{false≢true}
 use Rattle.event_core.specs.Replies.{ready_of}
 use Rattle.event_core.specs.Taking.{next_number}
@@ -6,7 +6,7 @@ use Rattle.event_core.proofs.AskedKeptLemmas.{asked-rise}
 use Rattle.event_core.proofs.ReplyEventLemmas.{reply-becomes, reply-nothing, reply-ready, reply-right}
 use Rattle.event_core.proofs.SeatPlaceLemmas.{seat-read, seat-there, statements_in}
 use Rattle.event_core.proofs.LetGoLemmas.{finished-on, on-same}
-use Rattle.event_core.specs.Parts.{beside_of}
+use Rattle.event_core.specs.CoreParts.{beside_of}
 use Rattle.event_core.proofs.machine.Core.take_reply_of.Goals as goal
 
 pub returns-in_err-number : goal.returns-in_err-number
@@ -26,7 +26,7 @@ returns-in_err-number c =
       beside = refl;
       right = subst (λ o. IfSome o (λ ready. IfSome (slice_get (seat_at (state_of c.args.self.now) c.args.seat).pending 0)
           (λ pending. IsRight (state_of c.args.self.now) pending.statement pending.awaited (ready_of ready)))) (sym c.from_residual.ensures) tt;
-      sound = subst (λ (parts : Parts). IsSound (state_of parts)) c.self.view_is c.self.invariant.0.sound;
+      sound = subst (λ (parts : CoreParts). IsSound (state_of parts)) c.self.view_is c.self.invariant.0.sound;
     }
 
 pub snapshot_of-snapshot-requires : goal.snapshot_of-snapshot-requires
@@ -36,7 +36,7 @@ pub take_kept-groups-requires : goal.take_kept-groups-requires
 take_kept-groups-requires c = asked-rise _ c.self.invariant.0
 
 -- the parts before, and what is known of them
-abbrev before : (c : goal.After-ready_with) → Parts
+abbrev before : (c : goal.After-ready_with) → CoreParts
 before c = parts_by c.self.inside.settings c.self.inside.tables c.self.inside.log c.self.inside.seats c.self.inside.asked
     c.self.inside.manager c.self.inside.filters c.self.inside.scan c.self.inside.distributor c.self.inside.flights
     c.self.inside.pool c.self.inside.cut c.self.inside.last_statement c.self.inside.last_batch c.self.inside.last_version

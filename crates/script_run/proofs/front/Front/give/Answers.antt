@@ -1,5 +1,5 @@
 use Rattle.script_run.proofs.Words.{◌+◌, ◌<◌, ◌∙◌, ap, FrontParts, GivesStatement, IsCounted, KnowsCore, refl, state_of, subst, sym}
-use Rattle.event_core.specs.Parts.{Parts}
+use Rattle.event_core.specs.CoreParts.{CoreParts}
 use Rattle.script_run.specs.contracts.front.Front.{the_view}
 use Rattle.script_run.proofs.FrontCountLemmas.{knows-given}
 use Rattle.script_run.proofs.FrontGiveLemmas.{counted-given}
@@ -7,7 +7,7 @@ use Rattle.script_run.proofs.front.Front.give.Goals as goal
 
 pub invariant_of-self : goal.invariant_of-self
 invariant_of-self c =
-    subst (λ (core : Parts). KnowsCore c.self.inside.settings c.self.inside.submitted (state_of core)) (sym c.in_default-submit.ensures.err) c.self.invariant
+    subst (λ (core : CoreParts). KnowsCore c.self.inside.settings c.self.inside.submitted (state_of core)) (sym c.in_default-submit.ensures.err) c.self.invariant
 
 pub invariant_of-self-2 : goal.invariant_of-self-2
 invariant_of-self-2 c =

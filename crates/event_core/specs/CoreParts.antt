@@ -22,7 +22,7 @@ use Rattle.core_parts.specs.declared.submitted.Submitted.{Submitted}
 -- the accepted queries, their lives, the filters, the scan and what it gives rows to, the groups at
 -- the slots, what of them went out with each seat, the batches in flight, the free frames, how many
 -- positions were cut, the last numbers given, and the marks, which are no part of the state
-pub record Parts : Type 0 where
+pub record CoreParts : Type 0 where
   pub settings : RunSettings
   pub tables : KeyedStore
   pub log : List Logged
@@ -43,7 +43,7 @@ pub record Parts : Type 0 where
 abbrev pub parts_by : RunSettings → KeyedStore → List Logged → List (Roomy Submitted) → AskedQueries
     → Lives → state.Filters
     → Scanning → SharedGroups → Roomy Flight → Stock → (cut statement batch version : ℕ) → Marks
-    → Parts
+    → CoreParts
 parts_by settings tables log seats asked lives filters scan
     groups flights pool cut statement batch version marks =
     record {
@@ -108,7 +108,7 @@ fixed_by out tables filters =
     if is_any_out out then Some (record { tables = tables; filters = filters }) else None
 
 -- what is beside the state of these parts
-abbrev pub beside_of : Parts → Beside
+abbrev pub beside_of : CoreParts → Beside
 beside_of parts = record {
   lent = lent_to parts.flights;
   batches = lent_batches parts.flights;
@@ -143,17 +143,17 @@ pub record Loan : Type 0 where
   pub tables : KeyedStore
 
 -- what a seat has of these parts
-abbrev pub loan_of : Parts → (seat : ℕ) → Option Loan
+abbrev pub loan_of : CoreParts → (seat : ℕ) → Option Loan
 loan_of parts seat = option_map
     (λ lending. record { slots = lending.slots; groups = lending.groups; tables = parts.tables })
     (slice_index_or parts.out seat None)
 
 -- each seat but one has what it had
-abbrev pub LeavesLoans : (seat : ℕ) → (old new : Parts) → Type 0
+abbrev pub LeavesLoans : (seat : ℕ) → (old new : CoreParts) → Type 0
 LeavesLoans seat old new = (other : ℕ) → other ≢ seat → loan_of new other ≡ loan_of old other
 
 -- this is out with the seats then, and the tables and the marks are as they were
-pub record OutBecomes (lendings : List (Option Lending)) (old new : Parts) : Type 0 where
+pub record OutBecomes (lendings : List (Option Lending)) (old new : CoreParts) : Type 0 where
   pub out : new.out ≡ lendings
   pub tables : new.tables ≡ old.tables
   pub marks : new.marks ≡ old.marks
