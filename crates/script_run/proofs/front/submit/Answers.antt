@@ -4,7 +4,7 @@ use Rattle.script_run.proofs.FrontPlayLemmas.{took-given}
 use Rattle.script_run.proofs.front.submit.Goals as goal
 
 pub step-requires : goal.step-requires
-step-requires c = record { home = c.idle_cores_lend_nothing.ensures c.requires }
+step-requires c = record { home = λ _. c.idle_cores_lend_nothing.ensures c.requires }
 
 pub returns-in-Ok-clause-gives : goal.returns-in-Ok-clause-gives
 returns-in-Ok-clause-gives c =
